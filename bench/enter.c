@@ -1,10 +1,10 @@
-/* What it takes to enter a lock that nobody else wants, and to leave it, by one thread: a qolb_lock beside a node of the same line (qolb_acquire and
- * qolb_deqolb), a pthread_mutex, and with -DMCS, which wants Debian's package libck-dev, Concurrency Kit's MCS lock.
+/* Times entering and leaving a lock that no other thread wants, by one thread: a qolb_lock beside a node of the same line (qolb_acquire and
+ * qolb_deqolb), a pthread_mutex, and with -DMCS, which needs Debian's package libck-dev, Concurrency Kit's MCS lock.
  *
  *   cc -std=c11 -O2 -pthread -Iinclude bench/enter.c crates/qolb_c/out/libqolb.a -o enter && ./enter [BATCHES]
  *
- * Prints nanoseconds a round, the least and the median of so many batches (101), in which the ways take turns, and each lock's of those of
- * its node. The least is the figure to take where the machine has other work. With a second word, ./enter 1 "qolb_lock, ticket", it does
+ * Prints nanoseconds a round: the least and the median of BATCHES batches (101), in which the ways take turns, and each lock's as a multiple of those of
+ * its node. The least is the figure to take if the machine has other work. With a second argument, ./enter 1 "qolb_lock, ticket", it does
  * 10,000 rounds of that way alone, to be counted by valgrind --tool=callgrind --toggle-collect='rounds_of*'. */
 #define _POSIX_C_SOURCE 200809L
 #include <pthread.h>
@@ -20,7 +20,7 @@ static ck_spinlock_mcs_t mcs = CK_SPINLOCK_MCS_INITIALIZER;
 static ck_spinlock_mcs_context_t context;
 #endif
 
-enum { ROUNDS = 10000, MOST_BATCHES = 10001 };
+enum { ROUNDS = 10000, MAX_BATCHES = 10001 };
 
 static _Alignas(QOLB_NODE_ALIGN) qolb_node nodes[3];
 static _Alignas(QOLB_NODE_ALIGN) qolb_lock locks[3];
@@ -60,7 +60,7 @@ static const struct way {
 };
 enum { WAYS = sizeof ways / sizeof ways[0] };
 
-static double took[WAYS][MOST_BATCHES];
+static double took[WAYS][MAX_BATCHES];
 
 static double now(void) {
     struct timespec time;
@@ -101,7 +101,7 @@ static int of_one(const char *name) {
 
 int main(int argc, char **argv) {
     int batches = argc > 1 ? atoi(argv[1]) : 101;
-    if (batches < 1 || batches > MOST_BATCHES) return 2;
+    if (batches < 1 || batches > MAX_BATCHES) return 2;
     pthread_t other;
     if (pthread_create(&other, NULL, sleeps, NULL) != 0) return 1;
     opens();

@@ -1,4 +1,4 @@
-// What the programs of this folder share: the line, its masked write, and how a thread waits.
+// The parts that the programs of this folder share: the line, its masked write, and the pauses of a waiter.
 #include <sched.h>
 #include <stdatomic.h>
 #include <stdint.h>
@@ -6,10 +6,10 @@
 #include <stdlib.h>
 #include <string.h>
 
-enum { MOST_NODES = 200, SPINS = 64 };
+enum { MAX_NODES = 200, SPINS = 64 };
 
-// The line, with the mask of what its holder has written in this turn. Without a lease turns_left is 0 and is_leased too.
-struct parcel {
+// The line, with the mask of what its holder has written in this turn. Without a lease turns_left and is_leased are 0.
+struct payload {
     uint8_t bytes[64];
     uint64_t mask;
     uint64_t turns_left;
@@ -17,7 +17,7 @@ struct parcel {
     uint8_t closed;
 };
 
-// With -DCOPIES the line is copied out and in as a program's own would be, whose turn may do anything with it. Else clang sees through both copies:
+// With -DCOPIES the line is copied out and in as in a program whose turn may do anything with it. Else clang sees through both copies:
 // it adds to lane 0 in the slot, and copies nothing.
 #ifdef COPIES
 #define USED(held) __asm__ volatile("" : : "r"(held) : "memory")
@@ -25,8 +25,8 @@ struct parcel {
 #define USED(held) (void)(held)
 #endif
 
-// Copies the line out of a slot, for a turn in which nothing is written yet.
-static void take(struct parcel *held, const struct parcel *slot) {
+// Copies the line out of a slot at the begin of a turn, with an empty mask.
+static void take(struct payload *held, const struct payload *slot) {
     memcpy(held->bytes, slot->bytes, 64);
     held->turns_left = slot->turns_left;
     held->is_leased = slot->is_leased;
@@ -35,8 +35,8 @@ static void take(struct parcel *held, const struct parcel *slot) {
     USED(held);
 }
 
-// Copies the line of a turn that is over back into the slot in which it came.
-static void put(const struct parcel *held, struct parcel *slot) {
+// Copies the line back into its slot at the end of a turn.
+static void put(const struct payload *held, struct payload *slot) {
     USED(held);
     memcpy(slot->bytes, held->bytes, 64);
     slot->mask = held->mask;
@@ -44,7 +44,7 @@ static void put(const struct parcel *held, struct parcel *slot) {
     if (held->is_leased && held->turns_left == 1) slot->closed = 1;
 }
 
-static void write_masked(struct parcel *held, uint64_t mask, const uint8_t bytes[64]) {
+static void write_masked(struct payload *held, uint64_t mask, const uint8_t bytes[64]) {
     for (int lane = 0; lane < 8; lane++) {
         uint64_t part = mask >> (8 * lane) & 0xff;
         if (part == 0xff)
@@ -57,7 +57,7 @@ static void write_masked(struct parcel *held, uint64_t mask, const uint8_t bytes
 }
 
 // Adds 1 to lane 0 through a masked write.
-static void add_one(struct parcel *held) {
+static void add_one(struct payload *held) {
     uint8_t line[64] = {0};
     uint64_t lane;
     memcpy(&lane, held->bytes, 8);
@@ -66,7 +66,7 @@ static void add_one(struct parcel *held) {
     write_masked(held, 0xff, line);
 }
 
-// A pause between two looks: a single one at first, and then as long as other threads want the processor.
+// Pauses between two polls: a single pause at first, and then a yield.
 static void pause_or_yield(unsigned *looks) {
     if (++*looks <= SPINS)
         __builtin_ia32_pause();

@@ -1,23 +1,23 @@
-// The list in plain C, to measure the proved one against: the same words, the same steps and the same pauses.
+// The list in plain C, for comparison with the proved list: the same words, the same steps and the same pauses.
 //
 //   clang -O3 -march=x86-64-v2 -pthread -o list bench/list.c && ./list THREADS ROUNDS
 //
-// Nobody withdraws, and the line is never closed.
+// No node withdraws, and the line is never closed.
 #include "line.h"
 
-enum { ENTRY_STRIDE = 16, HOME = ENTRY_STRIDE, WORDS = ENTRY_STRIDE * (MOST_NODES + 2) };
+enum { ENTRY_STRIDE = 16, HOME = ENTRY_STRIDE, WORDS = ENTRY_STRIDE * (MAX_NODES + 2) };
 enum { GRANTED = 1, ROLLED = 2, DONE = 4, LINK = 256 };
 
 static _Alignas(128) _Atomic uint64_t words[WORDS];
 
-// How a call left its port.
+// The state in which a call left its port.
 enum state { IDLE, LEFT, QUEUED, HOLDING };
 
 // All turns have one slot.
-static _Alignas(128) struct parcel slot;
+static _Alignas(128) struct payload slot;
 
 struct port {
-    struct parcel parcel;
+    struct payload payload;
     uint64_t node;
     uint64_t steps;
     enum state state;
@@ -26,7 +26,7 @@ struct port {
 static _Atomic uint64_t *entry_word(uint64_t node) { return &words[HOME + ENTRY_STRIDE * node]; }
 
 static int arrive(struct port *p) {
-    take(&p->parcel, &slot);
+    take(&p->payload, &slot);
     p->state = HOLDING;
     return 1;
 }
@@ -36,7 +36,7 @@ static int look(struct port *p) {
     return atomic_load(entry_word(p->node)) & GRANTED ? arrive(p) : 0;
 }
 
-// Whether the line was left in the own entry, and is still there: then the node can't ask.
+// Whether the line was left in the node's entry, and is still there: then the node can't ask.
 static int is_busy(struct port *p) {
     p->steps = 1;
     return atomic_load(entry_word(p->node)) / LINK == 0;
@@ -54,7 +54,7 @@ static int enqolb(struct port *p) {
 }
 
 static void deqolb(struct port *p) {
-    put(&p->parcel, &slot);
+    put(&p->payload, &slot);
     p->steps = 1;
     p->state = IDLE;
     uint64_t found = p->node;
@@ -66,7 +66,7 @@ static void deqolb(struct port *p) {
         return;
     }
     p->steps = 3;
-    if (atomic_fetch_add(entry_word(next), GRANTED) & ROLLED) abort();  // nobody withdraws here
+    if (atomic_fetch_add(entry_word(next), GRANTED) & ROLLED) abort();  // no node withdraws here
 }
 
 static void open_line(void) {}
@@ -80,10 +80,10 @@ static void one_round(struct port *p) {
     looks = 0;
     if (!enqolb(p))
         while (!look(p)) pause_or_yield(&looks);
-    add_one(&p->parcel);
+    add_one(&p->payload);
     deqolb(p);
 }
 
-static const struct parcel *last_line(uint64_t rounds) { return (void)rounds, &slot; }
+static const struct payload *last_line(uint64_t rounds) { return (void)rounds, &slot; }
 
 #include "rounds.h"

@@ -1,8 +1,8 @@
-// Concurrency Kit's MCS lock round the same line, for comparison. Its header is of Debian's package libck-dev:
+// Concurrency Kit's MCS lock around the same line, for comparison. Its header is from Debian's package libck-dev:
 //
 //   clang -O3 -march=x86-64-v2 -pthread -o mcs bench/mcs.c && ./mcs THREADS ROUNDS
 //
-// A waiter pauses and yields as those of the ring and the list do; the kit's own would only pause. The holder adds to the lane in its
+// A waiter pauses and yields as the waiters of the ring and the list do; the kit's own waiter would only pause. The holder adds to the lane in
 // place: an MCS lock does not hand the line over, so nothing is copied.
 #include "line.h"
 
@@ -15,7 +15,7 @@ static _Thread_local unsigned looks;
 
 static _Alignas(128) ck_spinlock_mcs_t lock = CK_SPINLOCK_MCS_INITIALIZER;
 
-static _Alignas(128) struct parcel slot;
+static _Alignas(128) struct payload slot;
 
 struct port {
     _Alignas(128) ck_spinlock_mcs_context_t context;
@@ -35,6 +35,6 @@ static void one_round(struct port *p) {
     ck_spinlock_mcs_unlock(&lock, &p->context);
 }
 
-static const struct parcel *last_line(uint64_t rounds) { return (void)rounds, &slot; }
+static const struct payload *last_line(uint64_t rounds) { return (void)rounds, &slot; }
 
 #include "rounds.h"

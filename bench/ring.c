@@ -1,15 +1,15 @@
-// The ring in plain C, to measure the proved one against: the same words, the same steps and the same pauses.
+// The ring in plain C, for comparison with the proved ring: the same words, the same steps and the same pauses.
 //
 //   clang -O3 -march=x86-64-v2 -pthread -o ring bench/ring.c && ./ring THREADS ROUNDS
 //
-// Nobody withdraws, and the line is never closed.
+// No node withdraws, and the line is never closed.
 #include "cells.h"
 
 // All turns have one slot.
-static _Alignas(128) struct parcel slot;
+static _Alignas(128) struct payload slot;
 
 struct port {
-    struct parcel parcel;
+    struct payload payload;
     uint64_t cell;
     uint64_t steps;
 };
@@ -17,7 +17,7 @@ struct port {
 static int look(struct port *p) {
     p->steps++;
     if (atomic_load(cell_word(p->cell)) == 0) return 0;
-    take(&p->parcel, &slot);
+    take(&p->payload, &slot);
     return 1;
 }
 
@@ -28,11 +28,11 @@ static int enqolb(struct port *p) {
 }
 
 static void deqolb(struct port *p) {
-    put(&p->parcel, &slot);
+    put(&p->payload, &slot);
     p->steps = 2;
     atomic_store(cell_word(p->cell), 0);
     uint64_t old = atomic_fetch_add(cell_word(p->cell + 1), 1);
-    if (old >> 8) abort();  // nobody withdraws here
+    if (old >> 8) abort();  // no node withdraws here
 }
 
 static void open_line(void) { atomic_store(cell_word(0), 1); }
@@ -43,10 +43,10 @@ static void one_round(struct port *p) {
     unsigned looks = 0;
     if (!enqolb(p))
         while (!look(p)) pause_or_yield(&looks);
-    add_one(&p->parcel);
+    add_one(&p->payload);
     deqolb(p);
 }
 
-static const struct parcel *last_line(uint64_t rounds) { return (void)rounds, &slot; }
+static const struct payload *last_line(uint64_t rounds) { return (void)rounds, &slot; }
 
 #include "rounds.h"

@@ -1,10 +1,10 @@
-// Rounds by threads, timed: the end of each program of this folder. Before it stand its `struct port` and
+// Rounds by threads, timed: the end of each program of this folder. A program defines before it `struct port` and
 //   static void open_line(void);                              before any thread
 //   static void open_port(struct port *p, uint64_t node);     in the thread of the node, numbered from 1
 //   static void one_round(struct port *p);                    asks, waits, adds 1 to lane 0 of the line, releases
-//   static const struct parcel *last_line(uint64_t rounds);   where the line lies after so many rounds of all
+//   static const struct payload *last_line(uint64_t rounds);   the place of the line after these rounds of all threads
 //
-// A program is called as NAME THREADS ROUNDS, and prints the lane sum, and nanoseconds a round and rounds a second over all threads, from before the
+// A program is called as NAME THREADS ROUNDS. It prints the lane sum, and nanoseconds a round and rounds a second over all threads, from before the
 // first thread is started until the last has ended.
 #include <pthread.h>
 #include <time.h>
@@ -22,9 +22,9 @@ static void *work(void *node) {
 int main(int argc, char **argv) {
     int threads = argc > 1 ? atoi(argv[1]) : 2;
     rounds = argc > 2 ? strtoull(argv[2], NULL, 10) : 1000;
-    if (threads < 1 || threads > MOST_NODES) return 2;
+    if (threads < 1 || threads > MAX_NODES) return 2;
     open_line();
-    pthread_t ids[MOST_NODES];
+    pthread_t ids[MAX_NODES];
     struct timespec from, to;
     clock_gettime(CLOCK_MONOTONIC, &from);
     for (int k = 0; k < threads; k++)

@@ -1,11 +1,11 @@
-/* A hash table with a lock for each bucket, used by threads for so many seconds: lookups, additions and removals of random keys, of
- * which some are asked for much more often than others. Says how many operations are done a second, how evenly (the least and the most
- * that a thread did, of the mean), how long the longest took, from one to the next of its thread, and how many each thread did.
+/* A hash table with a lock for each bucket, used by threads for SECONDS seconds: lookups, additions and removals of random keys, some
+ * of which are used much more often than others. Prints the operations a second, how evenly they fell to the threads (the least and the most
+ * that a thread did, as shares of the mean), the longest time from one operation to the next of its thread, and how many each thread did.
  *
  *   cc -std=c11 -O2 -pthread -Iinclude bench/table.c crates/qolb_c/out/libqolb.a -o table && ./table LOCK THREADS BUCKETS SECONDS
  *
- * LOCK is ticket, list or ring, a qolb_lock of that kind, or mutex, a pthread_mutex; with -DMCS, which wants Debian's package libck-dev, also MCS,
- * Concurrency Kit's, whose waiters look 64 times and then give the processor away between two looks. Before it ends it counts the entries, and compares
+ * LOCK is ticket, list or ring, a qolb_lock of that kind, or mutex, a pthread_mutex; with -DMCS, which needs Debian's package libck-dev, also MCS,
+ * Concurrency Kit's, whose waiters poll 64 times and then yield between two polls. Before it ends it counts the entries, and compares
  * their number with the additions and removals that were done. bench/tables runs it with each. */
 #define _DEFAULT_SOURCE
 #include <pthread.h>
@@ -87,7 +87,7 @@ static uint64_t draw(struct worker *me) {
     return z ^ z >> 31;
 }
 
-/* Of ten operations eight look a key up, one adds and one takes away. */
+/* Of ten operations eight look up a key, one adds one and one removes one. */
 static void operate(struct worker *me, struct bucket *bucket, uint64_t key, unsigned what, struct entry *fresh) {
     struct entry **at = &bucket->first, *it;
     while ((it = *at) && it->key != key) at = &it->next;
@@ -148,7 +148,7 @@ static long entries(void) {
     return count;
 }
 
-/* Whether there is a lock of this name. */
+/* Returns whether there is a lock of this name. */
 static int take_lock(const char *name) {
     static const struct {
         const char *name;
@@ -168,7 +168,7 @@ static int take_lock(const char *name) {
     return 0;
 }
 
-/* What came of it, when all have ended; whether no entry is too many or too few. */
+/* Prints the outcome after all threads have ended; returns whether the number of entries is right. */
 static int tell(const char *lock, unsigned threads, double seconds) {
     uint64_t sum = 0, least = UINT64_MAX, most = 0, longest = 0;
     long wanted = 0;

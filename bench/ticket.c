@@ -1,19 +1,19 @@
-// The ticket line in plain C, to measure the proved one against: the same words, the same slots, the same steps and the same pauses.
+// The ticket line in plain C, for comparison with the proved one: the same words, the same slots, the same steps and the same pauses.
 //
 //   clang -O3 -march=x86-64-v2 -pthread -o ticket bench/ticket.c && ./ticket THREADS ROUNDS
 //
-// Nobody withdraws, and the line is never closed.
+// No node withdraws, and the line is never closed.
 #include "cells.h"
 
-// Where the line lies: a slot for each cell, two places apart, as in the proved line.
+// The slots of the line: one for each cell, two places apart, as in the proved line.
 enum { SLOT_STRIDE = 2 };
 
-static _Alignas(128) struct parcel slots[SLOT_STRIDE * CELLS];
+static _Alignas(128) struct payload slots[SLOT_STRIDE * CELLS];
 
-static struct parcel *slot_of(uint64_t ticket) { return &slots[ticket % CELLS * SLOT_STRIDE]; }
+static struct payload *slot_of(uint64_t ticket) { return &slots[ticket % CELLS * SLOT_STRIDE]; }
 
-// Copies the line of a turn that is over into another slot.
-static void lay(const struct parcel *held, struct parcel *slot) {
+// Copies the line into another slot at the end of a turn.
+static void lay(const struct payload *held, struct payload *slot) {
     put(held, slot);
     if (!held->is_leased) slot->turns_left = 0;
     slot->is_leased = held->is_leased;
@@ -21,18 +21,18 @@ static void lay(const struct parcel *held, struct parcel *slot) {
 }
 
 struct port {
-    struct parcel parcel;
+    struct payload payload;
     uint64_t ticket;
     uint64_t steps;
 };
 
-// What a cell says that is granted to a ticket: its number modulo 2^56, above the eight bits of a node that withdrew.
+// The content of a cell that is granted to a ticket: its number modulo 2^56, above the eight bits of a node that withdrew.
 static uint64_t granted(uint64_t ticket) { return (ticket + 1) << 8; }
 
 static int look(struct port *p) {
     p->steps++;
     if (atomic_load(cell_word(p->ticket)) != granted(p->ticket)) return 0;
-    take(&p->parcel, slot_of(p->ticket));
+    take(&p->payload, slot_of(p->ticket));
     return 1;
 }
 
@@ -43,10 +43,10 @@ static int enqolb(struct port *p) {
 }
 
 static void deqolb(struct port *p) {
-    lay(&p->parcel, slot_of(p->ticket + 1));
+    lay(&p->payload, slot_of(p->ticket + 1));
     p->steps = 1;
     uint64_t next = p->ticket + 1, old = atomic_exchange(cell_word(next), granted(next));
-    if (old >> 8 == granted(next) >> 8) abort();  // nobody withdraws here
+    if (old >> 8 == granted(next) >> 8) abort();  // no node withdraws here
 }
 
 static void open_line(void) { atomic_store(cell_word(0), granted(0)); }
@@ -57,10 +57,10 @@ static void one_round(struct port *p) {
     unsigned looks = 0;
     if (!enqolb(p))
         while (!look(p)) pause_or_yield(&looks);
-    add_one(&p->parcel);
+    add_one(&p->payload);
     deqolb(p);
 }
 
-static const struct parcel *last_line(uint64_t rounds) { return slot_of(rounds); }
+static const struct payload *last_line(uint64_t rounds) { return slot_of(rounds); }
 
 #include "rounds.h"

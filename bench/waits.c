@@ -1,5 +1,5 @@
-// Threads that take turns of one length at a lock for some time, and note how long they wait, as crates/line_waits does at a line. The lock is a
-// pthread_mutex, or with -DMCS Concurrency Kit's MCS lock, which wants Debian's package libck-dev:
+// Threads take turns of one length at a lock for some time, and note how long they wait, as crates/bench_waits does at a line. The lock is a
+// pthread_mutex, or with -DMCS Concurrency Kit's MCS lock, which needs Debian's package libck-dev:
 //
 //   clang -O3 -march=x86-64-v2 -pthread -o waits bench/waits.c && ./waits THREADS MICROSECONDS SECONDS
 //
@@ -9,8 +9,8 @@
 //   make -C include library
 //   clang -O3 -march=x86-64-v2 -pthread -DLOCK -Iinclude -o waits bench/waits.c crates/qolb_c/out/libqolb.a
 //
-// The holder keeps its processor busy for so many microseconds, and adds 1 to a lane: with -DNODES to that of the line, which is handed
-// over, and else in its place, so that nothing is copied.
+// The holder keeps its processor busy for MICROSECONDS, and adds 1 to a lane: with -DNODES to a lane of the line, which is handed
+// over, and else in place, so that nothing is copied.
 #include "line.h"
 
 #include <pthread.h>
@@ -20,7 +20,7 @@
 #include <qolb.h>
 #endif
 
-// The number to which each turn adds 1, where the line has it not.
+// The number to which each turn adds 1, if the line does not have it.
 static _Alignas(128) uint64_t lane;
 
 #if defined(MCS)
@@ -44,13 +44,13 @@ static void change(struct port *p) { (void)p, lane++; }
 static void leave(struct port *p) { ck_spinlock_mcs_unlock(&lock, &p->context); }
 
 #elif defined(NODES)
-static qolb_node nodes[MOST_NODES];
+static qolb_node nodes[MAX_NODES];
 struct port {
     _Alignas(128) qolb_node node;
 };
 static void open_lock(int threads) {
     const qolb_bytes zeros = {{0}};
-    if (qolb_open(QOLB_DEFAULT, 1, (uint64_t)threads, QOLB_NO_LEASE, &zeros, nodes, MOST_NODES) != QOLB_DONE) abort();
+    if (qolb_open(QOLB_DEFAULT, 1, (uint64_t)threads, QOLB_NO_LEASE, &zeros, nodes, MAX_NODES) != QOLB_DONE) abort();
 }
 static void open_port(struct port *p, int thread) { p->node = qolb_move(&nodes[thread]); }
 static void close_port(struct port *p, int thread) { nodes[thread] = qolb_move(&p->node); }
@@ -109,7 +109,7 @@ static uint64_t now_nanos(void) {
     return (uint64_t)now.tv_sec * 1000000000 + (uint64_t)now.tv_nsec;
 }
 
-// Keeps the processor busy for a turn, and gives back how long it was from the request until it began.
+// Keeps the processor busy for a turn, and returns the time from the request to the begin of the turn.
 static uint64_t spend_turn(uint64_t asked) {
     uint64_t came = now_nanos();
     if (turn_nanos)
@@ -141,11 +141,11 @@ int main(int argc, char **argv) {
     (void)take, (void)put, (void)add_one, (void)pause_or_yield;
     int threads = argc > 1 ? atoi(argv[1]) : 4;
     uint64_t micros = argc > 2 ? strtoull(argv[2], NULL, 10) : 0, seconds = argc > 3 ? strtoull(argv[3], NULL, 10) : 1;
-    if (threads < 1 || threads > MOST_NODES) return 2;
+    if (threads < 1 || threads > MAX_NODES) return 2;
     turn_nanos = micros * 1000;
     time_nanos = seconds * 1000000000;
     open_lock(threads);
-    pthread_t ids[MOST_NODES];
+    pthread_t ids[MAX_NODES];
     start = now_nanos();
     for (intptr_t k = 0; k < threads; k++)
         if (pthread_create(&ids[k], NULL, work, (void *)k)) return 3;

@@ -1,5 +1,5 @@
-/* One line that several objects wait for and release: this program, an object that was built with an older header, a library that the program opens at
- * run time, and calls that it finds by their names. Whoever lets the line go wakes whoever sleeps. Prints nothing but what went wrong. */
+/* One line that several objects wait for and release: this program, an object that was built with an older header, a library that the program
+ * opens at run time, and calls that it finds by their names. A release by each wakes the waiters of each. Prints only errors. */
 #define _GNU_SOURCE
 #include "beside.h"
 #include <dlfcn.h>
@@ -21,7 +21,7 @@ static void *named(const char *name) {
     return found;
 }
 
-/* What dlsym gives is no pointer to a function by C, but by POSIX. */
+/* The result of dlsym is not a pointer to a function by C, but by POSIX. */
 static void find_all(void) {
     const struct calls *(*opened)(void);
     void *library = dlopen(PLUGIN_FILE, RTLD_NOW | RTLD_LOCAL);
@@ -53,7 +53,7 @@ static void *waits(void *argument) {
     return NULL;
 }
 
-/* One waits by these calls, and the holder lets go by those. Who waits as before looks on and sleeps nowhere. */
+/* A waiter uses these calls, and the holder releases by those. A waiter of an older header polls and sleeps nowhere. */
 static int wakes(uint32_t kind, int waits_by, int lets_go_by, int is_limited, int shuts) {
     static struct waiter waiter;
     qolb_bytes zeros = {{0}};

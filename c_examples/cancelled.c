@@ -1,5 +1,5 @@
-/* A thread that is cancelled while it waits goes on waiting: it is granted the line, or is late, and ends at its next cancellation point. So no request
- * of a thread that is gone stands in the queue, and the line goes on. Prints nothing but what went wrong. */
+/* A thread that is cancelled while it waits goes on waiting: it is granted the line, or is late, and ends at its next cancellation point. So no
+ * request of an ended thread is in the queue, and the line is handed on. Prints only errors. */
 #define _POSIX_C_SOURCE 200809L
 #include <pthread.h>
 #include <qolb.h>
@@ -41,7 +41,7 @@ static void *waits(void *argument) {
     return NULL;
 }
 
-/* The waiter is cancelled while another node holds the line; busy, where a request of its node is withdrawn and not passed yet. */
+/* The waiter is cancelled while another node holds the line; `busy` if a request of its node is withdrawn and not passed yet. */
 static int cancelled(uint32_t kind, int how, int busy) {
     qolb_bytes zeros = {{0}};
     qolb_node n[3] = {{0}};

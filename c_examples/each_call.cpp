@@ -1,5 +1,5 @@
-// Each call of a node in each of its states, over a line of each kind: what it answers or throws, and where the node stands then. Linked with --wrap for
-// clock_gettime and syscall, so that no time passes but in sleeps with a limit. Prints nothing but what went wrong.
+// Each call of a node in each of its states, over a line of each kind: its answer or exception, and the state after it. Linked with --wrap for
+// clock_gettime and syscall, so that time passes only in sleeps with a limit. Prints only errors.
 #include <qolb.hpp>
 
 #include <chrono>
@@ -28,7 +28,7 @@ extern "C" int __wrap_clock_gettime(clockid_t, struct timespec *out) {
 
 extern "C" long __real_syscall(long number, ...);
 
-// The library's calls of the system: sleeping at a word, and waking those that do.
+// The library's system calls: sleeping at a word, and waking its sleepers.
 extern "C" long __wrap_syscall(long number, ...) {
     constexpr int wait = 128;
     if (number != SYS_futex) return __real_syscall(number);
@@ -51,8 +51,8 @@ constexpr std::size_t states = 8;
 constexpr qolb_node_state every_state[states] = {QOLB_STATE_EMPTY,   QOLB_STATE_IDLE, QOLB_STATE_LINKING, QOLB_STATE_QUEUED,
                                                  QOLB_STATE_HOLDING, QOLB_STATE_LEFT, QOLB_STATE_ROLLED,  QOLB_STATE_SHUT};
 
-// A line of three nodes. The second is `node`, which stands in the wanted state: where it waits or was withdrawn the first holds the line, and where it
-// has left the third has not linked yet.
+// A line of three nodes. The second is `node`, in the wanted state: if it waits or was withdrawn, the first holds the line, and if it has left, the
+// third has not linked yet.
 struct Line {
     std::vector<qolb::Node> nodes;
     qolb::Node node;
@@ -85,10 +85,10 @@ constexpr qolb_node_state EMPTY = QOLB_STATE_EMPTY, IDLE = QOLB_STATE_IDLE, LINK
                           HOLDS = QOLB_STATE_HOLDING, LEFT = QOLB_STATE_LEFT, ROLLED = QOLB_STATE_ROLLED, SHUT = QOLB_STATE_SHUT;
 constexpr qolb_answer DONE = QOLB_DONE, GRANTED = QOLB_GRANTED, CLOSED = QOLB_CLOSED, BUSY = QOLB_BUSY, NO = QOLB_MISUSE;
 
-// What a call that may throw ended with.
+// The outcome of a call that may throw.
 enum Ended { has = 100, has_not, throws_closed, throws_misuse, does };
 
-// A call, what it tells in each state, in the order of the numbers of the states, and where the node stands then.
+// A call, its answer in each state, in the order of the states' numbers, and the state after it.
 struct Row {
     const char *name;
     std::function<int(Line &)> call;
@@ -106,7 +106,7 @@ template <class Call> int ended(Call call) {
     }
 }
 
-// While another thread lets the line go on, so that a call that waits as long as it takes does not wait for ever.
+// Another thread releases the line meanwhile, so that a call that waits as long as it takes does not wait for ever.
 template <class Call> int meanwhile(Line &line, Call call) {
     std::thread other([&line] {
         usleep(2000);
@@ -157,7 +157,7 @@ const std::vector<Row> rows = {
     {"a move onto itself", [](Line &l) { qolb::Node &same = l.node; l.node = std::move(same); return static_cast<int>(DONE); }, {DONE, DONE, DONE, DONE, DONE, DONE, DONE, DONE}, STAYS},
 };
 
-// Which rows a line of this kind has besides: the first half of asking is a list's alone, and so is the state in which a node stands that is busy no more.
+// The further rows of a line of this kind: only a list has the first half of a request, and the state of a node that is not busy any more.
 struct Of {
     Row prepend, clear;
 };
@@ -183,7 +183,7 @@ bool holds(const Row &row, qolb_kind kind, std::size_t k) {
     return false;
 }
 
-// A time with a part of a nanosecond is rounded up: late comes not before it.
+// A time with a part of a nanosecond is rounded up: late is not answered before it.
 bool rounds_up(qolb_kind kind) {
     using namespace std::chrono;
     Line line(kind, ROLLED);
@@ -196,7 +196,7 @@ bool rounds_up(qolb_kind kind) {
         bool late = line.node.acquire_for(duration<double, std::nano>(time.nanoseconds)) == qolb::Got::late;
         if (!late || now - since != time.wanted) return std::printf("%f ns: late after %llu\n", time.nanoseconds, static_cast<unsigned long long>(now - since)), false;
     }
-    // So is one of a period as fine as can be, where an hour would not fit its number; and of a coarse one.
+    // The same for a period as fine as can be, where an hour would not fit its number; and for a coarse one.
     std::uint64_t since = now;
     if (line.node.acquire_for(duration<std::int64_t, std::atto>(1)) != qolb::Got::late || now - since != 1) return false;
     since = now;
@@ -205,7 +205,7 @@ bool rounds_up(qolb_kind kind) {
     return line.node.acquire_for(duration<int, std::ratio<60>>(1)) == qolb::Got::late && now - since == 60000000000;
 }
 
-// What a ticket line of two nodes keeps: four cells of 256 bytes, the line, two nodes, and a gap behind each of five blocks.
+// The bytes of a ticket line of two nodes: four cells of 256 bytes, the line, two nodes, and a gap behind each of five blocks.
 bool tells_memory() {
     constexpr std::uint64_t keeps = 4 * 256 + 112 + 2 * 168 + 5 * 128;
     return qolb::memory(QOLB_TICKET, 2) == keeps && qolb::memory(QOLB_TICKET, 0) == 0 && qolb::memory(QOLB_TICKET, 201) == 0;

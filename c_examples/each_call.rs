@@ -1,5 +1,5 @@
-//! Each call of a node in each of its states, over a line of each kind: what it answers, and where the node stands then; what is printed of nodes and
-//! answers; and that a thread that is cancelled while it waits goes on. Prints nothing but what went wrong.
+//! Each call of a node in each of its states, over a line of each kind: its answer, and the state after it; the text of nodes and answers; and that a
+//! thread that is cancelled while it waits goes on. Prints only errors.
 #[path = "../include/qolb.rs"]
 mod qolb;
 
@@ -13,11 +13,11 @@ use std::time::Duration;
 const LABEL: u64 = 7;
 const LEASE: u64 = 9;
 const SHORT: Duration = Duration::from_micros(50);
-/// The states in which a node can be, in the order of the columns below. `Linking` and `Left` are of a list alone.
+/// The states of a node, in the order of the columns below. Only a list has `Linking` and `Left`.
 const STATES: [State; 7] = [State::Idle, State::Linking, State::Queued, State::Holding, State::Left, State::Rolled, State::Shut];
 
-/// A line of three nodes. `node` is the second, which stands in the wanted state: if it waits or was withdrawn, the first holds the line, and if it has
-/// left, the third has not linked yet.
+/// A line of three nodes. `node` is the second, in the wanted state: if it waits or was withdrawn, the first holds the line, and if it has left, the
+/// third has not linked yet.
 struct Line {
     node: Node,
     first: Node,
@@ -58,7 +58,7 @@ impl Line {
         Line { node, first, third }
     }
 
-    /// Makes the call while another thread lets the line go on, so that a call that waits as long as it takes does not wait for ever.
+    /// Makes the call while another thread releases the line, so that a call that waits as long as it takes does not wait for ever.
     fn meanwhile<T>(&mut self, call: impl FnOnce(&mut Node) -> T) -> T {
         let Line { node, first, third } = self;
         thread::scope(|scope| {
@@ -73,7 +73,7 @@ impl Line {
     }
 }
 
-/// What a call of a guard told: whether there was one, or why not.
+/// The result of a call of a guard: whether there was one, or the cause.
 fn of_guard(told: Result<Option<Guard<'_>>, Stopped>) -> String {
     match told {
         Ok(Some(turn)) => format!("{turn:?}").contains("Holding").to_string(),
@@ -82,7 +82,7 @@ fn of_guard(told: Result<Option<Guard<'_>>, Stopped>) -> String {
     }
 }
 
-/// A call, what it tells in each state, as `Debug` says it, and where the node stands then.
+/// A call, its answer in each state, as `Debug` writes it, and the state after it.
 type Row = (&'static str, fn(&mut Line) -> String, [&'static str; 7], [State; 7]);
 
 fn told(answer: Answer) -> String {
@@ -127,7 +127,7 @@ fn prepends(line: &mut Line) -> String {
     told(line.node.prepend())
 }
 
-/// If the node was busy it is not any more.
+/// A busy node is not busy any more.
 fn is_clear_then(line: &mut Line) -> String {
     let _ = line.third.link();
     line.third.deqolb();
@@ -135,7 +135,7 @@ fn is_clear_then(line: &mut Line) -> String {
     told(line.node.clear())
 }
 
-/// The first half of asking is a list's alone, and so is the state in which a node stands that is busy no more.
+/// Only a list has the first half of a request, and the state of a node that is not busy any more.
 #[rustfmt::skip]
 const OF_LIST: [Row; 2] = [
     ("prepend", prepends, ["Granted", NO, NO, NO, "Busy", "Busy", "Closed"], [Holding, Linking, Queued, Holding, Left, Rolled, Shut]),

@@ -1,4 +1,4 @@
-/* What a fork does: parent and child have a line each, both as the one was, and neither sees what the other does. Prints nothing but what went wrong. */
+/* After a fork parent and child have a line each, both in the same state, and neither sees what the other does. Prints only errors. */
 #define _POSIX_C_SOURCE 200809L
 #include <qolb.h>
 #include <stdio.h>
@@ -15,7 +15,7 @@
         }                                                                                      \
     } while (0)
 
-/* The first node holds the line, with this in its lane 0, and the second waits: it goes on from there, and leaves its own number in the line. */
+/* The first node holds the line, with this in its lane 0, and the second waits: it continues from there, and leaves its own number in the line. */
 static int goes_on(qolb_node *n, uint64_t was, uint64_t leaves) {
     uint64_t lane;
     WANT(qolb_state(&n[0]), QOLB_STATE_HOLDING);
@@ -56,11 +56,11 @@ static int forks(uint32_t kind) {
     }
     WANT(waitpid(child, &ended, 0) == child, 1);
     WANT(WIFEXITED(ended) && WEXITSTATUS(ended) == 0, 1);
-    /* Of all that the parent sees nothing: its node holds the line still, as it was. */
+    /* The parent sees nothing of all that: its node still holds the line, unchanged. */
     return goes_on(n, 5, 7) || closes(n);
 }
 
-/* So it is with a lock, which is held at the fork. */
+/* The same test with a lock, which is held at the fork. */
 static int lock_goes_on(qolb_lock *lock, uint64_t was, uint64_t leaves) {
     uint64_t lane;
     WANT(qolb_lock_try(lock), QOLB_BUSY);

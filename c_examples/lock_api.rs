@@ -1,4 +1,4 @@
-//! A mutex of the crate `lock_api` over the lock of qolb.rs. Prints nothing but what went wrong.
+//! A mutex of the crate `lock_api` over the lock of qolb.rs. Prints only errors.
 #[path = "../include/qolb.rs"]
 mod qolb;
 use lock_api::{Mutex, MutexGuard};

@@ -1,8 +1,8 @@
-/* Locks for threads that come and go: what each call answers, who is served first, conditions, and much use by many threads.
+/* Locks for threads that come and go: the answer of each call, the order of service, conditions, and heavy use by many threads.
  *
  *   build/locks [SECONDS]     1200: where a turn is lost, who waits for it does not end, and the program is ended after so many
  *
- * Prints nothing but what went wrong. The thread sanitizer sees the data, and must be quiet. */
+ * Prints only errors. The thread sanitizer sees the data, and must be quiet. */
 #define _GNU_SOURCE
 #include <qolb.h>
 #include <signal.h>
@@ -12,7 +12,7 @@
 
 enum { MOST = 200 };
 
-/* A thread that a test starts: its number, which it says itself right before it waits. */
+/* A thread that a test starts: its number, which it reports right before it waits. */
 struct helper {
     pthread_t id;
     atomic_int number;
@@ -53,7 +53,7 @@ static int of_a_closed_one(void) {
     return 0;
 }
 
-/* What another thread is answered by a holder's lock and by the node that it was lent. */
+/* The answers to another thread, of a holder's lock and of the node that it was lent. */
 static void *of_another(void *argument) {
     struct helper *me = argument;
     qolb_node *lent = qolb_lock_turn(me->lock);
@@ -130,7 +130,7 @@ static int of_others(qolb_lock *lock) {
     return 0;
 }
 
-/* Shut, it tells all that come; closed and used again it is as after its initialiser, of the kind and the seats that it had. */
+/* A shut lock answers CLOSED to all later threads; closed and used again it is as after its initialiser, with its kind and its seats. */
 static int of_a_shut_one(qolb_lock *lock) {
     uint32_t kind = lock->kind, seats = lock->seats;
     uint64_t lane;
@@ -203,7 +203,7 @@ static void *notes_its_turn(void *argument) {
     return NULL;
 }
 
-/* Some threads were late before, so that their seats are busy; and a thread tried. Who waits takes no processor. */
+/* Some threads were late before, so that their seats are busy; and a thread tried. Waiting threads take no processor. */
 static int in_order(uint32_t kind) {
     enum { THREADS = 8, LATE = 3 };
     static qolb_lock lock = QOLB_LOCK_INIT(1 + LATE + LATE + THREADS); /* the holder, those that were late, and those that wait */
@@ -237,8 +237,8 @@ static int in_order(uint32_t kind) {
     return 0;
 }
 
-/* Who leaves wakes the next holder and the one behind it, and all others sleep on: so each sleeps twice at most, and perhaps where the system has it
- * wait. If each that leaves woke all, the last would sleep twelve times. */
+/* A leave wakes the next holder and the waiter behind it, and all others sleep on: so each sleeps at most twice, and perhaps once more if the
+ * system delays it. If each leave woke all, the last would sleep twelve times. */
 static void *has_a_long_turn(void *argument) {
     struct helper *me = argument;
     about_to_wait(&me->number);
@@ -270,7 +270,7 @@ static int others_sleep_on(uint32_t kind) {
     return 0;
 }
 
-/* More threads than seats: each is served, also where every seat is busy for a while, and a late one for want of a seat is late. */
+/* More threads than seats: each is served, also if every seat is busy for a while, and a thread that is late without a seat is late. */
 static int without_a_seat(uint32_t kind) {
     enum { THREADS = 6 };
     static qolb_lock lock = QOLB_LOCK_INIT(2);
@@ -296,7 +296,7 @@ static int without_a_seat(uint32_t kind) {
     return 0;
 }
 
-/* A thread that is cancelled while it sleeps waits on, has its turn, and ends at its next cancellation point. */
+/* A thread that is cancelled while it sleeps goes on waiting, has its turn, and ends at its next cancellation point. */
 static void *is_cancelled(void *argument) {
     struct helper *me = argument;
     about_to_wait(&me->number);
@@ -337,7 +337,7 @@ static int cancelled(void *(*work)(void *)) {
     return 0;
 }
 
-/* Who waits for a second takes no processor: for a lock, for a seat of it, at a condition, and with a node. */
+/* A wait of a second takes no processor: for a lock, for a seat of it, at a condition, and with a node. */
 static void *waits_a_second(void *argument) {
     struct helper *me = argument;
     double since = used().processor;
@@ -395,7 +395,7 @@ static int waiters_take_no_processor(void) {
     return 0;
 }
 
-/* All that wait when the lock is shut are told: for a turn, for a seat, and at a condition. */
+/* All threads that wait when the lock is shut are answered CLOSED: for a turn, for a seat, and at a condition. */
 static void *waits_at_condition(void *argument) {
     struct helper *me = argument;
     MUST(qolb_lock_enter(me->lock), QOLB_GRANTED);
@@ -439,7 +439,7 @@ static int served_by(qolb_lock *lock, int less) {
     return served;
 }
 
-/* A signal tells the one that has waited longest and no other; who is late stands there no more; a broadcast tells all. */
+/* A signal wakes the thread that has waited longest and no other; a late thread is not in the list any more; a broadcast wakes all. */
 static int told_in_order(uint32_t kind) {
     enum { THREADS = 7 };
     static qolb_lock lock = QOLB_LOCK_INIT(THREADS + 1);
@@ -475,7 +475,7 @@ static int told_in_order(uint32_t kind) {
     return 0;
 }
 
-/* A signal of the system ends the sleep of who waits at a condition, and tells it nothing: it waits on. */
+/* A signal of the system ends the sleep at a condition, and is no signal of the condition: the thread waits on. */
 static void does_nothing(int signal) { (void)signal; }
 
 static int interrupted(uint64_t nanoseconds) {
@@ -500,7 +500,7 @@ static int interrupted(uint64_t nanoseconds) {
     return 0;
 }
 
-/* A box of one place between makers and takers, some of whom wait at most so long. */
+/* A box of one place between makers and takers, some of whom wait with a time limit. */
 static struct {
     qolb_lock lock;
     qolb_cond full, empty;
@@ -612,7 +612,7 @@ static void *uses(void *argument) {
     return NULL;
 }
 
-/* Threads come and go: each wave is joined, and another comes, before the next line of kinds, seats and ends. */
+/* Threads come and go: each wave is joined, and another starts, before the next combination of kinds, seats and ends. */
 static int much_use(uint32_t kind, unsigned threads, unsigned seats, int ends_by_shut) {
     static struct helper helpers[MOST];
     long had = 0;
@@ -636,7 +636,7 @@ static int much_use(uint32_t kind, unsigned threads, unsigned seats, int ends_by
     return 0;
 }
 
-/* The last that uses a lock may free it as soon as it has left, though the one before is still in its last call. */
+/* The last user of a lock may free it as soon as it has left, even if the thread before is still in its last call. */
 struct owned {
     qolb_lock lock;
     int users;

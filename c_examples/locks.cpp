@@ -1,8 +1,8 @@
 // The lock, its condition and the guarded value of qolb.hpp: with the guards and the condition of the standard library, by threads that come and go,
-// with time limits, shut, and misused. Prints nothing but what went wrong.
+// with time limits, shut, and misused. Prints only errors.
 //
-// The thread sanitizer sees the data, and must be quiet. Built with -DUNGUARDED some of it is used outside of the turns of a guarded value, and then it must
-// not be.
+// The thread sanitizer sees the data, and must be quiet. Built with -DUNGUARDED some data are used outside of the turns of a guarded value, and then
+// it must report.
 #include <qolb.hpp>
 
 #include <atomic>
@@ -28,7 +28,7 @@ using namespace std::chrono_literals;
         }                                                  \
     } while (0)
 
-// Whether the work throws this.
+// Returns whether the work throws this.
 template <class Thrown, class Work> bool throws(Work work) {
     try {
         work();
@@ -148,8 +148,8 @@ bool condition_ends() {
     return true;
 }
 
-// Whoever is notified was told, also within a limit. A limit ends a wait that is notified again and again, and begins once. At its end, without any
-// notice, what is so is told.
+// Each notified thread is woken, also within a limit. A limit ends a wait that is notified again and again, and begins once. At its end, without a
+// notification, the value of the predicate is returned.
 bool condition_tells() {
     qolb::lock lock;
     qolb::Condition cond;

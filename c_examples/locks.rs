@@ -1,5 +1,5 @@
-//! The locks of qolb.rs by threads that come and go: a mutex, a condition, a value in the line; with time limits, shut, and by panics. Prints nothing but
-//! what went wrong.
+//! The locks of qolb.rs by threads that come and go: a mutex, a condition, a value in the line; with time limits, shut, and by panics. Prints only
+//! errors.
 #[path = "../include/qolb.rs"]
 mod qolb;
 

@@ -1,12 +1,12 @@
-/* What a line takes of the heap, and a lock: the bytes that stay taken after qolb_open and after a lock's first use, by kind and number of nodes or of seats,
- * as malloc_usable_size counts them. What qolb_memory tells is to be what opening has asked for and keeps. What two nodes keep is to lie in no two cache
- * lines that are fetched together. */
+/* The heap bytes of a line, and of a lock: those that stay taken after qolb_open and after a lock's first use, by kind and number of nodes or of
+ * seats, as malloc_usable_size counts them. qolb_memory must return what opening has allocated and keeps. The data of two nodes must be in no two
+ * cache lines that are fetched together. */
 #include <malloc.h>
 #include <qolb.h>
 #include <stdio.h>
 #include <stdlib.h>
 
-/* Of all blocks that are taken: the bytes that they have, and those that were asked for. */
+/* For all allocated blocks: their usable bytes, and the requested ones. */
 static size_t taken, asked;
 static struct {
     void *block;
@@ -17,7 +17,7 @@ void *__real_malloc(size_t size);
 void *__real_realloc(void *block, size_t size);
 void __real_free(void *block);
 
-/* Where the block stands; of NULL a place that is free. */
+/* The block's place in the table; for NULL a free place. */
 static size_t place_of(const void *block) {
     for (size_t k = 0; k < sizeof blocks / sizeof blocks[0]; k++)
         if (blocks[k].block == block) return k;
@@ -44,7 +44,7 @@ static void gives_back(void *block) {
 
 void *__wrap_malloc(size_t size) { return takes(__real_malloc(size), size); }
 
-/* Where there is no memory the block stays. */
+/* If there is no memory the block stays. */
 void *__wrap_realloc(void *block, size_t size) {
     size_t before = block ? blocks[place_of(block)].asked : 0;
     gives_back(block);
@@ -57,7 +57,7 @@ void __wrap_free(void *block) {
     __real_free(block);
 }
 
-/* Whether the nodes lie so far apart. What a node keeps is above 128 bytes, and begins where its handle points. */
+/* Returns whether the nodes are this far apart. The data of a node are above 128 bytes, and begin where its handle points. */
 static int apart(const qolb_node *node, uint64_t nodes) {
     for (uint64_t a = 0; a < nodes; a++) {
         for (uint64_t b = 0; b < a; b++) {
@@ -68,7 +68,7 @@ static int apart(const qolb_node *node, uint64_t nodes) {
     return 1;
 }
 
-/* Whether qolb_memory tells what a line of so many nodes has asked for and keeps, and takes nothing by that. */
+/* Returns whether qolb_memory returns what a line of this many nodes has allocated and keeps, and allocates nothing itself. */
 static int is_told(uint32_t kind, uint64_t nodes) {
     qolb_bytes zeros = {{0}};
     qolb_node node[200] = {{0}};
@@ -82,7 +82,7 @@ static int is_told(uint32_t kind, uint64_t nodes) {
     return printf("kind %d nodes %d: keeps %zu, and is told to keep %zu\n", (int)kind, (int)nodes, keeps, (size_t)told), 0;
 }
 
-/* So it is with few nodes and many; and of a line that opening refuses nothing is told. */
+/* The same for few nodes and many; and 0 for a line that opening refuses. */
 static int all_are_told(void) {
     static const uint64_t nodes[] = {1, 2, 3, 8, 64, 200}, refused[] = {0, 201, UINT64_MAX};
     for (uint32_t kind = QOLB_RING; kind <= QOLB_TICKET; kind++) {

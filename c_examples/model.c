@@ -2,9 +2,9 @@
  *
  *   build/model [CALLS [SEED]]        300,000 calls, seed 1
  *
- * Prints nothing but the first difference. The model is written from qolb.h: a queue of requests, of which the first that is not withdrawn has the
- * turn, and a line that lies with the first request, at home where there is none, or in a list with the last one that ended, where the one behind
- * it has not linked yet. */
+ * Prints only the first difference. The model is written from qolb.h: a queue of requests, of which the first that is not withdrawn has the turn.
+ * The line is with the first request, at home if there is none, or in a list with the last request that ended, if the successor has not linked
+ * yet. */
 #include <qolb.h>
 #include <stdio.h>
 #include <stdlib.h>
@@ -12,7 +12,7 @@
 
 enum { MOST = 200, NOBODY = 0 };
 
-/* What the model knows of a node, numbered from 1, and of the line. */
+/* The model's state of a node, numbered from 1, and of the line. */
 struct node {
     uint32_t state;
     int busy;
@@ -67,7 +67,7 @@ static int may_ask(unsigned n) {
 
 static void drop_first(void) { memmove(model.queue, model.queue + 1, --model.waiting * sizeof model.queue[0]); }
 
-/* The first request ends, and the line goes on: over those that were withdrawn, as far as the requests are linked. */
+/* The first request ends, and the line is handed on: past the withdrawn requests, as far as the requests are linked. */
 static void goes_on(void) {
     unsigned from = model.queue[0].node;
     drop_first();
@@ -81,13 +81,13 @@ static void goes_on(void) {
     }
 }
 
-/* The node's turn is over, and leaves it in this state. */
+/* The node's turn is over, and it is then in this state. */
 static void ends(unsigned n, uint32_t state) {
     goes_on();
     model.node[n].state = model.lies_with == n ? (uint32_t)QOLB_STATE_LEFT : state;
 }
 
-/* The line has come to the node's request, which is the first: it is granted, or told. */
+/* The line has reached the node's request, which is the first: it is granted, or told. */
 static uint32_t comes(unsigned n) {
     if (!model.closed) {
         model.node[n].state = QOLB_STATE_HOLDING;
@@ -121,7 +121,7 @@ static uint32_t links(unsigned n) {
     return comes(n);
 }
 
-/* A list's node that is not busy stands as one that has not asked. */
+/* A list's node that is not busy is as one that has made no request. */
 static uint32_t clears(unsigned n) {
     if (!may_ask(n)) return QOLB_MISUSE;
     if (model.node[n].busy) return QOLB_BUSY;
@@ -160,7 +160,7 @@ static uint32_t closes(unsigned n) {
     return QOLB_DONE;
 }
 
-/* What the header's calls make of these. */
+/* The header's calls over these. */
 static uint32_t tries(unsigned n, uint32_t late) {
     uint32_t got = asks(n, 0);
     if (got == QOLB_BUSY) return late;
@@ -244,7 +244,7 @@ static void call(unsigned n) {
     done++;
 }
 
-/* A line is opened, called at random for a while, and let go of: all that wait are withdrawn, and those that hold release. */
+/* A line is opened, called at random for a while, and closed: all waiting nodes are withdrawn, and holders release. */
 static void one_line(void) {
     qolb_bytes opening;
     for (int k = 0; k < 64; k++) opening.byte[k] = (uint8_t)draw(256);
@@ -267,7 +267,8 @@ static void one_line(void) {
 
 /* ---- Locks ----
  *
- * By one thread, which either holds the lock or does not. Where it would wait it does so for a moment, and is late; and it never enters what it holds. */
+ * By one thread, which either holds the lock or does not. If a call would wait, it does so for a moment, and is late; and the thread never enters
+ * a lock that it holds. */
 
 static struct {
     qolb_lock lock;

@@ -1,5 +1,5 @@
-/* What a program may want of the C library's mutexes and condition variables. `make check` runs it as it is, and with every mutex a line (preload.c): both
- * must answer the same. Prints nothing but what went wrong. */
+/* The C library's mutexes and condition variables, as a program may use them. `make check` runs it as it is, and with every mutex a line
+ * (preload.c): both must answer the same. Prints only errors. */
 #define _GNU_SOURCE
 #include <errno.h>
 #include <pthread.h>
@@ -61,7 +61,7 @@ static void *takes(void *mutex) {
     return NULL;
 }
 
-/* An ordinary one is let go by any thread, and then it is free. */
+/* An ordinary mutex may be unlocked by any thread, and then it is free. */
 static void of_an_ordinary_one(void) {
     WANT(pthread_mutex_lock(&ordinary), 0);
     in_another_thread(finds_it_locked, &ordinary);
@@ -88,7 +88,7 @@ static void of_others(void) {
     in_another_thread(takes, &recursive);
 }
 
-/* A mutex in place of a semaphore: one thread locks it again and again, and the other alone unlocks it. */
+/* A mutex used as a semaphore: one thread locks it again and again, and only the other unlocks it. */
 static void *lets_go_again_and_again(void *mutex) {
     for (int k = 0; k < 200; k++) {
         while (__atomic_load_n(&rounds, __ATOMIC_SEQ_CST) != k + 1) sched_yield();

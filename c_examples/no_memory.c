@@ -1,4 +1,6 @@
-/* Each allocation of an opening is refused in turn: the opening is then refused, the handles stay empty, and what it took is given back. No call
+/* Each allocation of an opening is refused in turn: the opening is then refused, the handles stay empty, and its memory is freed. Only opening and
+ * closing allocate or free, or write to a handle: the proved calls put the same node back. The same for a lock, which its first use may open. Linked
+ * with --wrap for malloc, realloc and free. Prints only errors.
  * but opening and closing takes memory or gives any back, or writes to its handle: the proved ones put the same node back. So it is with a lock, which its
  * first use may open.
  * Linked with --wrap for malloc, realloc and free. Prints nothing but what went wrong. */
@@ -60,7 +62,7 @@ static int refused_in_turn(uint32_t kind) {
     }
 }
 
-/* While nobody may write to the handles: who does is ended by SIGSEGV. */
+/* While no call may write to the handles: a write is ended by SIGSEGV. */
 static int calls_take_none(uint32_t kind) {
     enum { PAGE = 4096 };
     qolb_bytes bytes = {{0}};
@@ -90,7 +92,7 @@ static int calls_take_none(uint32_t kind) {
     return munmap(nodes, PAGE);
 }
 
-/* The proved calls by which those on a node are made: each leaves the node in its handle that was there. */
+/* The proved calls behind those on a node: each leaves the same node in its handle. */
 static int puts_the_same_back(uint32_t kind) {
     qolb_bytes bytes = {{0}};
     qolb_node one[2] = {{0}}, *two = one + 1;
@@ -113,8 +115,8 @@ static int puts_the_same_back(uint32_t kind) {
     return 0;
 }
 
-/* Each allocation of a lock's first use, or of its opening, is refused in turn: then the lock is closed as before, and keeps nothing. The next use opens
- * it. Entering, leaving and waiting take nothing. */
+/* Each allocation of a lock's first use, or of its opening, is refused in turn: then the lock is closed as before, and keeps nothing. The next use
+ * opens it. Entering, leaving and waiting allocate nothing. */
 static uint32_t used_first(qolb_lock *lock, uint32_t kind, unsigned way) {
     qolb_bytes zeros = {{0}};
     switch (way) {

@@ -1,5 +1,5 @@
-//! Each allocation of an opening is refused in turn, of a line's and of a lock's, which its first use may open: it is told by `NoMemory`. Linked with
-//! --wrap for malloc. Prints nothing but what went wrong.
+//! Each allocation of an opening is refused in turn, of a line's and of a lock's, which its first use may open: the answer is `NoMemory`. Linked with
+//! --wrap for malloc. Prints only errors.
 #[path = "../include/qolb.rs"]
 mod qolb;
 
@@ -8,7 +8,7 @@ use std::ffi::c_void;
 use std::ptr::null_mut;
 use std::sync::atomic::{AtomicU64, Ordering};
 
-/// Which allocation from now on is refused; 0 where none is.
+/// The allocation to refuse, counted from now on; 0 for none.
 static REFUSED: AtomicU64 = AtomicU64::new(0);
 
 unsafe extern "C" {
@@ -25,11 +25,11 @@ extern "C" fn __wrap_malloc(size: usize) -> *mut c_void {
         }
         more => REFUSED.store(more - 1, Ordering::SeqCst),
     }
-    // SAFETY: as the caller's.
+    // SAFETY: the caller's.
     unsafe { __real_malloc(size) }
 }
 
-/// Opens with each allocation refused in turn, from this one on, until none is. How many were.
+/// Opens with each allocation refused in turn, from this one on, until none is. Returns the number of refused ones.
 fn refused(first: u64, open: impl Fn() -> Option<Answer>) -> u64 {
     for n in first.. {
         REFUSED.store(n, Ordering::SeqCst);
@@ -43,7 +43,7 @@ fn refused(first: u64, open: impl Fn() -> Option<Answer>) -> u64 {
     unreachable!()
 }
 
-/// Enters and leaves: nothing, or why it could not.
+/// Enters and leaves. Returns nothing, or the cause why it could not.
 fn enters(raw: &RawQolb) -> Option<Answer> {
     let told = raw.enter();
     raw.leave();
@@ -52,7 +52,7 @@ fn enters(raw: &RawQolb) -> Option<Answer> {
 
 fn main() {
     for kind in [Kind::Ring, Kind::List, Kind::Ticket] {
-        // The first is for the handles, in Rust.
+        // The first allocation is for the handles, in Rust.
         assert!(refused(2, || qolb::open(kind, 1, 5, None, &Bytes([0; 64])).err()) >= 3);
         assert!(refused(1, || Lock::of_kind(7u64, kind, 5).err()) >= 4);
         assert!(refused(1, || enters(&RawQolb::of_kind(kind, 5))) >= 4);

@@ -1,4 +1,5 @@
-/* A library that a program opens at run time, and an object that a program in Rust is linked with: C that waits and releases by nodes of the program's. */
+/* A library that a program opens at run time, and an object that a program in Rust is linked with: C that waits and releases with the program's
+ * nodes. */
 #include "beside.h"
 #include <qolb.h>
 

@@ -1,15 +1,15 @@
-/* Any program's mutexes as lines: a library to be preloaded, for a client that knows nothing of lines.
+/* Any program's mutexes as lines: a library to be preloaded, for a program that knows nothing of lines.
  *
  *   make -C c_examples build/preload.so && LD_PRELOAD=c_examples/build/preload.so PROGRAM        (glibc)
  *
- * Each ordinary mutex that the program locks gets a qolb_lock of its own, and each condition variable by which it waits with one a qolb_cond.
- * Recursive, error-checking, robust and shared mutexes stay the C library's. A thread that is cancelled while it waits at a condition ends once it is
- * told. As the C library's, such a mutex is unlocked by any thread, and of one that is not locked an unlock changes nothing.
+ * Each ordinary mutex that the program locks gets its own qolb_lock, and each condition variable by which it waits with one a qolb_cond. Recursive,
+ * error-checking, robust and shared mutexes stay the C library's. A thread that is cancelled while it waits at a condition ends once it is signalled.
+ * As with the C library, any thread may unlock such a mutex, and unlocking a free one changes nothing.
  *
  * QOLB_KIND=list makes them lists and QOLB_KIND=ring rings; else they are ticket lines.
  *
- * With QOLB_REPORT=FILE the program's last act is to append a line there: the number of their kind, how many mutexes were lines, how often one was granted,
- * was late or was not free at once, and how often two threads were in one at the same time, which must be 0. */
+ * With QOLB_REPORT=FILE the program appends a line there at its end: the number of their kind, the number of mutexes that were lines, how often
+ * one was granted, was late or was not free at once, and how often two threads were in one at the same time, which must be 0. */
 #define _GNU_SOURCE
 #include <dlfcn.h>
 #include <errno.h>
@@ -22,13 +22,13 @@
 
 enum { SEATS = 64, MOST = 1 << 14 };
 
-/* A mutex, and how many threads are in it. */
+/* A mutex, and the number of threads in it. */
 struct line {
     qolb_lock lock;
     atomic_int inside;
 };
 
-/* Addresses of mutexes and of condition variables. Entries are never taken away: an address that is used again finds its own. */
+/* Addresses of mutexes and of condition variables. Entries are never removed: an address that is used again finds its own. */
 struct table {
     _Atomic(void *) key[MOST];
 };
@@ -61,7 +61,7 @@ REAL(cond_broadcast, "GLIBC_2.3.2", int, pthread_cond_t *)
 
 /* ---- Lines ---- */
 
-/* Where the address stands in the table, or is put now; -1 where the table is full. */
+/* The place of the address in the table, where it is put if it is new; -1 if the table is full. */
 static int entry(struct table *table, void *key) {
     size_t at = (size_t)key / 8 * 0x9e3779b97f4a7c15 >> 50;
     for (int tried = 0; tried < MOST; tried++, at = (at + 1) % MOST) {
@@ -85,7 +85,7 @@ static struct line *opened(void) {
     return line;
 }
 
-/* The mutex's line; NULL where the C library keeps it. */
+/* The mutex's line; NULL if it stays the C library's. */
 static struct line *line_of(pthread_mutex_t *mutex) {
     int kind = mutex->__data.__kind & ~(256 | 512); /* but for the flags on elision */
     if (kind != PTHREAD_MUTEX_NORMAL && kind != PTHREAD_MUTEX_ADAPTIVE_NP) return NULL;
@@ -103,7 +103,7 @@ static struct line *line_of(pthread_mutex_t *mutex) {
     return line;
 }
 
-/* What entering gave, as the C library tells it. */
+/* The answer of entering, as the C library returns it. */
 static int told(struct line *line, uint32_t got) {
     if (got == QOLB_GRANTED) {
         grants++;
@@ -166,7 +166,7 @@ int pthread_mutex_unlock(pthread_mutex_t *mutex) {
 
 /* ---- Condition variables ---- */
 
-/* Waits with a line at most so long, and has it again. Here a thread may be cancelled, as where the C library waits, with the mutex locked. */
+/* Waits with a line at most this long, and has it again. A thread may be cancelled here, as where the C library waits, with the mutex locked. */
 static int wait_at(struct line *line, pthread_cond_t *condition, uint64_t nanoseconds) {
     int at = entry(&conditions, condition);
     if (at < 0) abort();
@@ -196,13 +196,13 @@ int pthread_cond_clockwait(pthread_cond_t *condition, pthread_mutex_t *mutex, cl
     return line ? wait_at(line, condition, until(clock, end)) : real_cond_clockwait()(condition, mutex, clock, end);
 }
 
-/* Where the condition stands; -1 where no thread has waited with a line there. */
+/* The place of the condition; -1 if no thread has waited with a line there. */
 static int lined(pthread_cond_t *condition) {
     int at = entry(&conditions, condition);
     return at >= 0 && atomic_load(&waited_with_line[at]) ? at : -1;
 }
 
-/* The C library's is told too: a thread may wait there with a mutex of its, and a signal may wake more than one. */
+/* The C library's condition is signalled, too: a thread may wait there with a mutex of the C library, and a signal may wake more than one. */
 int pthread_cond_signal(pthread_cond_t *condition) {
     int at = lined(condition);
     if (at >= 0) qolb_cond_signal(&conds[at]);

@@ -14,7 +14,7 @@ enum { GUARDED, BY_TWO_LOCKS, AFTER_LEAVING, AFTER_BUSY, AFTER_LATE, AFTER_A_SIG
 static qolb_lock lock = QOLB_LOCK_INIT(4), other = QOLB_LOCK_INIT(4);
 static qolb_cond cond = QOLB_COND_INIT;
 static int way, is_ready, data;
-/* Whether the first has done its part. Relaxed, so that it hands nothing over. */
+/* Set once the first thread has done its part. Relaxed, so that it orders nothing. */
 static atomic_int done;
 
 static void until_done(void) {
@@ -24,7 +24,7 @@ static void until_done(void) {
 static void enter(qolb_lock *it) { MUST(qolb_lock_enter(it), QOLB_GRANTED); }
 static void leave(qolb_lock *it) { MUST(qolb_lock_leave(it), QOLB_DONE); }
 
-/* It keeps the lock for a while where the second is to be told that others have it. */
+/* It keeps the lock for a while if the second is to be answered BUSY or LATE. */
 static void *first(void *unused) {
     enter(&lock);
     if (way != AFTER_LEAVING && way != AFTER_A_SIGNAL) data++;

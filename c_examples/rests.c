@@ -1,8 +1,7 @@
-/* How who waits rests between looks, with a node, for a lock and at a condition, by a clock that the program moves on: how often it asks and looks,
- * how often it gives the processor away, how long it sleeps, and when it is late; what it answers where the line comes, or is closed, between the last
- * look and the withdrawal; and which calls wake those that sleep, and whom.
- * Linked with --wrap for clock_gettime, nanosleep, sched_yield, syscall and for the proved calls that ask, look, withdraw and name the next holder. Prints
- * nothing but what went wrong. */
+/* How a waiter rests between polls, with a node, for a lock and at a condition, by a clock that the program advances: how often it requests and
+ * polls, how often it yields the processor, how long it sleeps, and when it is late; its answer if the line is granted, or closed, between the
+ * last poll and the withdrawal; and which calls wake sleepers, and which sleepers. Linked with --wrap for clock_gettime, nanosleep, sched_yield,
+ * syscall and for the proved calls that request, poll, withdraw and name the next holder. Prints only errors. */
 #define _GNU_SOURCE
 #include <qolb.h>
 #include <stdarg.h>
@@ -25,17 +24,17 @@
 enum { US = 1000, MS = 1000000 };
 #define NEVER UINT64_MAX
 
-/* The time, in nanoseconds; and since `begins` how often the clock was asked, the rests and how long the longest sleep may have lasted, how often the
- * node asked and looked and how long it spun, how often it was asked for the next holder, how often sleepers were woken, and what nobody may do who
- * waits. */
+/* The time, in nanoseconds; and since `begins` the numbers of clock calls and rests, the longest time that a sleep may have lasted, the node's
+ * numbers of requests, polls and spins, the number of times that it was asked for the next holder, the number of wakes, and the calls that a
+ * waiter must not make. */
 static uint64_t now, clocks, yields, sleeps, longest, asks, spins, spun, looks, names, wakes, wrong;
 
 /* The words of the first sleeps and wakes since then, in their order. */
 enum { NOTED = 8 };
 static const void *slept_at[NOTED], *woken_at[NOTED];
 
-/* What happens where the clock is asked at this time or later, where the processor is given away for so many times, during so many sleeps, or where a
- * request is about to be withdrawn. It happens once. */
+/* An action at the first clock call at this time or later, at this number of yields, during this number of sleeps, or before a request is
+ * withdrawn. It happens once. */
 static struct {
     void (*does)(void);
     uint64_t at, at_yield, at_sleep;
@@ -152,10 +151,10 @@ static void shuts(void) {
     if (qolb_shut(holder) != QOLB_DONE) wrong++;
 }
 
-/* In vain, while the first node holds the line. */
+/* Without a grant, while the first node holds the line. */
 static int late(qolb_node *n) {
-    /* For 20 ms, while it waits and while it is busy: late to the nanosecond. Waiting, it looks 64 times, 8 times more and yields before each of these,
-     * looks once more, and sleeps as long as it may. Busy, it asks again 8 times, and then every 200 us. */
+    /* For 20 ms, while it waits and while it is busy: late to the nanosecond. Waiting, it polls 64 times, 8 times more and yields before each of
+     * these, polls once more, and sleeps as long as it may. Busy, it requests again 8 times, and then every 200 us. */
     for (unsigned busy = 0; busy < 2; busy++) {
         uint64_t since = now;
         begins(NULL);
@@ -170,7 +169,7 @@ static int late(qolb_node *n) {
         WANT(looks, busy ? 0 : 8 + 1);
         WANT(qolb_state(&n[1]), QOLB_STATE_ROLLED);
     }
-    /* For less than a nap; and for no time at all: it asks nevertheless, and looks if it waits. */
+    /* For less than a nap; and for no time at all: it still makes a request, and polls if it waits. */
     uint64_t since = now;
     WANT(qolb_acquire_within(&n[1], 50 * US), QOLB_LATE);
     WANT(now - since, 50 * US);
@@ -185,7 +184,7 @@ static int late(qolb_node *n) {
     return 0;
 }
 
-/* It waits as long as it takes, and asks no clock: it sleeps, and if it is woken for no reason it looks anew. Who lets go wakes it, by one call. */
+/* It waits as long as it takes, and reads no clock: it sleeps, and if it is woken for no reason it polls anew. A release wakes it, by one call. */
 static int sleeps_on(qolb_node *n, int limited) {
     holder = &n[0];
     begins(releases);
@@ -205,7 +204,7 @@ static int sleeps_on(qolb_node *n, int limited) {
     return 0;
 }
 
-/* The line comes while it waits: while it sleeps with the longest limit, while it yields, and while it is busy. */
+/* The line is granted while it waits: while it sleeps with the longest limit, while it yields, and while it is busy. */
 static int granted(qolb_node *n) {
     holder = &n[0];
     begins(releases);
@@ -235,7 +234,7 @@ static int granted(qolb_node *n) {
     return 0;
 }
 
-/* Granted at once it neither looks nor rests; a try asks once, and does neither. A release that nobody waits for asks nothing of the system. */
+/* Granted at once it neither polls nor rests; a try makes one request, and does neither. A release without waiters makes no system call. */
 static int at_once(qolb_node *n) {
     begins(NULL);
     WANT(qolb_acquire(&n[1]), QOLB_GRANTED);
@@ -249,7 +248,7 @@ static int at_once(qolb_node *n) {
     return 0;
 }
 
-/* The time is over, and the line comes before the request is taken back: it is granted. Or it is closed: it is told. */
+/* The time is over, and the line is granted before the withdrawal: it is granted. Or the line is closed: it is told. */
 static int at_the_end(qolb_node *n) {
     WANT(qolb_acquire(&n[1]), QOLB_GRANTED);
     holder = &n[1];
@@ -278,7 +277,7 @@ static int rests(uint32_t kind) {
     return 0;
 }
 
-/* A try that finds, where it takes its request back, that the line has come, or is closed. */
+/* A try that finds at its withdrawal that the line is granted, or is closed. */
 static int withdraws_late(uint32_t kind, int is_shut) {
     qolb_bytes zeros = {{0}};
     qolb_node n[2] = {{0}};
@@ -294,7 +293,7 @@ static int withdraws_late(uint32_t kind, int is_shut) {
     return 0;
 }
 
-/* ---- Who wakes: whoever is told that the line is closed, and so passes that on ---- */
+/* ---- Wakes by a node that is told that the line is closed, and so forwards it ---- */
 
 static qolb_node *teller;
 static uint32_t (*tells)(qolb_node *node);
@@ -314,7 +313,7 @@ static void is_told(void) {
     named = names - asked;
 }
 
-/* The second node stands before one that sleeps, and looks, withdraws or links only after the line was shut. */
+/* The second node is before one that sleeps, and polls, withdraws or links only after the line was shut. */
 static int passes_on(uint32_t kind, uint32_t (*call)(qolb_node *node), int links) {
     qolb_bytes zeros = {{0}};
     qolb_node n[3] = {{0}};
@@ -333,8 +332,8 @@ static int passes_on(uint32_t kind, uint32_t (*call)(qolb_node *node), int links
     return 0;
 }
 
-/* Who asks where the line is closed is told at once, and may have passed that on to one that stands behind it: so it looks for whom. Here nobody does, and
- * one that sleeps for another line of that label is not woken. */
+/* A request on a closed line is told at once, and may have forwarded the line to a sleeper behind it: so it asks for the next holder. Here there
+ * is none, and a sleeper of another line of that label is not woken. */
 static int asks_a_closed_one(uint32_t kind, uint32_t (*call)(qolb_node *node)) {
     qolb_bytes zeros = {{0}};
     qolb_node n[2] = {{0}}, closed = {0};
@@ -378,7 +377,7 @@ static uint32_t is_told_after_being_busy(qolb_node *node) {
     return qolb_acquire(node);
 }
 
-/* Who is told so late looks for whom it has passed that on to, as the one did that shut the line. */
+/* A node that is told so late asks for the next holder, as the node did that shut the line. */
 static int is_told_late(uint32_t kind, uint32_t (*call)(qolb_node *node)) {
     qolb_bytes zeros = {{0}};
     qolb_node n[2] = {{0}}, closed[2] = {{0}};
@@ -400,7 +399,7 @@ static int is_told_late(uint32_t kind, uint32_t (*call)(qolb_node *node)) {
     return 0;
 }
 
-/* What is misuse lets nothing go, and wakes nobody: of an empty handle, and of a node that does not hold the line. */
+/* A misuse releases nothing, and wakes no thread: of an empty handle, and of a node that does not hold the line. */
 static int misuse_wakes_nobody(uint32_t kind, uint32_t (*call)(qolb_node *node)) {
     qolb_bytes zeros = {{0}};
     qolb_node n[3] = {{0}}, empty = {0};
@@ -439,7 +438,7 @@ static void leaves(void) {
     if (qolb_lock_leave(held) != QOLB_DONE) wrong++;
 }
 
-/* ---- Whom a release wakes: the next holder, and the one behind it ---- */
+/* ---- A release wakes the next holder, and the waiter behind it ---- */
 
 enum { SLEEPERS = 3 };
 static qolb_node *nodes;
@@ -450,7 +449,7 @@ static void (*lets_go)(void);
 static uint32_t acquires_as(unsigned k) { return k ? qolb_acquire_within(&nodes[k], 20 * MS) : qolb_acquire(&nodes[0]); }
 static uint32_t enters_as(unsigned k) { return k ? qolb_lock_enter_within(held, 20 * MS) : qolb_lock_enter(held); }
 
-/* While one sleeps the next waits and sleeps too, and while the last does the line is let go. */
+/* While one sleeps the next waits and sleeps, too, and while the last does the line is released. */
 static void next_sleeps(void) {
     unsigned k = (unsigned)sleeps;
     if (k == SLEEPERS) {
@@ -462,7 +461,7 @@ static void next_sleeps(void) {
     if (waits_as(k) != QOLB_LATE) wrong++;
 }
 
-/* Three sleep, each at a word of its own, and so many of them are woken, in their order. */
+/* Three sleep, each at its own word, and this many of them are woken, in their order. */
 static int wakes_so_many(uint32_t (*as)(unsigned k), void (*by)(void), unsigned many, uint32_t then) {
     waits_as = as;
     lets_go = by;
@@ -475,7 +474,7 @@ static int wakes_so_many(uint32_t (*as)(unsigned k), void (*by)(void), unsigned 
     return 0;
 }
 
-/* Also where it passes a request that was withdrawn. */
+/* Also if it passes a withdrawn request. */
 static int wakes_two(uint32_t kind, int passes) {
     qolb_bytes zeros = {{0}};
     qolb_node n[2 + SLEEPERS] = {{0}};
@@ -496,7 +495,7 @@ static void shuts_and_is_told(void) {
     if (qolb_poll(other) != QOLB_CLOSED) wrong++;
 }
 
-/* So does who closes the line, and who stands behind that one, awake, and passes the closing on. */
+/* The same of a node that closes the line, and of the next one, awake, which forwards the closed line. */
 static int closing_wakes_two(uint32_t kind, int passes_on) {
     qolb_bytes zeros = {{0}};
     qolb_node n[2 + SLEEPERS] = {{0}};
@@ -511,7 +510,7 @@ static int closing_wakes_two(uint32_t kind, int passes_on) {
     return 0;
 }
 
-/* Where the next holder is awake, though it has slept at that bell before, the one behind it is woken alone. */
+/* If the next holder is awake, though it has slept at that bell before, only the waiter behind it is woken. */
 static int wakes_behind_one_awake(uint32_t kind) {
     qolb_bytes zeros = {{0}};
     qolb_node n[3] = {{0}};
@@ -533,7 +532,7 @@ static int wakes_behind_one_awake(uint32_t kind) {
     return 0;
 }
 
-/* No two places of a line share a bell, however many nodes it has; nor do the same places of two lines that are opened one after the other. */
+/* No two places of a line share a bell, for any number of nodes; nor do the same places of two lines that are opened one after the other. */
 static int each_has_its_bell(uint32_t kind) {
     enum { MOST = 200 };
     qolb_bytes zeros = {{0}};
@@ -558,7 +557,7 @@ static int each_has_its_bell(uint32_t kind) {
     return 0;
 }
 
-/* Who leaves a lock wakes besides who wants a seat: where there are so few seats, the last of the three. */
+/* A leave also wakes threads that want a seat: with this few seats, the last of the three. */
 static int leaving_wakes(uint32_t kind, uint32_t seats) {
     qolb_lock lock = {NULL, kind, seats};
     WANT(qolb_lock_enter(&lock), QOLB_GRANTED);
@@ -577,7 +576,7 @@ static int wakes_whom_it_should(uint32_t kind) {
 
 /* ---- For a lock, and at a condition ---- */
 
-/* In vain for 20 ms, for a turn and for want of a seat; it looks as with a node. */
+/* Without a grant for 20 ms, for a turn and for want of a seat; it polls as with a node. */
 static int late_for_lock(qolb_lock *lock, unsigned has_seat) {
     uint64_t since = now;
     begins(NULL);
@@ -596,7 +595,7 @@ static void shuts_lock(void) {
     if (qolb_lock_shut(held) != QOLB_DONE) wrong++;
 }
 
-/* The time is over, and the lock comes, or is shut, before the request is taken back. */
+/* The time is over, and the lock is granted, or is shut, before the withdrawal. */
 static int lock_at_the_end(uint32_t kind, int is_shut) {
     qolb_lock lock = {NULL, kind, 2};
     WANT(qolb_lock_enter(&lock), QOLB_GRANTED);
@@ -616,7 +615,7 @@ static int lock_rests(uint32_t kind) {
     WANT(qolb_lock_enter(&narrow), QOLB_GRANTED);
     if (late_for_lock(&lock, 1) || late_for_lock(&narrow, 0)) return 1;
     WANT(qolb_lock_leave(&narrow), QOLB_DONE);
-    /* Where nobody sleeps, who leaves does not ask for whom to ring. */
+    /* Without sleepers, a leave does not ask for the next holder. */
     begins(NULL);
     WANT(qolb_lock_enter(&narrow), QOLB_GRANTED);
     WANT(qolb_lock_leave(&narrow), QOLB_DONE);
@@ -645,7 +644,7 @@ static int lock_rests(uint32_t kind) {
     return 0;
 }
 
-/* ---- Woken for nothing: the time that is left goes on ---- */
+/* ---- Woken without a grant: the rest of the time is used ---- */
 
 static void time_passes(void) { now += 5 * MS; }
 

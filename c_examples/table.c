@@ -17,7 +17,7 @@ static struct bucket {
     struct entry *first;
 } table[BUCKETS];
 
-/* Of an entry, in a bucket whose lock is held; made where there is none. */
+/* The count of an entry, in a bucket whose lock is held; the entry is made if there is none. */
 static struct entry *entry_of(struct bucket *bucket, uint64_t number) {
     struct entry *it = bucket->first;
     while (it && it->number != number) it = it->next;

@@ -1,8 +1,8 @@
-/* A timed lock: threads share a line that guards data of the program's own, and give up where it takes too long. Then who is told that the line is
- * closed, and the answers of the calls that wait. Prints nothing but what went wrong.
+/* A timed lock: threads share a line that guards the program's data, and give up if it takes too long. Then the effects of a closing, and the answers
+ * of the waiting calls. Prints only errors.
  *
- * The thread sanitizer sees the data, and must be quiet. Built with -DUNGUARDED each thread has a line of its own, so that nothing guards the data,
- * and then it must not be. */
+ * The thread sanitizer sees the data, and must be quiet. Built with -DUNGUARDED each thread has its own line, so that nothing guards the data, and
+ * then it must report. */
 #define _POSIX_C_SOURCE 200809L
 #include <pthread.h>
 #include <qolb.h>
@@ -22,7 +22,7 @@ enum { THREADS = 4, ROUNDS = 5000 };
         }                                                                                      \
     } while (0)
 
-/* What the line guards: ordinary data, too large for the line's own bytes. */
+/* The guarded data: ordinary, and too large for the line's own bytes. */
 static struct {
     long turns, by[THREADS];
     char last[200];
@@ -36,7 +36,7 @@ struct worker {
 
 static struct worker workers[THREADS];
 
-/* What must not be. The thread lets go of the line before it ends, as the others would wait for it. */
+/* An error. The thread releases the line before it ends, as the others would wait for it. */
 static void *went_wrong(struct worker *me, uint32_t got) {
     me->wrong = got;
     if (qolb_withdraw(&me->node) != QOLB_WITHDRAWN) qolb_deqolb(&me->node);
@@ -51,7 +51,7 @@ static void *work(void *argument) {
                        : round % 3 == 1 ? qolb_acquire_within(&me->node, 1000000)
                                         : qolb_acquire(&me->node);
         if (got == QOLB_BUSY || got == QOLB_LATE) {
-            /* Who gave up has no turn, also where it came at that moment, and none to come: the line would stay with it. */
+            /* A node that gave up has no turn and gets none, also if the grant was at that moment: else the line would stay with it. */
             uint32_t state = qolb_state(&me->node);
             if (state == QOLB_STATE_HOLDING || state == QOLB_STATE_QUEUED) return went_wrong(me, got);
             me->gave_up++;
@@ -106,8 +106,8 @@ static void *shuts(void *argument) {
     return qolb_shut(argument) == QOLB_DONE ? NULL : "not shut";
 }
 
-/* Who is told that the line is closed sees what its last holder wrote, by the line alone: the thread is joined after that. In a list the news may
- * come by the second half of asking. */
+/* A thread that is told that the line is closed sees what its last holder wrote, by the line alone: the thread is joined after that. In a list the
+ * answer may be that of the second half of the request. */
 static int told_sees(uint32_t kind, int in_halves) {
     qolb_bytes zeros = {{0}};
     qolb_node n[2] = {{0}};
@@ -155,7 +155,7 @@ static int answers(uint32_t kind) {
     WANT(qolb_try(&n[0]), QOLB_MISUSE);
     WANT(qolb_acquire_within(&n[0], 1000000000), QOLB_MISUSE);
     WANT(qolb_state(&n[0]), QOLB_STATE_HOLDING);
-    /* The second node waits in vain: for 20 ms, not at all, and while it is busy. */
+    /* The second node waits without a grant: for 20 ms, not at all, and while it is busy. */
     double since = now();
     WANT(qolb_acquire_within(&n[1], 20000000), QOLB_LATE);
     WANT(now() - since >= 0.02, 1);
@@ -166,7 +166,7 @@ static int answers(uint32_t kind) {
     WANT(now() - since >= 0.02, 1);
     WANT(qolb_try(&n[1]), QOLB_BUSY);
     WANT(qolb_deqolb(&n[0]), QOLB_DONE);
-    /* The release passed what it had taken back, so it is free again. */
+    /* The release passed its withdrawn request, so it is clear again. */
     WANT(qolb_acquire_within(&n[1], 0), QOLB_GRANTED);
     WANT(qolb_turns_left(&n[1]), 3);
     WANT(qolb_try(&n[0]), QOLB_BUSY);

@@ -1,5 +1,5 @@
-/* Two threads add to one lane of a line of each kind; then every mistake is made that the library must answer, and a line of each number of nodes is
- * opened. Prints nothing but what went wrong. */
+/* Two threads add to one lane of a line of each kind; then every mistake is made that the library must answer, and a line of each number of nodes
+ * is opened. Prints only errors. */
 #define _POSIX_C_SOURCE 200809L
 #include <pthread.h>
 #include <qolb.h>
@@ -97,8 +97,8 @@ static int refusals(void) {
     return 0;
 }
 
-/* Where memory is there, a line of each number of nodes opens, under short leases and long ones, with large labels, and with more handles than
- * it needs; a line of 200 under each of the leases. */
+/* With enough memory, a line of each number of nodes opens, with short leases and long ones, with large labels, and with more handles than it
+ * needs; a line of 200 with each of the leases. */
 static int opens(uint32_t kind) {
     static const uint64_t leases[] = {1, UINT32_MAX, (uint64_t)UINT32_MAX + 1, (uint64_t)1 << 63, UINT64_MAX - 1, QOLB_NO_LEASE};
     static qolb_node nodes[1000];
@@ -190,7 +190,7 @@ static int misuse(uint32_t kind) {
     return 0;
 }
 
-/* A node that has asked and not linked; and a lease of two turns. */
+/* A node that has made a request and not linked it; and a lease of two turns. */
 static int halves(void) {
     qolb_bytes zeros = {{0}};
     qolb_node n[2] = {{0}}, other = {0};

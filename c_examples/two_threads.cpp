@@ -1,4 +1,4 @@
-// Two threads move a token to and fro between two counts of one line, and a third node sees their sum. Prints nothing but what went wrong.
+// Two threads move a token to and fro between two counts of one line, and a third node sees their sum. Prints only errors.
 #include <qolb.hpp>
 
 #include <chrono>
@@ -35,12 +35,12 @@ bool run(qolb_kind kind) {
     std::uint64_t lanes[2] = {};
     qolb::Got got = nodes[2].with([&](qolb_bytes &bytes) { std::memcpy(lanes, bytes.byte, sizeof lanes); });
     if (got != qolb::Got::granted || lanes[0] != 65536 || lanes[1] != 65536) return false;
-    // A moved-from node is empty, and one that holds is let go of where it ends.
+    // A moved-from node is empty, and a node that holds releases at the end of its scope.
     if (nodes[0].state() != QOLB_STATE_EMPTY || nodes[0].enqolb() != QOLB_MISUSE) return false;
     return nodes[2].acquire() == qolb::Got::granted && nodes[2].shut() == QOLB_DONE && nodes[2].acquire() == qolb::Got::closed;
 }
 
-// Whether the work throws this.
+// Returns whether the work throws this.
 template <class Thrown, class Work> bool throws(Work work) {
     try {
         work();
@@ -50,7 +50,7 @@ template <class Thrown, class Work> bool throws(Work work) {
     return false;
 }
 
-// A holder whose work throws releases the line, and what it has not written stays as it was; what it has written stands.
+// A holder whose work throws releases the line, and the unwritten bytes are unchanged; the written ones stay.
 bool work_throws(qolb_kind kind) {
     auto opened = qolb::Node::open(kind, 1, 2, qolb_bytes{});
     auto &nodes = opened.second;
@@ -71,7 +71,7 @@ bool work_throws(qolb_kind kind) {
     return turn.lane(0) == 0 && turn.lane(1) == 5;
 }
 
-// A node is a timed lock as the standard library means it, and tells what it can't do.
+// A node is a timed lock as the standard library means it, and reports what it can't do.
 bool is_lock(qolb_kind kind) {
     using namespace std::chrono_literals;
     auto opened = qolb::Node::open(kind, 9, 2, qolb_bytes{}, 4);
@@ -96,7 +96,7 @@ bool is_lock(qolb_kind kind) {
     {
         std::lock_guard<qolb::Node> lock(b);
     }
-    // The guard is over before its scope, and closes the line at the last turn of its lease.
+    // The guard ends before its scope, and closes the line at the last turn of its lease.
     qolb::Guard last(a);
     last.release();
     if (!throws<qolb::Misuse>([&] { (void)last.lane(0); }) || !throws<qolb::Misuse>([&] { last.release(); })) return false;
@@ -105,7 +105,7 @@ bool is_lock(qolb_kind kind) {
     return a.acquire_for(1ms) == qolb::Got::closed && b.with([](qolb_bytes &) {}) == qolb::Got::closed && a.state() == QOLB_STATE_SHUT;
 }
 
-// A holder that is assigned to lets its line go.
+// A holder that is assigned to releases its line.
 bool is_assigned(qolb_kind kind) {
     using namespace std::chrono_literals;
     auto opened = qolb::Node::open(kind, 1, 2, qolb_bytes{});
@@ -115,7 +115,7 @@ bool is_assigned(qolb_kind kind) {
     return b.acquire_for(1min) == qolb::Got::granted;
 }
 
-// What `with` makes of the bytes is written, all of them; a guard writes the bytes of its mask alone; and one that shuts closes the line.
+// All bytes as `with` leaves them are written; a guard writes only the bytes of its mask; and a guard that shuts closes the line.
 bool is_written(qolb_kind kind) {
     auto opened = qolb::Node::open(kind, 1, 2, qolb_bytes{});
     auto &a = opened.second[0], &b = opened.second[1];
@@ -134,7 +134,7 @@ bool is_written(qolb_kind kind) {
     return b.state() == QOLB_STATE_SHUT && a.try_acquire() == qolb::Got::closed;
 }
 
-// A node that is destroyed while it waits is withdrawn, also where it has not linked yet, and one whose turn has come meanwhile releases.
+// A node that is destroyed while it waits is withdrawn, also if it has not linked yet, and a node that was granted the line meanwhile releases.
 bool waiter_is_destroyed(qolb_kind kind) {
     auto opened = qolb::Node::open(kind, 1, 4, qolb_bytes{});
     auto &nodes = opened.second;

@@ -1,4 +1,4 @@
-//! Two threads add to one lane of a line, and a third node reads the sum. Prints nothing but what went wrong.
+//! Two threads add to one lane of a line, and a third node reads the sum. Prints only errors.
 #[path = "../include/qolb.rs"]
 mod qolb;
 
@@ -40,7 +40,7 @@ fn count(kind: Kind) {
     }
 }
 
-/// Takes a turn in one of three ways. Who gives up has no turn, also where it came at that moment: the line would stay with it.
+/// Takes a turn in one of three ways. A node that gives up has no turn, also if the grant was at that moment: else the line would stay with it.
 fn take(node: &mut Node, round: u64) {
     loop {
         let got = match round % 3 {
@@ -70,7 +70,7 @@ fn races(kind: Kind) {
     }
 }
 
-/// A holder that panics releases the line: what it wrote stands, nothing is poisoned, and the next holder is granted.
+/// A holder that panics releases the line: its writes stay, nothing is poisoned, and the next holder is granted the line.
 fn panics_while_holding(kind: Kind) {
     let mut nodes = qolb::open(kind, 1, 3, None, &Bytes([0; 64])).unwrap();
     let mut first = nodes.remove(0);
@@ -91,7 +91,7 @@ fn panics_while_holding(kind: Kind) {
     assert_eq!(turn.turns_left(), None);
 }
 
-/// Guards that wait for a while or not at all, and what closing a node says.
+/// Guards that wait for a while or not at all, and the answers of closing a node.
 fn guards(kind: Kind) {
     let mut nodes = qolb::open(kind, 9, 2, None, &Bytes([7; 64])).unwrap();
     let mut b = nodes.pop().unwrap();
@@ -109,7 +109,7 @@ fn guards(kind: Kind) {
     assert_eq!(b.try_lock_for(Duration::from_secs(3600)).unwrap().unwrap().lane(0), 0x0707_0707_0707_0701);
     assert_eq!(b.acquire(), Answer::Granted);
     assert_eq!(b.lock().err(), Some(Stopped::Misuse));
-    // A node that holds is not let go of.
+    // A node that holds is not closed.
     let Err(mut b) = b.close() else { panic!("a holder was closed") };
     assert_eq!(b.deqolb(), Answer::Done);
     assert!(b.close().is_ok());
@@ -118,7 +118,7 @@ fn guards(kind: Kind) {
     assert_eq!(a.try_acquire(), Answer::Closed);
 }
 
-/// A node that is dropped while it waits is withdrawn, also where it has not linked yet, and one whose turn has come meanwhile releases.
+/// A node that is dropped while it waits is withdrawn, also if it has not linked yet, and a node that was granted the line meanwhile releases.
 fn waiter_is_dropped(kind: Kind) {
     let mut nodes = qolb::open(kind, 1, 4, None, &Bytes([0; 64])).unwrap();
     let mut last = nodes.pop().unwrap();
@@ -155,7 +155,7 @@ fn main() {
         count(kind);
         races(kind);
     }
-    // The panics that are wanted print nothing.
+    // The expected panics print nothing.
     panic::set_hook(Box::new(|told| {
         if !told.to_string().contains("a holder's panic") {
             eprintln!("{told}");

@@ -1,4 +1,4 @@
-/* For tests of threads that wait: what a program wants to be so, the time, and whether a thread sleeps. */
+/* For tests of threads that wait: checks, the time, and whether a thread sleeps. */
 #ifndef WAITERS_H
 #define WAITERS_H
 
@@ -23,7 +23,7 @@ enum { US = 1000, MS = 1000000 };
         }                                                                                      \
     } while (0)
 
-/* For a thread that cannot answer. */
+/* For a thread that cannot return an error. */
 #define MUST(call, wanted)                                                                     \
     do {                                                                                       \
         unsigned long long got_ = (unsigned long long)(call);                                  \
@@ -39,7 +39,7 @@ static inline double seconds(clockid_t clock) {
     return (double)time.tv_sec + (double)time.tv_nsec / 1e9;
 }
 
-/* What the calling thread has used: seconds of a processor, and how often it gave it away to sleep. */
+/* The calling thread's use: seconds of a processor, and how often it yielded it to sleep. */
 struct used {
     double processor;
     long sleeps;
@@ -51,10 +51,10 @@ static inline struct used used(void) {
     return (struct used){(double)(it.ru_utime.tv_sec + it.ru_stime.tv_sec) + (double)(it.ru_utime.tv_usec + it.ru_stime.tv_usec) / 1e6, it.ru_nvcsw};
 }
 
-/* A thread says its number right before it waits, and so it sleeps nowhere else. */
+/* A thread reports its number right before it waits, and so it sleeps nowhere else. */
 static inline void about_to_wait(atomic_int *number) { atomic_store(number, gettid()); }
 
-/* Until the thread that says this number sleeps, or has ended: then it has asked. */
+/* Waits until the thread that reports this number sleeps, or has ended: then it has made its request. */
 static inline void until_asleep(atomic_int *number) {
     char name[64], state = 'R';
     while (atomic_load(number) == 0) sched_yield();

@@ -1,9 +1,9 @@
-/* Threads that wait with nodes sleep, and whatever lets their line go wakes them: releases, closings, and calls that are told of one; few threads and
- * many, with withdrawals and time limits.
+/* Threads that wait with nodes sleep, and each call that releases their line wakes them: releases, closings, and calls that are told of one; few
+ * threads and many, with withdrawals and time limits.
  *
  *   build/waits [SECONDS]     1200: where a turn is lost, who waits for it does not end, and the program is ended after so many
  *
- * Prints nothing but what went wrong. The thread sanitizer sees the data, and must be quiet. */
+ * Prints only errors. The thread sanitizer sees the data, and must be quiet. */
 #define _GNU_SOURCE
 #include <qolb.h>
 #include <string.h>
@@ -18,7 +18,7 @@ static int opens(uint32_t kind, uint64_t label, uint64_t nodes, uint64_t lease, 
     return qolb_open(kind, label, nodes, lease, &zeros, out, nodes) == QOLB_DONE;
 }
 
-/* ---- Who waits sleeps, and is woken at once ---- */
+/* ---- A waiter sleeps, and is woken at once ---- */
 
 enum { AS_LONG_AS_IT_TAKES, A_MINUTE, A_SECOND };
 
@@ -56,8 +56,8 @@ static void start(struct waiter *it, qolb_node *node, int how) {
     MUST(pthread_create(&it->id, NULL, waits, it), 0);
 }
 
-/* A second's wait takes no processor: it sleeps once, though it would look 5,000 times if it looked every 200 us. A node that is busy does that, and
- * takes little. When the line is released each has it soon, and none is late but the one whose second is over. */
+/* A second's wait takes no processor: it sleeps once, while it would poll 5,000 times if it polled every 200 us. A busy node does that, and takes
+ * little. After the release each is granted the line soon, and only the one whose second is over is late. */
 static int takes_no_processor(uint32_t kind) {
     static const int hows[] = {AS_LONG_AS_IT_TAKES, A_MINUTE, A_SECOND, AS_LONG_AS_IT_TAKES, A_MINUTE};
     enum { WAITERS = 5, BUSY = 3 };
@@ -90,7 +90,7 @@ static int takes_no_processor(uint32_t kind) {
     return 0;
 }
 
-/* ---- A release wakes the next holder and the one behind it, and all others sleep on ---- */
+/* ---- A release wakes the next holder and the waiter behind it, and all others sleep on ---- */
 
 static void *has_a_long_turn(void *argument) {
     struct waiter *me = argument;
@@ -103,7 +103,7 @@ static void *has_a_long_turn(void *argument) {
     return NULL;
 }
 
-/* So each sleeps twice at most, and perhaps where the system has it wait. If each release woke all, the last would sleep twelve times. */
+/* So each sleeps at most twice, and perhaps once more if the system delays it. If each release woke all, the last would sleep twelve times. */
 static int others_sleep_on(uint32_t kind) {
     enum { WAITERS = 12, MOST_SLEEPS = 8 };
     static struct waiter waiters[WAITERS];
@@ -126,7 +126,7 @@ static int others_sleep_on(uint32_t kind) {
     return 0;
 }
 
-/* ---- Every call that lets the line go wakes who sleeps ---- */
+/* ---- Every call that releases the line wakes the next holder ---- */
 
 static uint32_t waits_once(qolb_node *node) { return qolb_wait(node, 1); }
 static uint32_t tries(qolb_node *node) { return qolb_try(node); }
@@ -152,7 +152,7 @@ static int released_by(uint32_t kind, uint32_t (*call)(qolb_node *node), uint64_
     return 0;
 }
 
-/* By whoever is told that the line is closed: it stands between the holder and one that sleeps, and looks, withdraws or links after the closing. */
+/* By a node that is told that the line is closed: it is between the holder and a sleeper, and polls, withdraws or links after the closing. */
 static int passed_on_by(uint32_t kind, uint32_t (*call)(qolb_node *node), int links) {
     static struct waiter waiter;
     qolb_node n[3];
@@ -177,7 +177,7 @@ static int each_call_wakes(uint32_t kind) {
     return kind == QOLB_LIST && passed_on_by(kind, qolb_link, 1);
 }
 
-/* ---- A time that is over races with a grant ---- */
+/* ---- A timeout races with a grant ---- */
 
 enum { RACES = 10000 };
 
@@ -213,7 +213,7 @@ static void *races(void *argument) {
     return NULL;
 }
 
-/* The thread's time is over about when the line is released. It has the line or it has not: then it is passed, and the line goes on. */
+/* The thread's time is over about when the line is released. It has the line or it has not: then it is passed, and the line is handed on. */
 static int time_out_races_with_grant(uint32_t kind) {
     qolb_node n[2];
     pthread_t id;
@@ -267,7 +267,7 @@ static void has_a_turn(struct worker *me, uint32_t draw) {
     me->had++;
 }
 
-/* Asks in halves, of a list, and looks until it has its turn, as one that sleeps nowhere. */
+/* Makes a request in two calls, of a list, and polls until it has its turn, without sleeping. */
 static uint32_t asks_and_looks(struct worker *me) {
     uint32_t got = me->kind == QOLB_LIST ? qolb_prepend(&me->node) : qolb_enqolb(&me->node);
     if (got == QOLB_LINKING) got = qolb_link(&me->node);

@@ -1,5 +1,5 @@
-//! Lines that Rust and C share: who waits in the one sleeps, and is woken by what lets the line go in the other. The calls in C are those of plugin.c.
-//! Prints nothing but what went wrong.
+//! Lines that Rust and C share: a waiter of one sleeps, and is woken by a release of the other. The calls in C are those of plugin.c. Prints only
+//! errors.
 #[path = "../include/qolb.rs"]
 mod qolb;
 
@@ -14,7 +14,7 @@ const LATE: u32 = 15;
 const ROUNDS: u64 = 500;
 const MS: Duration = Duration::from_millis(1);
 
-/// What the object in C does with a node: `struct calls` of beside.h.
+/// The calls of the C object on a node: `struct calls` of beside.h.
 #[repr(C)]
 struct Calls {
     acquire: extern "C" fn(*mut c_void) -> u32,
@@ -28,7 +28,7 @@ unsafe extern "C" {
     safe fn alarm(seconds: u32) -> u32;
 }
 
-/// The node as C has it: it is its handle, and nothing more.
+/// The node as C has it: only its handle.
 fn handle(node: &mut Node) -> *mut c_void {
     const { assert!(size_of::<Node>() == size_of::<*mut c_void>()) };
     (&raw mut *node).cast()
@@ -75,7 +75,7 @@ fn turns_in_c(mut node: Node) -> u64 {
     let c = plugin();
     let mut had = 0;
     for k in 0..ROUNDS {
-        match (c.acquire_within)(handle(&mut node), 1_000 * k) {
+        match (c.acquire_within)(handle(&mut node), 20_000 * k) {
             LATE => continue,
             got => assert_eq!(got, GRANTED),
         }

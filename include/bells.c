@@ -1,4 +1,4 @@
-/* The bells, and what sleeping asks of the system: Linux's futex. Elsewhere who sleeps looks again after 200 us (bells.h). Tested, not proved. */
+/* The bells, and the system calls of sleeping: Linux's futex. On other systems a sleeper polls again after 200 us (bells.h). Tested, not proved. */
 #define _GNU_SOURCE
 #include "bells.h"
 #include <time.h>
@@ -28,7 +28,7 @@ void qolb_wake_at_(atomic_uint *word, int most) { syscall(SYS_futex, word, 129 /
 
 #else
 
-/* Who is cancelled meanwhile sleeps on: its request would stay in the queue. */
+/* A thread that is cancelled meanwhile sleeps on: else its request would stay in the queue. */
 void qolb_sleep_at_(atomic_uint *word, unsigned value, uint64_t nanoseconds) {
     struct timespec nap = {0, nanoseconds < 200000 ? (long)nanoseconds : 200000};
     int cancels;

@@ -1,14 +1,14 @@
-/* Bells, at which those sleep who wait for a lock or for a node's turn, and the clock of their time limits. Of the library's own files.
+/* Bells, at which threads sleep that wait for a lock or for a node's turn, and the clock of their time limits. One of the library's internal files.
  *
- * Each place at which a node of a line waits has a bell, and so has the door of each lock, for those that want a seat. Who is about to sleep adds itself to
- * the bell's sleepers, and to a count of more: of all that sleep for its lock, or of all with nodes of their own. It reads the bell's word, looks once more
- * at what it waits for, and sleeps while the word is that. Who has something to tell does it first, and then looks at that count; where there are some, it
- * looks at the sleepers of the few bells at which it has to ring. Each step is sequentially consistent, but for those of leave_hall, in lock.c. So one of
- * the two sees the other. tools/bells.py goes through all orders of these steps, and through those of protocols that differ by one; tools/seats.py runs
- * these files themselves, on a model of the processor's memory.
+ * Each place at which a node of a line waits has a bell, and so has the door of each lock, for threads that want a seat. A waiter adds itself to the
+ * bell's sleepers, and to a count of more: of all that sleep for its lock, or of all with nodes of their own. It reads the bell's word, checks once
+ * more for its turn or seat, and sleeps while the word is unchanged. A waker first makes its change, and then loads that count; if it is not 0, the
+ * waker loads the sleepers of the few bells that it has to ring. Each step is sequentially consistent, but for those of leave_hall, in lock.c. So one
+ * of the two sees the other: a Dekker handshake. tools/bells.py goes through all orders of these steps, and through those of protocols that differ by
+ * one step; tools/seats.py runs these files themselves, on a model of the processor's memory.
  *
- * The bells lie in the library and not in what is opened. So who rings touches nothing that the next holder may have freed; and all that call one
- * library ring the same bells, in whatever language, from the program or from what it opened at run time. */
+ * The bells are in the library and not in the opened lines. So ringing touches nothing that the next holder may have freed; and all callers of one
+ * library ring the same bells, in any language, from the program or from a library that it opened at run time. */
 #ifndef QOLB_BELLS_H
 #define QOLB_BELLS_H
 
@@ -19,9 +19,9 @@
 #define HIDDEN __attribute__((visibility("hidden")))
 #define FOR_EVER UINT64_MAX
 
-/* How often a waiter looks, with a pause between two looks, and how often it then gives the processor away, before it sleeps. */
-enum { LOOKS = 64, YIELDS = 8 };
-/* So many bytes apart two things share no cache line, nor a pair of them that is fetched together. */
+/* How often a waiter polls, with a pause between two polls, and how often it then yields the processor, before it sleeps. */
+enum { LOOKS = 64, YIELDS = 16 };
+/* The distance in bytes at which two objects share no cache line, nor a pair of lines that is fetched together. */
 enum { APART = 128 };
 
 /* ---- Time, and sleeping at a word ---- */
@@ -30,7 +30,7 @@ struct limit {
     uint64_t since, nanoseconds;
 };
 
-/* Nanoseconds of a clock that nobody sets. */
+/* Nanoseconds of a clock that is never set. */
 HIDDEN uint64_t qolb_now_(void);
 
 static inline struct limit from_now(uint64_t nanoseconds) { return (struct limit){nanoseconds == FOR_EVER ? 0 : qolb_now_(), nanoseconds}; }
@@ -41,17 +41,17 @@ static inline uint64_t left(const struct limit *limit) {
     return spent < limit->nanoseconds ? limit->nanoseconds - spent : 0;
 }
 
-/* Sleeps while the word has this value, at most so long; it may end for no reason. No cancellation point. */
+/* Sleeps while the word has this value, at most this long; may return for no reason. No cancellation point. */
 HIDDEN void qolb_sleep_at_(atomic_uint *word, unsigned value, uint64_t nanoseconds);
 
-/* Wakes at most so many that sleep at the word, which need not be there any more. */
+/* Wakes at most this many sleepers of the word, which need not exist any more. */
 HIDDEN void qolb_wake_at_(atomic_uint *word, int most);
 
 /* ---- Bells ---- */
 
-/* A power of two, and more than a line has places: 256, or in a list 201. */
+/* A power of two, and more than the places of a line: 256, or in a list 201. */
 enum { BELLS = 1024 };
-/* How many words lie between two places of a line, in each kind. Where that is wrong, places share bells. */
+/* The distance in words of two places of a line, in each kind. If it is wrong, places share bells. */
 enum { PLACE_WORDS = 16 };
 
 struct bell {
@@ -60,19 +60,19 @@ struct bell {
 
 extern HIDDEN struct bell qolb_bells_[BELLS];
 
-/* The bell of those that wait at this word of the node's line. No two places of a line share one. Those of two lines may: then they wake each other's
- * waiters for nothing. */
+/* The bell of the waiters at this word of the node's line. No two places of a line share one. Those of two lines may: then they wake each other's
+ * waiters without effect. */
 static inline struct bell *bell_at(const qolb_node *node, uint64_t word) { return &qolb_bells_[(*first_bell_of(node) + word / PLACE_WORDS) % BELLS]; }
 
-/* Wakes all that sleep at the bell. */
+/* Wakes all sleepers of the bell. */
 HIDDEN void qolb_toll_(struct bell *bell);
 
 static inline void ring(struct bell *bell) {
     if (atomic_load(&bell->sleepers)) qolb_toll_(bell);
 }
 
-/* Where those sleep whom a node has to wake that has let its line go: the one to whom it went, and the one behind that one, which so has the other's turn
- * to wake up in. Where there is none, a bell at which nobody of the line sleeps. */
+/* The bells to be rung by a node that has released its line: that of the next holder, and that of the waiter behind it, which can wake up during
+ * the holder's turn. If there is none, a bell at which no waiter of the line sleeps. */
 struct next {
     struct bell *holder, *ahead;
 };

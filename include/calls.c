@@ -1,23 +1,24 @@
-/* The calls on nodes, as the library exports them: each is the proved one, but for a node that a lock has lent (qolb_lock_turn). By that one its
+/* The calls on nodes, as the library exports them: each is the proved one, but for a node that a lock has lent (qolb_lock_turn). With a lent node its
+ * holder reads and writes the line, and every call that would change the node's state is misuse: its lock would not know of it.
  * holder reads and writes the line, and every call that would move the node on is misuse: its lock would not know of it.
  *
- * The calls that wait for a turn are here too, and all that let a line go ring its bell (bells.h). This is tested, not proved. So is what an open line
- * takes of memory beside its table. */
+ * The calls that wait for a turn are here, too, and all that release a line ring its bells (bells.h). This is tested, not proved. So is the memory
+ * of an open line beside its table. */
 #define _GNU_SOURCE
 #include "bells.h"
 #include <sched.h>
 
-/* Nanoseconds for which a node sleeps at most that is busy: nobody rings for it. */
+/* The longest sleep of a busy node in nanoseconds: no call rings for it. */
 enum { NAP = 200000 };
 
 /* ---- The caller's handle ----
  *
- * A proved call takes the node out of its handle, and puts the same one back. So it gets a copy, on the stack, and the caller's handle is only read. Else
- * threads whose handles lie side by side, as qolb_open writes them, would all write to one cache line. */
+ * A proved call takes the node out of its handle, and puts the same one back. So it gets a copy, on the stack, and the caller's handle is only
+ * read. Else threads whose handles are side by side, as qolb_open writes them, would all write to one cache line. */
 
 /* ---- Opening ---- */
 
-/* The first bells of lines that are opened one after another lie far apart: the next is behind this one by the golden part of all bells. */
+/* The first bells of lines that are opened one after another are far apart: the next is behind this one by the golden part of all bells. */
 enum { NEXT_BELLS = 633 };
 
 uint32_t qolb_open(uint32_t kind, uint64_t label, uint64_t nodes, uint64_t lease, const qolb_bytes *opening, qolb_node *out, size_t handles) {
@@ -29,23 +30,24 @@ uint32_t qolb_open(uint32_t kind, uint64_t label, uint64_t nodes, uint64_t lease
     return got;
 }
 
-/* ---- Letting a line go ---- */
+/* ---- Releasing a line ---- */
 
-/* How many sleep at bells by a node of their own, for any line. A release looks here, and no further while there are none. */
+/* The number of sleepers at bells with a node of their own, for any line. A release loads it, and nothing more while it is 0. */
 static struct {
     _Alignas(APART) atomic_uint sleepers;
 } anywhere;
 
-/* Of a call that was misuse, there may be no node. */
+/* After a misuse there may be no node. */
 __attribute__((noinline)) static uint32_t rung(qolb_node *node, uint32_t got) {
     if (got != QOLB_MISUSE) ring_for(next_of(node));
     return got;
 }
 
-/* What a call answered that let the line go. The look comes behind that: the proved call hands the line over by an instruction that lets no load pass. */
+/* The answer of a call that released the line. The load is behind the release: the proved call hands the line over by an instruction that no load
+ * passes. */
 static inline uint32_t let_go(qolb_node *node, uint32_t got) { return atomic_load(&anywhere.sleepers) ? rung(node, got) : got; }
 
-/* What any other call answered. Who is told that the line is closed has passed that on. */
+/* The answer of any other call. A node that is told that the line is closed has forwarded it. */
 static inline uint32_t told(qolb_node *node, uint32_t got) { return got == QOLB_CLOSED ? let_go(node, got) : got; }
 
 #define MOVES(call, then)                                                                          \
@@ -79,7 +81,7 @@ uint32_t qolb_close(qolb_node *node) { return qolb_is_lent_(node) ? (uint32_t)QO
 
 /* ---- Waiting for a turn ---- */
 
-/* Looks 64 times, and gives the processor away 8 times with a look after each, while there is time: GRANTED, CLOSED, WAITING. */
+/* Polls 64 times, and yields the processor 16 times with a poll after each, while there is time: GRANTED, CLOSED, WAITING. */
 static uint32_t look_a_while(qolb_node *node, const struct limit *limit) {
     uint32_t got = qolb_wait_proved_(node, LOOKS);
     for (int k = 0; got == QOLB_WAITING && k < YIELDS && left(limit); k++) {
@@ -89,7 +91,7 @@ static uint32_t look_a_while(qolb_node *node, const struct limit *limit) {
     return got;
 }
 
-/* Where the node waits does not change until it is granted the line. */
+/* The node's place does not change until it is granted the line. */
 static uint32_t sleep_at_bell(qolb_node *node, const struct limit *limit) {
     struct bell *bell = bell_at(node, qolb_waits_at_proved_(node));
     atomic_fetch_add(&bell->sleepers, 1);
@@ -108,7 +110,7 @@ static uint32_t give_up(qolb_node *node) {
     return got == QOLB_WITHDRAWN ? (uint32_t)QOLB_LATE : got;
 }
 
-/* Waits until the request comes to its turn: GRANTED, CLOSED, LATE. */
+/* Waits until the request is at its turn: GRANTED, CLOSED, LATE. */
 static uint32_t await(qolb_node *node, const struct limit *limit) {
     for (;;) {
         uint32_t got = look_a_while(node, limit);
@@ -123,7 +125,7 @@ static void nap(uint64_t most) {
     qolb_sleep_at_(&nobody_rings, 0, most < NAP ? most : NAP);
 }
 
-/* Asks again and again while the node is busy: what asking answers in the end, or LATE. */
+/* Repeats the request while the node is busy: the final answer, or LATE. */
 static uint32_t ask_again(qolb_node *node, const struct limit *limit) {
     uint32_t got = QOLB_BUSY;
     for (unsigned k = 0; got == QOLB_BUSY; k++) {
@@ -136,7 +138,7 @@ static uint32_t ask_again(qolb_node *node, const struct limit *limit) {
     return got;
 }
 
-/* Of a node that has asked and was not granted the line at once: what the waiting call answers. */
+/* The answer of a waiting call, for a node that made a request and was not granted the line at once. */
 __attribute__((noinline)) static uint32_t acquired(qolb_node *node, uint32_t got, struct limit limit) {
     if (got == QOLB_BUSY) got = ask_again(node, &limit);
     if (got == QOLB_QUEUED) got = await(node, &limit);
@@ -157,7 +159,7 @@ uint32_t qolb_acquire_within(qolb_node *node, uint64_t nanoseconds) { return acq
 
 /* ---- The others ---- */
 
-/* The node that a call is for: of a lent one the holder's, if the caller is the holder, else NULL. */
+/* The node of a call: for a lent one the holder's, if the caller is the holder, else NULL. */
 static inline qolb_node *meant(qolb_node *node) { return qolb_is_lent_(node) ? qolb_lent_(node) : node; }
 
 uint32_t qolb_read(qolb_node *node, qolb_bytes *out) {
@@ -184,7 +186,7 @@ uint32_t qolb_write_lane(qolb_node *node, uint64_t lane, uint64_t value) {
     return qolb_write_lane_proved_(&copy, lane, value);
 }
 
-/* 0 of a node that its caller does not hold by, as of an empty handle. */
+/* 0 for a node by which the caller does not hold, as for an empty handle. */
 #define SAYS(result, call)                                                                 \
     result call(qolb_node *node) {                                                         \
         if (!(node = meant(node))) return 0;                                               \
@@ -199,8 +201,8 @@ SAYS(uint32_t, qolb_state)
 
 /* ---- Memory ----
  *
- * What an open line keeps, as its blocks are asked for (gaps.h). The proved part tells how much its table takes. The other blocks are always of the same
- * sizes, as c_examples/memory.c counts. Behind each block is a gap. */
+ * The bytes that an open line keeps, as its blocks are allocated (gaps.h). The proved part returns those of its table. The other blocks always
+ * have the same sizes, as c_examples/memory.c counts. Behind each block is a gap. */
 uint64_t qolb_memory(uint32_t kind, uint64_t nodes) {
     uint64_t table = qolb_memory_proved_(kind, nodes);
     if (table == 0) return 0;
@@ -208,5 +210,5 @@ uint64_t qolb_memory(uint32_t kind, uint64_t nodes) {
     return table + LINE_BYTES + nodes * NODE_BYTES + blocks * GAP_BYTES;
 }
 
-/* Of the library as it is released, with its parts in C: the proved one's is that of the last release which changed it. */
+/* The version of the released library, with its parts in C: the proved part's is that of the last release that changed it. */
 uint32_t qolb_version(void) { return QOLB_VERSION; }

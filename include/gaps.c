@@ -1,7 +1,7 @@
-/* How the proved part takes memory from the program: with a gap behind each block. A thread writes to what its node keeps in each call. By the gaps no
- * cache line has something of two nodes, nor has a pair of lines that is fetched together, and none has something of a node and of what all nodes read.
+/* The allocation of the proved part: with a gap behind each block. A thread writes to its node's data in each call. By the gaps no cache line has
+ * data of two nodes, nor has a pair of lines that is fetched together, and none has data of a node and data that all nodes read.
  *
- * The toolchain's lines of C that take memory have these names in place of malloc's and realloc's (Makefile). */
+ * The toolchain's lines of C that allocate have these names instead of malloc's and realloc's (Makefile). */
 #include "gaps.h"
 #include <stdlib.h>
 
@@ -10,7 +10,7 @@
 HIDDEN void *qolb_malloc_(size_t size);
 HIDDEN void *qolb_realloc_(void *block, size_t size);
 
-/* Of a size to which nothing can be added none is had. */
+/* If nothing can be added to the size, the allocation fails. */
 static size_t with_gap(size_t size) { return size <= SIZE_MAX - GAP_BYTES ? size + GAP_BYTES : SIZE_MAX; }
 
 void *qolb_malloc_(size_t size) { return malloc(with_gap(size)); }

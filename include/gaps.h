@@ -1,4 +1,4 @@
-/* The blocks that an open line keeps of the heap, and what lies in the gaps behind them (gaps.c). Of the library's own files. */
+/* The blocks that an open line keeps on the heap, and the contents of the gaps behind them (gaps.c). One of the library's internal files. */
 #ifndef QOLB_GAPS_H
 #define QOLB_GAPS_H
 
@@ -11,8 +11,9 @@ enum {
     GAP_BYTES = QOLB_NODE_ALIGN
 };
 
-/* Where each node has a number that is drawn when its line is opened, the same for all nodes of the line (bell_at, in bells.h). Nothing in the handle or
- * in the proved part has room for it. It lies in the middle of the gap: where NODE_BYTES is wrong it spoils nothing until c_examples/memory.c says so. */
+/* The place of a number of each node that is drawn when its line is opened, the same for all nodes of the line (bell_at, in bells.h). Nothing in
+ * the handle or in the proved part has room for it. It is in the middle of the gap: if NODE_BYTES is wrong, it does no harm until
+ * c_examples/memory.c reports that. */
 static inline uint32_t *first_bell_of(const qolb_node *node) { return (uint32_t *)((char *)node->own + NODE_BYTES + GAP_BYTES / 2); }
 
 #endif

@@ -1,8 +1,8 @@
 /* The lock for threads that come and go, and its conditions (qolb.h, LOCKS). Tested, not proved; each step on the line is a proved call.
  *
- * A lock has a hall: a line, and for each of its nodes a seat. A thread that enters takes a free seat, asks with its node, and waits for its turn; it
- * gives the seat back when it leaves. Who has a seat sleeps at the bell of the place where its node waits (bells.h), which is rung for it alone. Who has
- * none sleeps at the bell of the lock's door, which is rung whenever a seat is given back. */
+ * A lock has a hall: a line, and for each of its nodes a seat. A thread that enters takes a free seat, makes a request with its node, and waits
+ * for its turn; it returns the seat when it leaves. A thread with a seat sleeps at the bell of the place where its node waits (bells.h), which is
+ * rung only for it. A thread without one sleeps at the bell of the lock's door, which is rung whenever a seat is returned. */
 #define _GNU_SOURCE
 #include "bells.h"
 #include <sched.h>
@@ -12,9 +12,9 @@
 #include <unistd.h>
 #endif
 
-enum { DOORS = 256, GUARDS = 64, MOST_SEATS = 200 };
+enum { DOORS = 256, GUARDS = 64, MAX_SEATS = 200 };
 
-/* In a program that can be opened at run time by the GNU C library there is room for so few bytes; others may have none. */
+/* A library that is opened at run time has room for this few bytes of the GNU C library; others may have none. */
 #ifdef __GLIBC__
 #define BY_THREAD static _Thread_local __attribute__((tls_model("initial-exec")))
 #else
@@ -34,8 +34,8 @@ struct seat {
     atomic_uint state;
 };
 
-/* What is still looked at by those who have left: it lies apart from the hall, which may be freed by then. Who leaves and finds nobody counted here rings
- * no bell. A few locks may share one, and then ring for nothing. */
+/* What threads still read after they have left: it is apart from the hall, which may be freed by then. A thread that leaves and finds no sleeper
+ * counted here rings no bell. A few locks may share one, and then ring without effect. */
 struct door {
     _Alignas(APART) atomic_uint sleepers; /* for the lock, at any bell */
     struct bell bell;                     /* of those that want a seat */
@@ -49,16 +49,16 @@ struct hall {
     struct door *door;
     unsigned seats;
     qolb_node lent;
-    /* What the holder writes. */
+    /* Written by the holder. */
     _Alignas(QOLB_NODE_ALIGN) _Atomic uint64_t holder;
     struct seat *held_by;
     struct waiter *waits;
-    /* Threads that use the hall and have no seat. */
+    /* The number of threads that use the hall and have no seat. */
     _Alignas(QOLB_NODE_ALIGN) atomic_uint guests;
     struct seat seat[];
 };
 
-/* The thread's number, and the seat that it had last. */
+/* The thread's number, and its last seat. */
 BY_THREAD uint64_t self;
 BY_THREAD unsigned last_seat;
 
@@ -104,8 +104,8 @@ static struct hall *made_of(qolb_node *nodes, unsigned seats) {
 }
 
 uint32_t qolb_lock_open(qolb_lock *lock, uint32_t kind, uint64_t label, uint64_t seats, const qolb_bytes *opening) {
-    qolb_node nodes[MOST_SEATS] = {{0}};
-    uint32_t got = qolb_open(kind, label, seats, QOLB_NO_LEASE, opening, nodes, MOST_SEATS);
+    qolb_node nodes[MAX_SEATS] = {{0}};
+    uint32_t got = qolb_open(kind, label, seats, QOLB_NO_LEASE, opening, nodes, MAX_SEATS);
     if (got != QOLB_DONE) return got;
     struct hall *hall = made_of(nodes, (unsigned)seats);
     if (!hall) {
@@ -122,7 +122,7 @@ uint32_t qolb_lock_open(qolb_lock *lock, uint32_t kind, uint64_t label, uint64_t
     return QOLB_DONE;
 }
 
-/* The lock's hall, which is opened where there is none. */
+/* The lock's hall, which is opened if there is none. */
 static uint32_t hall_opened(qolb_lock *lock, struct hall **hall) {
     static const qolb_bytes zeros;
     while (!(*hall = hall_of(lock))) {
@@ -133,8 +133,8 @@ static uint32_t hall_opened(qolb_lock *lock, struct hall **hall) {
     return QOLB_DONE;
 }
 
-/* The last step on the hall of who was late, tried, or was told that the lock is shut: that one has passed this on, as its node tells until the seat is
- * free. */
+/* The last step on the hall by a thread that was late, tried without success, or was told that the lock is shut: the last has forwarded the line, as
+ * its node tells until the seat is free. */
 static void give_back(struct hall *hall, struct seat *seat, uint32_t got) {
     struct door *door = hall->door;
     struct next next = {NULL, NULL};
@@ -153,10 +153,10 @@ struct asking {
     int met;           /* while it looked for a seat it met one that is about to be free */
 };
 
-/* What runs in each call of a lock that nobody else uses is inline.
+/* The code that runs in each call of an uncontended lock is inline.
  *
- * Asks with this seat's node: GRANTED, QUEUED or CLOSED, with the seat taken; else BUSY. A seat that is found busy is given back without a ring: while
- * any is busy there is a thread before it in the queue, which will ring. */
+ * Makes a request with this seat's node: GRANTED, QUEUED or CLOSED, with the seat taken; else BUSY. A seat that is found busy is returned without
+ * a ring: while a seat is busy there is a thread before it in the queue, which will ring. */
 static inline uint32_t ask_at(struct asking *me, struct seat *seat) {
     unsigned state = atomic_load(&seat->state);
     if (state != FREE || !atomic_compare_exchange_strong(&seat->state, &state, TAKEN)) {
@@ -172,7 +172,7 @@ static inline uint32_t ask_at(struct asking *me, struct seat *seat) {
     return got;
 }
 
-/* Asks with the seat that the thread had last, or the next that is free and not busy: GRANTED, CLOSED or WAITING, for a turn or for a seat. */
+/* Makes a request with the thread's last seat, or the next that is free and not busy: GRANTED, CLOSED or WAITING, for a turn or for a seat. */
 static uint32_t take_seat(struct asking *me) {
     struct hall *hall = me->hall;
     own_number();
@@ -202,7 +202,7 @@ static struct bell *bell_of(struct hall *hall, struct seat *seat) {
     return seat ? bell_at(&seat->node, qolb_waits_at_proved_(&seat->node)) : &hall->door->bell;
 }
 
-/* Who gets a seat as it looks waits at another bell from then on, and does not sleep at the door's. */
+/* A thread that gets a seat here waits at another bell from then on, and does not sleep at the door's. */
 static uint32_t sleep_at_bell(struct asking *me, const struct limit *limit) {
     struct door *door = me->hall->door;
     struct seat *seat = me->seat;
@@ -244,7 +244,7 @@ static uint32_t await(struct asking *me, uint64_t nanoseconds) {
     return got;
 }
 
-/* What asking gave: the holder is known from here on, and any other gives back the seat that it has. */
+/* Handles the answer of a request: the holder is known from here on, and any other thread returns its seat. */
 static inline uint32_t settle(struct asking *me, uint32_t got) {
     struct hall *hall = me->hall;
     if (got == QOLB_GRANTED) {
@@ -256,13 +256,13 @@ static inline uint32_t settle(struct asking *me, uint32_t got) {
     return got;
 }
 
-/* Of a thread that was not granted the lock at once, by the seat that it had last. */
+/* The waiting of a thread that was not granted the lock at once, by its last seat. */
 __attribute__((noinline)) static uint32_t enter_later(struct asking me, uint32_t got, uint64_t nanoseconds) {
     if (got == QOLB_BUSY) got = take_seat(&me);
     return settle(&me, got == QOLB_WAITING || got == QOLB_QUEUED ? await(&me, nanoseconds) : got);
 }
 
-/* The first seat is that which the thread had last, and mostly that does. */
+/* The first seat is the thread's last one, which mostly works. */
 static inline uint32_t enter_hall(struct hall *hall, uint64_t nanoseconds) {
     struct asking me = {hall, NULL, 0};
     own_number();
@@ -286,7 +286,7 @@ uint32_t qolb_lock_enter(qolb_lock *lock) {
     return hall ? enter_hall(hall, FOR_EVER) : first_use(lock, FOR_EVER);
 }
 
-/* With the last seat alone, so that those who try again and again keep no more seats busy than that one. If it is taken or busy, others have the lock. */
+/* With the last seat only, so that threads that try again and again keep no other seat busy. If it is taken or busy, another thread has the lock. */
 uint32_t qolb_lock_try(qolb_lock *lock) {
     struct hall *hall;
     uint32_t got = hall_opened(lock, &hall);
@@ -300,7 +300,8 @@ uint32_t qolb_lock_try(qolb_lock *lock) {
 
 /* ---- Leaving ---- */
 
-/* Of a holder that has let the line go while threads of the lock sleep: rings for whom its node tells, and where somebody wants a seat. */
+/* For a holder that has released the line while threads of the lock sleep: rings for the next holder and the waiter behind it, as its node tells,
+ * and at the door if a thread wants a seat. */
 __attribute__((noinline)) static void free_and_ring(struct door *door, struct seat *seat) {
     struct next next = next_of(&seat->node);
     atomic_store_explicit(&seat->state, FREE, memory_order_release);
@@ -308,10 +309,10 @@ __attribute__((noinline)) static void free_and_ring(struct door *door, struct se
     ring(&door->bell);
 }
 
-/* The holder releases the line, or shuts it. Once the seat is free the hall may be freed by another.
+/* Releases the line for its holder, or shuts it. Once the seat is free the hall may be freed by another thread.
  *
- * A release steps on the line's words by instructions that let no load pass a store before them. So who looks for a seat sees that this one is about to
- * be free, and does not sleep; or it has been counted, and the bell is rung. The seat's last store needs no such instruction. */
+ * A release uses instructions on the line's words that let no load pass a store before them. So a thread that wants a seat sees that this one is
+ * about to be free, and does not sleep; or it has been counted, and the bell is rung. The seat's last store needs no such instruction. */
 static inline void leave_hall(struct hall *hall, uint32_t (*release)(qolb_node *)) {
     struct seat *seat = hall->held_by;
     struct door *door = hall->door;
@@ -336,7 +337,7 @@ uint32_t qolb_lock_leave_for_another_(qolb_lock *lock) {
     return QOLB_DONE;
 }
 
-/* Takes all seats: false where one is taken. A seat whose thread is about to go is waited for. */
+/* Takes all seats: false if one is taken. Waits for a seat whose thread is about to leave. */
 static int take_all(struct hall *hall) {
     for (unsigned k = 0; k < hall->seats; k++) {
         unsigned state = FREE;
@@ -386,8 +387,8 @@ qolb_node *qolb_lent_(const qolb_node *node) {
 
 /* ---- Conditions ----
  *
- * Who waits stands in two lists, by an entry on its stack: that of the condition, under a guard, from whose front a signal takes one; and that of
- * the lock, under the lock itself, by which a shut tells all. It sleeps at a word of its entry, which is told once. */
+ * A waiter is in two lists, by an entry on its stack: that of the condition, under a guard, from whose front a signal takes one; and that of the
+ * lock, under the lock itself, by which a shut tells all. It sleeps on a word of its entry, which is set once. */
 
 enum { NOTHING, SIGNALLED, SHUT };
 
@@ -437,7 +438,7 @@ static void stand(qolb_cond *cond, struct hall *hall, struct waiter *me) {
     unguard(guard);
 }
 
-/* Takes the one behind this one out of the condition's list. Under its guard. */
+/* Takes the waiter behind this one out of the condition's list. Under its guard. */
 static struct waiter *taken_behind(qolb_cond *cond, struct waiter *it) {
     struct waiter *out = it->next;
     it->next = out->next;
@@ -447,7 +448,7 @@ static struct waiter *taken_behind(qolb_cond *cond, struct waiter *it) {
     return out;
 }
 
-/* Goes from the condition's list; false where it had been taken out. */
+/* Removes itself from the condition's list; false if it had been taken out. */
 static int stand_no_more(qolb_cond *cond, struct waiter *me) {
     struct guard *guard = guard_of(cond);
     int stood = me->stands;
@@ -478,7 +479,7 @@ static unsigned await_word(struct waiter *me, uint64_t nanoseconds) {
     }
 }
 
-/* The holder again. The lock's list is empty where the lock was shut meanwhile. */
+/* The holder again. The lock's list is empty if the lock was shut meanwhile. */
 static void stand_no_more_in(struct waiter *me) {
     *me->before = me->beside;
     if (me->beside) me->beside->before = me->before;
@@ -518,7 +519,7 @@ uint32_t qolb_cond_signal(qolb_cond *cond) { return signal_some(cond, 0); }
 
 uint32_t qolb_cond_broadcast(qolb_cond *cond) { return signal_some(cond, 1); }
 
-/* Tells those that wait at a condition too. A waiter that is told may be gone at once: what is behind it is read before. */
+/* Tells the waiters at a condition, too. A waiter that is told may end at once: its successor in the list is read before. */
 uint32_t qolb_lock_shut(qolb_lock *lock) {
     struct hall *hall = hall_of(lock);
     if (!holds(hall)) return QOLB_MISUSE;

@@ -1,4 +1,5 @@
-/* Of the library's own files, and of preload.c: the proved calls by the names that the archive has them under beside lock.c and calls.c (Makefile, proved.syms). */
+/* For the library's internal files, and preload.c: the proved calls by their names in the archive beside lock.c and calls.c (Makefile,
+ * proved.syms). */
 #ifndef QOLB_PROVED_H
 #define QOLB_PROVED_H
 
@@ -26,21 +27,22 @@ uint32_t qolb_state_proved_(qolb_node *node);
 uint64_t qolb_memory_proved_(uint32_t kind, uint64_t nodes);
 uint32_t qolb_version_proved_(void);
 
-/* Numbers of words of the node's line, at which nodes wait. They name a place and nothing more: nobody looks at the word.
+/* Numbers of words of the node's line, on which nodes wait. They name a place and nothing more: these calls read no word.
  *
- * Where the node waits that asks; the same from its request until it is granted. */
+ * The place of the node's own request; the same from the request until its grant. */
 uint64_t qolb_waits_at_proved_(qolb_node *node);
-/* Where the one waits to whom the node last let the line go, by a release or as it was told that the line is closed; and where the one behind that one
- * waits. The first is proved, the second is not. Where there is none, a number at which nobody waits. */
+/* The place of the next holder after the node's last release, or after it was told that the line is closed; and that of the waiter behind it. The
+ * first is proved, the second is not. If there is none, a number at which no node waits. */
 uint64_t qolb_went_to_proved_(qolb_node *node);
 uint64_t qolb_went_ahead_proved_(qolb_node *node);
 
-/* A lent node is a handle whose lowest bit is set: with it off, it is the address of a lock's hall. No node of the library's lies at an odd address.
- * The node by which the calling thread holds that lock; NULL where it does not. */
+/* Returns the node by which the calling thread holds the lock of a lent node; NULL if it does not hold it.
+ *
+ * A lent node is a handle whose lowest bit is set: without it, it is the address of a lock's hall. No node of the library has an odd address. */
 __attribute__((visibility("hidden"))) qolb_node *qolb_lent_(const qolb_node *node);
 
-/* As qolb_lock_leave, by any thread: whoever holds the lock leaves it. MISUSE where nobody does. For the mutexes of c_examples/preload.c, as those of the
- * system are let go by any thread. */
+/* Leaves the lock for its holder, by any thread. MISUSE if no thread holds it. For the mutexes of c_examples/preload.c, as those of the system may
+ * be released by any thread. */
 __attribute__((visibility("hidden"))) uint32_t qolb_lock_leave_for_another_(qolb_lock *lock);
 
 static inline int qolb_is_lent_(const qolb_node *node) { return (int)((uintptr_t)node->own & 1); }

@@ -1,4 +1,4 @@
-// QOLB for C++14 and later: a node that moves and is never copied, and a guard. qolb.h says what each call answers, and what its caller must keep.
+// QOLB for C++14 and later: a node that moves and is never copied, and a guard. qolb.h has the answer of each call, and the rules for its caller.
 //
 //     auto [opened, nodes] = qolb::Node::open(QOLB_DEFAULT, 1, 2, qolb_bytes{});
 //     {
@@ -8,7 +8,7 @@
 //     std::unique_lock<qolb::Node> lock(nodes[1], std::chrono::milliseconds(1));
 //     if (lock) ...                                      // a timed lock, as of any std::timed_mutex
 //
-// For threads that come and go, with no node for each:
+// For threads that come and go, without a node for each:
 //
 //     qolb::lock lock;                                   // as a std::timed_mutex, first come, first served
 //     std::lock_guard<qolb::lock> turn(lock);
@@ -40,7 +40,7 @@
 #define QOLB_NODISCARD QOLB_LOOK
 #endif
 
-// Without exceptions what would throw ends the program.
+// Without exceptions, an error that would throw ends the program.
 #if defined(__cpp_exceptions)
 #define QOLB_THROW(what) throw what
 #else
@@ -49,7 +49,7 @@
 
 namespace qolb {
 
-// How a call that asks and waits ended. No number of it is true or false.
+// The end of a call that requests the line and waits. No number of it is true or false.
 enum class Got {
     granted, // the node holds the line
     closed,  // the line is closed
@@ -64,15 +64,15 @@ class Closed : public std::runtime_error {
     Closed() : std::runtime_error("qolb: the line is closed") {}
 };
 
-// The node is none, or waits or holds already; or it does not hold the line that it is to read, write or release. Nothing changed.
+// There is no node, or it waits or holds already; or it does not hold the line that it is to read, write or release. Nothing changed.
 class Misuse : public std::logic_error {
   public:
-    Misuse() : std::logic_error("qolb: the node does not allow the call") {}
+    Misuse() : std::logic_error("qolb: the lock or node does not allow the call") {}
 };
 
 namespace detail {
 
-// Never below the time, and as long as a number can say. By a number with a fraction, which no period overflows and which has all 64 bits.
+// Rounds up, to at most the largest number. By a floating-point number, which no period overflows and which has all 64 bits.
 template <class Rep, class Period> std::uint64_t nanoseconds(const std::chrono::duration<Rep, Period> &time) {
     long double exact = std::chrono::duration<long double, std::nano>(time).count();
     if (!(exact > 0)) return 0;
@@ -83,10 +83,10 @@ template <class Rep, class Period> std::uint64_t nanoseconds(const std::chrono::
 
 } // namespace detail
 
-// How many bytes of heap an open line keeps (qolb_memory); 0 where Node::open refuses the kind or the nodes.
+// The bytes of heap that an open line keeps (qolb_memory); 0 if Node::open refuses the kind or the number of nodes.
 QOLB_NODISCARD inline std::uint64_t memory(qolb_kind kind, std::uint64_t nodes) { return qolb_memory(kind, nodes); }
 
-// A node of a line, or none. A node that is destroyed withdraws its request, or releases the line that it holds.
+// A node of a line, or none. If it is destroyed, it withdraws its request, or releases the line that it holds.
 //
 // It is a timed lock as the standard library means it, so std::unique_lock, std::lock_guard and std::scoped_lock take it.
 class Node {
@@ -125,18 +125,18 @@ class Node {
     std::uint64_t label() { return qolb_label(&node_); }
     qolb_node_state state() { return static_cast<qolb_node_state>(qolb_state(&node_)); }
 
-    // Asks, and waits as long as it takes: granted, closed, misuse.
+    // Requests the line, and waits as long as it takes: granted, closed, misuse.
     QOLB_NODISCARD Got acquire() { return got(qolb_acquire(&node_)); }
 
-    // Asks, and takes the request back if it is not granted at once: granted, busy, closed, misuse.
+    // Requests the line, and withdraws the request if it is not granted at once: granted, busy, closed, misuse.
     QOLB_NODISCARD Got try_acquire() { return got(qolb_try(&node_)); }
 
-    // Asks, and waits at most so long: granted, late, closed, misuse.
+    // Requests the line, and waits at most this long: granted, late, closed, misuse.
     template <class Rep, class Period> QOLB_NODISCARD Got acquire_for(const std::chrono::duration<Rep, Period> &time) {
         return got(qolb_acquire_within(&node_, detail::nanoseconds(time)));
     }
 
-    // The same as locks: they throw Closed where the line is closed, so that a loop around them ends, and Misuse.
+    // As a lock of the standard library: these throw Closed if the line is closed, so that a loop around them ends, and Misuse.
     void lock() { locked(acquire()); }
     QOLB_NODISCARD bool try_lock() { return locked(try_acquire()); }
     template <class Rep, class Period> QOLB_NODISCARD bool try_lock_for(const std::chrono::duration<Rep, Period> &time) {
@@ -150,10 +150,10 @@ class Node {
     }
 
     // Acquires the line, lets `change` change its bytes, writes them and releases the line: granted. Else closed or misuse, and `change` is not
-    // called. Where `change` throws, nothing is written and the line is released.
+    // called. If `change` throws, nothing is written and the line is released.
     template <class Change> QOLB_NODISCARD Got with(Change change);
 
-    // The nodes of a new line, in their order, or why there is none.
+    // Opens a line: its nodes in their order, or the cause why there is none.
     QOLB_NODISCARD static std::pair<qolb_answer, std::vector<Node>> open(qolb_kind kind, std::uint64_t label, std::uint64_t nodes,
                                                                          const qolb_bytes &opening, std::uint64_t lease = QOLB_NO_LEASE) {
         std::array<qolb_node, 200> raw{};
@@ -192,14 +192,14 @@ class Node {
     qolb_node node_{};
 };
 
-// A turn of a node: the line is acquired here and released where the scope ends, in whatever way. It writes nothing by itself. The node must stay
-// where it is meanwhile.
+// A turn of a node: the line is acquired here and released at the end of the scope, however that ends. It writes nothing by itself. The node must not
+// move meanwhile.
 class Guard {
   public:
-    // Waits as long as it takes. Throws Closed where the line is closed, and Misuse where the node is none, or waits or holds already.
+    // Waits as long as it takes. Throws Closed if the line is closed, and Misuse if there is no node, or it waits or holds already.
     explicit Guard(Node &node) : node_(&node) { node.lock(); }
 
-    // Takes over the turn of a node that holds the line, as after try_acquire or acquire_for. Throws Misuse where it holds none.
+    // Takes over the turn of a node that holds the line, as after try_acquire or acquire_for. Throws Misuse if it does not hold.
     Guard(Node &node, std::adopt_lock_t) : node_(&node) {
         if (node.state() != QOLB_STATE_HOLDING) QOLB_THROW(Misuse());
     }
@@ -256,19 +256,20 @@ template <class Change> Got Node::with(Change change) {
     return got;
 }
 
-// A lock that any thread may enter, with no node for each (qolb.h, LOCKS). It opens at its first use, so a static one needs no constructor at run time.
+// A lock that any thread may enter, without a node for each (qolb.h, LOCKS). It opens at its first use, so a static one needs no constructor at run
+// time.
 //
-// It is a timed lock as the standard library means it: std::lock_guard, std::unique_lock, std::scoped_lock and std::condition_variable_any take it. The
-// thread that entered leaves. It may be destroyed where no thread holds it or waits for it; else what it has stays.
+// It is a timed lock as the standard library means it: std::lock_guard, std::unique_lock, std::scoped_lock and std::condition_variable_any take it.
+// The thread that entered must leave. It may be destroyed if no thread holds it or waits for it; else its memory stays.
 class Lock {
   public:
-    // At most so many threads hold it or stand in its queue at one time, of 1 to 200; more wait for a seat. A list takes the least memory.
+    // At most this many threads, 1 to 200, hold it or are in its queue at one time; more wait for a seat. A list takes the least memory.
     explicit constexpr Lock(std::uint32_t seats = 64, qolb_kind kind = QOLB_DEFAULT) noexcept : lock_{nullptr, static_cast<std::uint32_t>(kind), seats} {}
     Lock(const Lock &) = delete;
     Lock &operator=(const Lock &) = delete;
     ~Lock() { qolb_lock_close(&lock_); }
 
-    // As in qolb.h: granted; closed; late or busy; and at the first use no memory, or bad nodes where it has not 1 to 200 seats.
+    // As in qolb.h: granted; closed; late or busy; and at the first use no memory, or bad nodes if it does not have 1 to 200 seats.
     QOLB_NODISCARD qolb_answer enter() { return answer(qolb_lock_enter(&lock_)); }
     QOLB_NODISCARD qolb_answer try_enter() { return answer(qolb_lock_try(&lock_)); }
     template <class Rep, class Period> QOLB_NODISCARD qolb_answer enter_for(const std::chrono::duration<Rep, Period> &time) {
@@ -278,7 +279,7 @@ class Lock {
     qolb_answer shut() { return answer(qolb_lock_shut(&lock_)); }
     std::uint64_t holder() const { return qolb_lock_holder(&lock_); }
 
-    // The same as locks: they throw Closed where the lock was shut, std::bad_alloc, and Misuse.
+    // As a lock of the standard library: these throw Closed if the lock was shut, std::bad_alloc, and Misuse.
     void lock() { entered(enter()); }
     QOLB_NODISCARD bool try_lock() { return entered(try_enter()); }
     template <class Rep, class Period> QOLB_NODISCARD bool try_lock_for(const std::chrono::duration<Rep, Period> &time) {
@@ -310,8 +311,8 @@ class Lock {
 
 using lock = Lock;
 
-// A condition of holders of a Lock. It wakes nobody for nothing, and the one that has waited longest first. Where the lock is shut meanwhile a wait throws
-// Closed, and its unique_lock owns nothing.
+// A condition of holders of a Lock. It has no spurious wakeups, and wakes the thread that has waited longest first. If the lock is shut meanwhile, a
+// wait throws Closed, and its unique_lock owns nothing.
 class Condition {
   public:
     constexpr Condition() noexcept : cond_{nullptr} {}
@@ -326,11 +327,11 @@ class Condition {
         while (!is_so()) wait(held);
     }
 
-    // Whether it was told in time.
+    // Returns whether there was a signal in time.
     template <class Rep, class Period> bool wait_for(std::unique_lock<Lock> &held, const std::chrono::duration<Rep, Period> &time) {
         return told(held, qolb_cond_wait_within(&cond_, held.mutex()->native_handle(), detail::nanoseconds(time)));
     }
-    // Whether it is so at the end.
+    // Returns the value of the predicate at the end.
     template <class Rep, class Period, class Predicate>
     bool wait_for(std::unique_lock<Lock> &held, const std::chrono::duration<Rep, Period> &time, Predicate is_so) {
         auto end = std::chrono::steady_clock::now() + time;
@@ -352,13 +353,13 @@ class Condition {
     qolb_cond cond_;
 };
 
-// A value of at most 64 bytes that lies in a lock's line and goes with it from thread to thread. It is opened where it is made.
+// A value of at most 64 bytes in a lock's line, which is handed from thread to thread with it. It is opened when it is made.
 template <class T> class Guarded {
     static_assert(std::is_trivially_copyable<T>::value, "its bytes are copied into the line and out");
     static_assert(sizeof(T) <= sizeof(qolb_bytes), "a line has 64 bytes");
 
   public:
-    // Throws std::bad_alloc, and Misuse where it has not 1 to 200 seats.
+    // Throws std::bad_alloc, and Misuse if it does not have 1 to 200 seats.
     explicit Guarded(const T &value = T(), std::uint32_t seats = 64, qolb_kind kind = QOLB_DEFAULT) {
         qolb_bytes bytes{};
         std::memcpy(bytes.byte, &value, sizeof value);
@@ -367,8 +368,8 @@ template <class T> class Guarded {
         if (got != QOLB_DONE) QOLB_THROW(Misuse());
     }
 
-    // Enters, lets `change` change the value, writes it and leaves; gives back what `change` gives. Where `change` throws, nothing is written. Throws
-    // Closed where the line was shut.
+    // Enters, lets `change` change the value, writes it and leaves; returns the result of `change`. If `change` throws, nothing is written. Throws
+    // Closed if the line was shut.
     template <class Change> auto with(Change change) -> decltype(change(std::declval<T &>())) {
         std::lock_guard<Lock> held(lock_);
         Copy copy(qolb_lock_turn(lock_.native_handle()));
@@ -382,11 +383,11 @@ template <class T> class Guarded {
         with([&value](T &it) { std::memcpy(&it, &value, sizeof value); });
     }
 
-    // Closes the line: who comes is told by Closed. False where it was closed.
+    // Closes the line: later threads get Closed. Returns false if it was closed.
     bool shut() { return lock_.enter() == QOLB_GRANTED && lock_.shut() == QOLB_DONE; }
 
   private:
-    // The value while a turn lasts. There may be no way to make a T of nothing, so it lies in bytes.
+    // The value during a turn. T may have no default constructor, so the value is in bytes.
     class Copy {
       public:
         explicit Copy(qolb_node *turn) : turn_(turn) {

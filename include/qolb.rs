@@ -1,4 +1,4 @@
-//! QOLB for Rust: a node that is moved and never copied, and a guard. `qolb.h` says what each call answers.
+//! QOLB for Rust: a node that is moved and never copied, and a guard. `qolb.h` describes the answers of each call.
 //!
 //! A program takes this file as a module, `#[path = ".../qolb.rs"] mod qolb;`, and links with `-lqolb`; or it takes the crate that is installed
 //! beside it, `qolb = { path = "PREFIX/share/qolb/rust" }`, whose build script finds the library.
@@ -12,9 +12,9 @@
 //! if let Some(turn) = nodes[1].try_lock_for(Duration::from_millis(1))? { .. }
 //! ```
 //!
-//! For threads that come and go, with no node for each: `Mutex` guards a value beside the line, `Lock` has one of at most 64 bytes in the line, and in
-//! a crate that takes this file as a module, and has the crate `lock_api` and a feature of that name, `lock_api::Mutex<RawQolb, T>` is a mutex as those
-//! of `parking_lot`.
+//! For threads that come and go, without a node for each: `Mutex` guards a value beside the line, `Lock` has a value of at most 64 bytes in the line.
+//! In a crate that takes this file as a module, and has the crate `lock_api` and a feature of that name, `lock_api::Mutex<RawQolb, T>` is a mutex as
+//! those of `parking_lot`.
 //!
 //! ```ignore
 //! static TABLE: Mutex<Table> = Mutex::new(Table::new());
@@ -23,15 +23,14 @@
 //!
 //! # A panic while a line is held
 //!
-//! The guard is dropped while the thread unwinds, and a node whose guard was leaked when the node is: so the line is released. What the holder
-//! had written until then stands, and the next holder is granted the line as ever: nothing is poisoned, and nobody is told. Where a half-made
-//! change must not be seen, read the line, change the copy and write it as the last thing. With `panic = "abort"` the process ends, and its lines
-//! with it.
+//! While the thread unwinds, the guard is dropped, which releases the line; if the guard was leaked, the node releases it when the node is dropped.
+//! The holder's writes until then stay, and the next holder is granted the line as usual: nothing is poisoned, and no thread is told. If a half-made
+//! change must not be seen, read the line, change the copy and write it last. With `panic = "abort"` the process ends, and its lines with it.
 //!
 //! # The thread sanitizer
 //!
-//! It does not see into the library. With `--cfg qolb_tsan` beside `-Zsanitizer=thread` it is told of each turn of a `Mutex`, and of a `RawQolb`, and so
-//! does not report what these guard.
+//! The sanitizer does not see into the library. With `--cfg qolb_tsan` beside `-Zsanitizer=thread` it is told of each turn of a `Mutex`, and of a
+//! `RawQolb`, and so does not report the data that these guard.
 #![allow(dead_code, unexpected_cfgs)]
 
 use std::cell::UnsafeCell;
@@ -43,16 +42,16 @@ use std::ops::{Deref, DerefMut};
 use std::ptr::{NonNull, null_mut};
 use std::time::Duration;
 
-/// How the nodes of a line wait. Take `Kind::DEFAULT`, a ticket line, unless memory is short.
+/// The kind of a line. Take `Kind::DEFAULT`, a ticket line, unless memory is short.
 #[derive(Clone, Copy, Debug, PartialEq, Eq)]
 #[repr(u32)]
 pub enum Kind {
-    /// At cells that they draw by tickets.
+    /// An array queue: nodes take tickets and wait on cells.
     Ring = 0,
-    /// In a list that they link. It alone has the two halves of asking, `prepend` and `link`.
+    /// A list: each node links itself to its predecessor. Only this kind has the two calls `prepend` and `link`.
     List = 1,
-    /// At numbered cells that they draw by tickets. A release that passes no withdrawn request takes one step on shared words, where a ring's takes
-    /// two.
+    /// Partitioned tickets: nodes wait on numbered cells. A release that passes no withdrawn request takes one step on shared words, where a ring's
+    /// takes two.
     Ticket = 2,
 }
 
@@ -66,7 +65,7 @@ impl Default for Kind {
     }
 }
 
-/// What a call answers. Each is described in `qolb.h`.
+/// The answer of a call, as described in `qolb.h`.
 #[derive(Clone, Copy, Debug, PartialEq, Eq)]
 pub enum Answer {
     Done,
@@ -111,10 +110,10 @@ impl fmt::Display for Answer {
     }
 }
 
-/// So that `qolb::open(..)?` does in a function whose error is any.
+/// An error, so that `qolb::open(..)?` works in a function with any error type.
 impl std::error::Error for Answer {}
 
-/// Why a lock cannot be had.
+/// The cause for which a lock can't be had.
 #[derive(Clone, Copy, Debug, PartialEq, Eq)]
 pub enum Stopped {
     /// The line is closed.
@@ -134,7 +133,7 @@ impl fmt::Display for Stopped {
 
 impl std::error::Error for Stopped {}
 
-/// A node's state.
+/// The state of a node.
 #[derive(Clone, Copy, Debug, PartialEq, Eq)]
 pub enum State {
     Empty,
@@ -201,19 +200,20 @@ pub fn version() -> u32 {
     qolb_version()
 }
 
-/// A node of a line. A node that is dropped withdraws its request, or releases the line that it holds.
+/// A node of a line. If it is dropped, it withdraws its request, or releases the line that it holds.
 pub struct Node(UnsafeCell<Handle>);
 
-// SAFETY: the library has it proved that a handle may go to another thread. No call takes a `&Node`, so nothing is shared.
+// SAFETY: the library's proof covers that a handle may go to another thread. No call takes a `&Node`, so nothing is shared.
 unsafe impl Send for Node {}
 
-/// Opens a line, which closes at the turn that is the lease's last, if it has one. Its nodes come in their order. The label is a number of the caller's
-/// own, which `Node::label` gives back.
+/// Opens a line and returns its nodes in order.
+///
+/// The line closes at the lease's last turn, if it has a lease. The caller chooses the label, which `Node::label` returns.
 pub fn open(kind: Kind, label: u64, nodes: u64, lease: Option<u64>, opening: &Bytes) -> Result<Vec<Node>, Answer> {
     let mut handles: Vec<Handle> = (0..200).map(|_| Handle { own: null_mut() }).collect();
-    // 2^64 - 1 stands for no lease; as a lease it is never used up.
+    // 2^64 - 1 means no lease; as a lease it is never used up.
     let lease = lease.unwrap_or(u64::MAX);
-    // SAFETY: the pointer is to so many handles, all empty.
+    // SAFETY: the pointer is to this many handles, all empty.
     let answer = unsafe { qolb_open(kind as u32, label, nodes, lease, opening, handles.as_mut_ptr(), handles.len()) };
     match told(answer) {
         Answer::Done => {
@@ -224,13 +224,14 @@ pub fn open(kind: Kind, label: u64, nodes: u64, lease: Option<u64>, opening: &By
     }
 }
 
-/// How many bytes of heap an open line of this kind with so many nodes keeps, as the library asks `malloc` for them. `None` where `open` refuses: a line
-/// has 1 to 200 nodes. The `Vec` in which `open` gives the nodes is besides.
+/// Returns the bytes of heap that an open line of this kind and this number of nodes keeps, as the library asks `malloc` for them.
+///
+/// `None` if `open` refuses: a line has 1 to 200 nodes. The `Vec` that `open` returns is not counted.
 pub fn memory(kind: Kind, nodes: u64) -> Option<u64> {
     Some(qolb_memory(kind as u32, nodes)).filter(|bytes| *bytes != 0)
 }
 
-/// Its number, its line's label, and its state.
+/// The node's number, its line's label, and its state.
 impl fmt::Debug for Node {
     fn fmt(&self, f: &mut fmt::Formatter<'_>) -> fmt::Result {
         // SAFETY: no call has the handle now, as each borrows the node and returns it; nor does another thread, as a node is not `Sync`.
@@ -240,14 +241,14 @@ impl fmt::Debug for Node {
     }
 }
 
-// SAFETY of all calls: the handle is this node's alone, by `&mut self`, and the other references overlap nothing.
+// SAFETY of all calls: only this node has the handle, by `&mut self`, and the other references overlap nothing.
 impl Node {
     #[must_use]
     pub fn enqolb(&mut self) -> Answer {
         told(unsafe { qolb_enqolb(self.0.get_mut()) })
     }
 
-    /// Whether the node is busy, so that it would not be queued if it asked: `Done`, `Busy`; `Misuse` where it waits or holds. It asks nothing.
+    /// Polls whether the node is busy, and makes no request: `Done`, `Busy`; `Misuse` if it waits or holds.
     #[must_use]
     pub fn clear(&mut self) -> Answer {
         told(unsafe { qolb_clear(self.0.get_mut()) })
@@ -278,7 +279,7 @@ impl Node {
         told(unsafe { qolb_link(self.0.get_mut()) })
     }
 
-    /// The line's bytes, where the node holds the line.
+    /// Returns the line's bytes, if the node holds the line.
     pub fn read(&mut self) -> Option<Bytes> {
         let mut out = Bytes([0; 64]);
         match told(unsafe { qolb_read(self.0.get_mut(), &mut out) }) {
@@ -291,7 +292,7 @@ impl Node {
         told(unsafe { qolb_write(self.0.get_mut(), mask, bytes) })
     }
 
-    /// A lane of the line, where the node holds it and the lane is below 8.
+    /// Returns a lane of the line, if the node holds it and the lane is below 8.
     pub fn read_lane(&mut self, lane: u64) -> Option<u64> {
         let mut out = 0;
         match told(unsafe { qolb_read_lane(self.0.get_mut(), lane, &mut out) }) {
@@ -320,7 +321,7 @@ impl Node {
         state_told(unsafe { qolb_state(self.0.get_mut()) })
     }
 
-    /// How many turns are left of the line's lease, with the holder's own: `u64::MAX` without a lease; 0 where the node does not hold the line.
+    /// Returns the number of turns left, with the holder's own: `u64::MAX` without a lease; 0 if the node does not hold the line.
     pub fn turns_left(&mut self) -> u64 {
         unsafe { qolb_turns_left(self.0.get_mut()) }
     }
@@ -330,7 +331,7 @@ impl Node {
         unsafe { qolb_label(self.0.get_mut()) }
     }
 
-    /// Lets go of a node that neither waits nor holds. Any other is given back.
+    /// Closes a node that neither waits nor holds. Any other is returned.
     pub fn close(mut self) -> Result<(), Node> {
         match told(unsafe { qolb_close(self.0.get_mut()) }) {
             Answer::Done => Ok(()),
@@ -338,13 +339,13 @@ impl Node {
         }
     }
 
-    /// Asks, and waits as long as it takes, also while the node is busy: `Granted`, `Closed`, `Misuse`.
+    /// Requests the line, and waits as long as it takes, also while the node is busy: `Granted`, `Closed`, `Misuse`.
     #[must_use]
     pub fn acquire(&mut self) -> Answer {
         told(unsafe { qolb_acquire(self.0.get_mut()) })
     }
 
-    /// Asks, and takes the request back if it is not granted at once: `Granted`, `Busy`, `Closed`, `Misuse`.
+    /// Requests the line, and withdraws the request if it is not granted at once: `Granted`, `Busy`, `Closed`, `Misuse`.
     #[must_use]
     pub fn try_acquire(&mut self) -> Answer {
         match self.enqolb() {
@@ -356,14 +357,15 @@ impl Node {
         }
     }
 
-    /// Asks, and waits at most so long, also while the node is busy: `Granted`, `Late`, `Closed`, `Misuse`. After `Late` the node is withdrawn. It
-    /// looks at least once.
+    /// Requests the line, and waits at most `time`, also while the node is busy: `Granted`, `Late`, `Closed`, `Misuse`.
+    ///
+    /// After `Late` the node is withdrawn. It polls at least once.
     #[must_use]
     pub fn acquire_for(&mut self, time: Duration) -> Answer {
         told(unsafe { qolb_acquire_within(self.0.get_mut(), nanoseconds(time)) })
     }
 
-    /// Waits as long as it takes, and gives a guard that releases the line where it is dropped.
+    /// Waits as long as it takes, and returns a guard that releases the line when it is dropped.
     pub fn lock(&mut self) -> Result<Guard<'_>, Stopped> {
         match self.acquire() {
             Answer::Granted => Ok(Guard(self)),
@@ -371,7 +373,7 @@ impl Node {
         }
     }
 
-    /// A guard, if the line is granted at once.
+    /// Returns a guard if the line is granted at once.
     pub fn try_lock(&mut self) -> Result<Option<Guard<'_>>, Stopped> {
         match self.try_acquire() {
             Answer::Granted => Ok(Some(Guard(self))),
@@ -380,7 +382,7 @@ impl Node {
         }
     }
 
-    /// A guard, if the line is granted within this time.
+    /// Returns a guard if the line is granted within this time.
     pub fn try_lock_for(&mut self, time: Duration) -> Result<Option<Guard<'_>>, Stopped> {
         match self.acquire_for(time) {
             Answer::Granted => Ok(Some(Guard(self))),
@@ -390,27 +392,29 @@ impl Node {
     }
 }
 
-/// A turn of a node, which holds the line. Dropped, it releases the line, also where a panic unwinds (see above). It writes nothing by itself.
+/// A turn of a node, which holds the line.
+///
+/// When it is dropped it releases the line, also if a panic unwinds (see above). It writes nothing by itself.
 #[derive(Debug)]
 #[must_use]
 pub struct Guard<'a>(&'a mut Node);
 
 impl Guard<'_> {
-    /// The line's bytes.
+    /// Returns the line's bytes.
     pub fn read(&mut self) -> Bytes {
         self.0.read().expect("a guard's node holds the line")
     }
 
-    /// Writes the bytes of the mask: byte k where bit k is set.
+    /// Writes the bytes of the mask: byte k if bit k is set.
     pub fn write(&mut self, mask: u64, bytes: &Bytes) {
         assert_eq!(self.0.write(mask, bytes), Answer::Done);
     }
 
-    /// Lane k of the line.
+    /// Returns lane k of the line.
     ///
     /// # Panics
     ///
-    /// Where `k` is not below 8.
+    /// If `k` is not below 8.
     pub fn lane(&mut self, k: u64) -> u64 {
         self.0.read_lane(k).expect("a line has eight lanes")
     }
@@ -419,17 +423,17 @@ impl Guard<'_> {
     ///
     /// # Panics
     ///
-    /// Where `k` is not below 8.
+    /// If `k` is not below 8.
     pub fn set_lane(&mut self, k: u64, value: u64) {
         assert_eq!(self.0.write_lane(k, value), Answer::Done, "a line has eight lanes");
     }
 
-    /// How many turns are left of the line's lease, with this one: `None` without a lease.
+    /// Returns the number of turns left, with this one: `None` without a lease.
     pub fn turns_left(&mut self) -> Option<u64> {
         Some(self.0.turns_left()).filter(|turns| *turns != u64::MAX)
     }
 
-    /// Releases the line and closes it: nobody is served any more.
+    /// Releases the line and closes it: no later request is served.
     pub fn shut(self) {
         // The drop that follows finds nothing to release.
         self.0.shut();
@@ -509,31 +513,33 @@ struct RawCond {
     own: *mut c_void,
 }
 
-/// The bytes of a line that has a value of some type in it, of which not all bytes need be set.
+/// The bytes of a line with a value in it; not all of them need be initialized.
 #[repr(C)]
 struct LineBytes([MaybeUninit<u8>; 64]);
 
-/// How many threads hold a lock or stand in its queue at one time, where nothing else is said; more wait for a seat.
+/// The default number of threads that hold a lock or are in its queue at one time; more wait for a seat.
 pub const SEATS: u32 = 64;
 
 fn nanoseconds(time: Duration) -> u64 {
     u64::try_from(time.as_nanos()).unwrap_or(u64::MAX)
 }
 
-/// A lock that guards nothing by itself, as a `RawMutex` of `lock_api`: `Mutex` and `Lock` stand on it. It opens at its first use. The thread that
-/// entered leaves.
+/// A lock that guards nothing by itself, as a `RawMutex` of `lock_api`: `Mutex` and `Lock` use it.
 ///
-/// Dropped while a thread holds it or waits for it, which a leaked guard may bring about, it keeps what it has.
+/// It opens at its first use. The thread that entered must leave. If it is dropped while a thread holds it or waits for it, which a leaked guard may
+/// cause, its memory stays.
 pub struct RawQolb(UnsafeCell<RawLock>);
 
-// SAFETY: the library lets any threads call for one lock at the same time, and only it reads or changes what is in it.
+// SAFETY: the library lets any threads call for one lock at the same time, and only the library reads or changes its contents.
 unsafe impl Sync for RawQolb {}
 unsafe impl Send for RawQolb {}
 
 impl RawQolb {
+    /// A lock of the default kind with `seats` seats.
+    ///
     /// # Panics
     ///
-    /// Where `seats` is not 1 to 200.
+    /// If `seats` is not 1 to 200.
     pub const fn new(seats: u32) -> RawQolb {
         RawQolb::of_kind(Kind::DEFAULT, seats)
     }
@@ -542,7 +548,7 @@ impl RawQolb {
     ///
     /// # Panics
     ///
-    /// Where `seats` is not 1 to 200.
+    /// If `seats` is not 1 to 200.
     pub const fn of_kind(kind: Kind, seats: u32) -> RawQolb {
         assert!(seats >= 1 && seats <= 200, "a lock has 1 to 200 seats");
         RawQolb(UnsafeCell::new(RawLock { own: null_mut(), kind: kind as u32, seats }))
@@ -554,36 +560,36 @@ impl RawQolb {
         self.took(unsafe { qolb_lock_enter(self.0.get()) })
     }
 
-    /// Enters if nobody has it: `Granted`, `Busy`, `Closed`; `NoMemory` at the first use.
+    /// Enters if no thread has it: `Granted`, `Busy`, `Closed`; `NoMemory` at the first use.
     #[must_use]
     pub fn try_enter(&self) -> Answer {
         self.took(unsafe { qolb_lock_try(self.0.get()) })
     }
 
-    /// Enters, and waits at most so long: `Granted`, `Late`, `Closed`; `NoMemory` at the first use.
+    /// Enters, and waits at most `time`: `Granted`, `Late`, `Closed`; `NoMemory` at the first use.
     #[must_use]
     pub fn enter_for(&self, time: Duration) -> Answer {
         self.took(unsafe { qolb_lock_enter_within(self.0.get(), nanoseconds(time)) })
     }
 
-    /// `Done`; `Misuse` where the calling thread does not hold it.
+    /// Leaves: `Done`; `Misuse` if the calling thread does not hold it.
     pub fn leave(&self) -> Answer {
         self.gives();
         told(unsafe { qolb_lock_leave(self.0.get()) })
     }
 
-    /// Leaves, and nobody enters any more. `Done`; `Misuse` where the calling thread does not hold it.
+    /// Leaves and closes the lock: no later thread enters. `Done`; `Misuse` if the calling thread does not hold it.
     pub fn shut(&self) -> Answer {
         self.gives();
         told(unsafe { qolb_lock_shut(self.0.get()) })
     }
 
-    /// A number of the holding thread (`gettid` on Linux); `None` where nobody holds it.
+    /// Returns a number of the holding thread (`gettid` on Linux); `None` if no thread holds it.
     pub fn holder(&self) -> Option<u64> {
         Some(unsafe { qolb_lock_holder(self.0.get()) }).filter(|number| *number != 0)
     }
 
-    /// What a call answered that may have entered.
+    /// Tells the thread sanitizer of an answer by which the thread may have entered.
     fn took(&self, answer: u32) -> Answer {
         let answer = told(answer);
         if let Answer::Granted | Answer::Closed = answer {
@@ -592,7 +598,7 @@ impl RawQolb {
         answer
     }
 
-    /// The holder is about to leave.
+    /// Tells the thread sanitizer that the holder is about to leave.
     fn gives(&self) {
         if cfg!(qolb_tsan) && unsafe { qolb_lock_turn(self.0.get()) }.is_some() {
             tsan::release(self.0.get());
@@ -600,7 +606,7 @@ impl RawQolb {
     }
 }
 
-/// What the thread sanitizer is told of a lock.
+/// The thread sanitizer's view of a lock.
 #[cfg(qolb_tsan)]
 mod tsan {
     use super::RawLock;
@@ -640,7 +646,7 @@ impl Drop for RawQolb {
     }
 }
 
-/// Whether it was entered. Without memory the program ends, as by any value that finds none.
+/// Returns whether it was entered. Without memory the program ends, as for any failed allocation.
 fn entered(answer: Answer) -> Result<bool, Stopped> {
     match answer {
         Answer::Granted => Ok(true),
@@ -650,8 +656,9 @@ fn entered(answer: Answer) -> Result<bool, Stopped> {
     }
 }
 
-/// A mutex that is first come, first served. Nothing is poisoned: a panic while it is held leaves it, with what was written until then. A thread that
-/// locks what it holds waits for itself.
+/// A mutex that is first come, first served.
+///
+/// Nothing is poisoned: a panic while it is held releases it, with the writes until then. A thread that locks a mutex that it holds waits for itself.
 pub struct Mutex<T: ?Sized> {
     raw: RawQolb,
     value: UnsafeCell<T>,
@@ -666,16 +673,20 @@ impl<T> Mutex<T> {
         Mutex::with_seats(value, SEATS)
     }
 
+    /// A mutex of the default kind with `seats` seats.
+    ///
     /// # Panics
     ///
-    /// Where `seats` is not 1 to 200.
+    /// If `seats` is not 1 to 200.
     pub const fn with_seats(value: T, seats: u32) -> Mutex<T> {
         Mutex::of_kind(value, Kind::DEFAULT, seats)
     }
 
+    /// A mutex over a line of this kind with `seats` seats.
+    ///
     /// # Panics
     ///
-    /// Where `seats` is not 1 to 200.
+    /// If `seats` is not 1 to 200.
     pub const fn of_kind(value: T, kind: Kind, seats: u32) -> Mutex<T> {
         Mutex { raw: RawQolb::of_kind(kind, seats), value: UnsafeCell::new(value) }
     }
@@ -691,12 +702,12 @@ impl<T: ?Sized> Mutex<T> {
         entered(self.raw.enter()).map(|_| self.guard())
     }
 
-    /// A guard, if nobody has it.
+    /// Returns a guard if no thread has it.
     pub fn try_lock(&self) -> Result<Option<MutexGuard<'_, T>>, Stopped> {
         entered(self.raw.try_enter()).map(|had| had.then(|| self.guard()))
     }
 
-    /// A guard, if it is had within this time.
+    /// Returns a guard if it is granted within this time.
     pub fn try_lock_for(&self, time: Duration) -> Result<Option<MutexGuard<'_, T>>, Stopped> {
         entered(self.raw.enter_for(time)).map(|had| had.then(|| self.guard()))
     }
@@ -714,18 +725,18 @@ impl<T: ?Sized> Mutex<T> {
     }
 }
 
-/// A turn of a mutex, which ends where it is dropped. It stays with its thread, which alone may leave.
+/// A turn of a mutex, which ends when it is dropped. It stays with its thread, which must leave.
 #[must_use]
 pub struct MutexGuard<'a, T: ?Sized> {
     mutex: &'a Mutex<T>,
     stays: PhantomData<*mut ()>,
 }
 
-// SAFETY: a shared guard gives shared values alone.
+// SAFETY: a shared guard gives only shared values.
 unsafe impl<T: ?Sized + Sync> Sync for MutexGuard<'_, T> {}
 
 impl<T: ?Sized> MutexGuard<'_, T> {
-    /// Leaves, and nobody enters any more.
+    /// Leaves and closes the mutex: no later thread enters.
     pub fn shut(self) {
         // The drop that follows finds nothing to leave.
         self.mutex.raw.shut();
@@ -752,10 +763,10 @@ impl<T: ?Sized> Drop for MutexGuard<'_, T> {
     }
 }
 
-/// A condition of a `Mutex`. It wakes nobody for nothing, and the one that has waited longest first.
+/// A condition of a `Mutex`. It has no spurious wakeups, and wakes the thread that has waited longest first.
 pub struct Condition(UnsafeCell<RawCond>);
 
-// SAFETY: as of `RawQolb`.
+// SAFETY: as for `RawQolb`.
 unsafe impl Sync for Condition {}
 unsafe impl Send for Condition {}
 
@@ -778,12 +789,12 @@ impl Condition {
         unsafe { qolb_cond_broadcast(self.0.get()) };
     }
 
-    /// Waits until it is told. `Stopped::Closed` where the mutex was shut meanwhile.
+    /// Waits for a signal. `Stopped::Closed` if the mutex was shut meanwhile.
     pub fn wait<'a, T: ?Sized>(&self, guard: MutexGuard<'a, T>) -> Result<MutexGuard<'a, T>, Stopped> {
         self.waited(guard, None).map(|(guard, _)| guard)
     }
 
-    /// Waits until it is told, at most so long, and says whether it was told.
+    /// Waits for a signal at most `time`, and returns whether there was one.
     pub fn wait_for<'a, T: ?Sized>(&self, guard: MutexGuard<'a, T>, time: Duration) -> Result<(MutexGuard<'a, T>, bool), Stopped> {
         self.waited(guard, Some(time))
     }
@@ -806,7 +817,7 @@ impl Condition {
     }
 }
 
-/// A value of at most 64 bytes that lies in the line of a lock, and goes with it from thread to thread.
+/// A value of at most 64 bytes in the line of a lock, which is handed from thread to thread with it.
 pub struct Lock<T: Copy + Send + 'static> {
     raw: RawQolb,
     value: PhantomData<UnsafeCell<T>>,
@@ -822,20 +833,24 @@ impl<T: Copy + Send + 'static> Lock<T> {
         Lock::with_seats(value, SEATS)
     }
 
+    /// A lock of the default kind with `seats` seats, which has `value`.
+    ///
     /// # Panics
     ///
-    /// Where `seats` is not 1 to 200.
+    /// If `seats` is not 1 to 200.
     pub fn with_seats(value: T, seats: u32) -> Result<Lock<T>, Answer> {
         Lock::of_kind(value, Kind::DEFAULT, seats)
     }
 
+    /// A lock over a line of this kind with `seats` seats, which has `value`.
+    ///
     /// # Panics
     ///
-    /// Where `seats` is not 1 to 200.
+    /// If `seats` is not 1 to 200.
     pub fn of_kind(value: T, kind: Kind, seats: u32) -> Result<Lock<T>, Answer> {
         let lock = Lock { raw: RawQolb::of_kind(kind, seats), value: PhantomData };
         let opening = bytes_of(value);
-        // SAFETY: nobody else has the lock yet, and the bytes are there for the call.
+        // SAFETY: no other thread has the lock yet, and the bytes are valid for the call.
         match told(unsafe { qolb_lock_open(lock.raw.0.get(), kind as u32, 0, seats.into(), &opening) }) {
             Answer::Done => Ok(lock),
             refused => Err(refused),
@@ -847,12 +862,12 @@ impl<T: Copy + Send + 'static> Lock<T> {
         entered(self.raw.enter()).map(|_| self.guard())
     }
 
-    /// A guard, if nobody has it.
+    /// Returns a guard if no thread has it.
     pub fn try_lock(&self) -> Result<Option<LockGuard<'_, T>>, Stopped> {
         entered(self.raw.try_enter()).map(|had| had.then(|| self.guard()))
     }
 
-    /// A guard, if it is had within this time.
+    /// Returns a guard if it is granted within this time.
     pub fn try_lock_for(&self, time: Duration) -> Result<Option<LockGuard<'_, T>>, Stopped> {
         entered(self.raw.enter_for(time)).map(|had| had.then(|| self.guard()))
     }
@@ -878,7 +893,9 @@ fn bytes_of<T: Copy + Send + 'static>(value: T) -> LineBytes {
     bytes
 }
 
-/// A turn of a lock: the value as the last holder left it. Dropped, also where a panic unwinds, it is written and the lock is left.
+/// A turn of a lock: the value as the last holder left it.
+///
+/// When it is dropped, also if a panic unwinds, the value is written and the lock is left.
 #[must_use]
 pub struct LockGuard<'a, T: Copy + Send + 'static> {
     lock: &'a Lock<T>,
@@ -887,7 +904,7 @@ pub struct LockGuard<'a, T: Copy + Send + 'static> {
 }
 
 impl<T: Copy + Send + 'static> LockGuard<'_, T> {
-    /// Writes the value and leaves, and nobody enters any more.
+    /// Writes the value, leaves and closes the lock: no later thread enters.
     pub fn shut(self) {
         self.write();
         // The drop that follows finds nothing to write or to leave.
@@ -896,7 +913,7 @@ impl<T: Copy + Send + 'static> LockGuard<'_, T> {
 
     fn write(&self) {
         let bytes = bytes_of(self.value);
-        // SAFETY: a turn is there where the thread holds the lock.
+        // SAFETY: there is a turn if the thread holds the lock.
         unsafe { qolb_lock_turn(self.lock.raw.0.get()).map(|mut turn| qolb_write(turn.as_mut(), u64::MAX, (&raw const bytes).cast())) };
     }
 }
@@ -961,7 +978,7 @@ mod api {
         }
     }
 
-    // SAFETY: as of `RawMutex`.
+    // SAFETY: as for `RawMutex`.
     unsafe impl RawMutexTimed for RawQolb {
         type Duration = Duration;
         type Instant = Instant;

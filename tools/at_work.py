@@ -1,15 +1,14 @@
 #!/usr/bin/env python3
-"""Runs the built program where its streams are closed, full or gone, on scripts as long as may be, and with 200 workers on one and on two
-processors.
+"""Runs the built program with closed, full or broken streams, on scripts of the largest size, and with 200 workers on one and on two processors.
 
     tools/at_work.py [PROGRAM]
 
 A failed read must end with status 4, `read fault` and nothing on standard output; a failed write with 4 and `write fault`; a refused script
-or command line with its own status whatever becomes of standard output and error; no run by a signal. Words that are no text are refused.
+or command line with its own status, whatever happens to standard output and error; no run by a signal. Arguments that are not UTF-8 are refused.
 Scripts of 100,000 commands, events and jobs are answered whole, and so are pictures of 20 million letters, by a run of the list as
-definitions.py has it. The pictures of the pages are what the program draws. Workers sleep while they wait where that is asked for, and else
-not: by how often they give their processor up of their own. Where nobody sleeps a release wakes nobody, by the calls of the system that strace
-tells, if it is installed. Work says how far it is where that is asked for. Needs Linux.
+definitions.py has it. The pictures of the pages are what the program draws. Waiting workers sleep if `--sleep` is given, and else not: counted by
+how often they give up their processor voluntarily. If no worker sleeps, a release wakes none: by the system calls that strace shows, if it is
+installed. The program prints its progress if `--progress` is given. Needs Linux.
 """
 
 import os
@@ -59,7 +58,7 @@ def expect(what, wanted, found):
 
 
 def spawned(program, words, stdin, stdout, stderr, closed=()):
-    """A run on these files, with those of these numbers closed."""
+    """Starts a run on these files, with the file descriptors of these numbers closed."""
 
     def close():
         for file in closed:
@@ -69,7 +68,7 @@ def spawned(program, words, stdin, stdout, stderr, closed=()):
 
 
 def ended(running, script=None):
-    """What the run ends with: its status and what it wrote to the pipes that it was given."""
+    """Returns the status of the run, and what it wrote to the pipes that it was given."""
     try:
         out, err = running.communicate(script, timeout=SECONDS)
     except subprocess.TimeoutExpired:
@@ -90,13 +89,13 @@ def inputs_that_fail(program, words):
 
 
 def inputs_cut_off(program, words, script):
-    """A connection that breaks off after each beginning of the script."""
+    """A connection that breaks off after each prefix of the script."""
     for length in range(len(script) + 1):
         near, far = socket.socketpair()
         near.sendall(b"x")
         far.sendall(script[:length])
         running = spawned(program, words, near, subprocess.PIPE, subprocess.PIPE)
-        # Closed with a byte unread, it is reset: what was sent can be read, and then reading fails.
+        # If the connection is closed with a byte unread, it is reset: what was sent can be read, and then reading fails.
         far.close()
         near.close()
         expect(f"input cut off after {length}", READ_FAULT, ended(running))
@@ -104,7 +103,7 @@ def inputs_cut_off(program, words, script):
 
 
 def outputs_that_fail(program, words, script):
-    """Standard output closed, full, or a pipe that nobody reads."""
+    """Standard output closed, full, or a pipe without a reader."""
     pipe = subprocess.PIPE
     expect("closed output", WRITE_FAULT, ended(spawned(program, words, pipe, pipe, pipe, closed=[1]), script))
     full = os.open("/dev/full", os.O_WRONLY)
@@ -118,13 +117,13 @@ def outputs_that_fail(program, words, script):
 
 
 def limited(length):
-    """Files may have so many bytes, and a write past that fails."""
+    """Limits the size of files, so that a write beyond the limit fails."""
     signal.signal(signal.SIGXFSZ, signal.SIG_IGN)
     resource.setrlimit(resource.RLIMIT_FSIZE, (length, length))
 
 
 def outputs_cut_off(program, words, script):
-    """A file that is full after each beginning of the answer."""
+    """A file that is full after each prefix of the answer."""
     _, answer, _ = ended(spawned(program, words, subprocess.PIPE, subprocess.PIPE, subprocess.PIPE), script)
     for length in range(len(answer)):
         with tempfile.TemporaryFile() as file:
@@ -145,7 +144,7 @@ def outputs_cut_off(program, words, script):
 
 
 def refusals_that_cannot_be_told(program, words):
-    """A refused script or command line, with standard output and error closed, full or gone."""
+    """A refused script or command line, with standard output and error closed, full or broken."""
     pipe, null = subprocess.PIPE, subprocess.DEVNULL
     full = os.open("/dev/full", os.O_WRONLY)
     told = (1, "", "bad line 1\n")
@@ -160,7 +159,7 @@ def refusals_that_cannot_be_told(program, words):
 
 
 def words_that_are_no_text(program):
-    """A command line that is no UTF-8."""
+    """A command line that is not UTF-8."""
     pipe = subprocess.PIPE
     complaint = "error: the arguments are no UTF-8 text\n"
     expect("words that are no text", (2, "", complaint), ended(spawned(program, [b"replay", b"\xff"], pipe, pipe, pipe), b""))
@@ -168,42 +167,42 @@ def words_that_are_no_text(program):
 
 # The most commands, events or jobs of a script, and the most nodes or workers.
 MOST = 100_000
-MOST_NODES = 200
+MAX_NODES = 200
 
 
 def longest_schedule():
-    """200 nodes ask for each of eight lines. Then the holder of one line after another lets it go, the next one looks, and the holder asks again."""
-    lines = [f"nodes {MOST_NODES} lines 8"]
-    lines += [f"enq {node} {line}" for line in range(8) for node in range(1, MOST_NODES + 1)]
+    """200 nodes ask for each of eight lines. Then the holder of one line after another releases it, the next holder polls, and the first asks again."""
+    lines = [f"nodes {MAX_NODES} lines 8"]
+    lines += [f"enq {node} {line}" for line in range(8) for node in range(1, MAX_NODES + 1)]
     for turn in range(MOST // 3):
-        line, holder = turn % 8, turn // 8 % MOST_NODES + 1
-        lines += [f"deq {holder} {line}", f"poll {holder % MOST_NODES + 1} {line}", f"enq {holder} {line}"]
+        line, holder = turn % 8, turn // 8 % MAX_NODES + 1
+        lines += [f"deq {holder} {line}", f"poll {holder % MAX_NODES + 1} {line}", f"enq {holder} {line}"]
     return "\n".join(lines[: MOST + 1]).encode()
 
 
 def longest_steps():
-    """200 nodes hand the line on in turn: the next one asks, the holder grants, and the next one finds that."""
-    lines = [f"nodes {MOST_NODES}", "reset 1", "prepend 1"]
+    """200 nodes hand the line on in turn: the next node asks, the holder grants, and the next node finds the grant."""
+    lines = [f"nodes {MAX_NODES}", "reset 1", "prepend 1"]
     for turn in range(MOST // 7):
-        holder, after = turn % MOST_NODES + 1, (turn + 1) % MOST_NODES + 1
+        holder, after = turn % MAX_NODES + 1, (turn + 1) % MAX_NODES + 1
         lines += [f"{event} {after}" for event in ("reset", "prepend", "link")]
         lines += [f"{event} {holder}" for event in ("home", "done", "grant")]
         lines.append(f"load {after}")
-    return "\n".join([*lines, *[f"load {MOST_NODES}"] * 7][: MOST + 1]).encode()
+    return "\n".join([*lines, *[f"load {MAX_NODES}"] * 7][: MOST + 1]).encode()
 
 
 def longest_work(task):
     """200 workers with 500 jobs each, at a board or at eight lines of a bank."""
-    lines = [f"{task} workers {MOST_NODES}" + (" lines 8" if task == "bank" else "")]
-    for turn in range(MOST // MOST_NODES):
-        for worker in range(1, MOST_NODES + 1):
+    lines = [f"{task} workers {MAX_NODES}" + (" lines 8" if task == "bank" else "")]
+    for turn in range(MOST // MAX_NODES):
+        for worker in range(1, MAX_NODES + 1):
             job = f"in {(worker + turn) % 64} 1" if task == "bank" else "take" if (worker + turn) % 2 else f"put {worker}"
             lines.append(f"{worker} {job}")
     return "\n".join(lines).encode()
 
 
 def longest_scripts(program):
-    """Scripts with as much in them as may be, by each kind of lines, awake and asleep."""
+    """Scripts of the largest size, by each kind of line, awake and asleep."""
     runs = [("replay", ["--kind", kind], longest_schedule()) for kind in ("plain", *LOCKS)]
     runs.append(("steps", [], longest_steps()))
     for task in ("board", "bank"):
@@ -218,7 +217,7 @@ def longest_scripts(program):
 
 
 def timed(program, words, script):
-    """What a run on the script wrote, with its seconds of a processor and its most memory in MB."""
+    """What a run on the script wrote, its processor seconds, and its largest memory in MB."""
     pipe = subprocess.PIPE
     with tempfile.TemporaryFile() as file:
         file.write(script)
@@ -241,17 +240,17 @@ def drawn_whole(program, words, script, what):
 
 
 def largest_schedule_picture(program):
-    """100,000 commands of 200 nodes: the first holds, each other one waits from its first command on."""
-    lines = [f"nodes {MOST_NODES} lines 1"] + [f"enq {node} 0" for node in range(1, MOST_NODES + 1)]
-    lines += [f"poll {MOST_NODES} 0"] * (MOST - MOST_NODES)
+    """100,000 commands of 200 nodes: the first node holds, and each other node waits from its first command on."""
+    lines = [f"nodes {MAX_NODES} lines 1"] + [f"enq {node} 0" for node in range(1, MAX_NODES + 1)]
+    lines += [f"poll {MAX_NODES} 0"] * (MOST - MAX_NODES)
     script = "\n".join(lines).encode()
     out, seconds, memory = timed(program, ["draw"], script)
-    letters = {node: [] for node in range(1, MOST_NODES + 1)}
+    letters = {node: [] for node in range(1, MAX_NODES + 1)}
     for node, row in re.findall(r"^node +(\d+) (.*)$", out, re.M):
         letters[int(node)].append(row)
     for node, rows in letters.items():
         expect(f"row of node {node}", "." * (node - 1) + ("H" if node == 1 else "w") * (MOST + 1 - node), "".join(rows))
-    what = f"a schedule of {MOST} commands by {MOST_NODES} nodes"
+    what = f"a schedule of {MOST} commands by {MAX_NODES} nodes"
     print(f"{what}: {len(out)} bytes of text, {seconds:.1f} seconds of a processor, {memory:.0f} MB", flush=True)
     drawn_whole(program, ["draw", "--svg"], script, what)
 
@@ -261,7 +260,7 @@ POINTS = dict(Idle=".", Ready="r", Linking="l", Queued="w", Holding="H", Leaving
 
 
 def step_lines(script):
-    """What stands in a picture of a step script as text before where the line lies: the points after each event, the event, and what it told."""
+    """The lines of a text picture of a step script before the line's place: the points after each event, the event, and its answer."""
     (nodes, lease), events = read_script(script, step_header, event)
     core = Core(nodes, lease)
     for number, (name, node) in enumerate(events, 1):
@@ -271,23 +270,23 @@ def step_lines(script):
 
 
 def largest_step_picture(program):
-    """100,000 events of 200 nodes, as the definitions say what they do."""
+    """100,000 events of 200 nodes, with the picture that the definitions give."""
     script = longest_steps()
     out, seconds, memory = timed(program, ["draw", "--steps"], script)
     wanted = list(step_lines(script))
-    # Three rows of the nodes' numbers are before them, and what the letters mean is behind.
+    # Three rows of the nodes' numbers come before them, and the legend of letters after them.
     lines = out.split("\n")[3:]
     for number, want in enumerate(wanted):
         if not lines[number].startswith(want):
             raise Wrong(f"event {number + 1} of the largest picture: {lines[number]!r}, and not {want!r}")
     expect("the events of the largest picture", "", lines[len(wanted)])
-    what = f"a step script of {MOST} events by {MOST_NODES} nodes"
+    what = f"a step script of {MOST} events by {MAX_NODES} nodes"
     print(f"{what}: {len(out)} bytes of text, {seconds:.1f} seconds of a processor, {memory:.0f} MB", flush=True)
     drawn_whole(program, ["draw", "--steps", "--svg"], script, what)
 
 
 ROOT = os.path.join(os.path.dirname(os.path.abspath(__file__)), "..")
-# The pictures of the pages that the program drew, by the words and the example.
+# The pictures of the pages that the program drew, with the arguments and the example of each.
 DRAWN = {
     "hand_over": ["draw", "--svg"],
     "withdraw_and_close": ["draw", "--svg"],
@@ -296,17 +295,17 @@ DRAWN = {
 
 
 def pictures_of_the_pages(program):
-    """Each is what the program draws of the example of its name."""
+    """Each picture is what the program draws of the example of its name."""
     for name, words in DRAWN.items():
-        with open(os.path.join(ROOT, "crates/examples/data", f"{name}.txt"), "rb") as script:
+        with open(os.path.join(ROOT, "crates/example_scripts/data", f"{name}.txt"), "rb") as script:
             found = run(program, words, script.read())
         with open(os.path.join(ROOT, "docs/figures", f"{name}.svg"), encoding="latin-1") as figure:
             expect(f"docs/figures/{name}.svg", (0, figure.read(), ""), found)
     print(f"{len(DRAWN)} pictures of the pages are what the program draws", flush=True)
 
 
-# Jobs of so many workers at one line, a turn of the line each. Whoever waits awake gives the processor up a hundred times at most, other than to
-# who wants it; whoever sleeps, for each wait that is long. A run in which nobody sleeps makes few calls that wake: at the ends of its threads.
+# Jobs of `CROWD` workers at one line, each a turn of the line. A worker that waits awake gives up its processor voluntarily at most a hundred
+# times; a worker that sleeps does so for each long wait. A run without sleepers makes few calls that wake: at the ends of its threads.
 CROWD = 8
 TURNS = 12_000
 FEW_SLEEPS = 1_000
@@ -323,7 +322,7 @@ def crowded_script(task):
 
 
 def sleepers(program):
-    """Workers sleep where `--sleep` is given, over each kind of lines, and else not."""
+    """Workers sleep if `--sleep` is given, over each kind of line, and else not."""
     for task in ("board", "bank"):
         script = crowded_script(task)
         for kind in LOCKS:
@@ -339,7 +338,7 @@ def sleepers(program):
 
 
 def nobody_is_woken(program):
-    """Awake workers make few calls that wake, as each thread's end does, and none for each turn: a release looks for sleepers before it wakes."""
+    """Awake workers make few calls that wake, one at each thread's end, and none for each turn: a release loads the count of sleepers before it wakes."""
     strace = shutil.which("strace")
     if not strace or subprocess.run([strace, "-o", os.devnull, "true"], capture_output=True).returncode:
         print("whom awake workers wake was not looked at: there is no strace, or it may not trace", flush=True)
@@ -358,14 +357,14 @@ def nobody_is_woken(program):
 
 
 def progress_is_told(program):
-    """Work that takes more than a second says how far it is where `--progress` is given, and else not."""
+    """Work that takes more than a second prints its progress if `--progress` is given, and else not."""
     pipe = subprocess.PIPE
     for words, said in (([], ""), (["--progress"], rf"(\d+ of {CROWD * TURNS} jobs done\n)+")):
         with tempfile.TemporaryFile() as script:
             script.write(crowded_script("bank"))
             script.seek(0)
             running = spawned(program, ["bank", "--sleep", *words], script, pipe, pipe)
-            # Its workers are at it, and then rest for a while.
+            # The workers are running, and are then stopped for a while.
             while running.poll() is None and len(os.listdir(f"/proc/{running.pid}/task")) < CROWD:
                 time.sleep(0.001)
             running.send_signal(signal.SIGSTOP)
@@ -378,7 +377,7 @@ def progress_is_told(program):
 
 
 def work_script(task, round):
-    """A script for all workers, whose totals the definitions give."""
+    """A script for all workers, with the totals that the definitions give."""
     lines = [f"{task} workers {WORKERS}" + (" lines 2" if task == "bank" else "")]
     for turn in range(3):
         for worker in range(1, WORKERS + 1):

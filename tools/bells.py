@@ -1,26 +1,28 @@
 #!/usr/bin/env python3
-"""Goes through all orders of the steps by which threads wait, sleep at a bell, and ring it: those of a lock (include/lock.c), and those that have a node
-each (include/calls.c).
+"""Explores all orders of the steps by which threads wait, sleep at a bell, and ring it: threads of a lock (include/lock.c), and threads with a node each
+(include/calls.c).
 
 tools/bells.py [--most]     (two minutes of a processor; --most adds scenes of four threads)
 
-Each place at which somebody waits has a bell. Who is about to sleep adds itself to the sleepers of its place's bell and to those in all, reads the bell's
-word, looks once more, and sleeps while the word is what it read. Who lets the line go is told by that step who is the next holder and who stands behind
-it. Then it looks at the sleepers in all. Where there are some it rings for the two: it looks at the sleepers of a bell, and where there are some adds to the
-bell's word and wakes all that sleep there. All steps are sequentially consistent, but for one: any thread may be next, and all see the step.
+Each place at which a thread waits has a bell. A thread that is about to sleep adds itself to the sleepers of its place's bell and to the sleepers in
+all, reads the bell's word, polls once more, and sleeps while the word is what it read. A release tells its thread in the same step the next holder and
+the waiter behind it. Then the thread loads the sleepers in all (a Dekker handshake). If there are some, it rings for the two: it loads the sleepers of
+a bell, and if there are some, it adds to the bell's word and wakes all that sleep there. All steps except one are sequentially consistent: any thread
+may be next, and all see the step.
 
-With nodes: a thread asks, unless its node is busy, looks and sleeps. Who releases the line or shuts it rings, and so does who is told that it is closed
-and so passes that on. A thread of an older program looks on, and sleeps nowhere. In the scenes threads are late, withdraw, come again while they are busy,
-and shut the line.
+With nodes: a thread asks, unless its node is busy, polls and sleeps. A thread that releases or shuts the line rings, and so does a thread that is told
+that the line is closed and so forwards it. A thread of an older program only polls, and sleeps nowhere. In the scenes threads are late, withdraw, return
+while they are busy, and shut the line.
 
-Of a lock: a thread takes a free seat and asks, and then waits at its seat's place. One that finds no seat waits at the door, and does not sleep if it met a
-seat that is about to be free, or got a seat as it looked. Who leaves says first that its seat is about to be free, and rings, and also at the door; that its
-seat is free the others may see as late as before its next step that adds to a word. Who is late gives its seat back and then rings at the door; who is told
-that the line is closed rings for the next two as well. In the scenes threads wait for turns and for seats, are late, and shut the line.
+Of a lock: a thread takes a free seat and asks, and then waits at its seat's place. A thread that finds no seat waits at the door. It does not sleep if it
+met a seat that is about to be free, or got a seat at its poll. A thread that leaves first announces that its seat is about to be free, and rings, also at
+the door; the others may see that the seat is free as late as before the thread's next step that adds to a word. A late thread returns its seat and then
+rings at the door; a thread that is told that the line is closed rings for the next two as well. In the scenes threads wait for turns and for seats, are
+late, and shut the line.
 
-The right protocol must lose nobody: no order may end with a thread that sleeps while nobody else has a step to do (that its time is over does not
-count). Each protocol that differs by one fault must lose a thread in some scene, or this program does not see what it is for; and those that differ by
-what is not needed must lose nobody. It ends with 1 at the first of these that is not so.
+The right protocol must lose no thread: no order may end with a sleeping thread and no other thread with a step to do (the end of its time does not
+count). Each protocol with one fault must lose a thread in some scene, or this program does not see what it is for; and each that lacks only what is not
+needed must lose none. It ends with 1 at the first protocol for which this is not so.
 """
 
 import sys
@@ -65,14 +67,16 @@ NODE_FAULTS = BOTH_FAULTS | {
 }
 NODE_HARMLESS = BOTH_HARMLESS
 
-# What all share: the requests in their order, each with its thread and, where it is withdrawn, its seat; and a thread's own. A node is its thread's seat.
-# The place of a seat has its number; the door is behind the last seat. Each place has its sleepers; `all` are the sleepers in all. Of a bell's word nobody
-# wants to know more than whether it is still what a sleeper read, so that is kept with the sleeper.
+# The shared state: the requests in their order, each with its thread and, if it is withdrawn, its seat; and the threads' states. A node is its
+# thread's seat. The place of a seat has its number; the door is behind the last seat. Each place has its sleepers; `all` is the sleepers in all. Of a
+# bell's word only matters whether it is still what a sleeper read, so that is kept with the sleeper.
 World = namedtuple("World", "queue closed seats busy sleepers all threads")
-# Where the thread is; its seat; the place at which it is about to sleep, and whether that one's word is still what it read; whether it met a seat that is
-# about to be free; what it saw of the sleepers in all; whom it has to ring for; a seat that it has freed, which no other sees yet.
+# The point of the thread; its seat; the place at which it is about to sleep, and whether that bell's word is still what it read; whether it met a
+# seat that is about to be free; the sleepers in all that it saw; the places for which it has to ring; a seat that it has freed, which the others do
+# not see yet.
 Thread = namedtuple("Thread", "at seat place same met sees rings late rounds limited", defaults=(None, None, False, False, 0, (), None, 1, False))
-# Threads, of which the first holds the line; seats; whose time is limited; whether the first shuts; who enters twice.
+# The number of threads, of which the first holds the line; the number of seats; the threads with a limited time; whether the first shuts; the threads
+# that enter twice.
 Scene = namedtuple("Scene", "name threads seats limited shuts twice", defaults=((), False, ()))
 
 SCENES = [
@@ -90,8 +94,8 @@ SCENES = [
 ]
 MORE = [Scene("three wait for turns", 4, 4), Scene("three want two seats, and one is late", 4, 2, (2,))]
 
-# Threads, each with a node, of which the first holds the line; whose time is limited, so that they withdraw at some time; whether the first shuts; who
-# asks twice; who is of an older program.
+# The number of threads, each with a node, of which the first holds the line; the threads with a limited time, which withdraw at some time; whether
+# the first shuts; the threads that ask twice; the threads of an older program.
 NodeScene = namedtuple("NodeScene", "name threads limited shuts twice older", defaults=((), False, (), ()))
 
 NODE_SCENES = [
@@ -161,15 +165,15 @@ class Steps:
         return ()
 
     def seen(self, world, k):
-        """All that the thread has stored is seen."""
+        """Lets the others see all that the thread has stored."""
         seat = world.threads[k].late
         return world if seat is None else moved(world._replace(seats=put(world.seats, seat, FREE)), k, world.threads[k].at, late=None)
 
     # ---- The line ----
 
     def passed_on(self, world, k, rings):
-        """The thread's request, the first, has ended: the line goes on, over those that were withdrawn, whose seats are busy no more. The thread is told for whom
-        to ring, and where else it has to."""
+        """Ends the thread's request, which is the first: the line is forwarded past the withdrawn requests, whose seats are busy no more. The thread
+        is told for which places to ring, and where besides."""
         queue, busy, own = world.queue[1:], world.busy, world.threads[k].seat
         while queue and queue[0][1] is not None:
             busy = put(busy, queue[0][1], False)
@@ -184,7 +188,7 @@ class Steps:
         return moved(world._replace(queue=queue, busy=busy), k, world.threads[k].at, rings=tuple(two) + rings)
 
     def withdrawn(self, world, k, it):
-        """The thread's request stays in the queue, and its seat is busy until it is passed."""
+        """Withdraws the thread's request: it stays in the queue, and its seat is busy until it is passed."""
         queue = tuple((n, it.seat if n == k and gone is None else gone) for n, gone in world.queue)
         return world._replace(queue=queue, busy=put(world.busy, it.seat, True))
 
@@ -194,7 +198,7 @@ class Steps:
         return 0 if self.fault == "one bell" else place
 
     def lies_down(self, world, k, place):
-        """The thread is about to sleep at this place."""
+        """Begins a sleep at this place."""
         if self.fault == "wrong bell":
             place = (place + 1) % len(world.sleepers)
         first = ("look", "second") if self.fault == "look, count, read" else ("add",)
@@ -221,7 +225,7 @@ class Steps:
         yield moved(world, k, ("asleep",) if it.same else ("take_off_all", self.AGAIN), same=False)
 
     def gets_up(self, world, k, at):
-        """The thread does not sleep, and goes on there."""
+        """Ends the sleep before it began; the thread goes on there."""
         if self.fault == "look, count, read":
             return moved(world, k, (at,), place=None)
         return moved(world, k, ("take_off_all", at), same=False)
@@ -243,13 +247,13 @@ class Steps:
     # ---- Ringing ----
 
     def gate(self, world, k, it):
-        """Whether anybody sleeps, who has let the line go."""
+        """Loads the sleepers in all, after the release."""
         sees = it.sees if self.fault == "early look" else world.all
         nobody = sees == 0 and self.fault != "rings always"
         yield self.goes(moved(world, k, it.at, sees=0, **({"rings": ()} if nobody else {})), k)
 
     def ring(self, world, k, it):
-        """For the next of those for whom it has to."""
+        """Rings for the next of the places for which it has to ring."""
         if not it.rings:
             yield self.ended(world, k)
         elif world.sleepers[self.bell(it.rings[0])] or self.fault == "rings always":
@@ -279,7 +283,7 @@ class Steps:
 
 
 class OfLock(Steps):
-    """Of a thread that uses a lock."""
+    """The steps of a thread that uses a lock."""
 
     BEGINS, AGAIN = ("top",), "top"
 
@@ -301,7 +305,7 @@ class OfLock(Steps):
             yield moved(self.withdrawn(world, k, it), k, ("give",), rings=rings)
 
     def found(self, world, k, which):
-        """The thread has come to its turn: it has the line, or it is told that it is closed and has passed that on."""
+        """The thread is at its turn: it has the line, or it is told that it is closed and has forwarded it."""
         at = "turn"
         if world.closed:
             at, world = "give", self.passed_on(world, k, (self.door(),))
@@ -355,7 +359,7 @@ class OfLock(Steps):
         yield moved(self.passed_on(world._replace(closed=world.closed or closes), k, door), k, ("gate",))
 
     def goes(self, world, k):
-        """It has left: its seat is free, which the others see now or later."""
+        """The thread has left: its seat is free, which the others see now or later."""
         return moved(world, k, ("ring",), late=world.threads[k].seat, seat=None)
 
     def give(self, world, k, it):
@@ -363,12 +367,12 @@ class OfLock(Steps):
 
 
 class OfNodes(Steps):
-    """Of a thread that has a node."""
+    """The steps of a thread that has a node."""
 
     BEGINS, AGAIN = ("ask",), "look"
 
     def ask(self, world, k, it):
-        """A busy node asks again and again: it has a step to do once it is busy no more, or its time is over."""
+        """Asks; a busy node asks again and again: it has a step to do when it is no longer busy, or when its time is over."""
         if not world.busy[k]:
             after = world._replace(queue=world.queue + ((k, None),))
             yield self.found(after, k, "first") if has_turn(after, k) else moved(after, k, ("looks_on",) if k in self.scene.older else ("look",))
@@ -376,7 +380,7 @@ class OfNodes(Steps):
             yield self.ended(world, k)
 
     def found(self, world, k, which):
-        """The thread has come to its turn: it has the line, or it is told that it is closed and has passed that on."""
+        """The thread is at its turn: it has the line, or it is told that it is closed and has forwarded it."""
         at = "turn"
         if world.closed:
             at, world = "told", self.passed_on(world, k, ())
@@ -417,7 +421,7 @@ class OfNodes(Steps):
 
 
 def loses(scene, fault=None):
-    """A world in which a thread is lost, or None; and how many there are."""
+    """Returns a world in which a thread is lost, or None; and the number of worlds."""
     of_lock = isinstance(scene, Scene)
     protocol = OfLock(scene, fault) if of_lock else OfNodes(scene, fault)
     start = opened(scene) if of_lock else opened_with_nodes(scene)

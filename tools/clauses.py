@@ -4,8 +4,8 @@
     tools/clauses.py [COMMIT]
 
 It prints, in this order: the words of clauses and ghost members of a shared line's interface and its one body; the lines of contract, the
-functions and the files that a release of a ticket line goes through from the C call to the atomic step; the clauses in all, and those wider than
-100 columns; and by crate the lines of source, specs and proofs. Run it before and after a change that means to say a thing once.
+functions and the files that a release of a ticket line goes through from the C call to the atomic step; the number of clauses, and of those wider
+than 100 columns; and by crate the lines of source, specs and proofs. Run it before and after a change that removes repetition.
 """
 
 import re
@@ -20,9 +20,9 @@ WIDE = 100
 
 # The interface, and the body that all locks share.
 INTERFACE = ["crates/qolb_model/src/sync.rt"]
-BODY = "crates/shared_line/src/"
+BODY = "crates/line_generic/src/"
 
-# The functions from the C call to the atomic step, by file. A name that a commit has not got counts for nothing there.
+# The functions from the C call to the atomic step, by file. A name that a commit does not have counts as nothing.
 RELEASE = {
     "crates/qolb_c/src/lib.rt": ["qolb_deqolb"],
     "crates/qolb_c/src/handle.rt": ["take", "put", "of", "of_parts", "into_parts"],
@@ -31,18 +31,18 @@ RELEASE = {
     "crates/qolb_c/src/answer.rt": ["of_done", "number"],
     "crates/qolb_c/src/node.rt": ["release", "deqolb", "state"],
     "crates/qolb_model/src/sync.rt": ["deqolb", "state"],
-    "crates/shared_line/src/sync.rt": ["deqolb", "state"],
-    "crates/shared_line/src/calls.rt": ["deqolb", "let_go", "state"],
-    "crates/shared_line/src/line.rt": ["state"],
-    "crates/shared_line/src/rule.rt": ["closes"],
-    "crates/shared_line/src/sleeping.rt": ["at", "wake", "wake_at"],
-    "crates/shared_line/src/queue.rt": ["put", "release"],
-    "crates/ticket_line/src/queue.rt": ["put", "release", "left_by"],
-    "crates/ticket_line/src/slots.rt": ["put", "carry"],
+    "crates/line_generic/src/sync.rt": ["deqolb", "state"],
+    "crates/line_generic/src/calls.rt": ["deqolb", "release_with", "state"],
+    "crates/line_generic/src/line.rt": ["state"],
+    "crates/line_generic/src/table.rt": ["closes"],
+    "crates/line_generic/src/wake.rt": ["at", "wake", "wake_at"],
+    "crates/line_generic/src/discipline.rt": ["put", "release"],
+    "crates/ticket_line/src/discipline.rt": ["put", "release", "state_after"],
+    "crates/ticket_line/src/slots.rt": ["put", "copy_to_next_slot"],
     "crates/ticket_line/src/release.rt": ["release", "walk", "free_passed"],
     "crates/ticket_line/src/steps.rt": ["grant", "free"],
-    "crates/ticket_line/src/words.rt": ["slot_of", "cell_word", "ticket_after", "number", "granted", "withdrawn_by"],
-    "crates/array_line/src/words.rt": ["cell_word", "node_word"],
+    "crates/ticket_line/src/layout.rt": ["slot_of", "cell_word", "ticket_after", "number", "granted", "withdrawn_by"],
+    "crates/line_tickets/src/layout.rt": ["cell_word", "node_word"],
 }
 
 
@@ -67,7 +67,7 @@ class Tree:
 
 
 def contract_lines(text, name):
-    """The lines of contract of each function of this name, a list for each."""
+    """The lines of contract of each function of this name, as a list for each."""
     found, lines = [], text.splitlines()
     for at, line in enumerate(lines):
         if re.search(rf"\bfn {name}\b", line) is None:

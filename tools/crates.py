@@ -9,7 +9,7 @@ import sys
 import time
 
 ROOT = pathlib.Path(__file__).resolve().parent.parent
-# What a crate's proof reads, in its folder.
+# What the proof of a crate reads, in its folder.
 PARTS = ("src", "specs", "proofs")
 
 
@@ -25,11 +25,11 @@ class Crate:
         self.is_program = (self.folder / "src" / "main.rt").is_file()
 
     def files(self):
-        """The files that its proof reads."""
+        """The files that the proof of the crate reads."""
         return [it for part in PARTS for it in sorted((self.folder / part).rglob("*")) if it.is_file()]
 
     def lines(self):
-        """How many lines its proof reads."""
+        """The number of lines that the proof of the crate reads."""
         return sum(it.read_bytes().count(b"\n") for it in self.files())
 
 
@@ -47,7 +47,7 @@ def read_crates():
 
 
 def below(crates, name):
-    """The names of the crates that this one stands on, lowest first."""
+    """The names of the crates below this one, lowest first."""
     wanted = set()
     for used in crates[name].uses:
         wanted |= {used, *below(crates, used)}
@@ -55,7 +55,7 @@ def below(crates, name):
 
 
 def named(crates, names):
-    """These names, or all; ends with a word where one is no crate."""
+    """These names, or all; ends with a message if one of them is no crate."""
     unknown = sorted(set(names) - set(crates))
     if unknown:
         sys.exit(f"no such crate: {', '.join(unknown)}")
@@ -63,7 +63,7 @@ def named(crates, names):
 
 
 def copy_sources(crates, to):
-    """Copies what proofs and tests of these crates read to another folder, as a repository of their own."""
+    """Copies what proofs and tests of these crates read to another folder, as its own repository."""
     for crate in crates:
         for part in PARTS:
             if (crate.folder / part).is_dir():
@@ -80,7 +80,7 @@ def link(one, other):
 
 
 def lay_out(crates, name, to):
-    """Makes a repository in which this crate alone is to be proved: with its sources, and with the libraries that were built of those below."""
+    """Makes a repository in which only this crate is to be proved: its sources, and the built libraries of the crates below."""
     under = [crates[it] for it in below(crates, name)]
     copy_sources([*under, crates[name]], to)
     for crate in under:
@@ -90,7 +90,7 @@ def lay_out(crates, name, to):
 
 
 def take_kept(crate, folder):
-    """Gives a copy of a crate the work that checks of it kept, what was proved by links."""
+    """Gives a copy of a crate the work that its checks kept, proved files by links."""
 
     def take(one, other):
         (link if one.endswith(".oantt") else shutil.copy2)(one, other)
@@ -100,19 +100,19 @@ def take_kept(crate, folder):
 
 
 def lanes():
-    """How many checks may run at a time: one a processor, and no more than a fifth of the memory in GB, which a check can take."""
+    """The number of checks that may run at a time: one for each processor, and at most a fifth of the memory in GB, which a check can take."""
     memory = os.sysconf("SC_PAGE_SIZE") * os.sysconf("SC_PHYS_PAGES") / 5e9
     return max(1, min(len(os.sched_getaffinity(0)), int(memory)))
 
 
 def spawn(words, folder, log=None):
-    """Starts a process in a session of its own, so that all that it starts can be ended with it; what it says goes to `log`."""
+    """Starts a process in its own session, so that all its children can be ended with it; its output goes to `log`."""
     out = {"stdout": log, "stderr": subprocess.STDOUT} if log else {}
     return subprocess.Popen(words, cwd=folder, stdin=subprocess.DEVNULL, start_new_session=True, **out)
 
 
 def end_all(running):
-    """Tells processes to end, with all that they started, and waits until they have."""
+    """Ends processes, with all their children, and waits for them."""
     running = [it for it in running if it.poll() is None]
     for how in (signal.SIGTERM, signal.SIGKILL):
         for it in running:
@@ -122,12 +122,12 @@ def end_all(running):
         while time.monotonic() < until and any(it.poll() is None for it in running):
             time.sleep(0.1)
     if running:
-        # The checks that rt started end right after it.
+        # The checks that rt started end right after rt.
         time.sleep(0.5)
 
 
 def say(text, file=sys.stderr):
-    """A line, in the place of what `show` left at the foot of the terminal."""
+    """Prints a line in place of the text that `show` left at the foot of the terminal."""
     show("")
     print(text, file=file, flush=True)
 
@@ -136,14 +136,14 @@ SHOWN = [""]
 
 
 def show(text):
-    """Text at the foot of a terminal, until the next."""
+    """Shows a text at the foot of a terminal, until the next one."""
     if sys.stderr.isatty() and text != SHOWN[0]:
         SHOWN[0] = text
         print(f"\r\033[K{text[: shutil.get_terminal_size().columns - 1]}", end="", file=sys.stderr, flush=True)
 
 
 def run_main(main):
-    """Ends with what `main` gives; also a signal has what was begun put away."""
+    """Ends with the status that `main` returns. After a signal it also cleans up what was begun."""
     signal.signal(signal.SIGTERM, lambda *_: sys.exit(143))
     try:
         sys.exit(main())
@@ -152,10 +152,10 @@ def run_main(main):
 
 
 def side_by_side(waits, lanes, start, ended):
-    """Runs a process for each name of `waits`, first those that come first, each once those that it waits for have ended; true if all ended well.
+    """Runs a process for each name of `waits`, in their order, each after those that it waits for have ended; returns True if all ended well.
 
-    `start` is given a name and how many processors it may take, and gives the process, or None if it can't begin yet. `ended` is given the name, the
-    status and the seconds, and says whether to go on. However this ends, no process is left."""
+    `start` is given a name and the number of processors that it may take, and returns the process, or None if it can't begin yet. `ended` is given the
+    name, the status and the seconds, and returns whether to go on. However this function ends, no process is left."""
     left, running, done = list(waits), {}, set()
     try:
         while left or running:

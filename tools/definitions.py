@@ -1,15 +1,15 @@
-"""What each script must be answered: the definitions once more, in Python, from the text of the README and not from the program.
+"""The answer that each script must have: the definitions once more, in Python, from the text of the README and not from the program.
 
-A script is bytes. `answer_to` gives what a run must end with: a reply, `bad line N`, or a check of the report of workers.
+A script is bytes. `answer_to` returns what a run must end with: a reply, `bad line N`, or a check of the report of workers.
 """
 
-MOST_BYTES = 16_777_216
-MOST_ITEMS = 100_000
-MOST_NODES = 200
-MOST_LINES = 8
-MOST_NUMBER = 2**64 - 1
-MOST_BALANCE = 2**48
-MOST_TASKS = 7
+MAX_BYTES = 16_777_216
+MAX_ITEMS = 100_000
+MAX_NODES = 200
+MAX_LINES = 8
+MAX_NUMBER = 2**64 - 1
+MAX_BALANCE = 2**48
+MAX_TASKS = 7
 HEX_DIGITS = b"0123456789abcdefABCDEF"
 
 
@@ -25,7 +25,7 @@ class Fault(Exception):
 
 
 def number(word, low, high):
-    """The number that a word writes, from low to high."""
+    """The number that a word writes, if it is from low to high."""
     if not 1 <= len(word) <= 20 or not all(48 <= byte <= 57 for byte in word):
         raise Fault
     if not low <= int(word) <= high:
@@ -51,7 +51,7 @@ def read_script(text, read_header, read_item):
         if not words:
             continue
         try:
-            if len(items) >= MOST_ITEMS or any(not 32 <= byte <= 126 for byte in line):
+            if len(items) >= MAX_ITEMS or any(not 32 <= byte <= 126 for byte in line):
                 raise Fault
             if header is None:
                 header = read_header(words)
@@ -65,12 +65,12 @@ def read_script(text, read_header, read_item):
 
 
 def read_lease(words):
-    """The lease that the last words of a header write, if there are such words."""
+    """The lease that the last words of a header write, if there are any."""
     if not words:
         return None
     if len(words) != 2 or words[0] != b"lease":
         raise Fault
-    return number(words[1], 1, MOST_NUMBER)
+    return number(words[1], 1, MAX_NUMBER)
 
 
 # Schedules
@@ -80,8 +80,8 @@ def schedule_header(words):
     if len(words) not in (4, 6) or words[0] != b"nodes" or words[2] != b"lines":
         raise Fault
     return (
-        number(words[1], 1, MOST_NODES),
-        number(words[3], 1, MOST_LINES),
+        number(words[1], 1, MAX_NODES),
+        number(words[3], 1, MAX_LINES),
         read_lease(words[4:]),
     )
 
@@ -109,13 +109,13 @@ class Line:
         return next((it for it in self.requests if it[0] == node), None)
 
     def end(self):
-        """The oldest request ends, and so do the withdrawn ones behind it."""
+        """Ends the oldest request, and the withdrawn requests right behind it."""
         self.requests.pop(0)
         while self.requests and self.requests[0][1]:
             self.requests.pop(0)
 
     def look(self, request, waiting):
-        """What a node is answered that looks whether it is its turn."""
+        """The answer to a node that polls."""
         if self.requests[0] is not request:
             return waiting
         if not self.closed:
@@ -188,7 +188,7 @@ EVENTS = b"reset prepend link load home done grant roll freed close".split()
 def step_header(words):
     if len(words) not in (2, 4) or words[0] != b"nodes":
         raise Fault
-    return number(words[1], 1, MOST_NODES), read_lease(words[2:])
+    return number(words[1], 1, MAX_NODES), read_lease(words[2:])
 
 
 def event(header, words):
@@ -221,7 +221,7 @@ class Core:
         self.newest, self.closed, self.turns_left = 0, False, lease
 
     def step(self, name, n):
-        """What the event tells, or None where the node's point does not allow it."""
+        """The answer of the event, or None if the node's point does not allow the event."""
         node = self.nodes[n]
         allowed = {
             "reset": ("Idle", "Shut"),
@@ -250,14 +250,14 @@ class Core:
         return self.leave(n, node, "told")
 
     def leave(self, n, node, reason):
-        """The node begins to release."""
+        """Begins the release of the node."""
         if reason != "told" and self.turns_left is not None:
             self.turns_left -= 1
         node.reason, node.passed = reason, []
         return self.move(node, "Leaving", n)
 
     def gone(self, n, node, at=None):
-        """The line has left the node's hand: into the mailbox of `at`, if it is one where nobody takes it yet."""
+        """Moves the line out of the node's hand: into the mailbox of `at`, if that is an entry from which no node takes it yet."""
         node.keeps = at == n
         if node.passed:
             return self.move(node, "Freeing")
@@ -344,21 +344,21 @@ def steps(text):
 def board_header(words):
     if len(words) != 3 or words[:2] != [b"board", b"workers"]:
         raise Fault
-    return number(words[2], 1, MOST_NODES), 1
+    return number(words[2], 1, MAX_NODES), 1
 
 
 def board_job(header, words):
     if len(words) == 2 and words[1] == b"take":
         return "take", number(words[0], 1, header[0]), None
     if len(words) == 3 and words[1] == b"put":
-        return "put", number(words[0], 1, header[0]), number(words[2], 0, MOST_NUMBER)
+        return "put", number(words[0], 1, header[0]), number(words[2], 0, MAX_NUMBER)
     raise Fault
 
 
 def bank_header(words):
     if len(words) != 5 or words[:2] != [b"bank", b"workers"] or words[3] != b"lines":
         raise Fault
-    return number(words[2], 1, MOST_NODES), number(words[4], 1, MOST_LINES)
+    return number(words[2], 1, MAX_NODES), number(words[4], 1, MAX_LINES)
 
 
 def bank_job(header, words):
@@ -369,11 +369,11 @@ def bank_job(header, words):
         raise Fault
     worker = number(words[0], 1, workers)
     of = [number(word, 0, 8 * lines - 1) for word in words[2 : 2 + accounts]]
-    return verb.decode(), worker, (*of, number(words[-1], 0, MOST_NUMBER))
+    return verb.decode(), worker, (*of, number(words[-1], 0, MAX_NUMBER))
 
 
 def numbers_of(report, names):
-    """The numbers of a report, a line for each of these names, or None where it is none."""
+    """The numbers of a report, which has a line for each of these names; None if the text is no such report."""
     lines = report.split("\n")
     if lines.pop() != "" or len(lines) != len(names):
         return None
@@ -392,14 +392,14 @@ def board_alone(jobs):
     for verb, _, _ in jobs:
         held = stored - taken
         if verb == "put":
-            stored, full = stored + (held < MOST_TASKS), full + (held == MOST_TASKS)
+            stored, full = stored + (held < MAX_TASKS), full + (held == MAX_TASKS)
         else:
             taken, empty = taken + (held > 0), empty + (held == 0)
     return [stored, full, taken, empty, stored - taken]
 
 
 def board(text):
-    """A check of the report of a board's work: whether the definitions allow it."""
+    """A check of the report of a board's work: does it agree with the definitions?"""
     _, jobs = read_script(text, board_header, board_job)
     puts = sum(verb == "put" for verb, _, _ in jobs)
     takes = len(jobs) - puts
@@ -414,8 +414,8 @@ def board(text):
             stored + full == puts
             and taken + empty == takes
             and stored == taken + left
-            and left <= MOST_TASKS
-            and (full == 0 or stored >= MOST_TASKS)
+            and left <= MAX_TASKS
+            and (full == 0 or stored >= MAX_TASKS)
         )
 
     return may_be
@@ -426,25 +426,25 @@ def bank_alone(jobs):
     balances, paid_in, paid_out = {}, 0, 0
     for verb, _, (*of, amount) in jobs:
         first, last = of[0], of[-1]
-        if verb == "in" and balances.get(first, 0) + amount <= MOST_BALANCE:
+        if verb == "in" and balances.get(first, 0) + amount <= MAX_BALANCE:
             balances[first] = balances.get(first, 0) + amount
             paid_in += amount
         elif verb == "out" and balances.get(first, 0) >= amount:
             balances[first] = balances.get(first, 0) - amount
             paid_out += amount
         elif verb == "move" and first != last and balances.get(first, 0) >= amount:
-            if balances.get(last, 0) + amount <= MOST_BALANCE:
+            if balances.get(last, 0) + amount <= MAX_BALANCE:
                 balances[first] = balances.get(first, 0) - amount
                 balances[last] = balances.get(last, 0) + amount
     return [paid_in, paid_out, paid_in - paid_out]
 
 
 def bank(text):
-    """A check of the report of a bank's work: whether the definitions allow it."""
+    """A check of the report of a bank's work: does it agree with the definitions?"""
     _, jobs = read_script(text, bank_header, bank_job)
-    offered = sum(of[-1] for verb, _, of in jobs if verb == "in" and of[-1] <= MOST_BALANCE)
+    offered = sum(of[-1] for verb, _, of in jobs if verb == "in" and of[-1] <= MAX_BALANCE)
     wanted = sum(of[-1] for verb, _, of in jobs if verb == "out")
-    all_fit = offered <= MOST_BALANCE
+    all_fit = offered <= MAX_BALANCE
     alone = bank_alone(jobs) if len({worker for _, worker, _ in jobs}) <= 1 else None
 
     def may_be(report):
@@ -466,9 +466,8 @@ DEFINITIONS = {"replay": replay, "steps": steps, "board": board, "bank": bank}
 
 
 def answer_to(task, text):
-    """The status, standard output and standard error that a run must end with; where workers share a board or a bank, the output is a
-    check of the report."""
-    if len(text) > MOST_BYTES:
+    """The status, standard output and standard error that a run must end with. If workers share a board or a bank, the output is a check of the report."""
+    if len(text) > MAX_BYTES:
         return 1, "", "script too long\n"
     try:
         answer = DEFINITIONS[task](text)
@@ -480,7 +479,7 @@ def answer_to(task, text):
 
 
 def is_right(wanted, found):
-    """Whether what a run ended with is what it must end with."""
+    """Returns True if a run ended as it must."""
     status, out, err = wanted
     if found[0] != status or found[2] != err:
         return False

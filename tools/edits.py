@@ -1,34 +1,35 @@
 #!/usr/bin/env python3
-"""Tries each wrong body and says by what it was refused: the edits of the crates that are named (all, if none is), in must-fail/ of the crate and in
-tools/wrong_bodies/edits/CRATE, which a goal must refuse; and the patches tools/wrong_bodies/*.patch, which a test must refuse, where the crate is
-changed or its tests are run. The gate tries those in must-fail/ alone.
+"""Tries each mutant and prints what refused it: the edits of the named crates (all, if none is named), in must-fail/ of the crate and in
+tools/mutants/edits/CRATE, which a goal must refuse; and the patches tools/mutants/*.patch, which a test must refuse, if the patch changes a named
+crate or runs its tests. The gate tries only those in must-fail/.
 
-An edit shows something only where the prover refuses it by a goal: what the changed function promises, what a call in it requires, or what a
-caller of it relies on. An edit that only renames goals is refused because answers name goals that are gone, which a harmless rewrite of the
-same place would be too; such an edit shows nothing. A patch is what a test has to refuse, most often since no clause can say it (that threads run at the same
-time, say): its head has what it shows, the crate whose tests are run, and the test that must not pass. That test alone is run without a proof, by `rt try --test`; but a test that takes all
-memory away fails there whatever the body, so such a patch is judged by `rt test`, and with --proved alone: it proves all crates from the one changed on.
+An edit shows something only if the prover refuses it by a goal: what the changed function promises, what a call in it requires, or what a
+caller of it relies on. An edit that only renames goals is refused because answers name goals that no longer exist, and a harmless rewrite of the
+same place would be refused, too; such an edit shows nothing. A patch is for a test to refuse, most often because no clause can state it (for example
+that threads run at the same time): its head has what it shows, the crate whose tests are run, and the test that must not pass. Only that test is run,
+without a proof, by `rt try --test`. A test that takes all memory fails there for any body, so such a patch is judged by `rt test`, and only with
+--proved: that proves all crates from the changed one on.
 
-Edits are tried over the work that `tools/prove` keeps, which is called first. For each body a line:
+Edits are tried over the work that `tools/prove` keeps, which is called first. For each mutant it prints a line:
 
   answer  CRATE/EDIT  FUNCTION: GOAL    an answer that is written in proofs/ no longer proves the goal of that name
-  search  CRATE/EDIT  FUNCTION: GOAL    a goal of that name, which the tactics proved, they no longer prove
+  search  CRATE/EDIT  FUNCTION: GOAL    the tactics no longer prove a goal of that name, which they proved before
   false   CRATE/EDIT  FUNCTION: GOAL    the goal is false: the prover found values
   meant   CRATE/EDIT  FUNCTION: GOAL    the same edit made harmless is proved: a condition that it adds is what is refused
   test    PATCH       TEST              the test failed, or did not end
-  new     CRATE/EDIT  FUNCTION: GOAL    only goals are open, or answers refused, that have a new name: look whether a harmless rewrite is refused alike
+  new     CRATE/EDIT  FUNCTION: GOAL    only goals are open, or answers refused, that have a new name: find out whether a harmless rewrite is refused alike
   shape   CRATE/EDIT  FUNCTION: GOAL    the same edit made harmless is refused alike: it shows nothing, rewrite it
-  names   CRATE/EDIT  FUNCTION          only names of the proof are gone: it shows nothing, rewrite it
-  ALIVE   ..                            the contracts let it through, or the test passed
+  names   CRATE/EDIT  FUNCTION          only names of the proof are missing: it shows nothing, rewrite it
+  ALIVE   ..                            the contracts accept it, or the test passed
   BROKEN  ..          WHY               it can't be applied, the compiler refuses it, or the check gave no verdict
-  NOT JUDGED  PATCH   TEST              it wants --proved
+  NOT JUDGED  PATCH   TEST              it needs --proved
 
-The lines are kept in tools/wrong_bodies/RECORD, each with a sum of what it was tried on, the commit and the day. What stands there with the same sum
-is not tried again, if it wasn't BROKEN, but with --anew. It ends with 1 where a body is `new`, `shape`, `names`, ALIVE or BROKEN.
+The lines are kept in tools/mutants/RECORD, each with a sum of what it was tried on, the commit and the day. A mutant that has a line there with the
+same sum is not tried again, unless it was BROKEN, or with --anew. The program ends with 1 if a mutant is `new`, `shape`, `names`, ALIVE or BROKEN.
 
-With --log it tries nothing: it reads what a run of `rt ci` or `rt must-fail` said of each edit, which is the first error alone. Then an edit is
+With --log it tries nothing: it reads what a run of `rt ci` or `rt must-fail` printed of each edit, which is only the first error. Then an edit is
 `answer`, `goal` (one that the tactics no longer prove, by whatever name), `names`, `limit` (the prover gave up), ALIVE or BROKEN. With --record, too,
-those lines go to RECORD, for edits of which it has none with the same sum: the run must have been one of this very checkout.
+the lines go to RECORD, for edits that have no line there with the same sum: the run must have been one of this very checkout.
 
   tools/edits.py [--jobs N] [--only WORD] [--anew] [--proved] [--not-in-gate] [--keep FOLDER] [CRATE ..]
   tools/edits.py --log FILE [--record] [--only WORD] [CRATE ..]
@@ -51,15 +52,15 @@ from crates import PARTS, ROOT, below, copy_sources, lay_out, named, read_crates
 from refused import by_check, by_gate, by_tests, goals_of, is_proved
 from tests import leave_out, left_out, tests_of
 
-BODIES = ROOT / "tools" / "wrong_bodies"
+BODIES = ROOT / "tools" / "mutants"
 RECORD = BODIES / "RECORD"
-HEAD = "# What refused each wrong body: its name, how, by what; a sum of what it was tried on, the commit, the day (tools/edits.py).\n"
+HEAD = "# What refused each mutant: its name, how, by what; a sum of what it was tried on, the commit, the day (tools/edits.py).\n"
 NOTHING_SHOWN = ("new", "shape", "names", "ALIVE", "BROKEN")
 MINUTES = 120
 
 
 class Body:
-    """A wrong body: an edit of a crate, or a patch."""
+    """A mutant: an edit of a crate, or a patch."""
 
     def __init__(self, crates, file):
         self.file, self.text = file, file.read_text()
@@ -73,7 +74,7 @@ class Body:
             folder = file.parent.parent if file.parent.name == "must-fail" else file.parent
             self.crate, self.name = crates[folder.name], f"{folder.name}/{file.stem}"
             self.touches = {self.crate.name}
-        # Bodies of one batch are tried one after another.
+        # Mutants of one batch are tried one after another.
         self.batch = file.name if self.is_patch else self.crate.name
         self.in_gate = file.parent.name == "must-fail"
 
@@ -89,17 +90,17 @@ def bodies_of(crates, names, only):
 
 
 class Record:
-    """What is known of each body, by its name: how it was refused, by what, the sum of what it was tried on, the commit, the day."""
+    """What is known of each mutant, by its name: how it was refused, by what, the sum of what it was tried on, the commit, the day."""
 
     def __init__(self, crates):
         self.crates, self.sums = crates, {}
-        # Not the kit's own name: kits of one logic prove alike.
+        # The kit's own name is left out: kits of one logic prove alike.
         self.logic = subprocess.run(["rt", "version"], capture_output=True, text=True).stdout.partition("logic ")[2]
         git = lambda *words: subprocess.run(["git", *words], cwd=ROOT, capture_output=True, text=True).stdout.strip()
         self.commit = git("rev-parse", "--short", "HEAD") + ("+" if git("status", "--porcelain", "crates") else "")
 
     def of_crate(self, name):
-        """A sum of what a check of the crate reads, without those below."""
+        """A sum of what a check of the crate reads, without the crates below."""
         if name not in self.sums:
             crate = self.crates[name]
             files = "".join(f"{it.relative_to(crate.folder)} {hashlib.sha256(it.read_bytes()).hexdigest()}\n" for it in crate.files())
@@ -115,7 +116,7 @@ class Record:
         return {it.split("\t")[0]: it.split("\t")[1:] for it in lines if not it.startswith("#")}
 
     def known(self, body):
-        """How the body was refused, and by what, if it was tried as it now is."""
+        """How the mutant was refused, and by what, if it was tried as it is now."""
         kind, where, made_of, *_ = self.read().get(body.name, ["", "", ""])
         return (kind, where) if made_of == self.sum(body) else None
 
@@ -133,7 +134,7 @@ class Record:
 
 
 def apply_edit(crate, text):
-    """Makes an edit's changes in the folder of a crate, each old text standing once in its file; why it can't, if so."""
+    """Applies an edit's changes in the folder of a crate, where each old text must occur once in its file; returns why it can't, if so."""
     path = old = None
     for line in text.splitlines():
         key, _, rest = line.partition(":")
@@ -151,7 +152,7 @@ def apply_edit(crate, text):
 
 
 def harmless(text):
-    """The same edit made harmless: as it says itself (`harmless: TEXT` below `new:`), or where it adds a condition, with one that never holds, or always."""
+    """The same edit made harmless: by its own `harmless: TEXT` below `new:`, or, if it adds a condition, with a condition that never or always holds."""
     said = re.sub(r"^new: .*\nharmless: (.*)$", r"new: \1", text, flags=re.M)
     if said != text:
         return said
@@ -168,20 +169,20 @@ def harmless(text):
 
 
 def ran(words, folder):
-    """What a command said, and its status; it is ended after so many minutes."""
+    """The output of a command, and its status; the command is ended after this many minutes."""
     run = subprocess.run(["timeout", "--foreground", f"{MINUTES}m", *words], cwd=folder, capture_output=True, text=True, errors="replace", stdin=subprocess.DEVNULL)
     return run.stdout + run.stderr, run.returncode
 
 
 def is_of_tests(crate, text):
-    """Whether an edit changes what its crate's root reads for the tests alone."""
+    """Returns True if an edit changes what the root of its crate reads only for the tests."""
     root = next(it for it in crate.files() if it.name in ("lib.rt", "main.rt") and it.parent.name == "src")
     read = re.findall(r"^#\[cfg\(test\)\]\nmod (\w+);", root.read_text(), re.M)
     return any(it in read for it in re.findall(r"^file: src/(\w+)", text, re.M))
 
 
 class Edits:
-    """The edits of one crate, each tried in a copy of it over the work that was kept; with its tests if an edit is of what is read for these alone."""
+    """The edits of one crate, each tried in a copy of the crate over the work that was kept; with its tests if an edit is of what is read only for these."""
 
     def __init__(self, crates, crate, texts, room):
         self.with_tests = ["--test"] * any(is_of_tests(crate, it) for it in texts)
@@ -198,7 +199,7 @@ class Edits:
         return ran(["rt", "check", "--jobs", "1", *self.with_tests, *more], self.folder)[0]
 
     def check_with(self, text):
-        """What a check says of the crate with the edit; the crate is then as it was."""
+        """The output of a check of the crate with the edit; afterwards the crate is as it was."""
         kept = {path: path.read_bytes() for part in PARTS for path in (self.folder / part).rglob("*") if path.is_file()}
         why = apply_edit(self.folder, text)
         log = "" if why else self.check()
@@ -221,7 +222,7 @@ class Edits:
 
 
 def tried_by_test(crates, body, room):
-    """What becomes of a patch: how it was refused, by what, and what was said."""
+    """The outcome of a patch: how it was refused, by what, and the output."""
     words = ["rt", "try", "--test"]
     if body.takes_all_memory():
         words = ["rt", "test"]
@@ -230,7 +231,7 @@ def tried_by_test(crates, body, room):
             take_kept(crates[name], room / "crates" / name)
     else:
         copy_sources(crates.values(), room)
-        # The other tests say nothing of this body, and take most of the time.
+        # The other tests show nothing of this mutant, and take most of the time.
         leave_out(room / "crates" / body.crate.name, [it for it in tests_of(body.crate) if it != body.test])
     fits = subprocess.run(["patch", "-p1", "--silent", "--force"], cwd=room, input=body.text, capture_output=True, text=True)
     if fits.returncode:
@@ -240,8 +241,8 @@ def tried_by_test(crates, body, room):
 
 
 def try_batch(crates, bodies, record, args):
-    """Tries the bodies of one batch, tells of each, and keeps what became of it."""
-    with tempfile.TemporaryDirectory(prefix="wrong-bodies-") as room:
+    """Tries the mutants of one batch, prints each, and records the outcomes."""
+    with tempfile.TemporaryDirectory(prefix="mutants-") as room:
         edits = None
         for body in bodies:
             if body.is_patch:
@@ -259,7 +260,7 @@ def try_batch(crates, bodies, record, args):
 
 
 def by_log(args):
-    """Says of each edit what the log of a run of the gate says of it, and keeps it if that is asked for."""
+    """Prints of each edit what the log of a run of the gate says of it, and records it if asked to."""
     bad, crates = 0, read_crates()
     record = Record(crates)
     bodies = {it.name: it for it in bodies_of(crates, args.names, args.only)}
@@ -275,7 +276,7 @@ def by_log(args):
 
 
 def try_all(crates, bodies, record, args):
-    """Tries these bodies, each batch in a process of its own, so many side by side; true if all processes ended well."""
+    """Tries these mutants, each batch in its own process, this many side by side; returns True if all processes ended well."""
     batches = collections.Counter(it.batch for it in bodies)
     proofs = sorted({it.crate.name for it in bodies if not it.is_patch or it.takes_all_memory()})
     if proofs and subprocess.run([ROOT / "tools" / "prove", *proofs]).returncode:

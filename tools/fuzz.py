@@ -1,12 +1,12 @@
 #!/usr/bin/env python3
-"""Runs the built program on random bytes, on scripts made at random, and on these with a few bytes changed.
+"""Runs the built program on random bytes, on random scripts, and on these with a few bytes changed.
 
     nice -n 19 tools/fuzz.py [--count 100000] [--seed 1] [--first 0] [--jobs 2] [--program PATH] [TASK..]
 
-TASK is replay, steps, board or bank; without one all four are run, each on that many scripts; replay runs each script by the plain line, by
-rings, by lists and by ticket lines, board and bank by these three in turn. Every run must end by itself, within ten minutes, with the status and
-the very bytes that definitions.py says of the script; of workers, whose order is free, with a report that it allows. Script number n of a seed is
-the same in every run. The first script that is answered wrongly is printed, and ends all.
+TASK is replay, steps, board or bank; without one all four are run, each on that many scripts. Replay runs each script by the plain line, by
+rings, by lists and by ticket lines, board and bank by the last three in turn. Every run must end by itself, within ten minutes, with the status and
+the exact bytes that definitions.py gives for the script; a run of workers, whose order is free, with a report that it allows. Script number n of a
+seed is the same in every run. The first script that is answered wrongly is printed, and ends the program.
 """
 
 import argparse
@@ -43,7 +43,7 @@ def head(words, lease):
 
 
 def written(chance):
-    """A place and bytes for a write: the words, and what they say."""
+    """A place and bytes for a write: as words, and as values."""
     place = chance.randrange(64)
     data = chance.randbytes(chance.randint(1, 64 - place))
     return f" {place} {data.hex()}", (place, data)
@@ -143,7 +143,7 @@ def with_a_word_from_elsewhere(chance, text):
 
 
 def with_a_line_moved(chance, text):
-    """A line goes, stands twice, or goes elsewhere."""
+    """Deletes, doubles or moves a line."""
     lines = text.split(b"\n")
     line = lines.pop(chance.randrange(len(lines)))
     for _ in range(chance.randint(0, 2)):
@@ -163,7 +163,7 @@ CHANGES = [
 
 
 def script_number(seed, task, number):
-    """The script of this number: random bytes, one made at random, or one such with one to three changes."""
+    """The script of this number: random bytes, a random script, or a random script with one to three changes."""
     chance = random.Random(f"{seed} {task} {number}")
     which = chance.random()
     if which < 0.05:
@@ -182,7 +182,7 @@ def script_number(seed, task, number):
 
 
 def judged(case):
-    """What the script must end with, as a word for the count, and the run that did not, if one did not."""
+    """The outcome that the script must have, as a word for the count, and the run that differs, if one does."""
     program, seed, task, number = case
     script = script_number(seed, task, number)
     wanted = answer_to(task, script)

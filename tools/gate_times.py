@@ -1,17 +1,17 @@
 #!/usr/bin/env python3
-"""Runs the gate and says what it took: processor minutes and the peak of memory by crate and kind of work, as a table for docs/CHANGING.md.
+"""Runs the gate and prints its cost: processor minutes and the peak of memory by crate and kind of work, as a table for docs/CHANGING.md.
 
     tools/gate_times.py [--anew] [--folder CHECKOUT] [--log FILE] [NAME ..]
     tools/gate_times.py --functions [--jobs N] [NAME ..]
 
-It starts `rt ci` (with the names, if given) in the checkout, with RT_JOBS as .ci/run sets it, and looks at its processes in /proc twice a second.
-With `--anew` it takes nothing from earlier runs: a toolchain that keeps what passed is told so, and any other keeps nothing. The kinds: the crate's
-proof; that of its tests; the seed, a check which its wrong bodies begin with, where the toolchain makes one; the wrong bodies. A check that ends loses
-what it took since the last look; the total is the system's own count. The longest chain is that of checks of which each waits for the one before, in
-processor minutes, which are minutes by the clock where each check has one job. What `rt ci` says goes to the log. It ends as `rt ci` does.
+It starts `rt ci` (with the names, if given) in the checkout, with RT_JOBS as .ci/run sets it, and samples its processes in /proc twice a second.
+With `--anew` it reuses nothing of earlier runs: a toolchain that keeps what passed is told so, and any other keeps nothing. The kinds are the crate's
+proof; that of its tests; the seed, a check with which its mutants begin, if the toolchain makes one; the mutants. A check that ends loses
+what it took since the last sample; the total is the system's own count. The longest chain is of checks each of which waits for the one before, in
+processor minutes, which are minutes by the clock if each check has one job. The output of `rt ci` goes to the log. It ends as `rt ci` does.
 
-With --functions it checks each crate that is named (all, if none is) at one job, over nothing kept, with its tests, and says which twenty functions
-take the prover longest, as tools/times.py does, but by the processor's time: so other work may run, and so many crates are checked side by side.
+With --functions it checks each named crate (all, if none is) at one job, without kept work, with its tests, and prints which twenty functions
+take the prover longest, as tools/times.py does, but by processor time: so other work may run, and `--jobs` crates are checked side by side.
 Crates below must be proved (tools/prove).
 """
 
@@ -39,7 +39,7 @@ MOST = 20
 
 
 def processes():
-    """Each process, by its number and the time at which it began: its parent's number, the seconds that it took, and its memory in GB."""
+    """The processes by number and start time: each with its parent's number, its processor seconds, and its memory in GB."""
     found = {}
     for name in os.listdir("/proc"):
         if name.isdigit():
@@ -53,7 +53,7 @@ def processes():
 
 
 def work_of(pid):
-    """What a process of the toolchain works on, the crate and the kind, or None."""
+    """The crate and the kind of work of a process of the toolchain, or None."""
     try:
         words = pathlib.Path(f"/proc/{pid}/cmdline").read_bytes().decode(errors="replace").split("\0")
         room = os.readlink(f"/proc/{pid}/cwd")
@@ -71,20 +71,20 @@ def work_of(pid):
 
 
 class Task:
-    """What was seen of a crate's work of one kind."""
+    """The samples of a crate's work of one kind."""
 
     def __init__(self):
         self.seconds, self.most = 0.0, 0.0
 
 
 class Watch:
-    """Looks at the processes below one, again and again."""
+    """Samples the processes below one process, again and again."""
 
     def __init__(self, top):
         self.top, self.tasks, self.works, self.took, self.most = top, {}, {}, {}, 0.0
 
     def check_of(self, pid, parents):
-        """The highest process below the first that a process belongs to and that works on a crate."""
+        """The topmost process below the first that works on a crate and has this process below it."""
         path = []
         while pid in parents and pid != self.top:
             who, pid = parents[pid]
@@ -113,7 +113,7 @@ class Watch:
 
 
 def longest_chain(crates, tasks):
-    """The longest chain of proofs of which each waits for the one before, or the last one's tests, with their processor minutes."""
+    """The longest chain of proofs, each of which waits for the one before, or the last one's tests, with their processor minutes."""
     took = lambda crate, kind: tasks[crate, kind].seconds / 60 if (crate, kind) in tasks else 0.0
     longer = lambda chain, what, minutes: (chain[0] + minutes, (*chain[1], (what, minutes)))
     chains, ends = {}, []
@@ -127,7 +127,7 @@ def longest_chain(crates, tasks):
 def table(crates, watch):
     """The rows, by crate, in processor minutes."""
     tasks = watch.tasks
-    rows = ["| Crate | Proof | Tests | Seed | Wrong bodies | In all | Most memory of a check, GB |", "|---|---|---|---|---|---|---|"]
+    rows = ["| Crate | Proof | Tests | Seed | Mutants | In all | Most memory of a check, GB |", "|---|---|---|---|---|---|---|"]
     sums = collections.Counter()
     for name in crates:
         mine = {kind: tasks[name, kind] for kind in KINDS if (name, kind) in tasks}
@@ -143,7 +143,7 @@ def table(crates, watch):
 
 
 def gate(args, crates):
-    """Runs the gate, watched; its status."""
+    """Runs the gate, sampled; returns its status."""
     jobs = os.environ.get("RT_JOBS") or str(lanes())
     keeps = "--anew" in subprocess.run(["rt", "help"], capture_output=True, text=True).stderr
     words = ["rt", "ci", *["--anew"] * (args.anew and keeps), *args.names]
@@ -165,12 +165,12 @@ def gate(args, crates):
     print()
     print(f"`{' '.join(words)}`: {pathlib.Path(args.log).read_text().splitlines()[-1]}")
     print(f"{(used.ru_utime + used.ru_stime) / 60:.0f} processor minutes in all, {(time.monotonic() - began) / 60:.0f} by the clock, RT_JOBS={jobs}")
-    print(f"The longest chain, without wrong bodies, takes {minutes:.0f} processor minutes: {', '.join(f'{what} {took:.1f}' for what, took in chain)}")
+    print(f"The longest chain, without mutants, takes {minutes:.0f} processor minutes: {', '.join(f'{what} {took:.1f}' for what, took in chain)}")
     return running.returncode
 
 
 def words_of(crate, crates, kept):
-    """The words by which rt checks a crate with its tests, at one job."""
+    """The arguments by which rt checks a crate with its tests, at one job."""
     kit = pathlib.Path(subprocess.run(["rt", "doc"], capture_output=True, text=True, check=True).stdout.strip()).parent
     rlib = lambda name: crates[name].folder / "out" / "rlib" / f"{name}.rlib"
     words = [kit / "bin" / "rattle", "check", "--crate-name", crate.name, f"src/{'main' if crate.is_program else 'lib'}.rt"]
@@ -187,7 +187,7 @@ def words_of(crate, crates, kept):
 
 
 def spent(pid):
-    """The seconds of a processor that a process took, with those below it."""
+    """The processor seconds of a process, with those of the processes below it."""
     try:
         words = pathlib.Path(f"/proc/{pid}/stat").read_text().rpartition(") ")[2].split()
         below_it = [it for task in os.listdir(f"/proc/{pid}/task") for it in pathlib.Path(f"/proc/{pid}/task/{task}/children").read_text().split()]
@@ -197,7 +197,7 @@ def spent(pid):
 
 
 def new_files(folder, seen):
-    """The files of a folder and those below it that were not seen yet, as they were written one after another."""
+    """The files of a folder and below that were not seen before, in the order in which they were written."""
     found = []
     for top, _, names in os.walk(folder):
         for path in (os.path.join(top, name) for name in names if name.endswith("antt")):
@@ -208,7 +208,7 @@ def new_files(folder, seen):
 
 
 def took_of(crate, crates):
-    """The seconds of a processor that the prover took for each function of a crate, and what it said if the crate is not proved."""
+    """The processor seconds that the prover took for each function of a crate, and its output if the crate is not proved."""
     with tempfile.TemporaryDirectory(prefix="gate-times-") as kept, tempfile.TemporaryFile("w+") as log:
         running = subprocess.Popen(words_of(crate, crates, kept), cwd=crate.folder, stdout=log, stderr=subprocess.STDOUT)
         seen = {}
@@ -223,7 +223,7 @@ def took_of(crate, crates):
 
 
 def functions(args, crates):
-    """Says which functions the prover takes longest for."""
+    """Prints the functions for which the prover takes longest."""
     took = collections.Counter()
     names = named(crates, args.names)
     with concurrent.futures.ThreadPoolExecutor(args.jobs) as pool:

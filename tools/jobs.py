@@ -1,11 +1,11 @@
 #!/usr/bin/env python3
-"""Jobs a second of boards and banks.
+"""Measures the jobs a second of boards and banks.
 
     tools/jobs.py [PROGRAM]
 
 Runs scripts of 99,000 jobs, spread evenly over 1, 2, 4 and 8 workers: payments and transfers between 64 accounts of eight lines, and puts and
-takes in turn. The runs take turns. Printed is the least time of nine as millions of jobs a second over the whole run, and beside it what a script
-of one job less, with a fault at its end, takes: the reading alone.
+takes in turn. The runs alternate. It prints the least time of nine as millions of jobs a second over the whole run, and beside that the time for
+a script of one job less with a fault at its end: the reading alone.
 """
 
 import sys
@@ -41,7 +41,7 @@ def board(workers):
 
 
 def seconds(program, words, script):
-    """How long a run takes, whose report or fault is not looked at: that is for the other tools."""
+    """The seconds of a run. Its report or fault is not checked here."""
     began = time.perf_counter()
     status, _, told = run(program, words, script)
     took = time.perf_counter() - began

@@ -1,8 +1,8 @@
 #!/usr/bin/env python3
 """Writes the manual pages: docs/man/qolb.3 from the text of include/qolb.h, and docs/man/qolb.1 from the help of the program.
 
-    tools/man.py [PROGRAM]      writes both; without a program, and none at crates/qolb/out/qolb, qolb(3) alone
-    tools/man.py --check [PROGRAM]      whether they are those of the header and the program: writes nothing, and ends with 1 where one is not
+tools/man.py [PROGRAM]      writes both; without a program, and none at crates/qolb/out/qolb, qolb(3) alone
+tools/man.py --check [PROGRAM]      compares them with the header and the program: writes nothing, and ends with 1 if one differs
 """
 
 import pathlib
@@ -17,19 +17,19 @@ SUBCOMMANDS = ["replay", "draw", "steps", "board", "bank"]
 
 
 def escaped(text):
-    """Text for troff: a dash is a minus, and no line begins as a command does."""
+    """Escapes text for troff: a dash becomes a minus, and no line begins as a request does."""
     text = text.replace("\\", "\\e").replace("-", "\\-")
     return "\n".join("\\&" + line if line.startswith((".", "'")) else line for line in text.split("\n"))
 
 
 def uncommented(comment):
-    """The lines of a comment, without its stars."""
+    """The lines of a comment without its stars."""
     body = comment.strip()[2:-2].strip()
     return [re.sub(r"^ ?\* ?", "", line).rstrip() for line in body.split("\n")]
 
 
 def paragraphs(lines):
-    """Runs of lines with nothing between."""
+    """Groups of lines without an empty line in between."""
     run = []
     for line in [*lines, ""]:
         if line.strip():
@@ -70,7 +70,7 @@ def running(lines):
 
 
 def sections(lines):
-    """The head's sections: a title in capitals, and its paragraphs. The first has none."""
+    """The header's sections: a title in capitals, and its paragraphs. The first has no title."""
     title, runs = "DESCRIPTION", []
     for run in paragraphs(lines):
         if len(run) == 1 and re.fullmatch(r"[A-Z ]+", run[0]):
@@ -82,7 +82,7 @@ def sections(lines):
 
 
 def samples_joined(runs):
-    """A sample with empty lines in it is one."""
+    """Joins a sample that has empty lines in it."""
     joined = []
     for run in runs:
         is_sample = all(line.startswith("    ") for line in run)
@@ -106,14 +106,14 @@ def section(title, runs):
 
 
 def prototype(line):
-    """A declaration as a caller reads it, or nothing where the line is none."""
+    """A declaration as a caller reads it, or nothing if the line is none."""
     line = re.sub(r"^QOLB_LOOK static inline |^static inline ", "", line.strip())
     match = re.match(r"([\w ]+\*?[\w ]*\*?)(qolb_\w+[a-z])\((.*)\)( QOLB_LOOK)?( ?[;{].*)?$", line)
     return f"{match[1]}{match[2]}({match[3]});" if match else None
 
 
 def calls(text):
-    """Each run of declarations that a comment stands above, with that comment."""
+    """Each group of declarations with the comment above it."""
     for match in re.finditer(r"(/\*(?:(?!\*/).)*\*/)\n((?:(?!/\*)[^\n]+\n)+)", text, re.S):
         told = [made for made in map(prototype, match[2].split("\n")) if made]
         if told:
@@ -121,7 +121,7 @@ def calls(text):
 
 
 def types(text):
-    """Each run of types and constants that a comment stands above, as a caller reads them, with that comment."""
+    """Each group of types and constants as a caller reads them, with the comment above it."""
     comment, struct, constant = r"/\*(?:(?!\*/).)*\*/", r"typedef struct \w+ \{[^}]*\} \w+;", r"#define QOLB_[A-Z_]+[A-Z][ (][^\n]*"
     for match in re.finditer(rf"({comment})\n((?:(?:{struct}|{constant})\n)+)", text, re.S):
         told = [re.sub(r"^#define (\w+(?:\([\w, ]*\))?).*", r"\1", made) for made in re.findall(f"{struct}|{constant}", match[2])]
@@ -129,12 +129,12 @@ def types(text):
 
 
 def declared(made):
-    """A declaration in bold, whose blanks a request would drop."""
+    """A declaration in bold, with the blanks that a request would drop."""
     return "\n".join(".B " + escaped(line).replace("    ", "\\ " * 4) for line in made.split("\n"))
 
 
 def values(text, name):
-    """The names of an enum, each with its number and what is said of it."""
+    """The names of an enum, each with its number and its comment."""
     body = re.search(rf"enum {name} {{(.*?)}};", text, re.S)[1]
     return re.findall(r"(QOLB_\w+) = (\d+),?(?: +/\* (.*?) \*/)?", body)
 
@@ -171,7 +171,7 @@ def page_of_header():
 
 
 def told_by(program, mark, *words):
-    """What the program says of itself, which it does on standard error, with 2. The mark is among it."""
+    """What the program prints about itself, on standard error, with status 2. `mark` is part of it."""
     run = subprocess.run([program, *words], capture_output=True, text=True, check=False)
     if run.returncode != 2 or mark not in run.stderr:
         sys.exit(f"man.py: {program} {' '.join(words)} ended with {run.returncode} and said: {run.stderr[:200]}")

@@ -1,9 +1,9 @@
 #!/usr/bin/env python3
-"""Runs programs that nobody here wrote with their mutexes as lines, and compares what they make with what they make without.
+"""Runs programs of other authors with their mutexes as lines, and compares their output with a run without lines.
 
-    tools/preloaded.py [MEGABYTES [KIND]]        inputs of so many megabytes, 64; lines of this kind: ticket, ring or list
+    tools/preloaded.py [MEGABYTES [KIND]]        inputs of this many megabytes, 64; lines of this kind: ticket, ring or list
 
-It wants the C library (make -C c_examples build/preload.so builds it) and Debian's packages pigz, pbzip2 and sysbench. Each program must end as it does
+It needs the C library (make -C c_examples build/preload.so builds it) and Debian's packages pigz, pbzip2 and sysbench. Each program must end as it does
 alone, with the same output, after at least some grants, and with no two threads in one mutex at the same time. Seconds are those of one run each.
 """
 
@@ -23,7 +23,7 @@ SECONDS = 600
 
 
 def run(words, source, kind, folder):
-    """The output, the seconds, and the library's report; without a kind the program runs alone, and there is none."""
+    """The output, the seconds, and the library's report; without a kind the program runs alone, and there is no report."""
     report = folder / "report"
     report.unlink(missing_ok=True)
     env = dict(os.environ)
@@ -39,7 +39,7 @@ def run(words, source, kind, folder):
 
 
 def events(told):
-    """Of what sysbench tells, what does not depend on time."""
+    """The part of the output of sysbench that does not depend on time."""
     return re.findall(rb"total number of events: +(\d+)", told)
 
 

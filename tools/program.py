@@ -12,7 +12,7 @@ SECONDS = 600
 
 
 def the_program():
-    """The path that the first argument gives, else the proved program's."""
+    """The path in the first argument, or else that of the proved program."""
     path = sys.argv[1] if len(sys.argv) > 1 else PROGRAM
     if not os.access(path, os.X_OK):
         sys.exit(f"there is no program {path}: see README.md for how to build it")
@@ -20,7 +20,7 @@ def the_program():
 
 
 def run(program, words, script, **how):
-    """The status (minus the signal's number, where one ended the run; None where it did not end in time), standard output and error."""
+    """The status (minus the signal's number, if a signal ended the run; None if it did not end in time), standard output and error."""
     try:
         ended = subprocess.run([program, *words], input=script, capture_output=True, timeout=SECONDS, **how)
     except subprocess.TimeoutExpired:

@@ -1,12 +1,12 @@
 #!/usr/bin/env python3
-"""Goes through all cores of reversed links that events reach, of so many nodes, and holds them against the laws of progress.
+"""Explores all cores of the list that events reach, with each number of nodes, and checks them against the laws of progress.
 
-tools/ranks.py [NODES ..]     (1, 2 and 3 nodes where none is given; 3 take some 10 seconds)
+tools/ranks.py [NODES ..]     (1, 2 and 3 nodes if none is given; 3 take some 10 seconds)
 
-Of each core: a productive event takes at least one off the rank, no other but an ask puts any on, and that at most 5; for each open
-request no event puts any on its rank while it is open, and a productive event of a node that does not ask behind it takes one off; where
-a request is open, the node that the line names has a productive event; with k pending nodes the rank is at most 5k - 3; and the longest
-row of productive events is just as long as the rank says. The last is proved nowhere else. It ends with 1 at the first core that differs.
+Of each core: a productive event lowers the rank (a ranking function) by at least one; no event except an ask raises it, and an ask by at most 5. For
+each open request no event raises the request's rank while it is open, and a productive event of a node that does not ask behind it lowers it by one.
+If a request is open, the node that the line names has a productive event. With k pending nodes the rank is at most 5k - 3. And the longest
+sequence of productive events is exactly as long as the rank says. The last is proved nowhere else. It ends with 1 at the first core that differs.
 
 The events are written here once more, from the table of docs/SCRIPTS.md. Leases and bytes are left out: they change no point.
 """
@@ -28,7 +28,7 @@ def flagged(entries, node, flag):
 
 
 def opened(nodes):
-    """Home word, place of the line, whether it is closed, entries, seats (point, passed nodes, reason), open requests' nodes."""
+    """The home word, the place of the line, whether it is closed, the entries, the seats (point, passed nodes, cause), the open requests' nodes."""
     return (0, ("home",), False, (EMPTY,) * (nodes + 1), ((("Idle",), (), "own"),) * (nodes + 1), ())
 
 
@@ -120,7 +120,7 @@ def releasing(core, node, point):
 
 
 def events(core):
-    """Each event that is enabled: its node, its kind, the word that it tells, and the core after it."""
+    """The enabled events, each as its node, its kind, its answer, and the core after it."""
     for node in range(1, len(core[4])):
         point = core[4][node][0]
         for group in (asking, waiting, releasing):
@@ -155,7 +155,7 @@ def is_pending(core, node):
 
 
 def acts_next(core):
-    """The node that the line names: its holder; who is granted; else who is to link to the entry that has it."""
+    """The node that the line names: its holder, or the granted node, or the node that is to link to the entry with the line."""
     where, *node = core[1]
     if where == "hand" or core[4][node[0]][0][0] == "Queued":
         return node[0]
@@ -169,7 +169,7 @@ def hold(fact, core, what):
 
 
 def judge(core):
-    """Holds the core's events against the laws; the cores after its productive events."""
+    """Checks the core's events against the laws; returns the cores after its productive events."""
     ways = []
     queue = core[5]
     for node, kind, told, after in events(core):

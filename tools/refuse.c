@@ -1,7 +1,7 @@
-/* A library to preload, which makes one call of a program fail. REFUSE names what and which, as memory:3, thread:1, read:2 or write:5;
+/* A library to preload that makes one call of a program fail. REFUSE names the kind and number of the call, as memory:3, thread:1, read:2 or write:5;
    with SHORT set each read and write of several bytes moves one, and with INTERRUPT set each read and write is interrupted once before it
-   is done. A call that was made to fail is told by a byte to the file descriptor REFUSE_TELL. To TAKEN_TELL is told, at the program's end,
-   how many bytes of memory it asked for in all. For Linux with glibc. */
+   is done. If a call was made to fail, a byte is written to the file descriptor REFUSE_TELL. At the program's end the bytes of memory that it asked
+   for in all are written to TAKEN_TELL. For Linux with glibc. */
 #define _GNU_SOURCE
 #include <dlfcn.h>
 #include <errno.h>
@@ -52,7 +52,7 @@ static int is_refused(enum kind of) {
   return 1;
 }
 
-/* By which the program ends. */
+/* Ends the program. */
 void _exit(int status) {
   const char *told = getenv("TAKEN_TELL");
   if (told) {

@@ -1,13 +1,13 @@
-"""What refused a wrong body, by what a check or a run of tests said."""
+"""What refused a mutant, from the output of a check or of a run of tests."""
 
 import pathlib
 import re
 
-# An answer refused for this names what the edit took away: it says nothing of the goal.
+# An answer that is refused for this reason names what the edit removed: it shows nothing of the goal.
 NAMES_ALONE = re.compile(r"is not in scope|has no field|has no `|was not admitted")
 # The compiler refused the text, before any goal.
 NO_CODE = re.compile(r"^.*\berror\[[\w-]+\].*$", re.M)
-# Declarations that rest on others which were refused: these, and those.
+# Declarations that rest on other refused ones: these, and those.
 UNCHECKED = re.compile(r"^\./proofs/(\S+)/Answers\.antt:\d+:\d+: error: \d+ declarations? that depends? on (.*?), which \w+ rejected, \w+ not checked: (.*)$", re.M)
 VERDICT = re.compile(r"^logic=", re.M)
 
@@ -67,7 +67,7 @@ def by_check(log, goals):
 
 
 def by_gate(text):
-    """What `rt ci` said of an edit: the kind, and the goal that it names first."""
+    """What `rt ci` printed of an edit: the kind, and the first goal that it names."""
     goal = next(iter(re.findall(r"`([^`]+)`", text)), "")
     if text.startswith("NOT REFUSED"):
         return "ALIVE", ""
@@ -81,7 +81,7 @@ def by_gate(text):
 
 
 def by_tests(log, test, status):
-    """What became of a wrong body whose test this is, by what `rt try --test` or `rt test` said."""
+    """The outcome of a mutant with this test, from the output of `rt try --test` or `rt test`."""
     if re.search(rf"^test {re.escape(test)} \.\.\. ok$", log, re.M):
         return "ALIVE", test
     if f"test {test} ... FAILED" in log or re.search(r"had not ended|run=(?!ended|none)", log) or status == 124:

@@ -1,20 +1,20 @@
 #!/usr/bin/env python3
-"""Goes through runs of include/lock.c, calls.c and bells.c themselves, with two and three threads that use a lock or have a node each, on a model of the
+"""Explores runs of include/lock.c, calls.c and bells.c themselves, with two and three threads that use a lock or have a node each, on a model of the
 processor's memory (tools/seats).
 
-tools/seats.py [MOST]      runs of at most so many turns of the schedule, 2: two minutes of a processor. 3 takes one minute more. It wants GCC
+tools/seats.py [MOST]      runs of at most MOST turns of the schedule, 2: two minutes of a processor. 3 takes one minute more. It needs GCC
 
-A turn of the schedule is one of these: another thread goes on though this one could; a thread's time is over; a plain store stays in its thread's
-buffer, unseen by the others, or is seen from there before it must be. All runs with at most so many are made. Stores are seen as x86-64 has them: in
-their order, and at the latest before the thread's next step that reads and writes, or call of the system. What else a memory of C11 may do with
-sequentially consistent, releasing and acquiring steps is not tried; but two accesses race as C11 says, where neither happens before the other and one
-is plain: what a lock keeps about its holder, its waiters and its seats, and what it guards. The line is a model, each of whose calls takes one step,
-or two; that it does so is proved elsewhere. In no scene are asking in halves, reading and writing the line, leases, and two locks or lines that share a
-bell or a guard.
+A turn of the schedule is one of these: another thread goes on although this one could; a thread's time ends; a plain store stays in its thread's
+buffer, unseen by the others, or is seen from there before it must be. All runs with at most MOST turns are made. Stores are seen as x86-64 has them: in
+their order, and at the latest before the thread's next read-modify-write step or system call. What else a memory of C11 may do with
+sequentially consistent, releasing and acquiring steps is not tried. But two accesses race as C11 says, if neither happens before the other and one
+is plain: the accesses to what a lock keeps about its holder, its waiters and its seats, and to what it guards. The line is a model, each of whose calls
+takes one step, or two; that it does so is proved elsewhere. No scene has requests in halves, reads or writes of the line, leases, or two locks or lines
+that share a bell or a guard.
 
-In no run may a thread sleep that nobody wakes, two have the lock or the line at once, a node be called by two threads or out of its order, freed memory be
-touched, or an answer be wrong. Each library that differs by one fault must fail in some run, or this program does not see what it is for. It ends with 1
-at the first of these that is not so.
+In no run may a thread sleep without being woken, two threads have the lock or the line at once, two threads call a node or one call it out of its order,
+freed memory be touched, or an answer be wrong. Each library with one fault must fail in some run, or this program does not see what it is for. It ends
+with 1 at the first library for which this is not so.
 """
 
 import pathlib
@@ -83,7 +83,7 @@ FAULTS = {
 
 
 def replaced(sources, old, new):
-    """The sources with this in place of that, which must be there once in all."""
+    """The sources with `new` in place of `old`, which must occur once in all of them."""
     times = sum(text.count(old) for text in sources.values())
     if times != 1:
         sys.exit(f"the library has this {times} times, and not once: {old!r}")
@@ -91,8 +91,8 @@ def replaced(sources, old, new):
 
 
 def built(folder, sources):
-    """The explorer over this library."""
-    for name, text in replaced(sources, "YIELDS = 8", "YIELDS = 1").items():
+    """The explorer, built over this library."""
+    for name, text in replaced(sources, "YIELDS = 16", "YIELDS = 1").items():
         (folder / name).write_text(text)
     compiler = ["cc", "-std=c11", "-I", folder, "-I", ROOT / "include", "-I", ROOT / "tools/seats"]
     told = ["-fsanitize=thread", "-U__SANITIZE_THREAD__", f'-DLOCK="{folder}/lock.c"', *RENAMED]
@@ -105,7 +105,7 @@ def built(folder, sources):
 
 
 def run(explorer, most):
-    """What the runs told, and whether all went well."""
+    """The output of the runs, and whether all of them passed."""
     done = subprocess.run([explorer, str(most)], capture_output=True, text=True, check=False)
     return done.stdout.splitlines(), done.returncode == 0
 

@@ -4,10 +4,10 @@
     tools/sweep.py [PROGRAM]
 
 A refused allocation or thread must end with status 3, `out of memory` and nothing on standard output; a failed read with 4, `read fault`
-and nothing on standard output; a failed write with 4, `write fault` and a beginning of the answer. With reads and writes of one byte, and
-with each of them interrupted once, the answer must be whole. With little address space a run must say that memory is wanting or answer
-whole, from the least with which the system can start it. What a run must answer is from definitions.py. And the lines of work are of the kind
-that is named: by how much memory it asks for, as each kind's lines take another. Needs Linux with glibc and cc.
+and nothing on standard output; a failed write with 4, `write fault` and a prefix of the answer. With reads and writes of one byte, and
+with each of them interrupted once, the answer must be whole. With little address space a run must report that memory is lacking or answer
+whole, from the least space with which the system can start it. The expected answers are from definitions.py. And the lines of work are of the named
+kind: by the memory that it asks for, which differs between the kinds. Needs Linux with glibc and cc.
 """
 
 import itertools
@@ -61,7 +61,7 @@ def built(folder):
 
 
 def refused(program, library, words, script, **settings):
-    """What a run under these settings ends with, and whether a call was made to fail."""
+    """The outcome of a run under these settings, and whether a call was made to fail."""
     told, tells = os.pipe()
     settings.update(LD_PRELOAD=library, REFUSE_TELL=str(tells))
     try:
@@ -73,7 +73,7 @@ def refused(program, library, words, script, **settings):
 
 
 def is_refusal(what, wanted, found):
-    """Whether a run in which such a call failed ended as it must."""
+    """Returns True if a run in which such a call failed ended as it must."""
     status, out, err = found
     if what in ("memory", "thread"):
         return found == (3, "", "out of memory\n")
@@ -84,7 +84,7 @@ def is_refusal(what, wanted, found):
 
 
 def sweep(program, library, words, script, what, **settings):
-    """Makes the first such call fail, the second, and so on; the number of those that there are."""
+    """Makes the first such call fail, then the second, and so on; returns their number."""
     wanted = answer_to(words[0], script)
     at = 0
     while True:
@@ -98,14 +98,14 @@ def sweep(program, library, words, script, what, **settings):
 
 
 def whole(program, library, words, script, **settings):
-    """The answer must be whole in a run under these settings."""
+    """Checks that the answer is whole in a run under these settings."""
     found, _ = refused(program, library, words, script, **settings)
     if not is_right(answer_to(words[0], script), found):
         sys.exit(f"wrong: {' '.join(words)}, {settings}: {found}")
 
 
 def in_little_memory(program, words, script):
-    """Gives the program more and more address space, until its answer is whole ten times; how many runs said that memory was wanting, and
+    """Gives the program more and more address space, until its answer is whole ten times. Returns how many runs reported that memory is lacking, and
     how many kilobytes the first whole answer took. With too little the system cannot start the program at all."""
     wanted, started, short, served = answer_to(words[0], script), False, 0, []
     for kilobytes in itertools.count(1024, 128):
@@ -126,7 +126,7 @@ def in_little_memory(program, words, script):
 
 
 def taken(program, library, words, script):
-    """How many bytes of memory a run asks for."""
+    """The bytes of memory that a run asks for."""
     told, tells = os.pipe()
     run(program, words, script, env={"LD_PRELOAD": library, "TAKEN_TELL": str(tells)}, pass_fds=[tells])
     os.close(tells)
@@ -134,14 +134,14 @@ def taken(program, library, words, script):
         return int(pipe.read())
 
 
-# With 200 nodes a list takes 26 KB of words, a ring 33 KB, a ticket line as many as a ring and 33 KB of slots.
+# With 200 nodes a list takes 26 KB of words, a ring 33 KB, a ticket line as much as a ring and 33 KB of slots.
 BY_SIZE = ["link", "ring", "ticket"]
 APART = 10_000
 IDLE = {"board": b"board workers 200\n", "bank": b"bank workers 200 lines 1\n"}
 
 
 def kinds_by_memory(program, library):
-    """Work over each kind of lines asks for another amount of memory."""
+    """Checks that work over each kind of line asks for a different amount of memory."""
     for task, script in IDLE.items():
         took = [taken(program, library, [task, "--kind", kind], script) for kind in BY_SIZE]
         if not all(more - less > APART for less, more in zip(took, took[1:])):

@@ -1,14 +1,14 @@
-"""The tests of crates: which there are, and which can't run without a proof."""
+"""The tests of crates: their list, and those that can't run without a proof."""
 
 import re
 
 ATTRIBUTE = "#[test]"
-# Other attributes may stand below it.
+# Other attributes may follow below it.
 HEAD = r"#\[test\]\s*(?:#\[[^\n]*\]\s*)*fn "
 TEST = re.compile(HEAD + r"(\w+)")
-# What takes all memory away, of the crate hoard. `rt try` builds programs with another allocator, over which that fails whatever the code does.
-# A variant whose name ends so asks for that: a test that names it takes all memory away, and a function that has an arm for it does so by that arm alone.
-TAKES_ALL = re.compile(r"\b(?:Hoard|Siege)::|\b\w+::\w+WithoutMemory\b")
+# What takes all memory, of the crate test_support. `rt try` builds programs with another allocator, over which that fails whatever the code does. A
+# variant whose name ends so asks for that: a test that names it takes all memory, and a function that has an arm for it does so by that arm alone.
+TAKES_ALL = re.compile(r"\b(?:MemoryHog|MemoryLimit)::|\b\w+::\w+WithoutMemory\b")
 ARM = re.compile(r"^( *)\w+::\w+WithoutMemory =>.*?(?=^\1\w|^ *\}$)", re.M | re.S)
 
 
@@ -27,7 +27,7 @@ def count_of_tests(crate):
 
 
 def takers_of_all(crate):
-    """The names of its functions that take all memory away, themselves or by a function of the crate that they call."""
+    """The names of its functions that take all memory, themselves or by a function of the crate that they call."""
     bodies = []
     for text in code_of(crate).values():
         parts = re.split(r"\bfn (\w+)", ARM.sub("", text))
@@ -47,7 +47,7 @@ def left_out(crate):
 
 
 def leave_out(folder, names):
-    """Removes these tests from a copy of their crate: from their comment to the brace below, as rt fmt lays them out."""
+    """Removes these tests from a copy of their crate: from their comment to the closing brace, as rt fmt lays them out."""
     if not names:
         return
     whole = re.compile(rf"^(?: *///[^\n]*\n)*( *){HEAD}(?:{'|'.join(names)})\(.*?^\1}}\n", re.M | re.S)

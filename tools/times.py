@@ -1,7 +1,7 @@
 #!/usr/bin/env python3
-"""Says which functions of a crate the prover takes long for, from what a check kept.
+"""Prints the functions of a crate for which the prover takes long, from what a check kept.
 
-The check writes a file for each module that it makes of a function, one after another where it runs as one process (`rt check --jobs 1`, with
+The check writes a file for each module that it makes of a function, one after another if it runs as one process (`rt check --jobs 1`, with
 `--test` for the tests). So the time between two files is what the second one took. Of a function F these are mostly
 
   F.Lts       the shape of its code: grows faster than its branches, `?`, patterns and assert macros do; split it, or make a table of it
@@ -11,7 +11,7 @@ The check writes a file for each module that it makes of a function, one after a
 
   tools/times.py CRATE [--most N] [--since EPOCH]
 
-It reads crates/CRATE/out/incremental alone: check the crate first, over an out/ that has nothing of it, or give the time in seconds at which
+It reads only crates/CRATE/out/incremental: check the crate first, over an out/ that has nothing of it, or give the time in seconds at which
 the last check began.
 """
 
@@ -22,24 +22,24 @@ import re
 
 from crates import ROOT
 
-# What the prover makes of a function F: a module F.WORD, or F.WORD.MORE, for each of these words.
+# The modules that the prover makes of a function F: F.WORD, or F.WORD.MORE, for each of these words.
 OF_FUNCTION = re.compile(r"\.(?:Lts|Tie|Proof|Answers|Invariants|Code|Given|Goals|Kinds|Layout|Met|Named|Reads|Statement|Symbol|TheLink)(?:\..*)?$")
 
 
 def module_of(path):
-    """The module that a kept file is of, without the crate's name."""
+    """The module of a kept file, without the crate's name."""
     name = path.name.removesuffix(".oantt").removesuffix(".decls")
     return re.sub(r"^Rattle-[a-z0-9_]+-(proofs|specs)\.", r"\1 ", name)
 
 
 def took(kept, since=0.0):
-    """The seconds that each module took, by what a check kept in this folder."""
+    """The seconds of each module, by what a check kept in this folder."""
     files = sorted((path.stat().st_mtime, module_of(path)) for path in pathlib.Path(kept).rglob("*") if path.is_file())
     return between([it for it in files if it[0] >= since], since)
 
 
 def between(files, since=0.0):
-    """The seconds that each module took, by the time at which each file was there, in their order."""
+    """The seconds of each module, by the times at which the files were written, in their order."""
     seconds, before = collections.Counter(), since or (files[0][0] if files else 0.0)
     for time, module in files:
         seconds[module] += time - before
@@ -48,7 +48,7 @@ def between(files, since=0.0):
 
 
 def by_function(seconds):
-    """The seconds of each function, of all its modules."""
+    """The seconds of each function, over all its modules."""
     functions = collections.Counter()
     for module, much in seconds.items():
         functions[OF_FUNCTION.sub("", module.removeprefix("proofs "))] += much

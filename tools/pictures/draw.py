@@ -2,7 +2,7 @@
 """Writes the pictures of the pages, docs/figures/*.svg.
 
     tools/pictures/draw.py            writes them
-    tools/pictures/draw.py --check    writes nothing, and ends with 1 where one differs from what would be written
+    tools/pictures/draw.py --check    writes nothing, and ends with 1 if one differs from what would be written
 
 To see one as an image: rsvg-convert --background-color white docs/figures/crates.svg > crates.png (Debian's package librsvg2-bin).
 """

@@ -12,12 +12,12 @@ TALL, GAP, STEP, MARGIN = 28, 26, 74, 24
 
 
 def width_of(name):
-    """How wide a crate's box is."""
+    """The width of a crate's box."""
     return max(88, 8 * len(name) + 16)
 
 
 def direct_uses(crates):
-    """What each crate uses and does not get through another one that it uses."""
+    """The crates that each crate uses and does not get through another one that it uses."""
     reached = {name: set(below(crates, name)) for name in crates}
     return {name: [it for it in crate.uses if not any(it in reached[other] for other in crate.uses)] for name, crate in crates.items()}
 
@@ -49,7 +49,7 @@ def rows_of(uses, layer):
 
 
 def crossings(rows, links):
-    """How many lines cross."""
+    """The number of crossings."""
     place = {it: k for row in rows for k, it in enumerate(row)}
     row_of = {it: k for k, row in enumerate(rows) for it in row}
     count = 0
@@ -60,7 +60,7 @@ def crossings(rows, links):
 
 
 def untangle(rows, links):
-    """Orders each row by the middle of its neighbours, up and down, and then swaps neighbours as long as lines cross less."""
+    """Orders each row by the middle of its neighbours, up and down, and then swaps neighbours while that lowers the number of crossings."""
     near = {it: [] for row in rows for it in row}
     for a, b in links:
         near[a].append(b)
@@ -115,7 +115,7 @@ def spread(rows, links):
 
 
 def kinds_of(crates):
-    """Which colour each crate has: a program or library, a crate that others use, or one that none uses but such a crate."""
+    """The colour of each crate: a program or library, a crate that others use, or one that none uses but such a crate."""
     kinds = {}
     for name in reversed(crates):
         users = [it for it in crates if name in crates[it].uses]

@@ -10,7 +10,7 @@ LEFT, RIGHT = "node 1", "node 2"
 
 @dataclass
 class Step:
-    """What a node does to a word, or to a slot where `plain`; what is there afterwards; and what the node is told."""
+    """A step of a node on a word, or on a slot if `plain`; what is there afterwards; and what the node is told."""
 
     node: str
     place: str
@@ -23,7 +23,7 @@ class Step:
 
 @dataclass
 class Scene:
-    """Places with what is in them at first, and the steps from there."""
+    """The places with their first contents, and the steps from there."""
 
     title: str
     places: dict

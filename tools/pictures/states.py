@@ -7,14 +7,14 @@ BOX, TALL = 112, 36
 
 
 def state(picture, x, y, name, says, kind="box"):
-    """A state as a box, with what it means below its name."""
+    """Draws a state as a box, with its meaning below its name."""
     picture.box(x - BOX / 2, y - TALL / 2, BOX, TALL, kind)
     picture.text(x, y - 1, name, "strong")
     picture.text(x, y + 13, says, "small")
 
 
 def label(picture, x, y, call, answer, anchor="middle"):
-    """A call, and the answer with which it leads on."""
+    """Draws a call, and the answer with which it leads on."""
     picture.text(x, y, call, "code", anchor)
     if answer:
         picture.text(x, y + 15, answer, "small", anchor)

@@ -1,5 +1,5 @@
 /* Makes runs of scenes.c on a model of the processor's memory: see ../seats.py, which builds and starts it. A run is made anew from its start for each
- * list of choices; so many of them may differ from what would be done anyway. */
+ * list of choices, of which a limited number may differ from the plain schedule. */
 #define _GNU_SOURCE
 #include "explorer.h"
 #include <qolb.h>
@@ -10,7 +10,7 @@
 #include <time.h>
 #include <ucontext.h>
 
-/* A store that the others do not see yet. */
+/* A store that the other threads do not see yet. */
 struct late {
     uintptr_t at;
     unsigned size;
@@ -45,14 +45,14 @@ void must(int is_so, const char *what) {
     exit(1);
 }
 
-/* One of so many. The first ones cost nothing; any other is a turn of the schedule, of which a run has so many at most. */
+/* Chooses one of `options`. The first `free` cost nothing; any other is a turn of the schedule, of which a run has at most `most`. */
 static int choose(int options, int free) {
     MUST(depth < 1 << 14);
     if (depth >= planned) path[depth].taken = 0, path[depth].options = (unsigned char)options, path[depth].free = (unsigned char)free;
     return path[depth++].taken;
 }
 
-/* The next list of choices; false after the last. */
+/* Goes on to the next list of choices; returns false after the last. */
 static int next_path(void) {
     for (planned = depth; planned > 0; planned--) {
         int spent = 0, k = planned - 1;
@@ -72,7 +72,7 @@ static void go_to(int k) {
 
 /* ---- Memory ---- */
 
-/* Four bytes: what was done there last by each thread, and what a load takes over that acquires. */
+/* Four bytes: the last accesses of each thread, and what an acquiring load takes over. */
 struct cell {
     uintptr_t at;
     long run;
@@ -96,7 +96,7 @@ static void join(struct clock *to, const struct clock *from) {
     for (int k = 0; k <= THREADS; k++) if (to->at[k] < from->at[k]) to->at[k] = from->at[k];
 }
 
-/* An access, which must come behind all that it would race with. */
+/* An access, which must follow all accesses that it would race with. */
 void touch(const volatile void *where, unsigned size, int how) {
     static const int races[4][4] = {{0, 1, 0, 1}, {1, 1, 1, 1}, {0, 1, 0, 0}, {1, 1, 0, 0}};
     if (is_own((uintptr_t)where)) return;
@@ -125,8 +125,8 @@ static void show_oldest(struct thread *of) {
 
 void show_all(void) { while (me()->lates) show_oldest(me()); }
 
-/* Before each step on what is shared: another thread may be next, be told that its time is over, or have a store of its seen. One that yields lets the
- * others go first; one that sleeps or has ended comes back only if it is woken. */
+/* Before each step on shared memory: another thread may be next, be told that its time is over, or have one of its stores seen. A thread that yields lets
+ * the others go first; a thread that sleeps or has ended returns only if it is woken. */
 void step(int yields) {
     enum { GOES_ON, RUNS_NOW, STORE, TIME } what = STORE;
     while (what != GOES_ON && what != RUNS_NOW && self_ != THREADS) {
@@ -153,7 +153,7 @@ void step(int yields) {
 
 void acquires(const struct clock *clock) { join(&me()->clock, clock); }
 
-/* All that was done until now happened before what acquires this. */
+/* All that was done until now happens before what acquires this. */
 void releases(struct clock *clock) {
     join(clock, &me()->clock);
     me()->clock.at[self_]++;
@@ -183,7 +183,7 @@ static void store(volatile void *where, unsigned size, uint64_t value, int order
     }
 }
 
-/* A step that reads and writes, which lets no load pass a store before it. */
+/* A read-modify-write step, which lets no load pass a store before it. */
 static uint64_t change(volatile void *where, unsigned size, uint64_t add, int sets, uint64_t value, const uint64_t *only) {
     uintptr_t at = (uintptr_t)where;
     step(0);
@@ -218,7 +218,7 @@ void __tsan_func_entry(void *p) { (void)p; }
 void __tsan_func_exit(void) {}
 void __tsan_init(void) {}
 
-/* ---- What the lock asks of the system ---- */
+/* ---- The system calls of the lock ---- */
 
 void *model_malloc(size_t size) {
     char *block = &arena[arena_used += 128];
@@ -253,7 +253,7 @@ static void wakes(uintptr_t word, int many) {
     for (int k = 0; k < scene->threads && many > 0; k++) if (threads[k].state == SLEEPS && threads[k].word == word) threads[k].state = RUNS, many--;
 }
 
-/* The system's calls of a lock. Each lets all stores before it be seen. */
+/* The system calls of a lock. Each lets all stores before it be seen. */
 long model_syscall(long number, ...) {
     va_list rest;
     if (number == SYS_gettid) return 100 + self_;
@@ -265,7 +265,7 @@ long model_syscall(long number, ...) {
     step(0);
     show_all();
     const struct timespec *time = what == 128 ? va_arg(rest, const struct timespec *) : NULL;
-    if (time && time->tv_sec == 0 && time->tv_nsec < MS) step(1); /* a nap, from which nobody wakes it */
+    if (time && time->tv_sec == 0 && time->tv_nsec < MS) step(1); /* a sleep from which no thread wakes it */
     else if (what == 128) sleeps(word, value, time != NULL);
     else wakes(word, (int)value);
     va_end(rest);
@@ -302,7 +302,7 @@ static void run(void) {
     check_end(scene);
 }
 
-/* seats MOST [SCENE]: all scenes, or one, with runs of at most so many turns of the schedule. */
+/* seats MOST [SCENE]: all scenes, or one, with runs of at most MOST turns of the schedule. */
 int main(int argc, char **argv) {
     most = argc > 1 ? atoi(argv[1]) : 2;
     for (scene = scenes; scene->name; scene++) {

@@ -5,12 +5,12 @@
 enum { THREADS = 3, MS = 1000000 };
 enum { PLAIN_READ, PLAIN_WRITE, READ, WRITE };
 
-/* How far each thread was when it was heard of last. Thread THREADS starts the others and joins them. */
+/* How far each thread was when it was last heard of. Thread THREADS starts the others and joins them. */
 struct clock {
     unsigned at[THREADS + 1];
 };
 
-/* What so many threads do at the same time, each by its number, over a lock of this kind and so many seats, which is opened at its first use or before; or
+/* What these threads do at the same time, each by its number, over a lock of this kind with these seats, which is opened at its first use or before; or
  * with a node each of a line of this kind. */
 enum { AT_FIRST_USE, BEFORE, WITH_NODES };
 struct scene {
@@ -20,7 +20,7 @@ struct scene {
     int threads, opens;
 };
 
-/* What a thread has of its own in lock.c. */
+/* The data of a thread in lock.c. */
 struct own {
     uint64_t self;
     unsigned last_seat;
@@ -33,13 +33,13 @@ void check_end(const struct scene *scene);
 void change_thread(struct own *from, const struct own *to);
 int is_own(uintptr_t at);
 
-/* In explorer.c: ends the program where it is not so. */
+/* In explorer.c: ends the program if it is not so. */
 void must(int is_so, const char *what);
 #define MUST(it) must(it, #it)
 void __tsan_write_range(void *at, size_t size);
 void *model_malloc(size_t size);
 
-/* For line.c: another thread may be next; an access, which must come behind all that it races with; all stores of this thread are seen; what happened
+/* For line.c: another thread may be next; an access, which must follow all that it races with; all stores of this thread are seen; what happened
  * before, as a call takes it over or hands it on. */
 void step(int yields);
 void touch(const volatile void *where, unsigned size, int how);

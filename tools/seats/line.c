@@ -1,5 +1,5 @@
-/* A line in place of the proved one. Each of its calls takes one step, and that of a list that asks takes two; it lets all stores before it be seen,
- * if it changes a word of the line. */
+/* A line in place of the proved one. Each of its calls takes one step, a request at a list two. A call that changes a word of the line lets all stores
+ * before it be seen. */
 #include "explorer.h"
 #include <gaps.h>
 #include <proved.h>
@@ -25,7 +25,7 @@ static struct node *begin(qolb_node *node, unsigned state) {
 
 static uint32_t end(struct node *it, uint32_t answer) { return it->in_use = 0, answer; }
 
-/* Where the one waits whose request it is: in a list at a word of its node's, and else at its request's cell. In a list nobody is known that has not linked. */
+/* The word at which the request's node waits: in a list a word of the node, and else the request's cell. In a list a node that has not linked is not known. */
 static uint64_t place_of(const struct line *line, int request) {
     if (!line->links) return (uint64_t)(request % CELLS * PLACE + PLACE / 2);
     if (request >= line->tail || line->is_linking[request]) return 0;
@@ -40,7 +40,7 @@ static void pass_on(struct node *from) {
     from->went_ahead = place_of(line, line->head + 1);
 }
 
-/* What a look finds. A closed line is passed on. */
+/* The answer of a poll. A closed line is forwarded. */
 static uint32_t found(struct node *it) {
     if (it->line->head != it->request) return end(it, QOLB_WAITING);
     acquires(&it->line->clock);
@@ -49,7 +49,7 @@ static uint32_t found(struct node *it) {
     return end(it, it->line->closed ? QOLB_CLOSED : QOLB_GRANTED);
 }
 
-/* Busy are a node whose withdrawn request was not passed, and in a list one whose successor has not linked. */
+/* A node is busy if its withdrawn request was not passed, and in a list also if its successor has not linked. */
 uint32_t qolb_enqolb_proved_(qolb_node *node) {
     struct node *it = begin(node, IDLE);
     struct line *line = it->line;
@@ -92,7 +92,7 @@ uint32_t qolb_shut_proved_(qolb_node *node) { return let_go(node, 1); }
 
 uint32_t qolb_close_proved_(qolb_node *node) { return end(begin(node, IDLE), QOLB_DONE); }
 
-/* These read the node alone, and are no step. */
+/* These read only the node, and are no step. */
 static struct node *asked(qolb_node *node) {
     touch(node, 8, PLAIN_WRITE);
     struct node *it = node->own;
@@ -118,7 +118,7 @@ uint32_t qolb_open_proved_(uint32_t kind, uint64_t label, uint64_t nodes, uint64
     return QOLB_DONE;
 }
 
-/* Asking in halves or whether a node is busy, reading, writing and the memory of a line are in no scene. All lines have one label. */
+/* Requests in halves, the question whether a node is busy, reading, writing and the memory of a line are in no scene. All lines have one label. */
 uint32_t qolb_clear_proved_(qolb_node *node) { return (void)node, MUST(0), 0; }
 uint32_t qolb_prepend_proved_(qolb_node *node) { return (void)node, MUST(0), 0; }
 uint32_t qolb_link_proved_(qolb_node *node) { return (void)node, MUST(0), 0; }

@@ -1,5 +1,5 @@
-/* What threads do with a lock, or with a node each, in the runs that explorer.c makes. The lock, include/lock.c or one that differs by a fault, is in here
- * too; it, calls.c and bells.c are built with -fsanitize=thread, by which the compiler tells of each access to memory by a call, and explorer.c is what
+/* The actions of threads with a lock, or with a node each, in the runs that explorer.c makes. The lock, include/lock.c or one that differs by a fault, is in here
+ * too; it, calls.c and bells.c are built with -fsanitize=thread, by which the compiler reports each access to memory by a call, and explorer.c
  * answers those calls. */
 #include LOCK
 #include "explorer.h"
@@ -74,7 +74,7 @@ static void waits(int self) {
     if (self == 0) qolb_cond_signal(&it.cond), qolb_cond_signal(&it.cond);
 }
 
-/* Where an entry of a waiter that has returned may have been. */
+/* The places where an entry of a returned waiter may have been. */
 static void uses_its_stack(void) {
     char used[512];
     __tsan_write_range(memset(used, 255, sizeof used), sizeof used);
@@ -113,7 +113,7 @@ static void acquires_in_time(int self) {
 
 static void acquires_in_time_and_again(int self) { acquires_in_time(self), acquires_once(self); }
 
-/* As one of an older program: it looks on, gives the processor away, and sleeps nowhere. */
+/* A thread of an older program: it polls, yields, and sleeps nowhere. */
 static uint32_t looks_on(int self) {
     qolb_node *node = &it.of[self].node;
     uint32_t got = qolb_enqolb(node);
@@ -176,7 +176,7 @@ const struct scene scenes[] = {
     {NULL, NULL, 0, 0, 0, 0},
 };
 
-/* Before each run all is as where the program starts. */
+/* Before each run all is as at the start of the program. */
 void set_up(const struct scene *scene) {
     static const qolb_bytes zeros;
     qolb_node nodes[THREADS] = {{0}};
@@ -200,7 +200,7 @@ void check_end(const struct scene *scene) {
     MUST(qolb_lock_close(&it.lock) == QOLB_DONE && it.lock.own == NULL);
 }
 
-/* What each thread has of its own, which here lies at one place. */
+/* The data of each thread, which is in one place here. */
 int is_own(uintptr_t at) { return at == (uintptr_t)&self || at == (uintptr_t)&last_seat; }
 
 __attribute__((no_sanitize("thread"))) void change_thread(struct own *from, const struct own *to) {

@@ -5,10 +5,10 @@ ghost use Rattle.std.specs.Prelude.{IsTrue};
 ghost use Rattle.qolb_model.specs.PortStates.{may_ask};
 
 use anyhow::Context;
+use line_blocking::scoped::{ScopedTask, run_scoped};
+use line_blocking::{Got, acquire};
 use line_lanes::{Line64, Mask, lane, with_lane};
-use line_threads::together::{Work, together};
-use line_threads::{Got, acquire};
-use qolb_model::{Free, LineSync, OpenLine, Terms};
+use qolb_model::{Free, LineConfig, LineSync, OpenLine};
 use std::alloc::Global;
 use std::sync::Wait;
 use std::thread::Threads;
@@ -43,12 +43,12 @@ struct Rounds {
     rounds: u64,
 }
 
-impl<R: Wait, L: LineSync<Free>> Work<R, L, L::Port> for Rounds {
-    type Back = L::Port;
+impl<R: Wait, L: LineSync<Free>> ScopedTask<R, L, L::Port> for Rounds {
+    type Output = L::Port;
 
-    ghost fits = { λ _ line _ port. L.belongs line port × IsTrue (may_ask (L.view port).state) };
+    ghost pre = { λ _ line _ port. L.belongs line port × IsTrue (may_ask (L.view port).state) };
 
-    ghost done = { λ _ line _ port. L.belongs line port × IsTrue (may_ask (L.view port).state) };
+    ghost post = { λ _ line _ port. L.belongs line port × IsTrue (may_ask (L.view port).state) };
 
     fn work(&self, rt: &R, line: &L, _place: usize, port: L::Port) -> L::Port {
         let mut port = port;
@@ -67,13 +67,13 @@ fn count<R: Threads + Wait + Sync, L: OpenLine<Free> + Sync + Drop>(
 where
     L::Port: Send + Drop,
 {
-    let terms = Terms {
+    let config = LineConfig {
         nodes,
         opening: Line64::zero(),
         lease: None,
     };
-    let (line, ports) = L::open_with(alloc, 1, terms).ok()?;
-    let ports = together(rt, alloc, &Rounds { rounds }, &line, ports)?;
+    let (line, ports) = L::open_with(alloc, 1, config).ok()?;
+    let ports = run_scoped(rt, alloc, &Rounds { rounds }, &line, ports)?;
     let last = line.finish(alloc, ports).ok()?;
     Some(lane(&last, 0))
 }

@@ -1,15 +1,15 @@
-//! Threads come and go: each comes to the line for one turn by a port that it borrows, adds 1 to
-//! the first lane, and leaves. There are more threads than ports.
+//! Threads come and go: each borrows a port for one turn of the line, adds 1 to the first lane, and gives the port back. There are more
+//! threads than ports.
 #![tactic(auto)]
 
 ghost use Rattle.std.specs.Prelude.{◌<◌, All, vec_len};
 ghost use Rattle.line_seats.specs.Lending.{MayAsk, IsPortSetOf};
 
 use anyhow::Context;
+use line_blocking::scoped::{ScopedTask, run_scoped};
 use line_lanes::{Line64, Mask, lane, with_lane};
 use line_seats::{PortSet, Seats};
-use line_threads::together::{Work, together};
-use qolb_model::{Free, LineSync, OpenLine, Terms};
+use qolb_model::{Free, LineConfig, LineSync, OpenLine};
 use std::alloc::Global;
 use std::marker::Brand;
 use std::sync::Wait;
@@ -30,18 +30,19 @@ fn add_one<R: Wait, L: LineSync<Free>, S: PortSet<L::Port>>(rt: &R, seats: &Seat
     seats.leave(rt, turn);
 }
 
-/// The work of each thread: it comes so often.
+/// The task of each thread: `visits` turns.
 #[derive(Drop)]
 struct Visits {
     visits: u64,
 }
 
-impl<R: Wait, L: LineSync<Free>, S: PortSet<L::Port>> Work<R, Seats<Free, L, S>, ()> for Visits {
-    type Back = ();
+impl<R: Wait, L: LineSync<Free>, S: PortSet<L::Port>> ScopedTask<R, Seats<Free, L, S>, ()>
+    for Visits {
+    type Output = ();
 
-    ghost fits = { λ _ _ _ _. Unit {0} };
+    ghost pre = { λ _ _ _ _. Unit {0} };
 
-    ghost done = { λ _ _ _ _. Unit {0} };
+    ghost post = { λ _ _ _ _. Unit {0} };
 
     fn work(&self, rt: &R, seats: &Seats<Free, L, S>, _place: usize, _part: ()) {
         for _ in 0..self.visits {
@@ -50,7 +51,7 @@ impl<R: Wait, L: LineSync<Free>, S: PortSet<L::Port>> Work<R, Seats<Free, L, S>,
     }
 }
 
-/// So many threads come to the line; its first lane at the end.
+/// Runs `threads` threads over the line, and returns its first lane at the end; `None` if memory or a thread is refused.
 fn count_at<
     R: Threads + Wait + Sync,
     L: OpenLine<Free> + Sync + Drop,
@@ -64,13 +65,13 @@ where
 {
     let seats: Seats<Free, L, S> = Seats::new(alloc, line, ports).ok()?;
     let parts = Vec::from_elem(alloc, (), threads).ok()?;
-    together(rt, alloc, &Visits { visits }, &seats, parts)?;
+    run_scoped(rt, alloc, &Visits { visits }, &seats, parts)?;
     let last = seats.finish(alloc).ok()?;
     Some(lane(&last, 0))
 }
 
-/// Opens a line with so many ports for so many threads, and returns its first lane at the end;
-/// `None` if the line, memory or a thread is refused.
+/// Opens a line with `nodes` ports for `threads` threads, and returns its first lane at the end; `None` if the line, memory or a thread is
+/// refused.
 fn count<R: Threads + Wait + Sync, L: OpenLine<Free> + Sync + Drop>(
     rt: &R,
     alloc: Global,
@@ -81,12 +82,12 @@ fn count<R: Threads + Wait + Sync, L: OpenLine<Free> + Sync + Drop>(
 where
     L::Port: Send + Drop,
 {
-    let terms = Terms {
+    let config = LineConfig {
         nodes,
         opening: Line64::zero(),
         lease: None,
     };
-    let (line, ports) = L::open_with(alloc, 1, terms).ok()?;
+    let (line, ports) = L::open_with(alloc, 1, config).ok()?;
     count_at::<R, L, Brand>(rt, alloc, line, ports, threads, visits)
 }
 

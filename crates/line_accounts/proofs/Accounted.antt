@@ -49,19 +49,19 @@ pub sum-none : {X : Type 0} (f : X → ℕ) (xs : List X) → ((i : ℕ) (x : X)
 sum-none f xs h = sum-each f (λ x. 0) xs h ∙ sum-zero (λ x. 0) xs (λ x. refl)
 
 module _ {Line Port : Type 0} (belongs : Line → Port → Type 0) (view : Port → View) (lines : List Line) where
-  -- a desk is over its lines where one port was called, and its counters moved with what it paid
+  -- a desk is over its lines after a call of one port, if its counters rose by what that port paid
   pub desk_after : (d : DeskOf Port) (i : ℕ) (line : Line) (p q : Port) (sum_in sum_out : ℕ) → IsDeskOver belongs view lines d → slice_get lines i ≡ Some line → slice_get d.ports i ≡ Some p → belongs line q → IsAtRest (view q)
       → (paid_by (view q) + drawn_by (view p)) + (sum_out + d.paid_in) ≡ (paid_by (view p) + drawn_by (view q)) + (d.paid_out + sum_in)
       → IsDeskOver belongs view lines (record { ports = set d.ports i q; paid_in = sum_in; paid_out = sum_out })
   desk_after d i line p q sum_in sum_out over at_line at_port belong rest paid = record {
     over = record {
       count = length-set d.ports i q ∙ over.over.count;
-      belong = λ j l r at_l at_r. elim (cases_eq j i) [
+      each_belongs = λ j l r at_l at_r. elim (cases_eq j i) [
         | inl e ↦
             let same_line : line ≡ l = same_some (sym at_line ∙ (ap (slice_get lines) (sym e) ∙ at_l)) in
             let same_port : q ≡ r = same_some (sym (slice_get-set_same d.ports i q within) ∙ (ap (slice_get (set d.ports i q)) (sym e) ∙ at_r)) in
             subst (λ (l : Line). belongs l r) same_line (subst (λ (r : Port). belongs line r) same_port belong)
-        | inr ne ↦ over.over.belong j l r at_l (sym (slice_get-set_other d.ports i j q ne) ∙ at_r)
+        | inr ne ↦ over.over.each_belongs j l r at_l (sym (slice_get-set_other d.ports i j q ne) ∙ at_r)
       ];
     };
     at_rest = λ j r at_r. elim (cases_eq j i) [
@@ -101,7 +101,7 @@ module _ {Line Port : Type 0} (belongs : Line → Port → Type 0) (view : Port 
           let (line, at_line) = element_at lines i (omega (arith, there, many)) in
           history i line port at_line at
 
--- what an answer tells of the port: it is at rest, and its counters moved as the desk's
+-- the meaning of an answer for the port: it is at rest, and its counters changed as the desk's
 abbrev pub Counts : View → View → ℕ → ℕ → ℕ → ℕ → Type 0
 Counts v w paid_in paid_out in_then out_then = (paid_by w + drawn_by v) + (out_then + paid_in) ≡ (paid_by v + drawn_by w) + (paid_out + in_then)
 
@@ -121,7 +121,7 @@ refused_in_vain v w Over h = absurd h
 refused_in_vain v w NoAccount h = absurd h
 refused_in_vain v w SameAccount h = absurd h
 
--- a port that paid nothing, with counters as they were
+-- a port that paid nothing, with the same counters
 rests : (v w : View) (paid_in paid_out in_then out_then : ℕ) → IsAtRest w → Pays v w 0 0 → in_then ≡ paid_in → out_then ≡ paid_out → IsAtRest w × Counts v w paid_in paid_out in_then out_then
 rests v w paid_in paid_out in_then out_then rest p e f = (rest, counts v w 0 0 paid_in paid_out in_then out_then p (omega (arith, e, f)))
 
@@ -146,7 +146,7 @@ module _ (v w : View) (lane amount : ℕ) where
   paid_out_port NoAccount sum sum_then paid_in h = absurd h
   paid_out_port SameAccount sum sum_then paid_in h = absurd h
 
--- the same of a transfer within a line
+-- the same for a transfer within a line
 pub moved_within_port : (v w : View) (source target amount paid_in paid_out : ℕ) (reply : Reply) → MovesWithin v w source target amount reply → IsAtRest w × Counts v w paid_in paid_out paid_in paid_out
 moved_within_port v w source target amount paid_in paid_out Done (found, turn, enough, room, pays) = rests v w paid_in paid_out paid_in paid_out turn.at_rest pays refl refl
 moved_within_port v w source target amount paid_in paid_out Short (found, turn, less) = rests v w paid_in paid_out paid_in paid_out turn.at_rest (looked found turn.pays) refl refl
@@ -157,7 +157,7 @@ moved_within_port v w source target amount paid_in paid_out Busy r = let vain = 
 moved_within_port v w source target amount paid_in paid_out NoAccount h = absurd h
 moved_within_port v w source target amount paid_in paid_out SameAccount h = absurd h
 
--- the records of the calls, from what was done at one port
+-- the records of the calls, by what was done at one port
 module _ {Port : Type 0} (view : Port → View) (lines account amount : ℕ) (d : DeskOf Port) (i lane : ℕ) (p q : Port) (known : account < 8 * lines) (line_is : i ≡ line_of account) (lane_is : lane ≡ lane_in account) (was : slice_get d.ports i ≡ Some p) where
   pub deposits : (sum : ℕ) (reply : Reply) → PaysIn (view p) (view q) lane amount d.paid_in sum reply → Deposits view lines account amount d (record { ports = set d.ports i q; paid_in = sum; paid_out = d.paid_out }) reply
   deposits sum reply pays = record {
@@ -196,7 +196,7 @@ takes_out_none view lines account amount d above = record { unknown = λ _. (abo
 
 -- two lines, and a port of each
 pub over_pair : {Line Port : Type 0} (belongs : Line → Port → Type 0) (a b : Line) (p q : Port) → belongs a p → belongs b q → AreOver belongs (a ∷ b ∷ []) (p ∷ q ∷ [])
-over_pair {Line} {Port} belongs a b p q first second = record { count = refl; belong = at }
+over_pair {Line} {Port} belongs a b p q first second = record { count = refl; each_belongs = at }
   where
     at : (i : ℕ) (line : Line) (port : Port) → slice_get (a ∷ b ∷ []) i ≡ Some line → slice_get (p ∷ q ∷ []) i ≡ Some port → belongs line port
     at zero line port at_line at_port = subst (λ l. belongs l port) (same_some at_line) (subst (λ r. belongs a r) (same_some at_port) first)

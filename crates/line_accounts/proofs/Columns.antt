@@ -12,14 +12,14 @@ use Rattle.line_accounts.specs.Desks.{DeskOf, AreOver}
 use Rattle.line_accounts.proofs.Accounted.{slice_get-set_same, slice_get-set_other}
 use Rattle.line_accounts.specs.NewDesks.{IsNewPort, IsColumn, GainEach, AreDealt}
 
--- what holds of all holds of the first
+-- what holds of all elements holds of the first
 pub all_first : {X : Type 0} (P : X → Type 0) (x : X) (xs ys : List X) → ys ≡ x ∷ xs → All P ys → P x
 all_first P x xs ys e all = All-head P x xs (subst (All P) e all)
 
 -- no line, and no port
 pub column_none : {Line Port : Type 0} (belongs : Line → Port → Type 0) (view : Port → View) → IsColumn belongs view [] []
 column_none {Line} {Port} belongs view = record {
-  over = record { count = refl; belong = λ i line port at_line at_port. absurd (let lt : i < 0 = slice_get_within [] i line at_line in omega (arith, lt)) };
+  over = record { count = refl; each_belongs = λ i line port at_line at_port. absurd (let lt : i < 0 = slice_get_within [] i line at_line in omega (arith, lt)) };
   unused = λ k d lt. absurd (omega (arith, lt));
 }
 
@@ -32,7 +32,7 @@ columns_none {Line} {Port} belongs view lines columns none empty = λ k d lt.
 pub over_more : {Line Port : Type 0} (belongs : Line → Port → Type 0) (lines : List Line) (line : Line) (ports : List Port) (port : Port) → AreOver belongs lines ports → belongs line port → AreOver belongs (lines ++ line ∷ []) (ports ++ port ∷ [])
 over_more {Line} {Port} belongs lines line ports port over own = record {
   count = length-append ports (port ∷ []) ∙ (ap (λ n. n + 1) over.count ∙ sym (length-append lines (line ∷ [])));
-  belong = λ i l p at_l at_p. elim (cases_eq i (length lines)) [
+  each_belongs = λ i l p at_l at_p. elim (cases_eq i (length lines)) [
     | inl e ↦
         let same_line : line ≡ l = same_some (sym (slice_get-push lines line) ∙ (ap (slice_get (lines ++ line ∷ [])) (sym e) ∙ at_l)) in
         let same_port : port ≡ p = same_some (sym (slice_get-push ports port) ∙ (ap (slice_get (ports ++ port ∷ [])) (over.count ∙ sym e) ∙ at_p)) in
@@ -42,7 +42,7 @@ over_more {Line} {Port} belongs lines line ports port over own = record {
         let more : length (lines ++ line ∷ []) ≡ length lines + 1 = length-append lines (line ∷ []) in
         let low : i < length lines = omega (arith, lt, more, ne) in
         let low_port : i < length ports = omega (arith, low, over.count) in
-        over.belong i l p (sym (slice_get-append_left lines (line ∷ []) i low) ∙ at_l) (sym (slice_get-append_left ports (port ∷ []) i low_port) ∙ at_p)
+        over.each_belongs i l p (sym (slice_get-append_left lines (line ∷ []) i low) ∙ at_l) (sym (slice_get-append_left ports (port ∷ []) i low_port) ∙ at_p)
   ];
 }
 
@@ -52,7 +52,7 @@ column_more {Line} {Port} belongs view lines line ports port column new = record
   unused = All-push (λ (port : Port). ((view port).state ≡ Idle) × ((view port).count ≡ 0)) ports port column.unused (new.idle, new.never);
 }
 
--- the first so many lists have a port of the line
+-- the first `index` lists have a port of the line
 pub record IsAdding {Line Port : Type 0} (belongs : Line → Port → Type 0) (view : Port → View) (lines : List Line) (line : Line) (columns : List (Vec Port Global)) (index : ℕ) : Type 0 where
   pub done : (k : ℕ) (column : Vec Port Global) → k < index → slice_get columns k ≡ Some column → IsColumn belongs view (lines ++ line ∷ []) column.items
   pub left : (k : ℕ) (column : Vec Port Global) → index ≤ k → slice_get columns k ≡ Some column → IsColumn belongs view lines column.items
@@ -82,7 +82,7 @@ module _ {Line Port : Type 0} (belongs : Line → Port → Type 0) (view : Port 
   pub adding_all : (columns : List (Vec Port Global)) (index : ℕ) → IsAdding belongs view lines line columns index → index ≡ length columns → All (λ (column : Vec Port Global). IsColumn belongs view (lines ++ line ∷ []) column.items) columns
   adding_all columns index adding all = λ k d lt. adding.done k _ (omega (arith, lt, all)) (slice_get-get_or columns k d lt)
 
--- the first so many lists have gained their port
+-- the first `index` lists have gained their port
 pub record IsGaining {Port : Type 0} (ports : List Port) (old new : List (Vec Port Global)) (index : ℕ) : Type 0 where
   pub done : (k : ℕ) (column_then : Vec Port Global) → k < index → slice_get new k ≡ Some column_then
       → (column : Vec Port Global) × (port : Port) × (slice_get old k ≡ Some column) × (slice_get ports k ≡ Some port) × (column_then.items ≡ column.items ++ port ∷ [])
@@ -121,7 +121,7 @@ drop-next xs rest x i is =
     let both : x ∷ rest ≡ x ∷ drop (i + 1) xs = sym is ∙ front in
     cc both
 
--- the lists have the ports of the first so many lines
+-- the lists have the ports of the first `lines` lines
 abbrev pub HaveDealt : {Line Port : Type 0} → List (Line × Vec Port Global) → ℕ → List (Vec Port Global) → Type 0
 HaveDealt {Line} {Port} opened lines columns = (k i : ℕ) (column : Vec Port Global) (line : Line × Vec Port Global) → i < lines → slice_get columns k ≡ Some column → slice_get opened i ≡ Some line → slice_get column.items i ≡ slice_get line.1.items k
 
@@ -153,7 +153,7 @@ desks_dealt {Line} {Port} opened lines columns desks all dealt are = λ k i desk
     by k i desk line at_line (Some column) at is = ap (λ l. slice_get l i) (sym (same_some is)) ∙ dealt k i column line (let lt = slice_get_within opened i line at_line in omega (arith, lt, all)) at at_line
     by k i desk line at_line None at is = absurd (let no : None ≡ Some desk.ports = is in cc no)
 
--- what holds of all lists holds of the one at a place
+-- what holds of all lists holds of the list at a place
 pub column_at : {Line Port : Type 0} (belongs : Line → Port → Type 0) (view : Port → View) (lines : List Line) (columns : List (Vec Port Global)) → All (λ (column : Vec Port Global). IsColumn belongs view lines column.items) columns
     → (k : ℕ) (column : Vec Port Global) → slice_get columns k ≡ Some column → IsColumn belongs view lines column.items
 column_at {Line} {Port} belongs view lines columns all k column at = subst (λ (c : Vec Port Global). IsColumn belongs view lines c.items) (get_or_from_slice_get columns k column column at) (all k column (slice_get_within columns k column at))
@@ -170,7 +170,7 @@ desks_move {Port} desks desks_then desk column rest columns pushed is step =
     go [] = ap (λ (ps : List Port). ps ∷ map (λ (column : Vec Port Global). column.items) rest) is
     go (d ∷ ds) = ap (λ xs. d.ports ∷ xs) (go ds)
 
--- where nothing is left, all of it was given
+-- if no list is left, all of them were given
 pub all_moved : {X Y : Type 0} (given : List Y) (f : X → Y) (rest : List X) (all : List Y) → length rest ≡ 0 → given ++ map f rest ≡ all → given ≡ all
 all_moved given f [] all none is = sym (append-nil given) ∙ is
 all_moved given f (x ∷ rest) all none is = absurd (omega (arith, none))

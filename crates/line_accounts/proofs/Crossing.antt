@@ -1,12 +1,12 @@
 -- Transfers over two lines.
-use Rattle.std.proofs.Common.{◌≡◌, ◌<◌, ℕ, length, inl, inr}
+use Rattle.std.proofs.Common.{◌≡◌, ◌<◌, ℕ, length}
 use Rattle.qolb_model.specs.declared.view.View.{View}
 use Rattle.qolb_model.specs.declared.write.Write.{Write}
 use Rattle.qolb_model.specs.Views.{bytes_of}
 use Rattle.line_accounts.specs.declared.answer.Reply.{Reply}
 use Rattle.line_accounts.specs.declared.answer.Reply.TheVariants.{Done, Short, Over, Late, Closed, Busy, NoAccount, SameAccount}
 use Rattle.line_accounts.specs.Accounts.{AreBalances}
-use Rattle.line_accounts.specs.Moves.{Holds, IsRefused, IsRefusedEither, Carries, MovesAcross}
+use Rattle.line_accounts.specs.Moves.{Holds, Carries, MovesAcross}
 use Rattle.line_accounts.proofs.Visits.{took}
 use Rattle.line_accounts.proofs.Totals.{paid_in, paid_out}
 
@@ -26,20 +26,3 @@ module _ (refused : Reply → Type 0) (s hs s_then t ht t_then : View) (turn_s t
   crossed Busy h = absurd h
   crossed NoAccount h = absurd h
   crossed SameAccount h = absurd h
-
--- where one of the two was not granted
-module _ (s s_then t t_then : View) where
-  neither : (reply : Reply) → (IsRefused s s_then reply → ⊥) → (IsRefused t t_then reply → ⊥) → IsRefusedEither s s_then t t_then reply → ⊥
-  neither reply first second (inl (refused, same)) = first refused
-  neither reply first second (inr (found, turn, refused)) = second refused
-
-  pub refused_across : (source source_then target target_then : View) (from to amount : ℕ) (reply : Reply) → IsRefusedEither s s_then t t_then reply
-      → MovesAcross (IsRefusedEither s s_then t t_then) source source_then target target_then from to amount reply
-  refused_across source source_then target target_then from to amount Late h = h
-  refused_across source source_then target target_then from to amount Closed h = h
-  refused_across source source_then target target_then from to amount Busy h = h
-  refused_across source source_then target target_then from to amount Done h = absurd (neither Done (λ r. r) (λ r. r) h)
-  refused_across source source_then target target_then from to amount Short h = absurd (neither Short (λ r. r) (λ r. r) h)
-  refused_across source source_then target target_then from to amount Over h = absurd (neither Over (λ r. r) (λ r. r) h)
-  refused_across source source_then target target_then from to amount NoAccount h = absurd (neither NoAccount (λ r. r) (λ r. r) h)
-  refused_across source source_then target target_then from to amount SameAccount h = absurd (neither SameAccount (λ r. r) (λ r. r) h)

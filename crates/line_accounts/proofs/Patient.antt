@@ -12,7 +12,7 @@ module _ {Port : Type 0} (counters : Port → Counters) (patience : ℕ) where
   still : (o : Port) (before after : Port) → Some before ≡ Some after → (counters after).poll_count ≤ (counters before).poll_count + patience
   still o before after e = let same : before ≡ after = cc in let l = ap (λ (port : Port). (counters port).poll_count) same in omega arith
 
-  -- none was called
+  -- no port was called
   pub patient_none : (ports : List Port) → ArePatient counters patience ports ports
   patient_none ports = record { each = λ i before after was is. still before before after (sym was ∙ is) }
 

@@ -10,10 +10,10 @@ use Rattle.line_lanes.specs.Lane.{lane_of, with_lane_of, lanes_of, lanes_total}
 use Rattle.line_lanes.proofs.EachLane.{lanes_of-at}
 use Rattle.line_lanes.proofs.LaneBytes.{lane-with_lane_same, lane-with_lane_other, length-with_lane}
 use Rattle.qolb_model.specs.declared.view.View.{View}
-use Rattle.line_accounts.specs.Accounts.{AreBalances, StayBalances, HasRoom, raised, lowered}
+use Rattle.line_accounts.specs.Accounts.{AreBalances, StayBalances, HasRoom, credited, debited}
 use Rattle.line_accounts.specs.Paid.{rise, fall, paid_by, drawn_by}
 use Rattle.line_accounts.specs.Moves.{Pays}
-use Rattle.line_accounts.specs.declared.law.TheConstants.{MOST_BALANCE}
+use Rattle.line_accounts.specs.declared.law.TheConstants.{MAX_BALANCE}
 
 -- a line in which lane k was written
 module _ (line : List ℕ) (k value : ℕ) (long : length line ≡ 64) (within : k < 8) (small : value < 2 ^ 64) where
@@ -38,73 +38,73 @@ module _ (line : List ℕ) (k value : ℕ) (long : length line ≡ 64) (within :
       ∙ (ap (λ n. sum (set (lanes_of line) k value) + n) (sym (lanes_of-at line k within))
       ∙ sum_by-set (λ x. x) (lanes_of line) k value 0 (omega (arith, length-map-range_with_len (lane_of line) 0 8, within)))
 
-  pub balances-with_lane : AreBalances line → value ≤ MOST_BALANCE → AreBalances (with_lane_of line k value)
+  pub balances-with_lane : AreBalances line → value ≤ MAX_BALANCE → AreBalances (with_lane_of line k value)
   balances-with_lane all low = λ j j8. elim (cases_eq j k) [
-    | inl e ↦ subst (λ n. n ≤ MOST_BALANCE) (sym (ap (lane_of (with_lane_of line k value)) e ∙ lane-with_lane_same line k value long within small)) low
-    | inr ne ↦ subst (λ n. n ≤ MOST_BALANCE) (sym (lane-with_lane_other line k value j long within small j8 ne)) (all j j8)
+    | inl e ↦ subst (λ n. n ≤ MAX_BALANCE) (sym (ap (lane_of (with_lane_of line k value)) e ∙ lane-with_lane_same line k value long within small)) low
+    | inr ne ↦ subst (λ n. n ≤ MAX_BALANCE) (sym (lane-with_lane_other line k value j long within small j8 ne)) (all j j8)
   ]
 
-small_sum : (n : ℕ) → n ≤ MOST_BALANCE → n < 2 ^ 64
+small_sum : (n : ℕ) → n ≤ MAX_BALANCE → n < 2 ^ 64
 small_sum n le = omega (arith, le)
 
-pub long-raised : (line : List ℕ) (k amount : ℕ) → length line ≡ 64 → k < 8 → length (raised line k amount) ≡ 64
-long-raised line k amount long within = length-with_lane line k (lane_of line k + amount) long within
+pub long-credited : (line : List ℕ) (k amount : ℕ) → length line ≡ 64 → k < 8 → length (credited line k amount) ≡ 64
+long-credited line k amount long within = length-with_lane line k (lane_of line k + amount) long within
 
-pub long-lowered : (line : List ℕ) (k amount : ℕ) → length line ≡ 64 → k < 8 → length (lowered line k amount) ≡ 64
-long-lowered line k amount long within = length-with_lane line k (lane_of line k - amount) long within
+pub long-debited : (line : List ℕ) (k amount : ℕ) → length line ≡ 64 → k < 8 → length (debited line k amount) ≡ 64
+long-debited line k amount long within = length-with_lane line k (lane_of line k - amount) long within
 
 -- deposits and payments out
 module _ (line : List ℕ) (k amount : ℕ) (long : length line ≡ 64) (within : k < 8) (all : AreBalances line) where
-  low : lane_of line k ≤ MOST_BALANCE
+  low : lane_of line k ≤ MAX_BALANCE
   low = all k within
 
-  small_rest : lane_of line k - amount ≤ MOST_BALANCE
+  small_rest : lane_of line k - amount ≤ MAX_BALANCE
   small_rest = let h = low in omega (arith, h)
 
-  pub raised_stays : HasRoom line k amount → StayBalances line (raised line k amount)
-  raised_stays room = (all, balances-with_lane line k (lane_of line k + amount) long within (small_sum (lane_of line k + amount) room) all room)
+  pub credited_stays : HasRoom line k amount → StayBalances line (credited line k amount)
+  credited_stays room = (all, balances-with_lane line k (lane_of line k + amount) long within (small_sum (lane_of line k + amount) room) all room)
 
-  pub lowered_stays : StayBalances line (lowered line k amount)
-  lowered_stays = (all, balances-with_lane line k (lane_of line k - amount) long within (small_sum (lane_of line k - amount) small_rest) all small_rest)
+  pub debited_stays : StayBalances line (debited line k amount)
+  debited_stays = (all, balances-with_lane line k (lane_of line k - amount) long within (small_sum (lane_of line k - amount) small_rest) all small_rest)
 
-  pub total-raised : HasRoom line k amount → lanes_total (raised line k amount) ≡ lanes_total line + amount
-  total-raised room = plus (lanes_total (raised line k amount)) (lanes_total line) (lane_of line k) amount (total-with_lane line k (lane_of line k + amount) long within (small_sum (lane_of line k + amount) room))
+  pub total-credited : HasRoom line k amount → lanes_total (credited line k amount) ≡ lanes_total line + amount
+  total-credited room = plus (lanes_total (credited line k amount)) (lanes_total line) (lane_of line k) amount (total-with_lane line k (lane_of line k + amount) long within (small_sum (lane_of line k + amount) room))
     where
       plus : (a b l n : ℕ) → a + l ≡ b + (l + n) → a ≡ b + n
       plus a b l n e = omega (arith, e)
 
-  pub total-lowered : amount ≤ lane_of line k → lanes_total (lowered line k amount) + amount ≡ lanes_total line
-  total-lowered enough = minus (lanes_total (lowered line k amount)) (lanes_total line) (lane_of line k) amount enough (total-with_lane line k (lane_of line k - amount) long within (small_sum (lane_of line k - amount) small_rest))
+  pub total-debited : amount ≤ lane_of line k → lanes_total (debited line k amount) + amount ≡ lanes_total line
+  total-debited enough = minus (lanes_total (debited line k amount)) (lanes_total line) (lane_of line k) amount enough (total-with_lane line k (lane_of line k - amount) long within (small_sum (lane_of line k - amount) small_rest))
     where
       minus : (a b l n : ℕ) → n ≤ l → a + l ≡ b + (l - n) → a + n ≡ b
       minus a b l n h e = omega (arith, h, e)
 
-  -- another lane is as it was
-  pub lane-lowered_other : (j : ℕ) → j < 8 → j ≢ k → lane_of (lowered line k amount) j ≡ lane_of line j
-  lane-lowered_other j j8 ne = lane-with_lane_other line k (lane_of line k - amount) j long within (small_sum (lane_of line k - amount) small_rest) j8 ne
+  -- another lane is unchanged
+  pub lane-debited_other : (j : ℕ) → j < 8 → j ≢ k → lane_of (debited line k amount) j ≡ lane_of line j
+  lane-debited_other j j8 ne = lane-with_lane_other line k (lane_of line k - amount) j long within (small_sum (lane_of line k - amount) small_rest) j8 ne
 
 -- a payment out of one lane and into another
 module _ (line : List ℕ) (source target amount : ℕ) (long : length line ≡ 64) (from : source < 8) (to : target < 8) (apart : target ≢ source) (all : AreBalances line) where
-  other : lane_of (lowered line source amount) target ≡ lane_of line target
-  other = lane-lowered_other line source amount long from all target to apart
+  other : lane_of (debited line source amount) target ≡ lane_of line target
+  other = lane-debited_other line source amount long from all target to apart
 
-  less : AreBalances (lowered line source amount)
-  less = (lowered_stays line source amount long from all).1
+  less : AreBalances (debited line source amount)
+  less = (debited_stays line source amount long from all).1
 
-  room : HasRoom line target amount → HasRoom (lowered line source amount) target amount
-  room has = subst (λ n. n + amount ≤ MOST_BALANCE) (sym other) has
+  room : HasRoom line target amount → HasRoom (debited line source amount) target amount
+  room has = subst (λ n. n + amount ≤ MAX_BALANCE) (sym other) has
 
-  pub no_room : (HasRoom (lowered line source amount) target amount → ⊥) → HasRoom line target amount → ⊥
+  pub no_room : (HasRoom (debited line source amount) target amount → ⊥) → HasRoom line target amount → ⊥
   no_room none has = none (room has)
 
-  pub has_room : HasRoom (lowered line source amount) target amount → HasRoom line target amount
-  has_room has = subst (λ n. n + amount ≤ MOST_BALANCE) other has
+  pub has_room : HasRoom (debited line source amount) target amount → HasRoom line target amount
+  has_room has = subst (λ n. n + amount ≤ MAX_BALANCE) other has
 
-  pub moved_stays : HasRoom (lowered line source amount) target amount → StayBalances line (raised (lowered line source amount) target amount)
-  moved_stays has = (all, (raised_stays (lowered line source amount) target amount (long-lowered line source amount long from) to less has).1)
+  pub moved_stays : HasRoom (debited line source amount) target amount → StayBalances line (credited (debited line source amount) target amount)
+  moved_stays has = (all, (credited_stays (debited line source amount) target amount (long-debited line source amount long from) to less has).1)
 
-  pub total-moved : amount ≤ lane_of line source → HasRoom line target amount → lanes_total (raised (lowered line source amount) target amount) ≡ lanes_total line
-  total-moved enough has = total-raised (lowered line source amount) target amount (long-lowered line source amount long from) to less (room has) ∙ total-lowered line source amount long from all enough
+  pub total-moved : amount ≤ lane_of line source → HasRoom line target amount → lanes_total (credited (debited line source amount) target amount) ≡ lanes_total line
+  total-moved enough has = total-credited (debited line source amount) target amount (long-debited line source amount long from) to less (room has) ∙ total-debited line source amount long from all enough
 
 pub pays_as : {old new : View} {a b c d : ℕ} → Pays old new a b → a ≡ c → b ≡ d → Pays old new c d
 pays_as {old} {new} p e f = record {
@@ -112,7 +112,7 @@ pays_as {old} {new} p e f = record {
   paid_out = p.paid_out ∙ ap (λ n. drawn_by old + n) f;
 }
 
--- what totals tell of a rise and a fall
+-- a rise and a fall of totals, by their difference
 pub rise_by : (a b n : ℕ) → b ≡ a + n → b - a ≡ n
 rise_by a b n e = omega (arith, e)
 
@@ -125,22 +125,22 @@ fall_by a b n e = omega (arith, e)
 pub fall_none : (a b n : ℕ) → b ≡ a + n → a - b ≡ 0
 fall_none a b n e = omega (arith, e)
 
--- what a turn that did so has paid
-pub paid_in : {old new : View} (line : List ℕ) (k amount : ℕ) → length line ≡ 64 → k < 8 → AreBalances line → HasRoom line k amount → Pays old new (rise line (raised line k amount)) (fall line (raised line k amount)) → Pays old new amount 0
+-- what a turn of a deposit or of a payment out has paid
+pub paid_in : {old new : View} (line : List ℕ) (k amount : ℕ) → length line ≡ 64 → k < 8 → AreBalances line → HasRoom line k amount → Pays old new (rise line (credited line k amount)) (fall line (credited line k amount)) → Pays old new amount 0
 paid_in {old} {new} line k amount long within all room p =
-    let e = total-raised line k amount long within all room in
-    pays_as p (rise_by (lanes_total line) (lanes_total (raised line k amount)) amount e) (fall_none (lanes_total line) (lanes_total (raised line k amount)) amount e)
+    let e = total-credited line k amount long within all room in
+    pays_as p (rise_by (lanes_total line) (lanes_total (credited line k amount)) amount e) (fall_none (lanes_total line) (lanes_total (credited line k amount)) amount e)
 
-pub paid_out : {old new : View} (line : List ℕ) (k amount : ℕ) → length line ≡ 64 → k < 8 → AreBalances line → amount ≤ lane_of line k → Pays old new (rise line (lowered line k amount)) (fall line (lowered line k amount)) → Pays old new 0 amount
+pub paid_out : {old new : View} (line : List ℕ) (k amount : ℕ) → length line ≡ 64 → k < 8 → AreBalances line → amount ≤ lane_of line k → Pays old new (rise line (debited line k amount)) (fall line (debited line k amount)) → Pays old new 0 amount
 paid_out {old} {new} line k amount long within all enough p =
-    let e = total-lowered line k amount long within all enough in
-    pays_as p (rise_none (lanes_total line) (lanes_total (lowered line k amount)) amount e) (fall_by (lanes_total line) (lanes_total (lowered line k amount)) amount e)
+    let e = total-debited line k amount long within all enough in
+    pays_as p (rise_none (lanes_total line) (lanes_total (debited line k amount)) amount e) (fall_by (lanes_total line) (lanes_total (debited line k amount)) amount e)
 
 pub moved : {old new : View} (line : List ℕ) (source target amount : ℕ) → length line ≡ 64 → source < 8 → target < 8 → target ≢ source → AreBalances line → amount ≤ lane_of line source → HasRoom line target amount
-    → Pays old new (rise line (raised (lowered line source amount) target amount)) (fall line (raised (lowered line source amount) target amount)) → Pays old new 0 0
+    → Pays old new (rise line (credited (debited line source amount) target amount)) (fall line (credited (debited line source amount) target amount)) → Pays old new 0 0
 moved {old} {new} line source target amount long from to apart all enough room p =
     let e = total-moved line source target amount long from to apart all enough room in
-    let left = lanes_total (raised (lowered line source amount) target amount) in
+    let left = lanes_total (credited (debited line source amount) target amount) in
     pays_as p (none (lanes_total line) left e) (none left (lanes_total line) (sym e))
   where
     none : (a b : ℕ) → b ≡ a → b - a ≡ 0

@@ -5,7 +5,7 @@ use Rattle.std.specs.List.{sum_by}
 use Rattle.line_lanes.specs.Lane.{lanes_total}
 use Rattle.qolb_model.specs.declared.end.End.{End}
 use Rattle.qolb_model.specs.declared.end.End.TheVariants.{Served, Gone, Told}
-use Rattle.qolb_model.specs.declared.terms.Terms.{Terms}
+use Rattle.qolb_model.specs.declared.config.LineConfig.{LineConfig}
 use Rattle.qolb_model.specs.declared.view.View.{View}
 use Rattle.qolb_model.specs.Ends.{written, bytes_after}
 use Rattle.qolb_model.specs.OneHistory.{IsAmong}
@@ -27,15 +27,15 @@ turns-balance bytes (Gone ∷ ends) = turns-balance bytes ends
 turns-balance bytes (Told ∷ ends) = turns-balance bytes ends
 
 -- of a finished line: the bytes' total and all that was drawn are the opening's total and all that was paid in
-pub finished_total : (good : List ℕ → Type 0) (allows : List ℕ → List ℕ → Type 0) (label : ℕ) (terms : Terms) (views : List View) (bytes : List ℕ)
-    → IsFinished good allows label terms views bytes → ((i : ℕ) (v : View) → slice_get views i ≡ Some v → KnowsOwnPlaces v)
-    → lanes_total bytes + sum_by drawn_by views ≡ lanes_total terms.opening.bytes + sum_by paid_by views
-finished_total good allows label terms views bytes f places =
-    let whole = λ (does : List ℕ → List ℕ → ℕ). sums_of_ports good allows does label terms views bytes f (λ v (i, at). places i v at) in
+pub finished_total : (good : List ℕ → Type 0) (allows : List ℕ → List ℕ → Type 0) (label : ℕ) (config : LineConfig) (views : List View) (bytes : List ℕ)
+    → IsFinished good allows label config views bytes → ((i : ℕ) (v : View) → slice_get views i ≡ Some v → KnowsOwnPlaces v)
+    → lanes_total bytes + sum_by drawn_by views ≡ lanes_total config.opening.bytes + sum_by paid_by views
+finished_total good allows label config views bytes f places =
+    let whole = λ (does : List ℕ → List ℕ → ℕ). sums_of_ports good allows does label config views bytes f (λ v (i, at). places i v at) in
     ap (λ b. lanes_total b + sum_by drawn_by views) f.result
-    ∙ (ap (λ n. lanes_total (bytes_after terms.opening.bytes f.history.ends) + n) (sym (whole fall))
-    ∙ (turns-balance terms.opening.bytes f.history.ends
-    ∙ ap (λ n. lanes_total terms.opening.bytes + n) (whole rise)))
+    ∙ (ap (λ n. lanes_total (bytes_after config.opening.bytes f.history.ends) + n) (sym (whole fall))
+    ∙ (turns-balance config.opening.bytes f.history.ends
+    ∙ ap (λ n. lanes_total config.opening.bytes + n) (whole rise)))
 
 -- what the first turns did is a part of what all did
 sum_of_first : (does : List ℕ → List ℕ → ℕ) (bytes : List ℕ) (p : ℕ) (ends : List End) → sum_of_all does bytes (take p ends) ≤ sum_of_all does bytes ends
@@ -45,19 +45,19 @@ sum_of_first does bytes (suc p) (Served write shut ∷ ends) = let rest = sum_of
 sum_of_first does bytes (suc p) (Gone ∷ ends) = sum_of_first does bytes p ends
 sum_of_first does bytes (suc p) (Told ∷ ends) = sum_of_first does bytes p ends
 
--- a port of a finished line has at no place known of more than the opening's total and all that was paid in
-pub found_within : (good : List ℕ → Type 0) (allows : List ℕ → List ℕ → Type 0) (label : ℕ) (terms : Terms) (views : List View) (bytes : List ℕ)
-    → IsFinished good allows label terms views bytes → ((i : ℕ) (v : View) → slice_get views i ≡ Some v → KnowsOwnPlaces v) → (v : View) → IsAmong views v → (p : ℕ) → p ≤ length v.ends
-    → lanes_total (bytes_after v.terms.opening.bytes (take p v.ends)) ≤ lanes_total terms.opening.bytes + sum_by paid_by views
-found_within good allows label terms views bytes f places v among p le =
+-- at no place has a port of a finished line known of more than the opening's total and all that was paid in
+pub found_within : (good : List ℕ → Type 0) (allows : List ℕ → List ℕ → Type 0) (label : ℕ) (config : LineConfig) (views : List View) (bytes : List ℕ)
+    → IsFinished good allows label config views bytes → ((i : ℕ) (v : View) → slice_get views i ≡ Some v → KnowsOwnPlaces v) → (v : View) → IsAmong views v → (p : ℕ) → p ≤ length v.ends
+    → lanes_total (bytes_after v.config.opening.bytes (take p v.ends)) ≤ lanes_total config.opening.bytes + sum_by paid_by views
+found_within good allows label config views bytes f places v among p le =
     let h = f.history in
     let knows = h.known v among in
     let cut : take p h.ends ≡ take p v.ends = ap (take p) (sym knows.ends_begin.1) ∙ take-append-le p v.ends knows.ends_begin.0 le in
-    let same : bytes_after v.terms.opening.bytes (take p v.ends) ≡ bytes_after terms.opening.bytes (take p h.ends) =
-    ap (bytes_after v.terms.opening.bytes) (sym cut) ∙ ap (λ (t : Terms). bytes_after t.opening.bytes (take p h.ends)) (knows.terms_are ∙ f.terms_are) in
-    let balance = turns-balance terms.opening.bytes (take p h.ends) in
-    let part = sum_of_first rise terms.opening.bytes p h.ends in
-    let whole = sums_of_ports good allows rise label terms views bytes f (λ v (i, at). places i v at) in
+    let same : bytes_after v.config.opening.bytes (take p v.ends) ≡ bytes_after config.opening.bytes (take p h.ends) =
+    ap (bytes_after v.config.opening.bytes) (sym cut) ∙ ap (λ (t : LineConfig). bytes_after t.opening.bytes (take p h.ends)) (knows.config_is ∙ f.config_is) in
+    let balance = turns-balance config.opening.bytes (take p h.ends) in
+    let part = sum_of_first rise config.opening.bytes p h.ends in
+    let whole = sums_of_ports good allows rise label config views bytes f (λ v (i, at). places i v at) in
     let total = ap lanes_total same in
     sums _ _ _ _ _ _ _ total balance part whole
   where

@@ -1,7 +1,7 @@
 -- Accounts over lines: account a is lane a mod 8 of line a / 8, and a lane is its balance. (Of this project.)
 use Rattle.std.specs.Prelude.{ℕ, ◌+◌, ◌-◌, ◌/◌, ◌%◌, ◌<◌, ◌≤◌, List}
 use Rattle.line_lanes.specs.Lane.{lane_of, with_lane_of}
-use Rattle.line_accounts.specs.declared.law.TheConstants.{MOST_BALANCE}
+use Rattle.line_accounts.specs.declared.law.TheConstants.{MAX_BALANCE}
 
 -- the line of an account, and its lane there
 abbrev pub line_of : ℕ → ℕ
@@ -12,9 +12,9 @@ lane_in account = account % 8
 
 -- no balance of the line is above the limit
 abbrev pub AreBalances : List ℕ → Type 0
-AreBalances line = (k : ℕ) → k < 8 → lane_of line k ≤ MOST_BALANCE
+AreBalances line = (k : ℕ) → k < 8 → lane_of line k ≤ MAX_BALANCE
 
--- before a turn and after it
+-- the change of a turn: balances before and after it
 abbrev pub StayBalances : List ℕ → List ℕ → Type 0
 StayBalances old new = AreBalances old × AreBalances new
 
@@ -24,13 +24,13 @@ balances_after old new good stay = stay.1
 pub balances_same : (line : List ℕ) → AreBalances line → StayBalances line line
 balances_same line good = (good, good)
 
--- the line with so much more, and so much less, in a lane
-abbrev pub raised : List ℕ → ℕ → ℕ → List ℕ
-raised line lane amount = with_lane_of line lane (lane_of line lane + amount)
+-- the line with `amount` more in a lane; the line with `amount` less in it
+abbrev pub credited : List ℕ → ℕ → ℕ → List ℕ
+credited line lane amount = with_lane_of line lane (lane_of line lane + amount)
 
-abbrev pub lowered : List ℕ → ℕ → ℕ → List ℕ
-lowered line lane amount = with_lane_of line lane (lane_of line lane - amount)
+abbrev pub debited : List ℕ → ℕ → ℕ → List ℕ
+debited line lane amount = with_lane_of line lane (lane_of line lane - amount)
 
 -- a lane's balance may rise by the amount
 abbrev pub HasRoom : List ℕ → ℕ → ℕ → Type 0
-HasRoom line lane amount = lane_of line lane + amount ≤ MOST_BALANCE
+HasRoom line lane amount = lane_of line lane + amount ≤ MAX_BALANCE

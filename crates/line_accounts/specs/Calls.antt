@@ -1,4 +1,4 @@
--- The calls of a desk: what each does to the desk, one field an answer or a part of it. (Of this project.)
+-- The calls of a desk: what each does to the desk, with a field for each answer or for a part of it. (Of this project.)
 use Rattle.std.specs.Prelude.{◌≡◌, ◌≢◌, ◌⊎◌, ℕ, ◌*◌, ◌<◌, ◌≤◌, List, slice_set, slice_get, Some}
 use Rattle.qolb_model.specs.declared.view.View.{View}
 use Rattle.line_accounts.specs.declared.answer.Reply.{Reply}
@@ -7,14 +7,14 @@ use Rattle.line_accounts.specs.Accounts.{line_of, lane_in}
 use Rattle.line_accounts.specs.Desks.{DeskOf}
 use Rattle.line_accounts.specs.Moves.{PaysIn, PaysOut, MovesWithin, MovesAcross, IsRefusedEither}
 
--- with so many lines there are both accounts, and they are two
+-- over `lines` lines both accounts exist, and they are two
 pub record AreTwo (lines source target : ℕ) : Type 0 where
   pub source_known : source < 8 * lines
   pub target_known : target < 8 * lines
   pub apart : source ≢ target
 
 module _ {Port : Type 0} (view : Port → View) where
-  -- of these ports that at the place did so, and no other was called
+  -- the port at `place` changed so, and no other port was called
   pub record ChangesPort (place : ℕ) (Does : View → View → Type 0) (old new : List Port) : Type 0 where
     pub port : Port
     pub port_then : Port
@@ -22,7 +22,7 @@ module _ {Port : Type 0} (view : Port → View) where
     pub is : new ≡ slice_set old place port_then
     pub does : Does (view port) (view port_then)
 
-  -- those at two places did so together
+  -- the ports at the two places changed so together, and no other port was called
   pub record ChangesTwo (first second : ℕ) (Does : View → View → View → View → Type 0) (old new : List Port) : Type 0 where
     pub one : Port
     pub one_then : Port
@@ -33,7 +33,7 @@ module _ {Port : Type 0} (view : Port → View) where
     pub is : new ≡ slice_set (slice_set old first one_then) second other_then
     pub does : Does (view one) (view one_then) (view other) (view other_then)
 
-  -- `deposit`, with so many lines
+  -- `deposit`, over `lines` lines
   pub record Deposits (lines account amount : ℕ) (old new : DeskOf Port) (reply : Reply) : Type 0 where
     pub unknown : reply ≡ NoAccount → (8 * lines ≤ account) × (new ≡ old)
     pub known : reply ≢ NoAccount → account < 8 * lines
@@ -47,7 +47,7 @@ module _ {Port : Type 0} (view : Port → View) where
     pub pays : reply ≢ NoAccount → ChangesPort (line_of account) (λ v w. PaysOut v w (lane_in account) amount old.paid_out new.paid_out reply) old.ports new.ports
     pub paid_in : new.paid_in ≡ old.paid_in
 
-  -- `transfer`: in one turn where both accounts are of one line; else in one turn of each, of which the lower line's is asked for first
+  -- `transfer`: in one turn if both accounts are of one line; else in one turn of each line, of which the lower is asked for first
   pub record Transfers (lines source target amount : ℕ) (old new : DeskOf Port) (reply : Reply) : Type 0 where
     pub unknown : reply ≡ NoAccount → ((8 * lines ≤ source) ⊎ (8 * lines ≤ target)) × (new ≡ old)
     pub same : reply ≡ SameAccount → (source < 8 * lines) × (source ≡ target) × (new ≡ old)

@@ -14,7 +14,7 @@ pub record DeskOf (Port : Type 0) : Type 0 where
   pub paid_in : ℕ
   pub paid_out : ℕ
 
--- the port neither waits nor holds, and knows where its requests stand
+-- the port neither waits nor holds, and knows what became of its requests
 pub record IsAtRest (v : View) : Type 0 where
   pub quiet : may_ask v.state ≡ true
   pub places : KnowsOwnPlaces v
@@ -22,7 +22,7 @@ pub record IsAtRest (v : View) : Type 0 where
 -- port i is of line i
 pub record AreOver {Line Port : Type 0} (belongs : Line → Port → Type 0) (lines : List Line) (ports : List Port) : Type 0 where
   pub count : length ports ≡ length lines
-  pub belong : (i : ℕ) (line : Line) (port : Port) → slice_get lines i ≡ Some line → slice_get ports i ≡ Some port → belongs line port
+  pub each_belongs : (i : ℕ) (line : Line) (port : Port) → slice_get lines i ≡ Some line → slice_get ports i ≡ Some port → belongs line port
 
 -- a desk over these lines, between calls: port i is of line i, and at rest; and what its ports have paid is what was paid in less what
 -- was paid out
@@ -31,16 +31,16 @@ pub record IsDeskOver {Line Port : Type 0} (belongs : Line → Port → Type 0) 
   pub at_rest : (i : ℕ) (port : Port) → slice_get desk.ports i ≡ Some port → IsAtRest (view port)
   pub paid : sum_by (λ port. paid_by (view port)) desk.ports + desk.paid_out ≡ sum_by (λ port. drawn_by (view port)) desk.ports + desk.paid_in
 
--- no port has polled more often than the patience since then
+-- since `old` no port has polled more often than `patience`
 pub record ArePatient {Port : Type 0} (counters : Port → Counters) (patience : ℕ) (old new : List Port) : Type 0 where
   pub each : (i : ℕ) (before after : Port) → slice_get old i ≡ Some before → slice_get new i ≡ Some after → (counters after).poll_count ≤ (counters before).poll_count + patience
 
--- the port has polled just so often, and then its request was taken back
+-- since `old` the port has polled exactly `patience` times, and then its request was withdrawn
 pub record HasWaited {Port : Type 0} (counters : Port → Counters) (view : Port → View) (patience : ℕ) (old new : Port) : Type 0 where
   pub looked : (counters new).poll_count ≡ (counters old).poll_count + patience
   pub withdrawn : (view new).state ≡ Rolled
 
--- one of the ports has
+-- one of the ports has waited so
 pub record HasOneWaited {Port : Type 0} (counters : Port → Counters) (view : Port → View) (patience : ℕ) (old new : List Port) : Type 0 where
   pub place : ℕ
   pub before : Port

@@ -3,8 +3,8 @@ use Rattle.std.specs.Prelude.{◌≡◌, ℕ, ◌<◌, ◌≤◌, List, [], ◌�
 use Rattle.std.specs.Global.{Global}
 use Rattle.qolb_model.specs.declared.answer.PortState.TheVariants.{Idle}
 use Rattle.qolb_model.specs.declared.view.View.{View}
-use Rattle.line_accounts.specs.declared.answer.DesksError.{DesksError}
-use Rattle.line_accounts.specs.declared.answer.DesksError.TheVariants.{Memory, Few}
+use Rattle.line_accounts.specs.declared.answer.OpenDesksError.{OpenDesksError}
+use Rattle.line_accounts.specs.declared.answer.OpenDesksError.TheVariants.{Memory, Few}
 use Rattle.line_accounts.specs.Desks.{DeskOf, AreOver}
 
 -- a port of the line that has made no request
@@ -13,7 +13,7 @@ pub record IsNewPort {Line Port : Type 0} (belongs : Line → Port → Type 0) (
   pub idle : (view port).state ≡ Idle
   pub never : (view port).count ≡ 0
 
--- port i is of line i, and none has made a request
+-- port i is of line i, and no port has made a request
 pub record IsColumn {Line Port : Type 0} (belongs : Line → Port → Type 0) (view : Port → View) (lines : List Line) (ports : List Port) : Type 0 where
   pub over : AreOver belongs lines ports
   pub unused : All (λ port. ((view port).state ≡ Idle) × ((view port).count ≡ 0)) ports
@@ -23,29 +23,29 @@ pub record IsUnpaid {Port : Type 0} (desk : DeskOf Port) : Type 0 where
   pub paid_in : desk.paid_in ≡ 0
   pub paid_out : desk.paid_out ≡ 0
 
--- desk k has the ports of one node: its port of each line is the line's port at place k, which is that of node k + 1 where the line was just
--- opened
+-- desk k has the ports of one node: its port of each line is the line's port at place k. If the line was just opened, that is the port
+-- of node k + 1
 abbrev pub AreDealt : {Line Port : Type 0} → List (Line × Vec Port Global) → List (DeskOf Port) → Type 0
 AreDealt {Line} {Port} opened desks = (k i : ℕ) (desk : DeskOf Port) (line : Line × Vec Port Global) → slice_get desks k ≡ Some desk → slice_get opened i ≡ Some line → slice_get desk.ports i ≡ slice_get line.1.items k
 
--- list k has one port more: the one at place k
+-- list k has one port more: the port at place k
 abbrev pub GainEach : {Port : Type 0} → List Port → List (Vec Port Global) → List (Vec Port Global) → Type 0
 GainEach {Port} ports old new = (k : ℕ) (column_then : Vec Port Global) → slice_get new k ≡ Some column_then
     → (column : Vec Port Global) × (port : Port) × (slice_get old k ≡ Some column) × (slice_get ports k ≡ Some port) × (column_then.items ≡ column.items ++ port ∷ [])
 
 module _ {Line Port : Type 0} (count : ℕ) (opened : List (Line × Vec Port Global)) where
-  -- each line has a port for each of so many desks
+  -- each line has a port for each of `count` desks
   abbrev pub AreEnough : Type 0
   AreEnough = All (λ line. count ≤ vec_len line.1) opened
 
-  -- line i is the least that has fewer
+  -- line i is the least line with too few ports
   pub record IsFirstShort (i : ℕ) : Type 0 where
     pub line : Line × Vec Port Global
     pub at : slice_get opened i ≡ Some line
     pub short : vec_len line.1 < count
     pub before : (j : ℕ) (other : Line × Vec Port Global) → j < i → slice_get opened j ≡ Some other → count ≤ vec_len other.1
 
-  -- why there are no desks: a line has too few ports; and only else, want of memory
-  abbrev pub MayHaveNoDesks : DesksError → Type 0
+  -- why there are no desks: a line has too few ports; or, only if none has, want of memory
+  abbrev pub MayHaveNoDesks : OpenDesksError → Type 0
   MayHaveNoDesks (Few i) = IsFirstShort i
   MayHaveNoDesks Memory = AreEnough

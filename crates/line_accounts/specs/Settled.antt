@@ -1,8 +1,8 @@
--- Settling: all lines are taken apart, with all desks over them. (Of this project.)
+-- Settling: all lines are finished, with all desks over them. (Of this project.)
 use Rattle.std.specs.Prelude.{◌≡◌, ◌≢◌, ℕ, ◌<◌, List, ◌++◌, ◌∷◌, [], length, map, slice_get, Option, Some, None}
 use Rattle.std.specs.List.{sum_by}
 use Rattle.line_lanes.specs.Lane.{lanes_total}
-use Rattle.qolb_model.specs.declared.terms.Terms.{Terms}
+use Rattle.qolb_model.specs.declared.config.LineConfig.{LineConfig}
 use Rattle.qolb_model.specs.declared.view.View.{View}
 use Rattle.qolb_model.specs.Finishing.{EachNode, IsLeast, IsFinished}
 use Rattle.line_accounts.specs.declared.answer.SettleError.{SettleError}
@@ -10,7 +10,7 @@ use Rattle.line_accounts.specs.declared.answer.SettleError.TheVariants.{Memory, 
 use Rattle.line_accounts.specs.Accounts.{AreBalances, StayBalances}
 use Rattle.line_accounts.specs.Desks.{DeskOf}
 
--- the sum of what was paid in at all desks, and paid out
+-- the sum of what was paid in at all desks; the sum of what was paid out
 abbrev pub all_paid_in : {Port : Type 0} → List (DeskOf Port) → ℕ
 all_paid_in desks = sum_by (λ desk. desk.paid_in) desks
 
@@ -18,11 +18,11 @@ abbrev pub all_paid_out : {Port : Type 0} → List (DeskOf Port) → ℕ
 all_paid_out desks = sum_by (λ desk. desk.paid_out) desks
 
 -- the sum of all balances that the lines were opened with
-abbrev pub all_opened : {Line : Type 0} → (Line → Terms) → List Line → ℕ
-all_opened terms_of lines = sum_by (λ line. lanes_total (terms_of line).opening.bytes) lines
+abbrev pub all_opened : {Line : Type 0} → (Line → LineConfig) → List Line → ℕ
+all_opened config_of lines = sum_by (λ line. lanes_total (config_of line).opening.bytes) lines
 
 module _ {Port : Type 0} (view : Port → View) (desks : List (DeskOf Port)) where
-  -- some desk has the node's port of line i; and none has
+  -- some desk has the node's port of line i; no desk has it
   pub record HasPort (i node : ℕ) : Type 0 where
     pub place : ℕ
     pub desk : DeskOf Port
@@ -34,42 +34,42 @@ module _ {Port : Type 0} (view : Port → View) (desks : List (DeskOf Port)) whe
   abbrev pub LacksPort : ℕ → ℕ → Type 0
   LacksPort i node = (k : ℕ) (desk : DeskOf Port) (port : Port) → slice_get desks k ≡ Some desk → slice_get desk.ports i ≡ Some port → (view port).node ≢ node
 
-module _ {Line Port : Type 0} (view : Port → View) (terms_of : Line → Terms) (lines : List Line) (desks : List (DeskOf Port)) where
-  -- each node of each line has a port
+module _ {Line Port : Type 0} (view : Port → View) (config_of : Line → LineConfig) (lines : List Line) (desks : List (DeskOf Port)) where
+  -- each node of each line has a port at some desk
   abbrev pub AreAllThere : Type 0
-  AreAllThere = (i : ℕ) (line : Line) → slice_get lines i ≡ Some line → EachNode (terms_of line).nodes (HasPort view desks i)
+  AreAllThere = (i : ℕ) (line : Line) → slice_get lines i ≡ Some line → EachNode (config_of line).nodes (HasPort view desks i)
 
-  -- the node is the least that has no port of line i, which is the least line that lacks any
+  -- the least node without a port of line i. Line i is the least line that lacks a port
   pub record IsFirstMissing (i node : ℕ) : Type 0 where
     pub line : Line
     pub at : slice_get lines i ≡ Some line
-    pub least : IsLeast (terms_of line).nodes (LacksPort view desks i) (HasPort view desks i) node
-    pub before : (j : ℕ) (other : Line) → j < i → slice_get lines j ≡ Some other → EachNode (terms_of other).nodes (HasPort view desks j)
+    pub least : IsLeast (config_of line).nodes (LacksPort view desks i) (HasPort view desks i) node
+    pub before : (j : ℕ) (other : Line) → j < i → slice_get lines j ≡ Some other → EachNode (config_of other).nodes (HasPort view desks j)
 
-  -- why nothing is settled: a node has no port; and only else, want of memory
+  -- why nothing is settled: a node has no port; or, only if each has one, want of memory
   abbrev pub MayNotSettle : SettleError → Type 0
   MayNotSettle (Missing i node) = IsFirstMissing i node
   MayNotSettle Memory = AreAllThere
 
--- what is handed back then: all, and at want of memory nothing
+-- what `settle` hands back with an error: all that was passed, and for want of memory nothing
 abbrev pub IsBack : {X : Type 0} → X → SettleError → Option X → Type 0
 IsBack all (Missing i node) back = back ≡ Some all
 IsBack all Memory back = back ≡ None
 
 -- these are the desks' ports of line i, in the desks' order
 pub record ArePortsOf {Port : Type 0} (desks : List (DeskOf Port)) (i : ℕ) (ports : List Port) : Type 0 where
-  pub as_many : length ports ≡ length desks
+  pub len : length ports ≡ length desks
   pub each : (k : ℕ) (desk : DeskOf Port) → slice_get desks k ≡ Some desk → slice_get ports k ≡ slice_get desk.ports i
 
-module _ {Line Port : Type 0} (view : Port → View) (label_of : Line → ℕ) (terms_of : Line → Terms) (lines : List Line) (desks : List (DeskOf Port)) where
+module _ {Line Port : Type 0} (view : Port → View) (label_of : Line → ℕ) (config_of : Line → LineConfig) (lines : List Line) (desks : List (DeskOf Port)) where
   -- line i was finished with the desks' ports of it: they are of one history, in which all of its requests have ended
   pub record IsSettled (i : ℕ) (line : Line) : Type 0 where
     pub ports : List Port
     pub are : ArePortsOf desks i ports
     pub bytes : List ℕ
-    pub finished : IsFinished AreBalances StayBalances (label_of line) (terms_of line) (map view ports) bytes
+    pub finished : IsFinished AreBalances StayBalances (label_of line) (config_of line) (map view ports) bytes
 
-  -- and so was each line
+  -- each line was settled so
   abbrev pub AreSettled : Type 0
   AreSettled = (i : ℕ) (line : Line) → slice_get lines i ≡ Some line → IsSettled i line
 

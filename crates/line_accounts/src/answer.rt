@@ -4,44 +4,44 @@ ghost use Rattle.std.specs.Prelude.{◌≡◌, ℕ};
 /// The answer of a desk's call. Only `Done` changes a balance or a counter.
 #[derive(Clone, Copy, Debug, PartialEq, Eq)]
 pub enum Reply {
-    /// What was asked for is done.
+    /// The call did what it was asked for.
     Done,
-    /// The balance is less than the amount.
+    /// The account's balance is less than the amount.
     Short,
-    /// The balance would pass `MOST_BALANCE`, or the desk's counter what it can count.
+    /// The balance would pass `MAX_BALANCE`, or the desk's counter its type.
     Over,
-    /// The line wasn't granted in time, and the request is withdrawn.
+    /// The line was not granted within `patience` polls; the request is withdrawn.
     Late,
     /// The line is closed.
     Closed,
-    /// An earlier request of the desk's port was withdrawn or left in its mailbox, and is not clear yet; nothing was asked.
+    /// The port's last request is not clear yet; the port did not ask. That request was withdrawn, or was left in its mailbox.
     Busy,
     /// There is no such account.
     NoAccount,
-    /// Both accounts of a transfer are one.
+    /// Both accounts of a transfer are the same account.
     SameAccount,
 }
 
-/// Why there are no desks.
+/// Why `open_desks` made no desks.
 #[derive(Clone, Copy, Debug, PartialEq, Eq)]
-pub enum DesksError {
+pub enum OpenDesksError {
     /// Memory was refused.
     Memory,
-    /// This line has fewer ports than there were to be desks. It is the least such line.
+    /// Line `line` has fewer ports than there were to be desks. It is the least such line.
     Few { line: u64 },
 }
 
-/// Why nothing could be settled.
+/// Why `settle` settled nothing.
 #[derive(Clone, Copy, Debug, PartialEq, Eq)]
 pub enum SettleError {
     /// Memory was refused.
     Memory,
-    /// No desk has a port of this node on this line. It is the least such line, and there the least such node.
+    /// No desk has a port of `node` on `line`. It is the least such line, and there the least such node.
     Missing { line: u64, node: u64 },
 }
 
 impl SettleError {
-    /// The error's number.
+    /// Returns the error's number.
     pub fn number(&self) -> u8
         ensures memory { self.now ≡ SettleError.Memory → result ≡ 1 }
         ensures missing { (line node : ℕ) → self.now ≡ SettleError.Missing line node → result ≡ 2 }

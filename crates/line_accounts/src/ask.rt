@@ -1,13 +1,15 @@
-//! A port that asks for its line, waits a while, and has a turn or gives it up.
+//! The bounded acquire of a port of a line of accounts.
 ghost use Rattle.std.specs.Prelude.{◌≡◌, ◌≤◌, ◌+◌, Err, IfOk, IfErr, IsTrue};
 ghost use Rattle.line_accounts.specs.Desks.{IsAtRest, HasWaited};
 ghost use Rattle.line_accounts.specs.Moves.{Holds, IsRefused};
 
 use crate::answer::Reply;
 use crate::law::AccountLaw;
-use qolb_model::{Asked, LineSync, acquire_patiently};
+use qolb_model::{Acquired, LineSync, acquire_bounded};
 
-/// Asks for the line, and looks for the turn at most `patience` times; then the request is withdrawn. `Err` says why the port doesn't hold it.
+/// Asks for the line, and polls at most `patience` times; then withdraws the request. Does not allocate.
+///
+/// Returns `Ok` if the port holds the line, else the reply that says why it does not: `Late`, `Closed` or `Busy`.
 pub fn ask<L: LineSync<AccountLaw>>(
     line: &L,
     port: &mut L::Port,
@@ -21,10 +23,10 @@ pub fn ask<L: LineSync<AccountLaw>>(
     ensures patient { (L.counters port.new).poll_count ≤ (L.counters port.old).poll_count + patience }
     ensures late { result ≡ Err Reply.Late → HasWaited L.counters L.view patience port.old port.new }
 {
-    match acquire_patiently(line, port, patience) {
-        Asked::Granted => Ok(()),
-        Asked::Late => Err(Reply::Late),
-        Asked::Closed => Err(Reply::Closed),
-        Asked::Busy => Err(Reply::Busy),
+    match acquire_bounded(line, port, patience) {
+        Acquired::Granted => Ok(()),
+        Acquired::Late => Err(Reply::Late),
+        Acquired::Closed => Err(Reply::Closed),
+        Acquired::Busy => Err(Reply::Busy),
     }
 }

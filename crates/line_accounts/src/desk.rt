@@ -3,16 +3,16 @@ ghost use Rattle.std.specs.Prelude.{◌≡◌, ◌<◌, All, List, [], ◌∷◌
 ghost use Rattle.line_accounts.specs.Desks.{AreOver, IsDeskOver, ArePatient, HasOneWaited};
 ghost use Rattle.line_accounts.specs.Calls.{Deposits, TakesOut, Transfers};
 
-use crate::across::{move_down, move_up};
 use crate::answer::Reply;
+use crate::balance::place_of;
+use crate::between_lines::move_between;
 use crate::law::AccountLaw;
-use crate::money::place_of;
 use crate::pair::pair_of;
 use crate::turn::{move_within, pay_in, pay_out};
 use qolb_model::{LineSync, PortState};
 use std::marker::Model;
 
-/// One node's ports of several lines, and what was paid in and out through them.
+/// One node's ports of several lines, and the sums paid in and out through them.
 #[derive(Drop)]
 pub struct Desk<L: LineSync<AccountLaw>> {
     ports: Vec<L::Port>,
@@ -29,7 +29,7 @@ impl<L: LineSync<AccountLaw>> Model for Desk<L> {
 }
 
 impl<L: LineSync<AccountLaw>> Desk<L> {
-    /// A desk with these ports, one of each line, none of which has made a request. Nothing was paid at it.
+    /// Makes a desk of these ports, one of each line. None of them has made a request; nothing was paid at the desk.
     pub fn new(ports: Vec<L::Port>) -> Desk<L>
         requires { All (λ port. ((L.view port).state ≡ PortState.Idle) × ((L.view port).count ≡ 0)) ports.items }
         ensures over { (lines : List L) → AreOver L.belongs lines ports.items → IsDeskOver L.belongs L.view lines result }
@@ -44,21 +44,21 @@ impl<L: LineSync<AccountLaw>> Desk<L> {
         }
     }
 
-    /// All that was paid in.
+    /// Returns the sum of all that was paid in.
     pub fn paid_in(&self) -> u128
         ensures { result ≡ self.now.paid_in }
     {
         self.paid_in
     }
 
-    /// All that was paid out.
+    /// Returns the sum of all that was paid out.
     pub fn paid_out(&self) -> u128
         ensures { result ≡ self.now.paid_out }
     {
         self.paid_out
     }
 
-    /// The port of line `i`.
+    /// Returns the port of line `i`.
     pub(crate) fn port(&self, i: usize) -> &L::Port
         requires { i < length self.now.ports }
         ensures { slice_get self.now.ports i ≡ Some result.now }
@@ -66,7 +66,7 @@ impl<L: LineSync<AccountLaw>> Desk<L> {
         &self.ports[i]
     }
 
-    /// Takes the last port, if there is one.
+    /// Removes the last port, and returns it; `None` if there is none.
     pub(crate) fn take_last(&mut self) -> Option<L::Port>
         ensures { MatchOption result (self.new ≡ self.old) (λ port. self.old ≡ record self.new { ports = self.new.ports ++ port ∷ [] }) }
     {
@@ -74,7 +74,7 @@ impl<L: LineSync<AccountLaw>> Desk<L> {
     }
 }
 
-/// Pays the amount into the account.
+/// Pays the amount into the account, in one turn of its line. Polls at most `patience` times for that turn. Does not allocate.
 pub fn deposit<L: LineSync<AccountLaw>>(
     lines: &[L],
     desk: &mut Desk<L>,
@@ -101,7 +101,7 @@ pub fn deposit<L: LineSync<AccountLaw>>(
     )
 }
 
-/// Pays the amount out of the account.
+/// Pays the amount out of the account, in one turn of its line. Polls at most `patience` times for that turn. Does not allocate.
 pub fn take_out<L: LineSync<AccountLaw>>(
     lines: &[L],
     desk: &mut Desk<L>,
@@ -128,8 +128,9 @@ pub fn take_out<L: LineSync<AccountLaw>>(
     )
 }
 
-/// Moves the amount from one account to another. Over two lines the lower is asked for first, and where the second isn't granted the first is
-/// let go as it was found.
+/// Moves the amount from one account to another. Polls at most `patience` times for each turn. Does not allocate.
+///
+/// Over two lines the lower is asked for first; if the second is not granted, the first is released unchanged.
 pub fn transfer<L: LineSync<AccountLaw>>(
     lines: &[L],
     desk: &mut Desk<L>,
@@ -163,13 +164,17 @@ pub fn transfer<L: LineSync<AccountLaw>>(
             patience,
         );
     }
-    let (paying, paid) = pair_of(&mut desk.ports, i, j);
-    if i < j {
-        return move_up(
-            &lines[i], paying, source, &lines[j], paid, target, amount, patience,
-        );
-    }
-    move_down(
-        &lines[i], paying, source, &lines[j], paid, target, amount, patience,
+    let (low, high) = if i < j { (i, j) } else { (j, i) };
+    let (first, second) = pair_of(&mut desk.ports, low, high);
+    move_between(
+        &lines[low],
+        first,
+        &lines[high],
+        second,
+        i < j,
+        source,
+        target,
+        amount,
+        patience,
     )
 }

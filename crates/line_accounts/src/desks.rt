@@ -3,24 +3,26 @@ ghost use Rattle.std.specs.Prelude.{◌≡◌, ◌≤◌, ◌∷◌, ◌++◌, [
 ghost use Rattle.line_accounts.specs.Desks.{IsDeskOver};
 ghost use Rattle.line_accounts.specs.NewDesks.{IsNewPort, IsColumn, IsUnpaid, AreDealt, AreEnough, GainEach, IsFirstShort, MayHaveNoDesks};
 
-use crate::answer::DesksError;
+use crate::answer::OpenDesksError;
 use crate::desk::Desk;
 use crate::law::AccountLaw;
 use qolb_model::LineSync;
 use std::alloc::{AllocError, Global};
 
-/// The lines in their order, and so many desks over all of them. Each desk has one node's port of each line: the first desk the first port of
-/// each, and so on; ports beyond the number of desks are dropped. Refused, lines and ports are dropped.
-pub fn desks_over<L: LineSync<AccountLaw> + Drop>(
+/// Makes `count` desks over these lines, each with one port of each line. Desk k has the port at place k of each line; ports beyond `count`
+/// are dropped. Keeps the order of the lines.
+///
+/// Returns an error if a line has too few ports, or memory was refused; then lines and ports are dropped.
+pub fn open_desks<L: LineSync<AccountLaw> + Drop>(
     alloc: Global,
     opened: Vec<(L, Vec<L::Port>)>,
     count: usize,
-) -> Result<(Vec<L>, Vec<Desk<L>>), DesksError>
+) -> Result<(Vec<L>, Vec<Desk<L>>), OpenDesksError>
 where
     L::Port: Drop,
     requires new { All (λ line. All (IsNewPort L.belongs L.view line.0) line.1.items) opened.items }
     ensures lines { IfOk result (λ made. made.0.items ≡ map (λ line. line.0) opened.items) }
-    ensures as_many { IfOk result (λ made. vec_len made.1 ≡ count) }
+    ensures len { IfOk result (λ made. vec_len made.1 ≡ count) }
     ensures over { IfOk result (λ made. All (IsDeskOver L.belongs L.view made.0.items) made.1.items) }
     ensures unpaid { IfOk result (λ made. All IsUnpaid made.1.items) }
     ensures dealt { IfOk result (λ made. AreDealt opened.items made.1.items) }
@@ -28,15 +30,15 @@ where
 {
     if let Some(line) = first_short(&opened, count) {
         let line = line as u64;
-        return Err(DesksError::Few { line });
+        return Err(OpenDesksError::Few { line });
     }
-    match deal(alloc, opened, count) {
+    match distribute_ports(alloc, opened, count) {
         Ok(made) => Ok(made),
-        Err(_) => Err(DesksError::Memory),
+        Err(_) => Err(OpenDesksError::Memory),
     }
 }
 
-/// The least line with fewer ports than so many.
+/// Returns the least line with fewer than `count` ports, or `None` if each has enough.
 fn first_short<L, P>(opened: &[(L, Vec<P>)], count: usize) -> Option<usize>
     ensures { MatchOption result (AreEnough count opened.now) (IsFirstShort count opened.now) }
 {
@@ -48,8 +50,8 @@ fn first_short<L, P>(opened: &[(L, Vec<P>)], count: usize) -> Option<usize>
     None
 }
 
-/// The lines, and a desk for each of so many nodes.
-fn deal<L: LineSync<AccountLaw> + Drop>(
+/// Distributes the ports of the lines over `count` desks, one of each line to each desk.
+fn distribute_ports<L: LineSync<AccountLaw> + Drop>(
     alloc: Global,
     opened: Vec<(L, Vec<L::Port>)>,
     count: usize,
@@ -59,7 +61,7 @@ where
     requires new { All (λ line. All (IsNewPort L.belongs L.view line.0) line.1.items) opened.items }
     requires enough { AreEnough count opened.items }
     ensures lines { IfOk result (λ made. made.0.items ≡ map (λ line. line.0) opened.items) }
-    ensures as_many { IfOk result (λ made. vec_len made.1 ≡ count) }
+    ensures len { IfOk result (λ made. vec_len made.1 ≡ count) }
     ensures over { IfOk result (λ made. All (IsDeskOver L.belongs L.view made.0.items) made.1.items) }
     ensures unpaid { IfOk result (λ made. All IsUnpaid made.1.items) }
     ensures dealt { IfOk result (λ made. AreDealt opened.items made.1.items) }
@@ -76,9 +78,9 @@ where
     Ok((lines, desks))
 }
 
-/// So many lists without a port.
+/// Returns `count` lists without a port.
 fn no_ports<P: Drop>(alloc: Global, count: usize) -> Result<Vec<Vec<P>>, AllocError>
-    ensures as_many { IfOk result (λ columns. vec_len columns ≡ count) }
+    ensures len { IfOk result (λ columns. vec_len columns ≡ count) }
     ensures empty { IfOk result (λ columns. All (λ ports. ports.items ≡ []) columns.items) }
 {
     let mut columns = Vec::with_capacity(alloc, count)?;
@@ -88,7 +90,7 @@ fn no_ports<P: Drop>(alloc: Global, count: usize) -> Result<Vec<Vec<P>>, AllocEr
     Ok(columns)
 }
 
-/// Adds the line, and one of its ports to each list.
+/// Adds the line, and the port at place k to list k.
 fn add_line<L: LineSync<AccountLaw> + Drop>(
     lines: &mut Vec<L>,
     columns: &mut Vec<Vec<L::Port>>,
@@ -101,7 +103,7 @@ where
     requires ports { All (IsNewPort L.belongs L.view line) ports.items }
     requires enough { vec_len columns.old ≤ vec_len ports }
     ensures lines { OnOk result (lines.new.items ≡ lines.old.items ++ line ∷ []) }
-    ensures as_many { vec_len columns.new ≡ vec_len columns.old }
+    ensures len { vec_len columns.new ≡ vec_len columns.old }
     ensures columns { OnOk result (All (λ ports. IsColumn L.belongs L.view lines.new.items ports.items) columns.new.items) }
     ensures gains { OnOk result (GainEach ports.items columns.old.items columns.new.items) }
 {

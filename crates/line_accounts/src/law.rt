@@ -1,10 +1,10 @@
 //! The law of a line of accounts.
 use qolb_model::Keep;
 
-/// The most that an account holds: 2^48.
-pub const MOST_BALANCE: u64 = 281_474_976_710_656;
+/// The largest balance of an account: 2^48.
+pub const MAX_BALANCE: u64 = 281_474_976_710_656;
 
-/// A line is eight accounts, each of at most `MOST_BALANCE`, before each turn and after it.
+/// The law of a line of eight accounts. Each has at most `MAX_BALANCE` before and after each turn.
 pub struct AccountLaw;
 
 impl Keep for AccountLaw {

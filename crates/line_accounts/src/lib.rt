@@ -1,19 +1,19 @@
-//! Accounts striped over lines: money that can't be lost.
+//! Accounts striped over lines: no money is lost, whatever the schedule.
 #![tactic(auto)]
 
-mod across;
 mod answer;
 mod ask;
+mod balance;
+mod between_lines;
 mod desk;
 mod desks;
 mod law;
-mod money;
 mod pair;
-mod settling;
+mod settlement;
 mod turn;
 
-pub use answer::{DesksError, Reply, SettleError};
+pub use answer::{OpenDesksError, Reply, SettleError};
 pub use desk::{Desk, deposit, take_out, transfer};
-pub use desks::desks_over;
-pub use law::{AccountLaw, MOST_BALANCE};
-pub use settling::{Unsettled, settle};
+pub use desks::open_desks;
+pub use law::{AccountLaw, MAX_BALANCE};
+pub use settlement::{Unsettled, settle};

@@ -1,6 +1,6 @@
-//! What is done at one line in one turn.
+//! The turns of a port at one line.
 ghost use Rattle.std.specs.Prelude.{◌≡◌, ◌≢◌, ◌<◌, ◌≤◌, ◌+◌, length};
-ghost use Rattle.qolb_model.specs.Turns.{IsGranted};
+ghost use Rattle.qolb_model.specs.AtTurn.{IsGranted};
 ghost use Rattle.qolb_model.specs.Views.{bytes_of};
 ghost use Rattle.line_accounts.specs.Accounts.{StayBalances};
 ghost use Rattle.line_accounts.specs.Desks.{IsAtRest, HasWaited};
@@ -8,13 +8,13 @@ ghost use Rattle.line_accounts.specs.Moves.{Leaves, PaysIn, PaysOut, MovesWithin
 
 use crate::answer::Reply;
 use crate::ask::ask;
+use crate::balance::{credited, debited};
 use crate::law::AccountLaw;
-use crate::money::{lowered, raised};
 use line_lanes::{Line64, Mask};
 use qolb_model::{LineSync, PortState};
 
-/// The line as the holder sees it.
-pub fn held<L: LineSync<AccountLaw>>(port: &L::Port) -> Line64
+/// Returns the holder's bytes of the line.
+pub fn held_line<L: LineSync<AccountLaw>>(port: &L::Port) -> Line64
     requires { (L.view port.now).state ≡ PortState.Holding }
     ensures bytes { result.bytes ≡ (L.turn port.now).bytes.bytes }
     ensures long { length result.bytes ≡ 64 }
@@ -22,32 +22,32 @@ pub fn held<L: LineSync<AccountLaw>>(port: &L::Port) -> Line64
     Line64::from_bytes(L::bytes(port).to_bytes())
 }
 
-/// The holder lets the line go as it found it.
-pub fn leave<L: LineSync<AccountLaw>>(line: &L, port: &mut L::Port)
+/// Releases the line unchanged.
+pub fn release_unchanged<L: LineSync<AccountLaw>>(line: &L, port: &mut L::Port)
     requires belongs { L.belongs line.now port.old }
     requires granted { IsGranted (L.view port.old) (L.turn port.old) }
     ensures belongs { L.belongs line.now port.new }
     ensures leaves { Leaves (L.view port.old) (L.view port.new) (bytes_of (L.view port.old)) }
-    ensures looks { (L.counters port.new).poll_count ≡ (L.counters port.old).poll_count }
+    ensures poll_count { (L.counters port.new).poll_count ≡ (L.counters port.old).poll_count }
 {
     line.deqolb(port);
 }
 
-/// The holder writes the whole line and lets it go.
-pub fn leave_with<L: LineSync<AccountLaw>>(line: &L, port: &mut L::Port, next: &Line64)
+/// Writes the whole line, and releases it.
+pub fn write_and_release<L: LineSync<AccountLaw>>(line: &L, port: &mut L::Port, next: &Line64)
     requires belongs { L.belongs line.now port.old }
     requires state { (L.view port.old).state ≡ PortState.Holding }
     requires long { length next.now.bytes ≡ 64 }
     requires allowed { StayBalances (bytes_of (L.view port.old)) next.now.bytes }
     ensures belongs { L.belongs line.now port.new }
     ensures leaves { Leaves (L.view port.old) (L.view port.new) next.now.bytes }
-    ensures looks { (L.counters port.new).poll_count ≡ (L.counters port.old).poll_count }
+    ensures poll_count { (L.counters port.new).poll_count ≡ (L.counters port.old).poll_count }
 {
     L::write(port, Mask(u64::MAX), next);
     line.deqolb(port);
 }
 
-/// Pays the amount into lane `k`, and counts it.
+/// Pays the amount into lane `k` in one turn, and adds it to `paid_in`. Polls at most `patience` times for that turn.
 pub fn pay_in<L: LineSync<AccountLaw>>(
     line: &L,
     port: &mut L::Port,
@@ -67,21 +67,21 @@ pub fn pay_in<L: LineSync<AccountLaw>>(
     if let Err(reply) = ask(line, port, patience) {
         return reply;
     }
-    let found = held::<L>(port);
-    let Some(next) = raised(&found, k, amount) else {
-        leave(line, port);
+    let found = held_line::<L>(port);
+    let Some(next) = credited(&found, k, amount) else {
+        release_unchanged(line, port);
         return Reply::Over;
     };
     let Some(sum) = paid_in.checked_add(u128::from(amount)) else {
-        leave(line, port);
+        release_unchanged(line, port);
         return Reply::Over;
     };
-    leave_with(line, port, &next);
+    write_and_release(line, port, &next);
     *paid_in = sum;
     Reply::Done
 }
 
-/// Pays the amount out of lane `k`, and counts it.
+/// Pays the amount out of lane `k` in one turn. Adds it to `paid_out`. Polls at most `patience` times for that turn.
 pub fn pay_out<L: LineSync<AccountLaw>>(
     line: &L,
     port: &mut L::Port,
@@ -101,21 +101,21 @@ pub fn pay_out<L: LineSync<AccountLaw>>(
     if let Err(reply) = ask(line, port, patience) {
         return reply;
     }
-    let found = held::<L>(port);
-    let Some(next) = lowered(&found, k, amount) else {
-        leave(line, port);
+    let found = held_line::<L>(port);
+    let Some(next) = debited(&found, k, amount) else {
+        release_unchanged(line, port);
         return Reply::Short;
     };
     let Some(sum) = paid_out.checked_add(u128::from(amount)) else {
-        leave(line, port);
+        release_unchanged(line, port);
         return Reply::Over;
     };
-    leave_with(line, port, &next);
+    write_and_release(line, port, &next);
     *paid_out = sum;
     Reply::Done
 }
 
-/// Moves the amount from one lane to another, in one turn.
+/// Moves the amount from one lane to another in one turn of the line. Polls at most `patience` times for that turn.
 pub fn move_within<L: LineSync<AccountLaw>>(
     line: &L,
     port: &mut L::Port,
@@ -137,15 +137,15 @@ pub fn move_within<L: LineSync<AccountLaw>>(
     if let Err(reply) = ask(line, port, patience) {
         return reply;
     }
-    let found = held::<L>(port);
-    let Some(less) = lowered(&found, from, amount) else {
-        leave(line, port);
+    let found = held_line::<L>(port);
+    let Some(less) = debited(&found, from, amount) else {
+        release_unchanged(line, port);
         return Reply::Short;
     };
-    let Some(next) = raised(&less, to, amount) else {
-        leave(line, port);
+    let Some(next) = credited(&less, to, amount) else {
+        release_unchanged(line, port);
         return Reply::Over;
     };
-    leave_with(line, port, &next);
+    write_and_release(line, port, &next);
     Reply::Done
 }

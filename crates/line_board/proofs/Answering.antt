@@ -1,21 +1,21 @@
--- What a board's call answers, once the line was granted or was not.
+-- The answer of a board's call, if the line was granted and if not.
 use Rattle.std.proofs.Common.{◌≡◌, ℕ, ◌+◌, true, length, ap, ◌∙◌, subst, refl}
 use Rattle.qolb_model.specs.declared.view.View.{View}
 use Rattle.qolb_model.specs.declared.write.Write.{Write}
 use Rattle.qolb_model.specs.PortStates.{may_ask}
 use Rattle.qolb_model.specs.Sound.{Continues}
-use Rattle.qolb_model.specs.declared.patience.Asked.TheVariants as asked
-use Rattle.qolb_model.specs.Patience.{AcquiresPatiently}
+use Rattle.qolb_model.specs.declared.acquire.Acquired.TheVariants as outcome
+use Rattle.qolb_model.specs.Acquiring.{AcquiresBounded}
 use Rattle.line_board.specs.declared.answer.Put.TheVariants as put
 use Rattle.line_board.specs.declared.answer.Take.TheVariants as take
-use Rattle.line_board.specs.declared.board.TheConstants.{MOST_TASKS}
+use Rattle.line_board.specs.declared.board.TheConstants.{MAX_TASKS}
 use Rattle.line_board.specs.Law.{Changes}
 use Rattle.line_board.specs.Calls.{HasPut, HasTaken, HasFound, Puts, Takes}
 use Rattle.qolb_model.specs.declared.answer.PortState.TheVariants.{Shut}
 use Rattle.qolb_model.proofs.Going.{continues_on, asks_goes, joined_goes}
 use Rattle.qolb_model.proofs.OwnTurns.{quiet_after}
 
-module _ (old mid new : View) (turn : Write) (acquired : AcquiresPatiently Changes old mid turn asked.Granted) (goes_on : Continues Changes mid new) (same : new.count ≡ mid.count) (quiet : may_ask new.state ≡ true) where
+module _ (old mid new : View) (turn : Write) (acquired : AcquiresBounded Changes old mid turn outcome.Granted) (goes_on : Continues Changes mid new) (same : new.count ≡ mid.count) (quiet : may_ask new.state ≡ true) where
   pub stored : (task : ℕ) → HasPut task new → Puts task old new put.Stored
   stored task has = record {
     continues = continues_on Changes old mid new acquired.continues.extends goes_on;
@@ -30,7 +30,7 @@ module _ (old mid new : View) (turn : Write) (acquired : AcquiresPatiently Chang
     unserved = λ other _. absurd (other refl);
   }
 
-  pub full : (task : ℕ) → HasFound MOST_TASKS new → Puts task old new put.Full
+  pub full : (task : ℕ) → HasFound MAX_TASKS new → Puts task old new put.Full
   full task has = record {
     continues = continues_on Changes old mid new acquired.continues.extends goes_on;
     may_ask = quiet;
@@ -73,7 +73,7 @@ module _ (old mid new : View) (turn : Write) (acquired : AcquiresPatiently Chang
   }
 
 -- a port that was not granted the line
-module _ (old new : View) (turn : Write) (acquired : AcquiresPatiently Changes old new turn asked.Late) where
+module _ (old new : View) (turn : Write) (acquired : AcquiresBounded Changes old new turn outcome.Late) where
   pub put_late : (task : ℕ) → Puts task old new put.Late
   put_late task = record {
     continues = acquired.continues;
@@ -102,9 +102,9 @@ module _ (old new : View) (turn : Write) (acquired : AcquiresPatiently Changes o
     unserved = λ _ _. acquired.unserved (λ e. cc e);
   }
 
-module _ (old new : View) (turn : Write) (acquired : AcquiresPatiently Changes old new turn asked.Closed) where
+module _ (old new : View) (turn : Write) (acquired : AcquiresBounded Changes old new turn outcome.Closed) where
   quiet_told : may_ask new.state ≡ true
-  quiet_told = let told = acquired.told refl in quiet_after (length told.before + 1) Shut new refl told.lets_go
+  quiet_told = let told = acquired.told refl in quiet_after (length told.before + 1) Shut new refl told.releases
 
   pub put_closed : (task : ℕ) → Puts task old new put.Closed
   put_closed task = record {
@@ -134,7 +134,7 @@ module _ (old new : View) (turn : Write) (acquired : AcquiresPatiently Changes o
     unserved = λ _ _. acquired.unserved (λ e. cc e);
   }
 
-module _ (old new : View) (turn : Write) (acquired : AcquiresPatiently Changes old new turn asked.Busy) (quiet : may_ask old.state ≡ true) where
+module _ (old new : View) (turn : Write) (acquired : AcquiresBounded Changes old new turn outcome.Busy) (quiet : may_ask old.state ≡ true) where
   pub put_busy : (task : ℕ) → Puts task old new put.Busy
   put_busy task = record {
     continues = acquired.continues;
@@ -163,7 +163,7 @@ module _ (old new : View) (turn : Write) (acquired : AcquiresPatiently Changes o
     unserved = λ _ _. acquired.unserved (λ e. cc e);
   }
 
--- what a granted turn answers isn't late
+-- the answer of a granted turn is not `Late`
 pub task_not_late : (task : ℕ) → take.Task task ≡ take.Late → ⊥
 task_not_late task e = cc e
 

@@ -1,4 +1,4 @@
--- The puts are the takes and then the tasks that stand.
+-- The puts are the takes and then the tasks that are left.
 use Rattle.std.proofs.Common.{◌≡◌, ℕ, List, [], ◌∷◌, ◌++◌, zero, suc, replicate, refl, ap, sym, ◌∙◌, append-nil, append_assoc}
 use Rattle.line_lanes.specs.Line.{zeros}
 use Rattle.qolb_model.specs.declared.end.End.{End}
@@ -11,7 +11,7 @@ use Rattle.line_board.specs.Law.{Changes}
 use Rattle.line_board.specs.PutsAndTakes.{put_between, taken_between, standing, puts_of, takes_of, IsQueue}
 use Rattle.line_board.proofs.Steps.{standing-stand, step_balances}
 
--- the puts and takes of ends that come one after another
+-- the puts and takes of two lists of ends, one behind the other
 pub puts-append : (bytes : List ℕ) (xs ys : List End) → puts_of bytes (xs ++ ys) ≡ puts_of bytes xs ++ puts_of (bytes_after bytes xs) ys
 puts-append bytes [] ys = refl
 puts-append bytes (Served write shut ∷ xs) ys =
@@ -37,7 +37,7 @@ pub takes-passed : (bytes : List ℕ) (passed : ℕ) → takes_of bytes (replica
 takes-passed bytes zero = refl
 takes-passed bytes (suc passed) = takes-passed bytes passed
 
--- from tasks that stand at first: they and the puts are the takes and those that stand at last
+-- for a board with tasks: these and the puts are the takes and the tasks that are left
 record Balances (tasks bytes : List ℕ) (ends : List End) : Type 0 where
   left : List ℕ
   stand : Stand (bytes_after bytes ends) left
@@ -68,7 +68,7 @@ balances tasks bytes (Told ∷ ends) stand kept =
     let rest = balances tasks bytes ends stand kept in
     record { left = rest.left; stand = rest.stand; balance = rest.balance }
 
--- no task stands on the line of zeros
+-- the line of zeros has no task
 pub zeros-stand : Stand zeros []
 zeros-stand = refl
 

@@ -6,21 +6,21 @@ use Rattle.line_board.specs.Board.{Stand}
 use Rattle.line_board.specs.Law.{IsStep}
 use Rattle.line_board.specs.PutsAndTakes.{put_between, taken_between, standing}
 
--- the tasks that stand are those of the line
+-- the tasks on the line are those that it is a board of
 pub standing-stand : (bytes tasks : List ℕ) → Stand bytes tasks → standing bytes ≡ tasks
 standing-stand bytes tasks e = rw e refl
 
 take_none : (n : ℕ) (xs : List ℕ) → n ≡ 0 → take n xs ≡ []
 take_none n xs e = rw e refl
 
--- where the tasks stay, nothing is put and nothing taken
+-- if the tasks stay, nothing is put and nothing taken
 pub put_same : (xs : List ℕ) → put_between xs xs ≡ []
 put_same xs = drop-length xs
 
 pub taken_same : (xs : List ℕ) → taken_between xs xs ≡ []
 taken_same xs = take_none (length xs - length xs) xs (sub_self (length xs))
 
--- where one more stands last, it is put
+-- a task that is appended is put
 pub put_last : (xs : List ℕ) (x : ℕ) → put_between xs (xs ++ x ∷ []) ≡ x ∷ []
 put_last xs x = drop-append_seam xs (x ∷ [])
 
@@ -30,7 +30,7 @@ fewer xs x = omega (arith, length-append xs (x ∷ []))
 pub taken_last : (xs : List ℕ) (x : ℕ) → taken_between xs (xs ++ x ∷ []) ≡ []
 taken_last xs x = take_none (length xs - length (xs ++ x ∷ [])) xs (fewer xs x)
 
--- where the first is gone, it is taken
+-- a first task that is removed is taken
 past_end : (xs : List ℕ) → drop (suc (length xs)) xs ≡ []
 past_end [] = refl
 past_end (x ∷ xs) = past_end xs
@@ -44,7 +44,7 @@ one_more xs = omega arith
 pub taken_first : (x : ℕ) (xs : List ℕ) → taken_between (x ∷ xs) xs ≡ x ∷ []
 taken_first x xs = ap (λ n. take n (x ∷ xs)) (one_more xs)
 
--- what stood and what was put are what was taken and what stands
+-- the tasks before and those put are the tasks taken and those after
 pub step_balances : (before after : List ℕ) → IsStep before after → before ++ put_between before after ≡ taken_between before after ++ after
 step_balances before after (inl e) = rw (e, put_same before, taken_same before) (append-nil before)
 step_balances before after (inr (inl (task, e))) = rw (e, put_last before task, taken_last before task) refl

@@ -9,17 +9,17 @@ use Rattle.qolb_model.specs.declared.write.Write.{Write}
 use Rattle.qolb_model.specs.declared.end.End.{End}
 use Rattle.qolb_model.specs.declared.end.End.TheVariants.{Served, Gone}
 use Rattle.qolb_model.specs.declared.view.View.{View}
-use Rattle.qolb_model.specs.declared.terms.Terms.{Terms}
+use Rattle.qolb_model.specs.declared.config.LineConfig.{LineConfig}
 use Rattle.qolb_model.specs.Leases.{closes}
 use Rattle.qolb_model.specs.Kept.{IsKept}
 use Rattle.qolb_model.specs.Ends.{bytes_after, written}
 use Rattle.qolb_model.specs.Views.{own, bytes_of, Extends}
-use Rattle.qolb_model.specs.PortStates.{left_by}
-use Rattle.qolb_model.specs.LettingGo.{LetsGo}
+use Rattle.qolb_model.specs.PortStates.{state_after}
+use Rattle.qolb_model.specs.Releasing.{AfterRelease}
 use Rattle.qolb_model.specs.OneOwner.{turn_after}
 use Rattle.qolb_model.specs.Calls.{Releases}
 use Rattle.qolb_model.specs.Sound.{IsSound}
-use Rattle.qolb_model.specs.Turns.{IsGranted, IsClearBefore}
+use Rattle.qolb_model.specs.AtTurn.{IsGranted, IsClearBefore}
 use Rattle.qolb_model.proofs.Bounds.{prefix_get_back}
 use Rattle.qolb_model.proofs.Requests.{has_prefix}
 use Rattle.qolb_model.proofs.Writes.{bytes_after-release, good_after}
@@ -32,10 +32,10 @@ use Rattle.line_board.proofs.Writing.{merged-changed, changed_mask-self}
 use Rattle.line_board.proofs.Balance.{puts-append, puts-passed, takes-append, takes-passed}
 
 -- a sound port knows the bytes of a board
-pub board_known : (v : View) → IsBoard v.terms.opening.bytes → IsKept Changes v → IsBoard (bytes_of v)
-board_known v opened kept = good_after IsBoard Changes changed_board v.terms.opening.bytes v.ends opened kept
+pub board_known : (v : View) → IsBoard v.config.opening.bytes → IsKept Changes v → IsBoard (bytes_of v)
+board_known v opened kept = good_after IsBoard Changes changed_board v.config.opening.bytes v.ends opened kept
 
--- the puts and takes of ends and one service more
+-- the puts and takes of ends and of one service more
 module _ (bytes : List ℕ) (ends : List End) (write : Write) (shut : Bool) (passed : ℕ) (found left : List ℕ) (stood : Stand (bytes_after bytes ends) found) (stands : Stand (written (bytes_after bytes ends) write) left) where
   at_first : standing (bytes_after bytes ends) ≡ found
   at_first = standing-stand (bytes_after bytes ends) found stood
@@ -60,9 +60,9 @@ module _ (old new : View) (first write : Write) (granted : IsGranted old first) 
 
   leaves : written (bytes_of old) write ≡ bytes_of new
   leaves =
-      sym (bytes_after-release old.terms.opening.bytes old.ends write (closes old.terms.lease old.ends false) released.ends_turn.passed)
-      ∙ (ap (bytes_after old.terms.opening.bytes) (sym released.ends_turn.ends)
-      ∙ ap (λ (t : Terms). bytes_after t.opening.bytes new.ends) (sym more.terms))
+      sym (bytes_after-release old.config.opening.bytes old.ends write (closes old.config.lease old.ends false) released.ends_turn.passed)
+      ∙ (ap (bytes_after old.config.opening.bytes) (sym released.ends_turn.ends)
+      ∙ ap (λ (t : LineConfig). bytes_after t.opening.bytes new.ends) (sym more.config))
 
   clear : IsClearBefore new (length old.ends)
   clear p r e at in_order in_ends not_gone =
@@ -83,22 +83,22 @@ module _ (old new : View) (first write : Write) (granted : IsGranted old first) 
       before = old.ends;
       write = write;
       passed = released.ends_turn.passed;
-      ends = rw more.terms released.ends_turn.ends;
+      ends = rw more.config released.ends_turn.ends;
       at_turn = released.ends_turn.at_turn;
       was_open = granted.is_open;
-      found_there = rw more.terms stood;
+      found_there = rw more.config stood;
       left_there = stands_after;
       mask =
           masked
           ∙ (ap (changed_mask (bytes_of old)) (sym released.bytes)
-          ∙ ap (λ (t : Terms). changed_mask (bytes_after t.opening.bytes old.ends) (bytes_of new)) (sym more.terms));
-      put = rw (more.terms, released.ends_turn.ends) (puts-turn old.terms.opening.bytes old.ends write (closes old.terms.lease old.ends false) released.ends_turn.passed found left stood written_after ∙ ap (λ p. puts_of old.terms.opening.bytes old.ends ++ p) put);
-      taken = rw (more.terms, released.ends_turn.ends) (takes-turn old.terms.opening.bytes old.ends write (closes old.terms.lease old.ends false) released.ends_turn.passed found left stood written_after ∙ ap (λ p. takes_of old.terms.opening.bytes old.ends ++ p) taken);
+          ∙ ap (λ (t : LineConfig). changed_mask (bytes_after t.opening.bytes old.ends) (bytes_of new)) (sym more.config));
+      put = rw (more.config, released.ends_turn.ends) (puts-turn old.config.opening.bytes old.ends write (closes old.config.lease old.ends false) released.ends_turn.passed found left stood written_after ∙ ap (λ p. puts_of old.config.opening.bytes old.ends ++ p) put);
+      taken = rw (more.config, released.ends_turn.ends) (takes-turn old.config.opening.bytes old.ends write (closes old.config.lease old.ends false) released.ends_turn.passed found left stood written_after ∙ ap (λ p. takes_of old.config.opening.bytes old.ends ++ p) taken);
       clear_before = clear;
-      lets_go = subst (λ (t : Terms). LetsGo (length old.ends + 1) (left_by (closes t.lease old.ends false)) new) (sym more.terms) released.ends_turn.lets_go;
+      releases = subst (λ (t : LineConfig). AfterRelease (length old.ends + 1) (state_after (closes t.lease old.ends false)) new) (sym more.config) released.ends_turn.releases;
     }
 
-  -- where nothing was written
+  -- if nothing was written
   pub has_found : (tasks : List ℕ) → first ≡ write → Stand (bytes_of old) tasks → HasFound (length tasks) new
   unfolding had_turn
   has_found tasks e stood =
@@ -109,10 +109,10 @@ module _ (old new : View) (first write : Write) (granted : IsGranted old first) 
         tasks = tasks;
         counted = refl;
         turn = had_turn tasks tasks [] [] stood (subst (λ b. Stand b tasks) (sym same) stood) none (put_same tasks) (taken_same tasks);
-        same = released.bytes ∙ (same ∙ ap (λ (t : Terms). bytes_after t.opening.bytes old.ends) (sym more.terms));
+        same = released.bytes ∙ (same ∙ ap (λ (t : LineConfig). bytes_after t.opening.bytes old.ends) (sym more.config));
       }
 
--- what a turn has written that writes the bytes which differ
+-- the write of a turn that writes the bytes which differ
 module _ (v : View) (first after : Write) (mask : ℕ) (new : List ℕ) (granted : IsGranted v first) (long : length new ≡ 64) (is : mask ≡ changed_mask first.bytes.bytes new) (wrote : after ≡ turn_after first mask new) where
   pub new_bytes : after.bytes.bytes ≡ new
   new_bytes = ap (λ (w : Write). w.bytes.bytes) wrote ∙ (ap (merged first.bytes.bytes new) is ∙ merged-changed first.bytes.bytes new long)
@@ -126,8 +126,8 @@ module _ (v : View) (first after : Write) (mask : ℕ) (new : List ℕ) (granted
       ∙ (ap (λ b. changed_mask b new) granted.bytes ∙ ap (changed_mask (bytes_of v)) (sym new_bytes)))))
 
 -- a sound port that was granted the line finds a board
-pub found_board : (label : ℕ) (terms : Terms) (v : View) → IsSound IsBoard Changes label terms v → IsBoard (bytes_of v)
-found_board label terms v sound = board_known v (rw sound.terms_are sound.opened_good) sound.kept
+pub found_board : (label : ℕ) (config : LineConfig) (v : View) → IsSound IsBoard Changes label config v → IsBoard (bytes_of v)
+found_board label config v sound = board_known v (rw sound.config_is sound.opened_good) sound.kept
 
 -- the turn of a put, and of a take
 pub has_put : (found : List ℕ) (task : ℕ) (new : View) → HadTurn found (found ++ task ∷ []) (put_between found (found ++ task ∷ [])) (taken_between found (found ++ task ∷ [])) new → HasPut task new

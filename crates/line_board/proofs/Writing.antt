@@ -14,7 +14,7 @@ chosen x y = elim (cases_eq x y) [
   | inr ne ↦ rw (ne_eqb x y ne) refl
 ]
 
--- where the bytes that differ are written, the new line stands
+-- if the bytes that differ are written, the result is the new line
 pub merged-changed : (old new : List ℕ) → length new ≡ 64 → merged old new (changed_mask old new) ≡ new
 merged-changed old new long =
     sym (merged-by new old new (changed_mask old new) long (λ k lt.

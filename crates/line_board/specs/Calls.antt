@@ -1,4 +1,4 @@
--- What each call of a board promises: one record a call, one field an answer. `old` and `new` are what the port knew before and after.
+-- The promise of each call of a board: one record a call, one field an answer. `old` and `new` are the port's view before and after.
 -- (Of this project.)
 use Rattle.std.specs.Prelude.{◌≡◌, ◌≢◌, ℕ, ◌+◌, true, false, List, [], ◌∷◌, ◌++◌, length, replicate, slice_get, Some}
 use Rattle.line_lanes.specs.Mask.{changed_mask}
@@ -6,16 +6,16 @@ use Rattle.qolb_model.specs.declared.write.Write.{Write}
 use Rattle.qolb_model.specs.declared.end.End.{End}
 use Rattle.qolb_model.specs.declared.end.End.TheVariants.{Served, Gone}
 use Rattle.qolb_model.specs.declared.view.View.{View}
-use Rattle.qolb_model.specs.PortStates.{may_ask, left_by}
+use Rattle.qolb_model.specs.PortStates.{may_ask, state_after}
 use Rattle.qolb_model.specs.Leases.{closes}
 use Rattle.qolb_model.specs.Ends.{is_closed, bytes_after}
 use Rattle.qolb_model.specs.Views.{own, bytes_of}
 use Rattle.qolb_model.specs.Sound.{Continues}
-use Rattle.qolb_model.specs.Asking.{IsBusy, Asks, IsJoined}
-use Rattle.qolb_model.specs.Turns.{IsClearBefore, IsWithdrawn}
-use Rattle.qolb_model.specs.LettingGo.{LetsGo, IsTold}
-use Rattle.qolb_model.specs.Patience.{IsUnserved}
-use Rattle.line_board.specs.declared.board.TheConstants.{MOST_TASKS}
+use Rattle.qolb_model.specs.Enqueueing.{IsBusy, Asks, IsJoined}
+use Rattle.qolb_model.specs.AtTurn.{IsClearBefore, IsWithdrawn}
+use Rattle.qolb_model.specs.Releasing.{AfterRelease, IsTold}
+use Rattle.qolb_model.specs.Acquiring.{IsUnserved}
+use Rattle.line_board.specs.declared.board.TheConstants.{MAX_TASKS}
 use Rattle.line_board.specs.declared.answer.Put.{Put}
 use Rattle.line_board.specs.declared.answer.Put.TheVariants as put
 use Rattle.line_board.specs.declared.answer.Take.{Take}
@@ -24,55 +24,55 @@ use Rattle.line_board.specs.Board.{Stand}
 use Rattle.line_board.specs.Law.{Changes}
 use Rattle.line_board.specs.PutsAndTakes.{puts_of, takes_of}
 
--- the port's request had its turn, at the open line, which found these tasks and left those; its end comes behind the ends before it, and
--- behind that only withdrawn ones. It closes the line at the last turn of a lease alone, and writes the bytes that it changed, no others.
--- Of all puts and takes that the port knows these are its own.
+-- The turn of the port's last request, which found `found` and left `left`. Its end is behind the ends before it; only ends of
+-- withdrawn requests are behind it. The line was open; the turn closes it only as the last of a lease, and writes exactly the bytes
+-- that it changed. Of all puts and takes that the port knows, `puts` and `takes` are those of this turn.
 pub record HadTurn (found left puts takes : List ℕ) (new : View) : Type 0 where
   pub before : List End
   pub write : Write
   pub passed : ℕ
-  pub ends : new.ends ≡ before ++ Served write (closes new.terms.lease before false) ∷ replicate passed Gone
+  pub ends : new.ends ≡ before ++ Served write (closes new.config.lease before false) ∷ replicate passed Gone
   pub at_turn : slice_get new.order (length before) ≡ Some (own new)
   pub was_open : is_closed before ≡ false
-  pub found_there : Stand (bytes_after new.terms.opening.bytes before) found
+  pub found_there : Stand (bytes_after new.config.opening.bytes before) found
   pub left_there : Stand (bytes_of new) left
-  pub mask : write.mask.0 ≡ changed_mask (bytes_after new.terms.opening.bytes before) (bytes_of new)
-  pub put : puts_of new.terms.opening.bytes new.ends ≡ puts_of new.terms.opening.bytes before ++ puts
-  pub taken : takes_of new.terms.opening.bytes new.ends ≡ takes_of new.terms.opening.bytes before ++ takes
+  pub mask : write.mask.0 ≡ changed_mask (bytes_after new.config.opening.bytes before) (bytes_of new)
+  pub put : puts_of new.config.opening.bytes new.ends ≡ puts_of new.config.opening.bytes before ++ puts
+  pub taken : takes_of new.config.opening.bytes new.ends ≡ takes_of new.config.opening.bytes before ++ takes
   pub clear_before : IsClearBefore new (length before)
-  pub lets_go : LetsGo (length before + 1) (left_by (closes new.terms.lease before false)) new
+  pub releases : AfterRelease (length before + 1) (state_after (closes new.config.lease before false)) new
 
--- the task was put behind those that stood
+-- the task was appended to those that were there
 pub record HasPut (task : ℕ) (new : View) : Type 0 where
   pub found : List ℕ
   pub turn : HadTurn found (found ++ task ∷ []) (task ∷ []) [] new
 
--- the task was the first, and was taken
+-- the task was the first, and was removed
 pub record HasTaken (task : ℕ) (new : View) : Type 0 where
   pub left : List ℕ
   pub turn : HadTurn (task ∷ left) left [] (task ∷ []) new
 
--- so many tasks stood, and all bytes stay as they were
+-- `count` tasks were there, and all bytes stay as they were
 pub record HasFound (count : ℕ) (new : View) : Type 0 where
   pub tasks : List ℕ
   pub counted : length tasks ≡ count
   pub turn : HadTurn tasks tasks [] [] new
-  pub same : bytes_of new ≡ bytes_after new.terms.opening.bytes turn.before
+  pub same : bytes_of new ≡ bytes_after new.config.opening.bytes turn.before
 
--- `put`: a task is put behind the others, where there is room
+-- `put`: a task is appended if there is room
 pub record Puts (task : ℕ) (old new : View) (answer : Put) : Type 0 where
   pub continues : Continues Changes old new
   pub may_ask : may_ask new.state ≡ true
   pub asks : answer ≢ put.Busy → Asks old new
   pub joined : answer ≢ put.Busy → IsJoined new
   pub stored : answer ≡ put.Stored → HasPut task new
-  pub full : answer ≡ put.Full → HasFound MOST_TASKS new
+  pub full : answer ≡ put.Full → HasFound MAX_TASKS new
   pub late : answer ≡ put.Late → IsWithdrawn new
   pub told : answer ≡ put.Closed → IsTold new
   pub busy : answer ≡ put.Busy → IsBusy old new
   pub unserved : answer ≢ put.Stored → answer ≢ put.Full → IsUnserved old new
 
--- `take`: the first task is taken, where there is one
+-- `take`: the first task is removed if there is one
 pub record Takes (old new : View) (answer : Take) : Type 0 where
   pub continues : Continues Changes old new
   pub may_ask : may_ask new.state ≡ true

@@ -1,9 +1,9 @@
--- The law of a board: what a turn may make of it. (Of this project.)
+-- The law of a board: the changes that a turn may make. (Of this project.)
 use Rattle.std.specs.Prelude.{◌≡◌, ◌⊎◌, ℕ, List, [], ◌∷◌, ◌++◌, refl}
 use Rattle.std.proofs.Common.{inl}
 use Rattle.line_board.specs.Board.{Stand, IsBoard}
 
--- the tasks stay, one more stands last, or the first is gone
+-- the tasks stay, one is appended, or the first is removed
 abbrev pub IsStep : List ℕ → List ℕ → Type 0
 IsStep before after = (after ≡ before) ⊎ (((task : ℕ) × (after ≡ before ++ task ∷ [])) ⊎ ((task : ℕ) × (before ≡ task ∷ after)))
 
@@ -14,7 +14,7 @@ pub record Changes (old new : List ℕ) : Type 0 where
   pub left : Stand new after
   pub step : IsStep before after
 
--- a changed board is a board, and a board may stay as it is
+-- a changed board is a board; a board may stay as it is
 pub changed_board : (old new : List ℕ) → IsBoard old → Changes old new → IsBoard new
 changed_board old new good change = (change.after, change.left)
 

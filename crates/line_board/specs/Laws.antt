@@ -1,7 +1,7 @@
 -- What holds of every board that was opened empty. (Of this project.)
 use Rattle.std.specs.Prelude.{◌≡◌, ℕ, List}
 use Rattle.line_lanes.specs.Line.{zeros}
-use Rattle.qolb_model.specs.declared.terms.Terms.{Terms}
+use Rattle.qolb_model.specs.declared.config.LineConfig.{LineConfig}
 use Rattle.qolb_model.specs.declared.view.View.{View}
 use Rattle.qolb_model.specs.Views.{bytes_of}
 use Rattle.qolb_model.specs.Kept.{IsKept}
@@ -10,11 +10,11 @@ use Rattle.line_board.specs.Board.{IsBoard}
 use Rattle.line_board.specs.Law.{Changes}
 use Rattle.line_board.specs.PutsAndTakes.{IsQueue}
 
--- what a port knows: of its ends the puts are the takes and then the tasks of its bytes
+-- A board is a queue, as far as a port knows: of its ends the puts are the takes and then the tasks of its bytes.
 abbrev pub BoardIsQueue : Type 0
-BoardIsQueue = (v : View) → IsKept Changes v → v.terms.opening.bytes ≡ zeros → IsQueue zeros v.ends (bytes_of v)
+BoardIsQueue = (v : View) → IsKept Changes v → v.config.opening.bytes ≡ zeros → IsQueue zeros v.ends (bytes_of v)
 
--- and of the whole history of a line that was taken apart: the tasks of the bytes that it gave are those that were put and not taken
+-- the same of the whole history of a finished line: the tasks of its last bytes are those that were put and not taken
 abbrev pub FinishedBoardIsQueue : Type 0
-FinishedBoardIsQueue = (label : ℕ) (terms : Terms) (views : List View) (bytes : List ℕ) (finished : IsFinished IsBoard Changes label terms views bytes)
-    → terms.opening.bytes ≡ zeros → IsQueue zeros finished.history.ends bytes
+FinishedBoardIsQueue = (label : ℕ) (config : LineConfig) (views : List View) (bytes : List ℕ) (finished : IsFinished IsBoard Changes label config views bytes)
+    → config.opening.bytes ≡ zeros → IsQueue zeros finished.history.ends bytes

@@ -1,4 +1,4 @@
--- The puts and takes of a board, read off the ends of its line. (Of this project.)
+-- The puts and takes of a board, by the ends of its line. (Of this project.)
 use Rattle.std.specs.Prelude.{◌≡◌, ℕ, ◌-◌, List, [], ◌∷◌, ◌++◌, length, take, drop}
 use Rattle.std.specs.Option.{unwrap_or}
 use Rattle.qolb_model.specs.declared.end.End.{End}
@@ -6,15 +6,15 @@ use Rattle.qolb_model.specs.declared.end.End.TheVariants.{Served, Gone, Told}
 use Rattle.qolb_model.specs.Ends.{written}
 use Rattle.line_board.specs.Board.{tasks_of, Stand}
 
--- what a turn put that found the first tasks and left the second: those that stand behind as many as stood before
+-- what a turn put that found the first tasks and left the second: those behind as many as it found
 abbrev pub put_between : List ℕ → List ℕ → List ℕ
 put_between found left = drop (length found) left
 
--- and what it took: of the first as many as there are fewer
+-- what it took: of the first as many as there are fewer
 abbrev pub taken_between : List ℕ → List ℕ → List ℕ
 taken_between found left = take (length found - length left) found
 
--- the tasks that stand on the line; on no board none
+-- the tasks of the line; none if it is no board
 abbrev pub standing : List ℕ → List ℕ
 standing bytes = unwrap_or (tasks_of bytes) []
 
@@ -25,14 +25,14 @@ puts_of bytes (Served write shut ∷ ends) = put_between (standing bytes) (stand
 puts_of bytes (Gone ∷ ends) = puts_of bytes ends
 puts_of bytes (Told ∷ ends) = puts_of bytes ends
 
--- the tasks that they took
+-- the tasks that the served turns took, in their order
 abbrev pub takes_of : List ℕ → List End → List ℕ
 takes_of bytes [] = []
 takes_of bytes (Served write shut ∷ ends) = taken_between (standing bytes) (standing (written bytes write)) ++ takes_of (written bytes write) ends
 takes_of bytes (Gone ∷ ends) = takes_of bytes ends
 takes_of bytes (Told ∷ ends) = takes_of bytes ends
 
--- the puts are the takes and then the tasks that stand: none is lost, doubled or overtaken
+-- the puts are the takes and then the tasks that are left: no task is lost, doubled or overtaken
 pub record IsQueue (opening : List ℕ) (ends : List End) (bytes : List ℕ) : Type 0 where
   pub tasks : List ℕ
   pub stand : Stand bytes tasks

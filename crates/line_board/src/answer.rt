@@ -3,29 +3,29 @@
 /// The answer of `put`.
 #[derive(Clone, Copy, Debug, PartialEq, Eq)]
 pub enum Put {
-    /// The task stands behind the others.
+    /// The task was appended to the board.
     Stored,
-    /// Seven tasks stood, and stay.
+    /// Seven tasks were on the board, and stay.
     Full,
-    /// The line was not granted in time. The request is withdrawn, and nothing is put.
+    /// The line was not granted within `patience` polls. The request is withdrawn, and nothing was put.
     Late,
     /// The line is closed.
     Closed,
-    /// The node's last request is not clear yet, so nothing was asked.
+    /// The node's last request is not clear yet, so the port did not ask.
     Busy,
 }
 
 /// The answer of `take`.
 #[derive(Clone, Copy, Debug, PartialEq, Eq)]
 pub enum Take {
-    /// The task that was the oldest.
+    /// The oldest task, which was removed from the board.
     Task(u64),
-    /// No task stood.
+    /// No task was on the board.
     Empty,
-    /// The line was not granted in time. The request is withdrawn, and nothing is taken.
+    /// The line was not granted within `patience` polls. The request is withdrawn, and nothing was taken.
     Late,
     /// The line is closed.
     Closed,
-    /// The node's last request is not clear yet, so nothing was asked.
+    /// The node's last request is not clear yet, so the port did not ask.
     Busy,
 }

@@ -1,4 +1,4 @@
-//! Boards as bytes.
+//! Boards as the bytes of a line.
 ghost use Rattle.std.specs.Prelude.{◌≡◌, ◌<◌, ℕ, List, length, MatchOption};
 ghost use Rattle.std.specs.List.{All};
 ghost use Rattle.line_board.specs.Board.{are_zeros, tasks_of, Stand};
@@ -6,22 +6,22 @@ ghost use Rattle.line_board.specs.Board.{are_zeros, tasks_of, Stand};
 use arrayvec::ArrayVec;
 use line_lanes::{Line64, lane, with_lane};
 
-/// The most tasks that stand on a board.
-pub const MOST_TASKS: usize = 7;
+/// The largest number of tasks on a board.
+pub const MAX_TASKS: usize = 7;
 
-/// The tasks of a board, the oldest first.
-pub type Tasks = ArrayVec<u64, MOST_TASKS>;
+/// The tasks of a board, oldest first.
+pub type Tasks = ArrayVec<u64, MAX_TASKS>;
 
-/// The tasks of the line, or `None` where it is no board.
+/// Returns the tasks of the line, or `None` if the line is no board.
 pub fn decode(line: &Line64) -> Option<Tasks>
     ensures { MatchOption result (tasks_of line.now.bytes ≡ None) (λ tasks. Stand line.now.bytes tasks.items) }
 {
     let count = usize::from(line.bytes[0]);
-    if count > MOST_TASKS || !are_zeros(&line.bytes[1..8]) {
+    if count > MAX_TASKS || !are_zeros(&line.bytes[1..8]) {
         return None;
     }
     let mut tasks = Tasks::new();
-    for k in 1..MOST_TASKS + 1 {
+    for k in 1..MAX_TASKS + 1 {
         let task = lane(line, k);
         if k <= count {
             tasks.push(task);
@@ -32,7 +32,7 @@ pub fn decode(line: &Line64) -> Option<Tasks>
     Some(tasks)
 }
 
-/// The board of these tasks.
+/// Returns the board of these tasks.
 pub fn encode(tasks: &Tasks) -> Line64
     ensures tasks { Stand result.bytes tasks.now.items }
     ensures only { (line : List ℕ) → length line ≡ 64 → All (λ byte. byte < 256) line → Stand line tasks.now.items → line ≡ result.bytes }
@@ -45,7 +45,7 @@ pub fn encode(tasks: &Tasks) -> Line64
     line
 }
 
-/// Whether all these bytes are zero.
+/// Returns `true` if all these bytes are zero.
 fn are_zeros(bytes: &[u8]) -> bool
     ensures { result ≡ are_zeros bytes.now }
 {

@@ -1,7 +1,7 @@
 //! The law of a board.
 use qolb_model::Keep;
 
-/// A line is a board, and a turn keeps its tasks, puts one behind them or takes the first.
+/// The law of a board: a turn keeps the tasks, appends one, or removes the first.
 pub struct BoardLaw;
 
 impl Keep for BoardLaw {

@@ -1,12 +1,12 @@
 //! Laws of boards. Each is the contract of a function that does nothing.
 ghost use Rattle.line_board.specs.Laws.{BoardIsQueue, FinishedBoardIsQueue};
 
-/// A board that was opened empty is a queue: no task is lost, doubled or overtaken, as far as a port knows.
+/// States that a board that was opened empty is a queue: no task is lost, doubled or overtaken, as far as a port knows.
 pub fn board_is_queue()
     ensures { BoardIsQueue }
 {}
 
-/// And so it is to the end, when its line is taken apart.
+/// States the same of the whole history of a finished board.
 pub fn finished_board_is_queue()
     ensures { FinishedBoardIsQueue }
 {}

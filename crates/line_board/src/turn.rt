@@ -1,10 +1,10 @@
-//! The turn of a port that holds a board: it changes the board, or leaves it, and releases the line.
+//! The turn of a port that holds a board: the port changes the board or leaves it, and releases the line.
 ghost use Rattle.std.specs.Prelude.{◌≡◌, ℕ, List, length, false, IsTrue};
 ghost use Rattle.qolb_model.specs.PortStates.{may_ask};
 ghost use Rattle.qolb_model.specs.Kept.{MayRelease};
 ghost use Rattle.qolb_model.specs.Calls.{Releases};
 ghost use Rattle.qolb_model.specs.Sound.{Continues};
-ghost use Rattle.qolb_model.specs.Turns.{IsGranted};
+ghost use Rattle.qolb_model.specs.AtTurn.{IsGranted};
 ghost use Rattle.qolb_model.specs.Views.{bytes_of};
 ghost use Rattle.line_board.specs.Board.{Stand};
 ghost use Rattle.line_board.specs.Law.{Changes};
@@ -15,7 +15,7 @@ use crate::law::BoardLaw;
 use line_lanes::{Line64, changed};
 use qolb_model::{LineSync, PortState};
 
-/// Writes the new board, where its bytes differ, and releases the line.
+/// Writes the bytes of the new board that differ, and releases the line.
 pub(crate) fn replace<L: LineSync<BoardLaw>>(line: &L, port: &mut L::Port, new: Line64)
     requires belongs { L.belongs line.now port.old }
     requires granted { IsGranted (L.view port.old) (L.turn port.old) }
@@ -23,24 +23,24 @@ pub(crate) fn replace<L: LineSync<BoardLaw>>(line: &L, port: &mut L::Port, new: 
     ensures belongs { L.belongs line.now port.new }
     ensures continues { Continues Changes (L.view port.old) (L.view port.new) }
     ensures count { (L.view port.new).count ≡ (L.view port.old).count }
-    ensures looks { (L.counters port.new).poll_count ≡ (L.counters port.old).poll_count }
+    ensures poll_count { (L.counters port.new).poll_count ≡ (L.counters port.old).poll_count }
     ensures state { IsTrue (may_ask (L.view port.new).state) }
     ensures turn { (found left : List ℕ) → Stand (bytes_of (L.view port.old)) found → Stand new.bytes left → HadTurn found left (put_between found left) (taken_between found left) (L.view port.new) }
 {
-    // The end of a turn keeps its mask: with the bytes that differ alone it says what this turn changed.
+    // The end of a turn keeps its mask: if that has only the bytes that differ, it says what this turn changed.
     let mask = changed(L::bytes(port), &new);
     L::write(port, mask, &new);
     release(line, port);
 }
 
-/// Releases the line with the board as it stands.
+/// Releases the line with the board unchanged.
 pub(crate) fn keep<L: LineSync<BoardLaw>>(line: &L, port: &mut L::Port)
     requires belongs { L.belongs line.now port.old }
     requires granted { IsGranted (L.view port.old) (L.turn port.old) }
     ensures belongs { L.belongs line.now port.new }
     ensures continues { Continues Changes (L.view port.old) (L.view port.new) }
     ensures count { (L.view port.new).count ≡ (L.view port.old).count }
-    ensures looks { (L.counters port.new).poll_count ≡ (L.counters port.old).poll_count }
+    ensures poll_count { (L.counters port.new).poll_count ≡ (L.counters port.old).poll_count }
     ensures state { IsTrue (may_ask (L.view port.new).state) }
     ensures found { (tasks : List ℕ) → Stand (bytes_of (L.view port.old)) tasks → HasFound (length tasks) (L.view port.new) }
 {
@@ -53,7 +53,7 @@ fn release<L: LineSync<BoardLaw>>(line: &L, port: &mut L::Port)
     requires state { (L.view port.old).state ≡ PortState.Holding }
     requires allowed { MayRelease Changes (L.view port.old) (L.turn port.old) }
     ensures belongs { L.belongs line.now port.new }
-    ensures looks { (L.counters port.new).poll_count ≡ (L.counters port.old).poll_count }
+    ensures poll_count { (L.counters port.new).poll_count ≡ (L.counters port.old).poll_count }
     ensures releases { Releases Changes false (L.view port.old) (L.view port.new) (L.turn port.old) }
 {
     line.deqolb(port);

@@ -10,7 +10,7 @@ each2_from P [] ys e h = tt
 each2_from P (x ∷ xs) [] e h = tt
 each2_from P (x ∷ xs) (y ∷ ys) e h = (h 0 (omega arith), each2_from P xs ys (omega (arith, e)) (λ k l. h (suc k) (omega (arith, l))))
 
--- where the tests' mask is not 0, some test passed
+-- if the tests' mask is not 0, some test passed
 pub passed_from_mask : (tests : List Bool) → not (mask_l tests == 0) ≡ true → (k : ℕ) × (k < length tests) × (get_or tests k false ≡ true)
 passed_from_mask [] e = let no : false ≡ true = e in cc
 passed_from_mask (true ∷ tests) e = (0, omega arith, refl)
@@ -22,7 +22,7 @@ passed_from_mask (false ∷ tests) e =
     halved zero e = e
     halved (suc n) e = ap not (ne_eqb (suc n) 0 (omega arith))
 
--- where some test passed, the tests' mask is not 0
+-- if some test passed, the tests' mask is not 0
 pub mask_from_passed : (tests : List Bool) (k : ℕ) → k < length tests → get_or tests k false ≡ true → not (mask_l tests == 0) ≡ true
 mask_from_passed tests k h e = ap not (ne_eqb (mask_l tests) 0 (λ z. unset (sym (ap (λ n. is_masked n k) z) ∙ is_masked-mask_l tests k ∙ e)))
   where

@@ -1,4 +1,4 @@
--- What a mask means: bit k of a number of 64 bits stands for byte k of a line. (Of this project.)
+-- A mask: bit k of a number of 64 bits is set if byte k of a line is in the set. (Of this project.)
 use Rattle.std.specs.Prelude.{ℕ, ◌+◌, ◌==◌, ◌&&◌, Bool, not, map, nat_le, nat_lt, List, slice_index}
 use Rattle.std.specs.Int.{bit_at}
 use Rattle.std.specs.List.{range_with_len}
@@ -8,7 +8,7 @@ use Rattle.std.specs.Simd.Lanes.{mask_l}
 abbrev pub is_masked : ℕ → ℕ → Bool
 is_masked mask k = bit_at mask k == 1
 
--- the mask whose bit k is set exactly where the test passes at k
+-- the mask whose bit k is set exactly if the test passes at k
 abbrev pub mask_by : (ℕ → Bool) → ℕ
 mask_by test = mask_l (map test (range_with_len 0 64))
 

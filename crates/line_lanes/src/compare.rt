@@ -6,7 +6,7 @@ use crate::half::halves;
 use crate::line::{Line64, Mask};
 use std::simd::u8x32;
 
-/// The places at which two lines differ.
+/// Returns the mask of the places at which two lines differ.
 #[inline]
 pub fn changed(a: &Line64, b: &Line64) -> Mask
     ensures { result.0 ≡ changed_mask a.now.bytes b.now.bytes }
@@ -16,7 +16,7 @@ pub fn changed(a: &Line64, b: &Line64) -> Mask
     Mask(differing(a_low, b_low) | (differing(a_high, b_high) << 32))
 }
 
-/// Whether two lines are equal at each place of the mask.
+/// Returns `true` if two lines are equal at each place of the mask.
 #[inline]
 pub fn agrees(a: &Line64, b: &Line64, mask: Mask) -> bool
     ensures { IsTrue result ↔ AgreeUnder mask.0 a.now.bytes b.now.bytes }
@@ -24,7 +24,7 @@ pub fn agrees(a: &Line64, b: &Line64, mask: Mask) -> bool
     changed(a, b).0 & mask.0 == 0
 }
 
-/// The places at which two halves differ, as the low 32 bits.
+/// Returns the places at which two halves differ, as the low 32 bits.
 fn differing(a: u8x32, b: u8x32) -> u64
     ensures bits { (k : ℕ) → k < 32 → is_masked result k ≡ not (slice_index a k == slice_index b k) }
     ensures bound { result < 2 ^ 32 }

@@ -3,7 +3,7 @@ ghost use Rattle.std.specs.Prelude.{◌≡◌, ◌++◌, take, drop};
 use crate::line::Line64;
 use std::simd::u8x32;
 
-/// Bytes 0 to 31 of the line, and bytes 32 to 63.
+/// Splits the line into bytes 0 to 31, and bytes 32 to 63.
 pub(crate) fn halves(line: &Line64) -> (u8x32, u8x32)
     ensures low { result.0 ≡ take 32 line.now.bytes }
     ensures high { result.1 ≡ drop 32 line.now.bytes }
@@ -14,7 +14,7 @@ pub(crate) fn halves(line: &Line64) -> (u8x32, u8x32)
     )
 }
 
-/// The line of the two halves.
+/// Joins the two halves to a line.
 pub(crate) fn joined(low: u8x32, high: u8x32) -> Line64
     ensures { result.bytes ≡ low ++ high }
 {

@@ -18,7 +18,7 @@ const HIGH_LANES: [u8; 32] = [
     4, 4, 4, 4, 4, 4, 4, 4, 5, 5, 5, 5, 5, 5, 5, 5, 6, 6, 6, 6, 6, 6, 6, 6, 7, 7, 7, 7, 7, 7, 7, 7,
 ];
 
-/// Lane `k`: the little-endian number of bytes 8k to 8k + 7.
+/// Returns lane `k`: the little-endian number of bytes 8k to 8k + 7.
 #[inline]
 pub fn lane(line: &Line64, k: usize) -> u64
     requires { k < 8 }
@@ -27,7 +27,7 @@ pub fn lane(line: &Line64, k: usize) -> u64
     number_of(u8x8::from_slice(&line.bytes[8 * k..]))
 }
 
-/// The line with `value` in lane `k`, and every other lane as it was.
+/// Returns the line with `value` in lane `k`, and every other lane unchanged.
 #[inline]
 pub fn with_lane(line: &Line64, k: usize, value: u64) -> Line64
     requires { k < 8 }
@@ -41,9 +41,9 @@ pub fn with_lane(line: &Line64, k: usize, value: u64) -> Line64
     )
 }
 
-/// Puts `value` into lane `k`, and gives the mask of that lane.
+/// Puts `value` into lane `k`, and returns the mask of that lane.
 ///
-/// It stores eight bytes, where a masked write by `merge` stores all 64.
+/// It stores eight bytes, while a masked write by `merge` stores all 64.
 #[inline]
 pub fn set_lane(line: &mut Line64, k: usize, value: u64) -> Mask
     requires { k < 8 }
@@ -54,7 +54,7 @@ pub fn set_lane(line: &mut Line64, k: usize, value: u64) -> Mask
     Mask(run_of_bits(8 * k, 8))
 }
 
-/// The sum of the eight lanes, which always fits.
+/// Returns the sum of the eight lanes, which always fits.
 #[inline]
 pub fn lane_sum(line: &Line64) -> u128
     ensures { result ≡ lanes_total line.now.bytes }
@@ -63,8 +63,7 @@ pub fn lane_sum(line: &Line64) -> u128
     sum_of(wide(low)) + sum_of(wide(high))
 }
 
-/// The line whose every lane is the sum of that lane of both lines.
-/// `None` exactly where one of the eight sums passes `u64::MAX`.
+/// Adds two lines lane by lane. `None` exactly if one of the eight sums is more than `u64::MAX`.
 #[inline]
 pub fn add_lanes(a: &Line64, b: &Line64) -> Option<Line64>
     ensures none { IsNone result ↔ OverflowsAtSomeLane a.now.bytes b.now.bytes }
@@ -130,7 +129,7 @@ fn sum_of(lanes: u64x4) -> u128
     u128::from(first) + u128::from(second) + u128::from(third) + u128::from(fourth)
 }
 
-/// Whether some lane's sum passes `u64::MAX`.
+/// Returns `true` if some lane's sum is more than `u64::MAX`.
 fn overflows(a: u64x4, b: u64x4) -> bool
     ensures { IsTrue result ↔ (k : ℕ) × (k < 4) × (2 ^ 64 ≤ slice_index a k + slice_index b k) }
 {

@@ -6,13 +6,13 @@ use crate::half::{halves, joined};
 use crate::line::{Line64, Mask};
 use std::simd::{u8x16, u8x32, u64x1};
 
-/// The bit of a byte of the mask that each byte of a half is under.
+/// The bit, in the mask's byte, of each byte of a half.
 const BITS: [u8; 32] = [
     1, 2, 4, 8, 16, 32, 64, 128, 1, 2, 4, 8, 16, 32, 64, 128, 1, 2, 4, 8, 16, 32, 64, 128, 1, 2, 4,
     8, 16, 32, 64, 128,
 ];
 
-/// The masked write of `new` over `old`: byte k is `new`'s where bit k of the mask is set, else `old`'s.
+/// Writes `new` over `old` under the mask: byte k is `new`'s if bit k of the mask is set, else `old`'s.
 #[inline]
 pub fn merge(old: &Line64, new: &Line64, mask: Mask) -> Line64
     ensures { result.bytes ≡ merged old.now.bytes new.now.bytes mask.0 }
@@ -25,8 +25,9 @@ pub fn merge(old: &Line64, new: &Line64, mask: Mask) -> Line64
     )
 }
 
-/// The mask of `bytes` laid from place `off` on, and the line that has them there and zeros elsewhere.
-/// `None` exactly where they pass the end of the line.
+/// Places `bytes` from place `off` on: returns their mask, and a line with zeros elsewhere.
+///
+/// `None` exactly if they exceed the line.
 #[inline]
 pub fn placed(off: usize, bytes: &[u8]) -> Option<(Mask, Line64)>
     ensures none { IsNone result ↔ (64 < off + length bytes.now) }
@@ -36,13 +37,14 @@ pub fn placed(off: usize, bytes: &[u8]) -> Option<(Mask, Line64)>
     if off > 64 || bytes.len() > 64 - off {
         return None;
     }
-    // Bytes of unknown number come into a vector only by a copy, as `std::simd` has no load of a part. So they are copied to their place.
+    // A slice of unknown length gets into a vector only by a copy, as `std::simd` has no partial load. So the bytes are copied to their
+    // place.
     let mut line = [0; 64];
     write_at(&mut line, off, bytes);
     Some((Mask(run_of_bits(off, bytes.len())), Line64 { bytes: line }))
 }
 
-/// The masked write of half a line, under the low 32 bits of the mask.
+/// Writes half a line under the low 32 bits of the mask.
 fn merge_half(old: u8x32, new: u8x32, mask: u64) -> u8x32
     ensures len { length result ≡ 32 }
     ensures bytes { (k : ℕ) → k < 32 → slice_index result k ≡ (if is_masked mask k then slice_index new k else slice_index old k) }
@@ -50,7 +52,7 @@ fn merge_half(old: u8x32, new: u8x32, mask: u64) -> u8x32
     blend(old, new, mask_bytes(mask))
 }
 
-/// At each byte of a half, the byte of the mask that has its bit.
+/// Returns, at each byte of a half, the byte of the mask that has its bit.
 fn mask_bytes(mask: u64) -> u8x32
     ensures { (k : ℕ) → k < 32 → slice_index result k ≡ mask / 2 ^ (8 * (k / 8)) % 256 }
 {
@@ -64,7 +66,7 @@ fn mask_bytes(mask: u64) -> u8x32
     )
 }
 
-/// The lowest byte of the mask eight times, and then the next eight times.
+/// Returns the lowest byte of the mask eight times, and then the next eight times.
 fn two_bytes(mask: u64) -> u8x16
     ensures len { length result ≡ 16 }
     ensures bytes { (k : ℕ) → k < 16 → slice_index result k ≡ mask / 2 ^ (8 * (k / 8)) % 256 }
@@ -74,7 +76,7 @@ fn two_bytes(mask: u64) -> u8x16
         .swizzle([0, 0, 0, 0, 0, 0, 0, 0, 1, 1, 1, 1, 1, 1, 1, 1])
 }
 
-/// Of the old and the new bytes the new where the mask's byte there has the bit of that place.
+/// Takes the new byte if the mask's byte there has the bit of that place, else the old one.
 fn blend(old: u8x32, new: u8x32, mask: u8x32) -> u8x32
     ensures { (k : ℕ) → k < 32 → slice_index result k ≡ (if is_masked (slice_index mask k) (k % 8) then slice_index new k else slice_index old k) }
 {
@@ -91,7 +93,7 @@ pub(crate) fn write_at(line: &mut [u8], off: usize, bytes: &[u8])
     line[off..end].copy_from_slice(bytes);
 }
 
-/// The mask of `len` places from `off` on.
+/// Returns the mask of `len` places from `off` on.
 pub(crate) fn run_of_bits(off: usize, len: usize) -> u64
     requires { off + len ≤ 64 }
     ensures { result ≡ placed_mask off len }

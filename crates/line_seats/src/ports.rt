@@ -1,12 +1,12 @@
-//! Ports of one line: those that wait for a thread, and those that a thread has borrowed.
+//! Ports of one line: those that are free, and those that a thread has borrowed.
 ghost use Rattle.std.specs.Prelude.{◌≡◌};
 
 use std::marker::{Brand, Model, PhantomData};
 
-/// The ports of one line that may ask. It takes no memory: a program picks it where it opens the
-/// line, for proofs alone.
+/// The set of ports of one line that may ask. It takes no memory: a program chooses the type where
+/// it opens the line, for proofs alone.
 pub trait PortSet<P> {
-    /// The port is one of them.
+    /// The port is in the set.
     ghost has: { P → Type 0 };
 }
 
@@ -14,7 +14,7 @@ impl<P> PortSet<P> for Brand {
     ghost has = { λ _. Unit {0} };
 }
 
-/// A port of the set that no thread has. Contracts see it as the port.
+/// A free port of the set. Contracts see it as the port.
 #[derive(Drop)]
 pub(crate) struct Seat<P, S: PortSet<P>> {
     port: P,
@@ -48,8 +48,8 @@ impl<P, S: PortSet<P>> Seat<P, S> {
     }
 }
 
-/// A port that a thread has borrowed. It can be neither copied nor dropped, and has to be given
-/// back.
+/// A port that a thread has borrowed. A linear token: it can be neither copied nor dropped, and has
+/// to be given back.
 pub struct Borrowed<P> {
     pub port: P,
     to_give_back: (),

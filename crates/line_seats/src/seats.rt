@@ -1,4 +1,5 @@
-//! A line with its ports in a queue: a thread borrows one, works with it, and gives it back.
+//! A line with a queue of its free ports: a thread borrows a port, works with it, and gives it
+//! back.
 ghost use Rattle.std.specs.Prelude.{◌≡◌, ◌<◌, All, IfOk, IfErr, IfSome, vec_len, map};
 ghost use Rattle.qolb_model.specs.Finishing.{MayRefuse};
 ghost use Rattle.line_seats.specs.Lending.{MayAsk, IsFinishedBySome, IsPortSetOf};
@@ -12,13 +13,13 @@ use std::alloc::{AllocError, Global};
 use std::marker::Model;
 use std::sync::{Mutex, Wait};
 
-/// A line, and those of its ports that no thread has. Contracts see it as the line.
+/// A line with its free ports. Contracts see it as the line.
 #[derive(Drop)]
 pub struct Seats<K: Keep, L: LineSync<K>, S: PortSet<L::Port>> {
     line: L,
     free: ArrayQueue<Seat<L::Port, S>>,
     /// Room for all ports, so that `finish` needs no memory to gather them. The lock is only there
-    /// so that threads may share it.
+    /// so that threads may share the room.
     room: Mutex<Vec<L::Port>>,
 }
 
@@ -33,11 +34,12 @@ impl<K: Keep, L: LineSync<K>, S: PortSet<L::Port>> Model for Seats<K, L, S> {
 }
 
 impl<K: Keep, L: LineSync<K>, S: PortSet<L::Port>> Seats<K, L, S> {
-    /// A line and its ports, which no thread has yet.
+    /// Makes seats of a line and its ports, all of them free. Allocates the queue, and room for all
+    /// ports.
     ///
     /// # Errors
     ///
-    /// Memory was refused.
+    /// If memory was refused.
     pub fn new(alloc: Global, line: L, ports: Vec<L::Port>) -> Result<Seats<K, L, S>, AllocError>
     where
         L: Drop,
@@ -56,14 +58,14 @@ impl<K: Keep, L: LineSync<K>, S: PortSet<L::Port>> Seats<K, L, S> {
         })
     }
 
-    /// The line.
+    /// Returns the line.
     pub fn line(&self) -> &L
         ensures { result.now ≡ self.now }
     {
         &self.line
     }
 
-    /// Borrows a port, if there is one that no thread has.
+    /// Borrows a free port. Returns `None` if it finds none.
     pub fn try_borrow<R: Wait>(&self, rt: &R) -> Option<Borrowed<L::Port>>
         ensures { IfSome result (λ borrowed. MayAsk (L.belongs self.now) L.view borrowed.port) }
     {
@@ -71,7 +73,7 @@ impl<K: Keep, L: LineSync<K>, S: PortSet<L::Port>> Seats<K, L, S> {
         Some(Borrowed::of(port))
     }
 
-    /// Borrows a port, and waits until there is one.
+    /// Borrows a port, and waits until one is free.
     pub fn borrow<R: Wait>(&self, rt: &R) -> Borrowed<L::Port>
         ensures { MayAsk (L.belongs self.now) L.view result.port }
     {
@@ -92,13 +94,13 @@ impl<K: Keep, L: LineSync<K>, S: PortSet<L::Port>> Seats<K, L, S> {
         put_back(rt, &self.free, Seat::of(borrowed.into_port()));
     }
 
-    /// Takes the line apart, once all its ports are given back. Refused, it hands the line back,
-    /// and the ports that no thread has.
+    /// Finishes the line with all ports, which must have been given back. If it is refused it
+    /// returns the line and the free ports, with the cause.
     pub fn finish(self, alloc: Global) -> Result<Line64, Unfinished<L, L::Port>>
     where
         L::Port: Drop,
-        ensures finished { IfOk result (λ last. IsFinishedBySome K.good K.allows (L.label_of self) (L.terms_of self) last.bytes) }
-        ensures why { IfErr result (λ back. MayRefuse (L.label_of self) (L.terms_of self).nodes (map L.view back.ports.items) back.why) }
+        ensures finished { IfOk result (λ last. IsFinishedBySome K.good K.allows (L.label_of self) (L.config_of self) last.bytes) }
+        ensures why { IfErr result (λ back. MayRefuse (L.label_of self) (L.config_of self).nodes (map L.view back.ports.items) back.why) }
         ensures line { IfErr result (λ back. back.line ≡ self) }
         ensures ports { IfErr result (λ back. All (MayAsk (L.belongs self) L.view) back.ports.items) }
     {
@@ -121,7 +123,7 @@ fn put_back<R: Wait, P, S: PortSet<P>>(rt: &R, free: &ArrayQueue<Seat<P, S>>, se
     unreachable!()
 }
 
-/// The queue, with all these ports put into it.
+/// Puts all these ports into the queue.
 fn put_all<P: Drop, S: PortSet<P>>(
     free: ArrayQueue<Seat<P, S>>,
     ports: Vec<P>,
@@ -137,7 +139,7 @@ fn put_all<P: Drop, S: PortSet<P>>(
     Ok(free)
 }
 
-/// All ports that are in the queue, laid into the room.
+/// Moves all ports of the queue into `room`.
 fn take_all<P: Drop, S: PortSet<P>>(free: ArrayQueue<Seat<P, S>>, room: Vec<P>) -> Vec<P>
     ensures { All S.has result.items }
 {

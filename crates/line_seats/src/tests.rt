@@ -7,13 +7,13 @@ use counting::count;
 use line_lanes::Line64;
 use one_thread::see;
 use passing::pass_over;
-use qolb_model::{Free, Terms};
+use qolb_model::{Free, LineConfig};
 use std::test::Fail;
 use ticket_line::TicketLine;
 
-/// The terms of a line of zeros for so many nodes, without a lease.
-fn for_nodes(nodes: u64) -> Terms {
-    Terms {
+/// The configuration of a line of zeros for `nodes` nodes, without a lease.
+fn for_nodes(nodes: u64) -> LineConfig {
+    LineConfig {
         nodes,
         opening: Line64::zero(),
         lease: None,

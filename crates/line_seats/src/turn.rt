@@ -1,14 +1,14 @@
 //! A turn at a line, by a port that was borrowed for it.
 ghost use Rattle.std.specs.Prelude.{◌≡◌};
 ghost use Rattle.qolb_model.specs.OneOwner.{turn_after};
-ghost use Rattle.qolb_model.specs.Turns.{IsTurn};
+ghost use Rattle.qolb_model.specs.AtTurn.{IsTurn};
 
 use line_lanes::{Line64, Mask};
 use qolb_model::{Keep, LineSync, PortState};
 use std::marker::Model;
 
-/// A borrowed port that holds the line. It can be neither copied nor dropped: its thread has to
-/// leave. Contracts see it as the port.
+/// A borrowed port that holds the line. A linear token: it can be neither copied nor dropped, so
+/// its thread has to leave. Contracts see it as the port.
 pub struct Turn<K: Keep, L: LineSync<K>> {
     port: L::Port,
 }
@@ -40,14 +40,14 @@ impl<K: Keep, L: LineSync<K>> Turn<K, L> {
         port
     }
 
-    /// The node whose port it is.
+    /// Returns the number of the node whose port the turn has.
     pub fn node(&self) -> u64
         ensures { result ≡ (L.view self.now).node }
     {
         L::node(&self.port)
     }
 
-    /// The line's bytes as the holder sees them.
+    /// Returns the line's bytes, as the holder sees them.
     pub fn bytes(&self) -> &Line64
         ensures bytes { result.now ≡ (L.turn self.now).bytes }
         ensures turn { IsTurn (L.view self.now) (L.turn self.now) }
@@ -55,7 +55,7 @@ impl<K: Keep, L: LineSync<K>> Turn<K, L> {
         L::bytes(&self.port)
     }
 
-    /// The holder writes the bytes of the mask.
+    /// Writes the bytes of the mask into the line.
     pub fn write(&mut self, mask: Mask, bytes: &Line64)
         ensures view { L.view self.new ≡ L.view self.old }
         ensures turn { L.turn self.new ≡ turn_after (L.turn self.old) mask.0 bytes.now.bytes }

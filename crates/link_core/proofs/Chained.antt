@@ -1,5 +1,5 @@
 -- A release leaves a chain of links behind it, whatever step is made.
-use Rattle.qolb_model.specs.declared.terms.Terms.{Terms}
+use Rattle.qolb_model.specs.declared.config.LineConfig.{LineConfig}
 use Rattle.std.proofs.Common.{◌≡◌, ◌≢◌, ℕ, zero, suc, ◌+◌, ◌<◌, ◌≤◌, ◌⊎◌, Bool, true, false, ◌||◌, List, [], ◌∷◌, ◌++◌, length, refl, sym, ◌∙◌, ap, subst, inl, inr, arith, length-append}
 use Rattle.std.specs.Prelude.{slice_index_or}
 use Rattle.std.proofs.Math.ListN.{get_or-append}
@@ -8,19 +8,19 @@ use Rattle.qolb_model.specs.Queue.{Queue}
 use Rattle.link_core.specs.declared.point.Point.{Point}
 use Rattle.link_core.specs.declared.point.Point.TheVariants.{Idle, Ready, Linking, Queued, Holding, Leaving, Marking, Granting, Freeing, Left, Rolled, Shut}
 use Rattle.link_core.specs.declared.place.Place.TheVariants.{Home, Mailbox, Hand}
-use Rattle.link_core.specs.declared.seat.Reason.{Reason}
-use Rattle.link_core.specs.declared.seat.Reason.TheVariants.{Own, Closing, Refused}
+use Rattle.link_core.specs.declared.seat.ReleaseCause.{ReleaseCause}
+use Rattle.link_core.specs.declared.seat.ReleaseCause.TheVariants.{Own, Closing, Refused}
 use Rattle.link_core.specs.declared.entry.Entry.{Entry}
 use Rattle.link_core.specs.declared.told.Told.{Told as Answer}
 use Rattle.link_core.specs.declared.event.Event.{Event}
-use Rattle.link_core.specs.State.{State, IsWide, Seat, no_mask, empty, entry, seat, point, IsNode, last_or, current}
+use Rattle.link_core.specs.State.{State, IsWide, NodeCall, no_mask, empty, entry, seat, point, IsNode, last_or, current}
 use Rattle.link_core.specs.Steps.{closed_by, turns_after, Step, seat_at_arrival, seat_at_close, seat_with, point_at_end}
 use Rattle.link_core.specs.Steps as row
 use Rattle.link_core.specs.Shown.{has_line, is_freeing, IsChained, Matches}
 use Rattle.link_core.proofs.Changes.{Changed, changed_both, changed_seat, moved_both, moved_seat}
 use Rattle.link_core.proofs.Follows.{sits_at, current_cases}
 use Rattle.link_core.proofs.Link.{linked}
-use Rattle.link_core.proofs.Comes.{rolls}
+use Rattle.link_core.proofs.AtTurn.{rolls}
 use Rattle.link_core.proofs.Leave.{done, grants}
 use Rattle.link_core.proofs.Grant.{node_m, seat_passing}
 use Rattle.link_core.proofs.Free.{frees}
@@ -31,7 +31,7 @@ use Rattle.link_core.proofs.All.{freed_node, closed_wide}
 abbrev on_way : ℕ → List ℕ → ℕ → ℕ
 on_way n ps i = slice_index_or (n ∷ ps) i 0
 
--- the last of them is the one that the release has come to
+-- the last of them is the node that the release has reached
 on_way_last : (n : ℕ) (ps : List ℕ) → on_way n ps (length ps) ≡ last_or n ps
 on_way_last n [] = refl
 on_way_last n (p ∷ ps) = on_way_last p ps
@@ -45,11 +45,11 @@ grows_same : (v : Entry) → Grows v v
 grows_same v = record { link = λ f. f; done = λ f. f }
 
 -- the seat of the acting node has its chain, over the entries of d
-pub record IsOwn (c d : State) (n : ℕ) (s : Seat) : Type 0 where
+pub record IsOwn (c d : State) (n : ℕ) (s : NodeCall) : Type 0 where
   pub links : (i : ℕ) → i < length s.passed → (entry d (on_way n s.passed i)).link ≢ 0
   pub done : (m : ℕ) → s.point ≡ Granting m → (entry d (last_or n s.passed)).done ≡ true
 
-module _ {c d : State} {n : ℕ} {s : Seat} {k : ℕ} {w : Entry} (ch : Changed c d n s k w) (is : IsNode c n) (a : IsChained c) where
+module _ {c d : State} {n : ℕ} {s : NodeCall} {k : ℕ} {w : Entry} (ch : Changed c d n s k w) (is : IsNode c n) (a : IsChained c) where
   along : (x : ℕ) → (x ≡ k → Grows (entry c x) w) → Grows (entry c x) (entry d x)
   along x f = elim (cases_eq x k) [
     | inl e ↦ subst (λ (y : Entry). Grows (entry c x) y) (sym (ap (entry d) e ∙ ch.entry_own)) (f e)
@@ -63,19 +63,19 @@ module _ {c d : State} {n : ℕ} {s : Seat} {k : ℕ} {w : Entry} (ch : Changed 
   chained_by f g own = record {
     links = λ m i b l. elim (cases_eq m n) [
       | inl e ↦ subst (λ (x : ℕ). (i : ℕ) → i < length (seat d x).passed → (entry d (on_way x (seat d x).passed i)).link ≢ 0) (sym e)
-          (subst (λ (t : Seat). (i : ℕ) → i < length t.passed → (entry d (on_way n t.passed i)).link ≢ 0) (sym ch.seat_own) own.links) i l
-      | inr ne ↦ subst (λ (t : Seat). (i : ℕ) → i < length t.passed → (entry d (on_way m t.passed i)).link ≢ 0) (sym (ch.seat_other m ne))
+          (subst (λ (t : NodeCall). (i : ℕ) → i < length t.passed → (entry d (on_way n t.passed i)).link ≢ 0) (sym ch.seat_own) own.links) i l
+      | inr ne ↦ subst (λ (t : NodeCall). (i : ℕ) → i < length t.passed → (entry d (on_way m t.passed i)).link ≢ 0) (sym (ch.seat_other m ne))
           (λ i l. (along (on_way m (seat c m).passed i) (f m i (b.0, subst (λ (y : ℕ). m ≤ y) ch.nodes b.1) l)).link (a.links m i (b.0, subst (λ (y : ℕ). m ≤ y) ch.nodes b.1) l)) i l
     ];
     done = λ m x b e. elim (cases_eq m n) [
       | inl z ↦ subst (λ (y : ℕ). (seat d y).point ≡ Granting x → (entry d (last_or y (seat d y).passed)).done ≡ true) (sym z)
-          (subst (λ (t : Seat). t.point ≡ Granting x → (entry d (last_or n t.passed)).done ≡ true) (sym ch.seat_own) (own.done x)) e
-      | inr ne ↦ subst (λ (t : Seat). t.point ≡ Granting x → (entry d (last_or m t.passed)).done ≡ true) (sym (ch.seat_other m ne))
+          (subst (λ (t : NodeCall). t.point ≡ Granting x → (entry d (last_or n t.passed)).done ≡ true) (sym ch.seat_own) (own.done x)) e
+      | inr ne ↦ subst (λ (t : NodeCall). t.point ≡ Granting x → (entry d (last_or m t.passed)).done ≡ true) (sym (ch.seat_other m ne))
           (λ e. (along (current c m) (g m x (b.0, subst (λ (y : ℕ). m ≤ y) ch.nodes b.1) e)).done (a.done m x (b.0, subst (λ (y : ℕ). m ≤ y) ch.nodes b.1) e)) e
     ];
   }
 
-  -- where the changed entry keeps what it had
+  -- if the changed entry keeps its fields
   chained_grows : Grows (entry c k) w → IsOwn c d n s → IsChained d
   chained_grows f own = chained_by
       (λ m i b l e. subst (λ (x : ℕ). Grows (entry c x) w) (sym e) f)
@@ -102,12 +102,12 @@ module _ {c d : State} {n : ℕ} {s : Seat} {k : ℕ} {w : Entry} (ch : Changed 
   own_close f p ne e = by (seat c n).passed refl
     where
       by : (ps : List ℕ) → (seat c n).passed ≡ ps → IsOwn c d n s
-      by [] z = own_none (ap (λ (t : Seat). t.passed) e ∙ ap (λ (ps : List ℕ). (seat_with ps p (seat c n).reason).passed) z)
-          (λ m y. ne m (sym (ap (λ (t : Seat). t.point) e ∙ ap (λ (ps : List ℕ). (seat_with ps p (seat c n).reason).point) z) ∙ y))
-      by (x ∷ xs) z = own_same f (ap (λ (t : Seat). t.passed) e ∙ ap (λ (ps : List ℕ). (seat_with ps p (seat c n).reason).passed) z ∙ sym z)
-          (λ m y. let q : Freeing ≡ Granting m = sym (ap (λ (t : Seat). t.point) e ∙ ap (λ (ps : List ℕ). (seat_with ps p (seat c n).reason).point) z) ∙ y in cc)
+      by [] z = own_none (ap (λ (t : NodeCall). t.passed) e ∙ ap (λ (ps : List ℕ). (seat_with ps p (seat c n).reason).passed) z)
+          (λ m y. ne m (sym (ap (λ (t : NodeCall). t.point) e ∙ ap (λ (ps : List ℕ). (seat_with ps p (seat c n).reason).point) z) ∙ y))
+      by (x ∷ xs) z = own_same f (ap (λ (t : NodeCall). t.passed) e ∙ ap (λ (ps : List ℕ). (seat_with ps p (seat c n).reason).passed) z ∙ sym z)
+          (λ m y. let q : Freeing ≡ Granting m = sym (ap (λ (t : NodeCall). t.point) e ∙ ap (λ (ps : List ℕ). (seat_with ps p (seat c n).reason).point) z) ∙ y in cc)
 
-  -- so the chains are kept where the seat keeps its passed nodes, has none, or goes on to its end
+  -- so the chains are kept if the seat keeps its passed nodes, has none, or its call goes on to its end
   pub chained_same : Grows (entry c k) w → s.passed ≡ (seat c n).passed → ((m : ℕ) → s.point ≢ Granting m) → IsChained d
   chained_same f e ne = chained_grows f (own_same f e (λ m z. absurd (ne m z)))
 
@@ -140,12 +140,12 @@ arrival_passed : (n : ℕ) (b : Bool) → (seat_at_arrival n b).passed ≡ []
 arrival_passed n true = refl
 arrival_passed n false = refl
 
-end_point : (r : Reason) (m : ℕ) → point_at_end r ≢ Granting m
+end_point : (r : ReleaseCause) (m : ℕ) → point_at_end r ≢ Granting m
 end_point Own m e = let z : Idle ≡ Granting m = e in cc
 end_point Closing m e = let z : Shut ≡ Granting m = e in cc
 end_point Refused m e = let z : Shut ≡ Granting m = e in cc
 
-module _ (terms : Terms) (c : State) (h : Queue) (w : IsWide c) (s : Matches terms c h) (a : IsChained c) where
+module _ (config : LineConfig) (c : State) (h : Queue) (w : IsWide c) (s : Matches config c h) (a : IsChained c) where
   -- a node that rests is on the way of no release
   off_way : (n : ℕ) → IsNode c n → (point c n ≡ Idle) ⊎ (point c n ≡ Shut) → (m i : ℕ) → IsNode c m → i < length (seat c m).passed → on_way m (seat c m).passed i ≢ n
   off_way n is at m zero b l e =

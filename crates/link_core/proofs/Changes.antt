@@ -11,18 +11,18 @@ use Rattle.link_core.specs.declared.point.Point.TheVariants.{Rolled}
 use Rattle.qolb_model.specs.declared.end.End.{End}
 use Rattle.qolb_model.specs.declared.request.Request.{Request}
 use Rattle.link_core.specs.Places.{IsLast}
-use Rattle.link_core.specs.State.{State, IsWide, Seat, empty, unused, entry, seat, point, IsNode, put_entry, put_seat}
-use Rattle.link_core.specs.Shown.{has_line, is_freeing, passed, HasCome, IsPassed, ArePassed, IsOnce, IsUnpassed}
+use Rattle.link_core.specs.State.{State, IsWide, NodeCall, empty, unused, entry, seat, point, IsNode, put_entry, put_seat}
+use Rattle.link_core.specs.Shown.{has_line, is_freeing, passed, HasReached, IsPassed, ArePassed, IsOnce, IsUnpassed}
 
 -- of the seats only n's is changed, to s, and of the entries only k's, to w
-pub record Changed (c d : State) (n : ℕ) (s : Seat) (k : ℕ) (w : Entry) : Type 0 where
+pub record Changed (c d : State) (n : ℕ) (s : NodeCall) (k : ℕ) (w : Entry) : Type 0 where
   pub nodes : d.nodes ≡ c.nodes
   pub seat_own : seat d n ≡ s
   pub seat_other : (m : ℕ) → m ≢ n → seat d m ≡ seat c m
   pub entry_own : entry d k ≡ w
   pub entry_other : (m : ℕ) → m ≢ k → entry d m ≡ entry c m
 
-pub changed_both : (c : State) (n : ℕ) (s : Seat) (k : ℕ) (w : Entry) → IsWide c → IsNode c n → IsNode c k → Changed c (put_seat n s (put_entry k w c)) n s k w
+pub changed_both : (c : State) (n : ℕ) (s : NodeCall) (k : ℕ) (w : Entry) → IsWide c → IsNode c n → IsNode c k → Changed c (put_seat n s (put_entry k w c)) n s k w
 changed_both c n s k w i a b = record {
   nodes = refl;
   seat_own = get_or-set_same c.seats n s unused (omega arith);
@@ -31,7 +31,7 @@ changed_both c n s k w i a b = record {
   entry_other = λ m ne. get_or-set_other c.entries k m w empty ne;
 }
 
-pub changed_seat : (c : State) (n : ℕ) (s : Seat) → IsWide c → IsNode c n → Changed c (put_seat n s c) n s n (entry c n)
+pub changed_seat : (c : State) (n : ℕ) (s : NodeCall) → IsWide c → IsNode c n → Changed c (put_seat n s c) n s n (entry c n)
 changed_seat c n s i a = record {
   nodes = refl;
   seat_own = get_or-set_same c.seats n s unused (omega arith);
@@ -40,8 +40,8 @@ changed_seat c n s i a = record {
   entry_other = λ m ne. refl;
 }
 
--- the same where the words and the line change too
-pub moved_both : (c : State) (hm : ℕ) (pl : Place) (cl : Bool) (mk : Mask) (lf : Option ℕ) (n : ℕ) (s : Seat) (k : ℕ) (w : Entry) → IsWide c → IsNode c n → IsNode c k → Changed c (put_seat n s (put_entry k w (record c { home = hm; place = pl; closed = cl; mask = mk; left = lf }))) n s k w
+-- so it is if the words and the line change, too
+pub moved_both : (c : State) (hm : ℕ) (pl : Place) (cl : Bool) (mk : Mask) (lf : Option ℕ) (n : ℕ) (s : NodeCall) (k : ℕ) (w : Entry) → IsWide c → IsNode c n → IsNode c k → Changed c (put_seat n s (put_entry k w (record c { home = hm; place = pl; closed = cl; mask = mk; left = lf }))) n s k w
 moved_both c hm pl cl mk lf n s k w i a b = record {
   nodes = refl;
   seat_own = get_or-set_same c.seats n s unused (omega arith);
@@ -50,7 +50,7 @@ moved_both c hm pl cl mk lf n s k w i a b = record {
   entry_other = λ m ne. get_or-set_other c.entries k m w empty ne;
 }
 
-pub moved_seat : (c : State) (hm : ℕ) (pl : Place) (cl : Bool) (mk : Mask) (lf : Option ℕ) (n : ℕ) (s : Seat) → IsWide c → IsNode c n → Changed c (put_seat n s (record c { home = hm; place = pl; closed = cl; mask = mk; left = lf })) n s n (entry c n)
+pub moved_seat : (c : State) (hm : ℕ) (pl : Place) (cl : Bool) (mk : Mask) (lf : Option ℕ) (n : ℕ) (s : NodeCall) → IsWide c → IsNode c n → Changed c (put_seat n s (record c { home = hm; place = pl; closed = cl; mask = mk; left = lf })) n s n (entry c n)
 moved_seat c hm pl cl mk lf n s i a = record {
   nodes = refl;
   seat_own = get_or-set_same c.seats n s unused (omega arith);
@@ -59,12 +59,12 @@ moved_seat c hm pl cl mk lf n s i a = record {
   entry_other = λ m ne. refl;
 }
 
-module _ {c d : State} {n : ℕ} {s : Seat} {k : ℕ} {w : Entry} (ch : Changed c d n s k w) where
+module _ {c d : State} {n : ℕ} {s : NodeCall} {k : ℕ} {w : Entry} (ch : Changed c d n s k w) where
   pub point_other : (m : ℕ) → m ≢ n → point d m ≡ point c m
-  point_other m ne = ap (λ (t : Seat). t.point) (ch.seat_other m ne)
+  point_other m ne = ap (λ (t : NodeCall). t.point) (ch.seat_other m ne)
 
   pub point_own : point d n ≡ s.point
-  point_own = ap (λ (t : Seat). t.point) ch.seat_own
+  point_own = ap (λ (t : NodeCall). t.point) ch.seat_own
 
   -- a node at another point isn't n
   pub at_other : (m : ℕ) (p q : Point) → point c n ≡ p → point c m ≡ q → (p ≡ q → ⊥) → m ≢ n
@@ -74,7 +74,7 @@ module _ {c d : State} {n : ℕ} {s : Seat} {k : ℕ} {w : Entry} (ch : Changed 
   is_node m a = (a.0, subst (λ (x : ℕ). m ≤ x) ch.nodes a.1)
 
   -- a field that the changed seat or entry keeps is kept everywhere
-  pub seat_field : {A : Type 0} (f : Seat → A) → f s ≡ f (seat c n) → (m : ℕ) → f (seat d m) ≡ f (seat c m)
+  pub seat_field : {A : Type 0} (f : NodeCall → A) → f s ≡ f (seat c n) → (m : ℕ) → f (seat d m) ≡ f (seat c m)
   seat_field f e m = elim (cases_eq m n) [
     | inl same ↦ ap (λ x. f (seat d x)) same ∙ ap f ch.seat_own ∙ e ∙ ap (λ x. f (seat c x)) (sym same)
     | inr other ↦ ap f (ch.seat_other m other)
@@ -86,10 +86,10 @@ module _ {c d : State} {n : ℕ} {s : Seat} {k : ℕ} {w : Entry} (ch : Changed 
     | inr other ↦ ap f (ch.entry_other m other)
   ]
 
-  -- the lists of passed nodes, where n's stays as it was
+  -- the lists of passed nodes, if n's is unchanged
   module _ (same : s.passed ≡ (seat c n).passed) where
     pub passed_same : (m : ℕ) → (seat d m).passed ≡ (seat c m).passed
-    passed_same = seat_field (λ (t : Seat). t.passed) same
+    passed_same = seat_field (λ (t : NodeCall). t.passed) same
 
     at_same : (m i : ℕ) → passed d m i ≡ passed c m i
     at_same m i = ap (λ (ps : List ℕ). slice_index_or ps i 0) (passed_same m)
@@ -102,7 +102,7 @@ module _ {c d : State} {n : ℕ} {s : Seat} {k : ℕ} {w : Entry} (ch : Changed 
 
     pub passes_kept : (o o2 : List Request) (es fs : List End)
         → ((x p : ℕ) → point c x ≡ Rolled → (entry c x).freed ≡ false → IsLast o x p → (x ≢ n) × ((entry d x).freed ≡ (entry c x).freed) × IsLast o2 x p)
-        → ((m i p : ℕ) → i < length (seat c m).passed → HasCome c es m p → HasCome d fs m p)
+        → ((m i p : ℕ) → i < length (seat c m).passed → HasReached c es m p → HasReached d fs m p)
         → ArePassed c o es → ArePassed d o2 fs
     passes_kept o o2 es fs f g old m i a l =
         let j = old m i (is_node m a) (below_same m i l) in

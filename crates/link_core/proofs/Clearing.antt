@@ -1,6 +1,6 @@
 -- Putting ended requests on the clear list.
 use Rattle.std.proofs.Common.{◌≡◌, ◌≢◌, ℕ, ◌<◌, ◌≤◌, Bool, true, false, List, [], ◌∷◌, ◌++◌, length, sym, ◌∙◌, ap, subst, inl, inr}
-use Rattle.link_core.specs.Places.{request, asker, IsLast}
+use Rattle.link_core.specs.Places.{request, requester_at, IsLast}
 use Rattle.qolb_model.specs.Histories.{Clears, more}
 use Rattle.qolb_model.specs.Requests.{count_of, has}
 use Rattle.qolb_model.specs.declared.request.Request.{Request}
@@ -17,7 +17,7 @@ pub record Cleared (c : State) (o : List Request) (t : ℕ) (old : List Request)
   pub says : (m q : ℕ) → IsNode c m → IsLast o m q → has clear (request o q) ≡ f m
   pub known : (r : Request) → has clear r ≡ true → r.number ≤ count_of r.node o
 
-module _ (c : State) (o : List Request) (t : ℕ) (old : List Request) (numbered : (p : ℕ) → p < length o → (request o p).number ≤ count_of (asker o p) o) where
+module _ (c : State) (o : List Request) (t : ℕ) (old : List Request) (numbered : (p : ℕ) → p < length o → (request o p).number ≤ count_of (requester_at o p) o) where
   -- nothing is cleared
   pub same_cleared : (f g : ℕ → Bool) → Cleared c o t old f → ((m q : ℕ) → IsNode c m → IsLast o m q → g m ≡ f m) → Cleared c o t old g
   same_cleared f g k e = record { clear = k.clear; grows = k.grows; says = λ m q a l. k.says m q a l ∙ sym (e m q a l); known = k.known }
@@ -37,7 +37,7 @@ module _ (c : State) (o : List Request) (t : ℕ) (old : List Request) (numbered
     ];
   }
 
-  -- n's last request is put on the list where it has become clear
+  -- n's last request is put on the list if it has become clear
   pub may_push_cleared : (f g : ℕ → Bool) (n p : ℕ) → Cleared c o t old f → IsLast o n p → IsNode c n → f n ≡ false → (g n ≡ true → p < t) → ((m q : ℕ) → m ≢ n → IsNode c m → IsLast o m q → g m ≡ f m) → Cleared c o t old g
   may_push_cleared f g n p k l a fn u e = elim (cases_Bool (g n)) [
     | inl y ↦ push_cleared f g n p k l a (u y) fn y e

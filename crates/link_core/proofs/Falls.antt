@@ -1,5 +1,5 @@
 -- What an event does to the rank of the state, and to the ranks for the open requests.
-use Rattle.qolb_model.specs.declared.terms.Terms.{Terms}
+use Rattle.qolb_model.specs.declared.config.LineConfig.{LineConfig}
 use Rattle.std.proofs.Common.{◌≡◌, ◌≢◌, ℕ, ◌+◌, ◌-◌, ◌*◌, ◌<◌, ◌≤◌, Bool, true, false, List, [], ◌∷◌, ◌++◌, length, eqb, Option, Some, None, refl, sym, ◌∙◌, ap, subst, inl, inr, arith, length-append}
 use Rattle.std.specs.Prelude.{cond, slice_index_or}
 use Rattle.std.proofs.lemmas.Bool.{cases_eq, cases_Bool, cases_lt}
@@ -14,12 +14,12 @@ use Rattle.link_core.specs.declared.event.Event.{Event}
 use Rattle.link_core.specs.declared.point.Point.{Point}
 use Rattle.link_core.specs.declared.point.Point.TheVariants.{Idle, Ready, Linking, Queued, Holding, Leaving, Marking, Granting, Freeing, Left, Rolled, Shut}
 use Rattle.link_core.specs.declared.told.Told.{Told as Answer}
-use Rattle.link_core.specs.Places.{asker, IsLast}
+use Rattle.link_core.specs.Places.{requester_at, IsLast}
 use Rattle.link_core.specs.State.{State, IsWide, entry, seat, point, IsNode}
 use Rattle.link_core.specs.Steps.{Step, node_of}
 use Rattle.link_core.specs.Moves.{move_of, made, Goes}
 use Rattle.link_core.specs.Shown.{has_line, Sits, Lies, at_home, in_hand, granted, left, Matches}
-use Rattle.link_core.specs.Progress.{sum_over, is_productive, asked_by, to_go, to_go_at, all_to_go, rank, rank_at, asks_behind, GoesDown}
+use Rattle.link_core.specs.Progress.{sum_over, is_productive, asked_by, steps_left, steps_left_at, all_steps_left, rank, rank_at, asks_behind, GoesDown}
 use Rattle.link_core.proofs.Sums.{sum_le, sum_has}
 use Rattle.link_core.proofs.Costs.{is_asking, Pays, alone, ends, unfastens, passes, asks, step_pays}
 use Rattle.link_core.proofs.Ranks.{last_not_behind, behind_own, behind_other, least_by, over_all, by_own, own_falls, sum_most, sum_falls}
@@ -33,32 +33,32 @@ linking_some : (b : Bool) → 4 ≤ cond b 4 5
 linking_some true = omega arith
 linking_some false = omega arith
 
-module _ {terms : Terms} {c : State} {q : Queue} (s : Matches terms c q) where
+module _ {config : LineConfig} {c : State} {q : Queue} (s : Matches config c q) where
   -- a request behind the one at its turn has all its way to go
-  waits_to_go : (m p : ℕ) → IsNode c m → IsLast q.order m p → length q.ends < p → p < length q.order → asker q.order p ≡ m → (x : Point) → point c m ≡ x → Sits c q.order q.ends m x → 4 ≤ to_go_at c (entry c m) x
-  waits_to_go m p a last b l f Idle e y = let k = y p last in absurd (omega arith)
-  waits_to_go m p a last b l f Ready e y = let k = y.0 p last in absurd (omega arith)
-  waits_to_go m p a last b l f Shut e y = let k = y p last in absurd (omega arith)
-  waits_to_go m p a last b l f Left e y = let k = y p last in absurd (omega arith)
-  waits_to_go m p a last b l f Freeing e y = let k = has_ended y.0 p last in absurd (omega arith)
-  waits_to_go m p a last b l f (Linking x) e y = linking_some (entry c x).done
-  waits_to_go m p a last b l f Queued e y = omega arith
-  waits_to_go m p a last b l f Rolled e y =
+  waits_steps_left : (m p : ℕ) → IsNode c m → IsLast q.order m p → length q.ends < p → p < length q.order → requester_at q.order p ≡ m → (x : Point) → point c m ≡ x → Sits c q.order q.ends m x → 4 ≤ steps_left_at c (entry c m) x
+  waits_steps_left m p a last b l f Idle e y = let k = y p last in absurd (omega arith)
+  waits_steps_left m p a last b l f Ready e y = let k = y.0 p last in absurd (omega arith)
+  waits_steps_left m p a last b l f Shut e y = let k = y p last in absurd (omega arith)
+  waits_steps_left m p a last b l f Left e y = let k = y p last in absurd (omega arith)
+  waits_steps_left m p a last b l f Freeing e y = let k = has_ended y.0 p last in absurd (omega arith)
+  waits_steps_left m p a last b l f (Linking x) e y = linking_some (entry c x).done
+  waits_steps_left m p a last b l f Queued e y = omega arith
+  waits_steps_left m p a last b l f Rolled e y =
       let k = s.fresh p (omega arith) l in
       let free : (entry c m).freed ≡ false = ap (λ (x : ℕ). (entry c x).freed) (sym f) ∙ k.freed in
       rw free (elim (cases_Bool (entry c m).granted) [
         | inl z ↦ let g = k.granted (ap (λ (x : ℕ). (entry c x).granted) f ∙ z) in absurd (omega arith)
         | inr z ↦ rw z (omega arith)
       ])
-  waits_to_go m p a last b l f Holding e y = absurd (later_other s a (ap has_line e) p b l f)
-  waits_to_go m p a last b l f (Leaving x) e y = absurd (later_other s a (ap has_line e) p b l f)
-  waits_to_go m p a last b l f (Marking x) e y = absurd (later_other s a (ap has_line e) p b l f)
-  waits_to_go m p a last b l f (Granting x) e y = absurd (later_other s a (ap has_line e) p b l f)
+  waits_steps_left m p a last b l f Holding e y = absurd (later_other s a (ap has_line e) p b l f)
+  waits_steps_left m p a last b l f (Leaving x) e y = absurd (later_other s a (ap has_line e) p b l f)
+  waits_steps_left m p a last b l f (Marking x) e y = absurd (later_other s a (ap has_line e) p b l f)
+  waits_steps_left m p a last b l f (Granting x) e y = absurd (later_other s a (ap has_line e) p b l f)
 
-  later_to_go : (p : ℕ) → length q.ends < p → p < length q.order → 4 ≤ to_go c (asker q.order p)
-  later_to_go p b l = let a = s.nodes p l in waits_to_go (asker q.order p) p a (s.distinct p (omega arith) l) b l refl (point c (asker q.order p)) refl (s.sits (asker q.order p) a)
+  later_steps_left : (p : ℕ) → length q.ends < p → p < length q.order → 4 ≤ steps_left c (requester_at q.order p)
+  later_steps_left p b l = let a = s.nodes p l in waits_steps_left (requester_at q.order p) p a (s.distinct p (omega arith) l) b l refl (point c (requester_at q.order p)) refl (s.sits (requester_at q.order p) a)
 
-  -- home names somebody exactly where a request is open
+  -- home names a node exactly if a request is open
   pub open_by_home : c.home ≢ 0 → length q.ends < length q.order
   open_by_home ne = elim (cases_lt (length q.ends) (length q.order)) [
     | inl l ↦ l
@@ -73,14 +73,14 @@ module _ {terms : Terms} {c : State} {q : Queue} (s : Matches terms c q) where
       omega arith
 
   -- and then at least three events are to go
-  has_three : (n : ℕ) → IsNode c n → 3 ≤ to_go c n → 3 ≤ all_to_go c
-  has_three n a l = let k = sum_has c.nodes n (to_go c) a.0 a.1 in omega arith
+  has_three : (n : ℕ) → IsNode c n → 3 ≤ steps_left c n → 3 ≤ all_steps_left c
+  has_three n a l = let k = sum_has c.nodes n (steps_left c) a.0 a.1 in omega arith
 
-  held_three : (n : ℕ) → IsNode c n → (x : Point) → point c n ≡ x → has_line x ≡ true → Sits c q.order q.ends n x → 3 ≤ all_to_go c
-  held_three n a Holding e f y = has_three n a (let k : to_go c n ≡ 3 = ap (to_go_at c (entry c n)) e in omega arith)
-  held_three n a (Leaving x) e f y = has_three n a (let k : to_go c n ≡ 3 = ap (to_go_at c (entry c n)) e in omega arith)
-  held_three n a (Marking x) e f y = let l = y.1 in has_three (asker q.order (length q.ends + 1)) (s.nodes (length q.ends + 1) l) (let k = later_to_go (length q.ends + 1) (omega arith) l in omega arith)
-  held_three n a (Granting x) e f y = let l = y.1 in has_three (asker q.order (length q.ends + 1)) (s.nodes (length q.ends + 1) l) (let k = later_to_go (length q.ends + 1) (omega arith) l in omega arith)
+  held_three : (n : ℕ) → IsNode c n → (x : Point) → point c n ≡ x → has_line x ≡ true → Sits c q.order q.ends n x → 3 ≤ all_steps_left c
+  held_three n a Holding e f y = has_three n a (let k : steps_left c n ≡ 3 = ap (steps_left_at c (entry c n)) e in omega arith)
+  held_three n a (Leaving x) e f y = has_three n a (let k : steps_left c n ≡ 3 = ap (steps_left_at c (entry c n)) e in omega arith)
+  held_three n a (Marking x) e f y = let l = y.1 in has_three (requester_at q.order (length q.ends + 1)) (s.nodes (length q.ends + 1) l) (let k = later_steps_left (length q.ends + 1) (omega arith) l in omega arith)
+  held_three n a (Granting x) e f y = let l = y.1 in has_three (requester_at q.order (length q.ends + 1)) (s.nodes (length q.ends + 1) l) (let k = later_steps_left (length q.ends + 1) (omega arith) l in omega arith)
   held_three n a Idle e f y = cc
   held_three n a Ready e f y = cc
   held_three n a Shut e f y = cc
@@ -90,24 +90,24 @@ module _ {terms : Terms} {c : State} {q : Queue} (s : Matches terms c q) where
   held_three n a Queued e f y = cc
   held_three n a Rolled e f y = cc
 
-  turn_node : (t : ℕ) → length q.ends < length q.order → asker q.order (length q.ends) ≡ t → IsNode c t
+  turn_node : (t : ℕ) → length q.ends < length q.order → requester_at q.order (length q.ends) ≡ t → IsNode c t
   turn_node t l e = subst (λ (x : ℕ). IsNode c x) e (s.nodes (length q.ends) l)
 
-  three_left : length q.ends < length q.order → Lies terms c q.order q.ends → 3 ≤ all_to_go c
+  three_left : length q.ends < length q.order → Lies config c q.order q.ends → 3 ≤ all_steps_left c
   three_left l (at_home e b w) = absurd (omega arith)
   three_left l (in_hand n _ a b f g h) = held_three n a (point c n) refl f (s.sits n a)
-  three_left l (granted t _ b e f g w) = has_three t (turn_node t l b) (let k : to_go c t ≡ 4 = ap (to_go_at c (entry c t)) g in omega arith)
-  three_left l (left t x _ b e f g h i w) = has_three t (turn_node t l b) (let k : to_go c t ≡ cond (entry c x).done 4 5 = ap (to_go_at c (entry c t)) i in let j = linking_some (entry c x).done in omega arith)
+  three_left l (granted t _ b e f g w) = has_three t (turn_node t l b) (let k : steps_left c t ≡ 4 = ap (steps_left_at c (entry c t)) g in omega arith)
+  three_left l (left t x _ b e f g h i w) = has_three t (turn_node t l b) (let k : steps_left c t ≡ cond (entry c x).done 4 5 = ap (steps_left_at c (entry c t)) i in let j = linking_some (entry c x).done in omega arith)
 
-  pub busy_has_three : c.home ≢ 0 → 3 ≤ all_to_go c
+  pub busy_has_three : c.home ≢ 0 → 3 ≤ all_steps_left c
   busy_has_three ne = three_left (open_by_home ne) s.lies
 
 -- the rank, by home
-pub rank_idle : (c : State) → c.home ≡ 0 → rank c ≡ all_to_go c
-rank_idle c e = ap (λ (h : ℕ). cond (eqb h 0) (all_to_go c) (all_to_go c - 2)) e
+pub rank_idle : (c : State) → c.home ≡ 0 → rank c ≡ all_steps_left c
+rank_idle c e = ap (λ (h : ℕ). cond (eqb h 0) (all_steps_left c) (all_steps_left c - 2)) e
 
-pub rank_busy : (c : State) → c.home ≢ 0 → rank c ≡ all_to_go c - 2
-rank_busy c ne = let e : eqb c.home 0 ≡ false = let t = ne in grind (arith, nat_tests) in ap (λ b. cond b (all_to_go c) (all_to_go c - 2)) e
+pub rank_busy : (c : State) → c.home ≢ 0 → rank c ≡ all_steps_left c - 2
+rank_busy c ne = let e : eqb c.home 0 ≡ false = let t = ne in grind (arith, nat_tests) in ap (λ b. cond b (all_steps_left c) (all_steps_left c - 2)) e
 
 -- the order and the ends after a move
 made_order : (q : Queue) (m : Option Move) → is_asking m ≡ false → (made q m).order ≡ q.order
@@ -122,7 +122,7 @@ made_ends q (Some (ask n)) = omega arith
 made_ends q (Some (mark r)) = omega arith
 made_ends q (Some (finish x)) = omega (arith, length-append q.ends (x ∷ []))
 
-module _ {terms : Terms} {c : State} {q : Queue} (w : IsWide c) (s : Matches terms c q) {e : Event} {t : Answer} {d : State} (k : Step c e t d) (r : Queue) (goes : Goes terms q (move_of k q.order) r) where
+module _ {config : LineConfig} {c : State} {q : Queue} (w : IsWide c) (s : Matches config c q) {e : Event} {t : Answer} {d : State} (k : Step c e t d) (r : Queue) (goes : Goes config q (move_of k q.order) r) where
   abbrev n : ℕ
   n = node_of e
 
@@ -136,7 +136,7 @@ module _ {terms : Terms} {c : State} {q : Queue} (w : IsWide c) (s : Matches ter
   nodes = (step_sizes c k).0
 
   pays : Pays c d n (is_productive e t) (asked_by e) move
-  pays = step_pays terms c q w s k
+  pays = step_pays config c q w s k
 
   pub ends_more : length q.ends ≤ length r.ends
   ends_more = let a = made_ends q move in let b : length r.ends ≡ length (made q move).ends = ap (λ (g : Queue). length g.ends) goes.cleared.2 in omega arith
@@ -166,25 +166,25 @@ module _ {terms : Terms} {c : State} {q : Queue} (w : IsWide c) (s : Matches ter
         let come : j.at ≤ p = elim j.come [ inl f ↦ let g = slice_get_within q.ends j.at Gone f in omega arith | inr f ↦ let g = f.0 in omega arith ] in
         last_not_behind q.order p x j.at (subst (λ (y : ℕ). IsLast q.order y j.at) z j.last) come
 
-    to_same : (o2 : List Request) → r.order ≡ o2 → sum_over c.nodes (λ (m : ℕ). cond (asks_behind o2 p m) 0 (to_go d m)) ≡ rank_at d r.order p
+    to_same : (o2 : List Request) → r.order ≡ o2 → sum_over c.nodes (λ (m : ℕ). cond (asks_behind o2 p m) 0 (steps_left d m)) ≡ rank_at d r.order p
     to_same o2 f =
-        ap (λ (z : ℕ). sum_over z (λ (m : ℕ). cond (asks_behind o2 p m) 0 (to_go d m))) (sym nodes)
-        ∙ ap (λ (o : List Request). sum_over d.nodes (λ (m : ℕ). cond (asks_behind o p m) 0 (to_go d m))) (sym f)
+        ap (λ (z : ℕ). sum_over z (λ (m : ℕ). cond (asks_behind o2 p m) 0 (steps_left d m))) (sym nodes)
+        ∙ ap (λ (o : List Request). sum_over d.nodes (λ (m : ℕ). cond (asks_behind o p m) 0 (steps_left d m))) (sym f)
 
     quiet : is_asking move ≡ false → rank_at d r.order p ≤ rank_at c q.order p
     quiet f = let a = sum_most c d n is v (λ m x f at _. next m x f at) f pays in let b = to_same q.order (order_same f) in omega arith
 
-    asking : move ≡ Some (ask n) → ((m : ℕ) → IsNode c m → m ≢ n → to_go d m ≤ to_go c m) → rank_at d r.order p ≤ rank_at c q.order p
+    asking : move ≡ Some (ask n) → ((m : ℕ) → IsNode c m → m ≢ n → steps_left d m ≤ steps_left c m) → rank_at d r.order p ≤ rank_at c q.order p
     asking f g =
         let o2 = q.order ++ next_of n q.order ∷ [] in
-        let a = sum_le c.nodes (λ (m : ℕ). cond (asks_behind o2 p m) 0 (to_go d m)) (over_all c v) each in
+        let a = sum_le c.nodes (λ (m : ℕ). cond (asks_behind o2 p m) 0 (steps_left d m)) (over_all c v) each in
         let b = to_same o2 (order_asked f) in
         omega arith
       where
-        each : (m : ℕ) → 0 < m → m ≤ c.nodes → cond (asks_behind (q.order ++ next_of n q.order ∷ []) p m) 0 (to_go d m) ≤ over_all c v m
+        each : (m : ℕ) → 0 < m → m ≤ c.nodes → cond (asks_behind (q.order ++ next_of n q.order ∷ []) p m) 0 (steps_left d m) ≤ over_all c v m
         each m a b = elim (cases_eq m n) [
           | inl z ↦ rw (ap (asks_behind (q.order ++ next_of n q.order ∷ []) p) z ∙ behind_own q.order (next_of n q.order) p l) (omega arith)
-          | inr z ↦ rw (behind_other q.order (next_of n q.order) p m l z) (least_by (v m) (to_go d m) (to_go c m) (g m (a, b) z))
+          | inr z ↦ rw (behind_other q.order (next_of n q.order) p m l z) (least_by (v m) (steps_left d m) (steps_left c m) (g m (a, b) z))
         ]
 
     most_by : Pays c d n (is_productive e t) (asked_by e) move → rank_at d r.order p ≤ rank_at c q.order p
@@ -208,28 +208,28 @@ module _ {terms : Terms} {c : State} {q : Queue} (w : IsWide c) (s : Matches ter
   abbrev none : ℕ → Bool
   none _ = false
 
-  all_same : sum_over c.nodes (to_go d) ≡ all_to_go d
-  all_same = ap (λ (z : ℕ). sum_over z (to_go d)) (sym nodes)
+  all_same : sum_over c.nodes (steps_left d) ≡ all_steps_left d
+  all_same = ap (λ (z : ℕ). sum_over z (steps_left d)) (sym nodes)
 
-  ends_all : ((m : ℕ) → IsNode c m → m ≢ n → to_go d m ≤ to_go c m) → to_go d n + 3 ≤ to_go c n → all_to_go d + 3 ≤ all_to_go c
+  ends_all : ((m : ℕ) → IsNode c m → m ≢ n → steps_left d m ≤ steps_left c m) → steps_left d n + 3 ≤ steps_left c n → all_steps_left d + 3 ≤ all_steps_left c
   ends_all f l = let a = own_falls c d n is none 3 refl f l in let b = all_same in omega arith
 
-  asks_all : ((m : ℕ) → IsNode c m → m ≢ n → to_go d m ≤ to_go c m) → to_go d n ≤ to_go c n + 5 → all_to_go d ≤ all_to_go c + 5
+  asks_all : ((m : ℕ) → IsNode c m → m ≢ n → steps_left d m ≤ steps_left c m) → steps_left d n ≤ steps_left c n + 5 → all_steps_left d ≤ all_steps_left c + 5
   asks_all f l = let a = by_own c d n is none f in let b = all_same in omega arith
 
-  most_all : is_asking move ≡ false → all_to_go d ≤ all_to_go c
+  most_all : is_asking move ≡ false → all_steps_left d ≤ all_steps_left c
   most_all f = let a = sum_most c d n is none (λ m x f at _. refl) f pays in let b = all_same in omega arith
 
-  falls_all : is_productive e t ≡ true → all_to_go d < all_to_go c
+  falls_all : is_productive e t ≡ true → all_steps_left d < all_steps_left c
   falls_all y = let a = sum_falls c d n is none (λ m x f at. refl) (λ x rest at ps. refl) refl y pays in let b = all_same in omega arith
 
-  by_home : d.home ≡ c.home → all_to_go d ≤ all_to_go c → rank d ≤ rank c
+  by_home : d.home ≡ c.home → all_steps_left d ≤ all_steps_left c → rank d ≤ rank c
   by_home h l = elim (cases_eq c.home 0) [
     | inl z ↦ let a = rank_idle c z in let b = rank_idle d (h ∙ z) in omega arith
     | inr z ↦ let a = rank_busy c z in let b = rank_busy d (λ y. z (sym h ∙ y)) in omega arith
   ]
 
-  falls_by_home : d.home ≡ c.home → all_to_go d < all_to_go c → rank d < rank c
+  falls_by_home : d.home ≡ c.home → all_steps_left d < all_steps_left c → rank d < rank c
   falls_by_home h l = elim (cases_eq c.home 0) [
     | inl z ↦ let a = rank_idle c z in let b = rank_idle d (h ∙ z) in omega arith
     | inr z ↦ let a = rank_busy c z in let b = rank_busy d (λ y. z (sym h ∙ y)) in let m = busy_has_three s z in omega arith

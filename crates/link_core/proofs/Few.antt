@@ -1,27 +1,27 @@
 -- The open requests are of different nodes, so they are no more than the nodes.
-use Rattle.qolb_model.specs.declared.terms.Terms.{Terms}
+use Rattle.qolb_model.specs.declared.config.LineConfig.{LineConfig}
 use Rattle.std.proofs.Common.{◌≡◌, ℕ, suc, ◌+◌, ◌<◌, ◌≤◌, List, length, map, drop, sym, ◌∙◌, ap, subst, arith}
 use Rattle.std.specs.Prelude.{slice_index_or}
 use Rattle.std.proofs.lemmas.List.{get_or-drop, length-drop, length-map}
 use Rattle.std.proofs.Math.ListN.{get_or-map}
 use Rattle.qolb_model.specs.declared.request.Request.{Request}
 use Rattle.qolb_model.specs.Queue.{Queue}
-use Rattle.link_core.specs.Places.{nobody, asker, IsLast}
+use Rattle.link_core.specs.Places.{nobody, requester_at, IsLast}
 use Rattle.link_core.specs.State.{State}
 use Rattle.link_core.specs.Shown.{Matches}
 use Rattle.link_core.specs.Laws.{AreFew}
 use Rattle.link_core.proofs.Orders.{last_once}
 use Rattle.link_core.proofs.Short.{few}
 
-module _ {terms : Terms} {c : State} {q : Queue} (s : Matches terms c q) where
-  apart : (p i : ℕ) → length q.ends ≤ p → p < length q.order → length q.ends ≤ i → i < length q.order → asker q.order p ≡ asker q.order i → p ≡ i
-  apart p i a l b k e = last_once q.order (asker q.order i) p i (subst (λ (m : ℕ). IsLast q.order m p) e (s.distinct p a l)) (s.distinct i b k)
+module _ {config : LineConfig} {c : State} {q : Queue} (s : Matches config c q) where
+  apart : (p i : ℕ) → length q.ends ≤ p → p < length q.order → length q.ends ≤ i → i < length q.order → requester_at q.order p ≡ requester_at q.order i → p ≡ i
+  apart p i a l b k e = last_once q.order (requester_at q.order i) p i (subst (λ (m : ℕ). IsLast q.order m p) e (s.distinct p a l)) (s.distinct i b k)
 
   -- the nodes of the requests behind the one at its turn
   abbrev later : List ℕ
   later = map (λ (r : Request). r.node) (drop (suc (length q.ends)) q.order)
 
-  later_at : (i : ℕ) → slice_index_or later i 0 ≡ asker q.order (suc (length q.ends) + i)
+  later_at : (i : ℕ) → slice_index_or later i 0 ≡ requester_at q.order (suc (length q.ends) + i)
   later_at i = get_or-map (λ (r : Request). r.node) (drop (suc (length q.ends)) q.order) i nobody
       ∙ ap (λ (r : Request). r.node) (get_or-drop (suc (length q.ends)) q.order i nobody)
 
@@ -35,7 +35,7 @@ module _ {terms : Terms} {c : State} {q : Queue} (s : Matches terms c q) where
   few_later l =
       let long = later_long l in
       let turn = s.nodes (length q.ends) l in
-      few later (asker q.order (length q.ends)) c.nodes turn.1 turn.0
+      few later (requester_at q.order (length q.ends)) c.nodes turn.1 turn.0
       (λ i b.
       let at = later_at i in
       let node = s.nodes (suc (length q.ends) + i) (omega arith) in

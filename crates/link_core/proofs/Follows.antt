@@ -1,12 +1,12 @@
 -- What follows when a state shows a history.
-use Rattle.qolb_model.specs.declared.terms.Terms.{Terms}
+use Rattle.qolb_model.specs.declared.config.LineConfig.{LineConfig}
 use Rattle.std.proofs.Common.{◌≡◌, ◌≢◌, ℕ, suc, ◌+◌, ◌<◌, Bool, true, false, ◌&&◌, List, [], ◌∷◌, ◌⊎◌, length, refl, sym, ◌∙◌, ap, subst, inl, inr, arith, eqb}
 use Rattle.std.specs.Prelude.{slice_index_or}
 use Rattle.link_core.specs.declared.point.Point.{Point}
 use Rattle.link_core.specs.declared.point.Point.TheVariants.{Idle, Ready, Linking, Queued, Holding, Leaving, Marking, Granting, Freeing, Left, Rolled, Shut}
 use Rattle.link_core.specs.declared.place.Place.TheVariants.{Home, Mailbox, Hand}
 use Rattle.link_core.specs.declared.entry.Entry.{Entry}
-use Rattle.link_core.specs.Places.{asker, IsLast}
+use Rattle.link_core.specs.Places.{requester_at, IsLast}
 use Rattle.qolb_model.specs.Queue.{Queue}
 use Rattle.link_core.specs.State.{State, entry, seat, point, IsNode, last_or, current, is_clear}
 use Rattle.link_core.specs.Shown.{is_rolled, has_line, IsWhole, IsCarried, Lies, at_home, in_hand, granted, left, IsBehind, IsWaiting, Sits, IsPassed, Matches}
@@ -54,7 +54,7 @@ lined_unrolled _ e = refl
 rolled_unclear : (w : Entry) → w.done ≡ true → w.link ≡ 0 → is_clear Rolled w ≡ false
 rolled_unclear w a b = rw (a, b) (and_false w.freed)
 
-module _ {terms : Terms} {c : State} {h : Queue} (s : Matches terms c h) where
+module _ {config : LineConfig} {c : State} {h : Queue} (s : Matches config c h) where
   pub current_cases : (n : ℕ) → IsNode c n → (((seat c n).passed ≡ []) × (current c n ≡ n)) ⊎ IsPassed c h.order h.ends n (current c n)
   current_cases n a = elim (last_or_cases n (seat c n).passed) [
     | inl e ↦ inl e
@@ -71,8 +71,8 @@ module _ {terms : Terms} {c : State} {h : Queue} (s : Matches terms c h) where
   pub sits_at : (n : ℕ) (p : Point) → IsNode c n → point c n ≡ p → Sits c h.order h.ends n p
   sits_at n p a e = subst (λ (p : Point). Sits c h.order h.ends n p) e (s.sits n a)
 
-  -- who is to link at its turn finds the line left for it
-  pub left_for : (x q : ℕ) → Lies terms c h.order h.ends → length h.ends < length h.order → asker h.order (length h.ends) ≡ x → point c x ≡ Linking q → (c.place ≡ Mailbox q) × ((entry c q).done ≡ true) × ((point c q ≡ Left) ⊎ (point c q ≡ Rolled)) × IsWhole terms c h.ends
+  -- a node that is to link at its turn finds the line left for it
+  pub left_for : (x q : ℕ) → Lies config c h.order h.ends → length h.ends < length h.order → requester_at h.order (length h.ends) ≡ x → point c x ≡ Linking q → (c.place ≡ Mailbox q) × ((entry c q).done ≡ true) × ((point c q ≡ Left) ⊎ (point c q ≡ Rolled)) × IsWhole config c h.ends
   left_for x q (at_home e b w) l t p = absurd (omega arith)
   left_for x q (in_hand r a i b f g y) l t p = elim (turn_in_hand r i f) [
     | inl k ↦ let e : has_line (Linking q) ≡ true = ap has_line (sym p) ∙ ap (λ (n : ℕ). has_line (point c n)) (sym t ∙ g) ∙ k in cc
@@ -120,7 +120,7 @@ module _ {terms : Terms} {c : State} {h : Queue} (s : Matches terms c h) where
         | inr g ↦
             let t : length h.ends ≡ b.at + 1 = let w = b.waits in omega arith in
             let k = b.own.known in
-            let y = left_for x q s.lies (omega arith) (ap (asker h.order) t ∙ b.own.its) e in
+            let y = left_for x q s.lies (omega arith) (ap (requester_at h.order) t ∙ b.own.its) e in
             elim y.2 [
               | inl z ↦ ap (λ (p : Point). is_clear p (entry c q)) z ∙ ap (λ (n : ℕ). not (eqb n 0)) b.unlinked
               | inr z ↦ ap (λ (p : Point). is_clear p (entry c q)) z ∙ rolled_unclear (entry c q) y.1 b.unlinked
@@ -150,11 +150,11 @@ module _ {terms : Terms} {c : State} {h : Queue} (s : Matches terms c h) where
   granting_link n m a e z =
       let y = sits_at n (Granting m) a e in
       let i = s.nodes (length h.ends + 1) y.1 in
-      let k : asker h.order (length h.ends + 1) ≡ 0 = y.2 ∙ sym y.3 ∙ z in
+      let k : requester_at h.order (length h.ends + 1) ≡ 0 = y.2 ∙ sym y.3 ∙ z in
       omega arith
 
   -- the line in a hand
-  pub hand_lies : (n : ℕ) → c.place ≡ Hand n → Lies terms c h.order h.ends → (length h.ends < length h.order) × (IsNode c n) × (has_line (point c n) ≡ true) × (asker h.order (length h.ends) ≡ current c n) × (IsCarried terms c h.order h.ends n (seat c n).reason (seat c n).passed)
+  pub hand_lies : (n : ℕ) → c.place ≡ Hand n → Lies config c h.order h.ends → (length h.ends < length h.order) × (IsNode c n) × (has_line (point c n) ≡ true) × (requester_at h.order (length h.ends) ≡ current c n) × (IsCarried config c h.order h.ends n (seat c n).reason (seat c n).passed)
   hand_lies n e (at_home a b w) = let k : Hand n ≡ Home = sym e ∙ b in cc
   hand_lies n e (in_hand r a i b f g y) =
       let k : Hand n ≡ Hand r = sym e ∙ b in
@@ -163,20 +163,20 @@ module _ {terms : Terms} {c : State} {h : Queue} (s : Matches terms c h) where
   hand_lies n e (granted y a b k f g w) = let j : Hand n ≡ Mailbox y = sym e ∙ k in cc
   hand_lies n e (left y z a b k f g i j w) = let x : Hand n ≡ Mailbox z = sym e ∙ k in cc
 
-  -- where the request before one that is to link is done, the later one is at its turn
+  -- if the request before one that is to link is done, the later one is at its turn
   pub done_turn : (x q : ℕ) → IsNode c x → point c x ≡ Linking q → (entry c q).done ≡ true → (b : IsBehind c h.order h.ends q x) → length h.ends ≡ b.at + 1
   done_turn x q a e f b = elim (cases_lt (length h.ends) (b.at + 1)) [
     | inl l ↦
         let y = (s.fresh b.at (omega arith) b.before.known).done (ap (λ (m : ℕ). (entry c m).done) b.before.its ∙ f) in
         let g = y.1 in
         let t = hand_lies g.by g.place s.lies in
-        let k : current c g.by ≡ q = sym t.3 ∙ ap (asker h.order) (sym y.0) ∙ b.before.its in
+        let k : current c g.by ≡ q = sym t.3 ∙ ap (requester_at h.order) (sym y.0) ∙ b.before.its in
         absurd (granting_link g.by g.to g.node g.point (ap (λ (m : ℕ). (entry c m).link) k ∙ b.unlinked))
     | inr g ↦ let w = b.waits in omega arith
   ]
 
-  -- who waits at its turn finds the line granted
-  pub granted_for : (x : ℕ) → Lies terms c h.order h.ends → length h.ends < length h.order → asker h.order (length h.ends) ≡ x → point c x ≡ Queued → (c.place ≡ Mailbox x) × ((entry c x).granted ≡ true) × IsWhole terms c h.ends
+  -- a node that waits at its turn finds the line granted
+  pub granted_for : (x : ℕ) → Lies config c h.order h.ends → length h.ends < length h.order → requester_at h.order (length h.ends) ≡ x → point c x ≡ Queued → (c.place ≡ Mailbox x) × ((entry c x).granted ≡ true) × IsWhole config c h.ends
   granted_for x (at_home e b w) l t p = absurd (omega arith)
   granted_for x (in_hand r a i b f g y) l t p = elim (turn_in_hand r i f) [
     | inl k ↦ let e : has_line Queued ≡ true = ap has_line (sym p) ∙ ap (λ (n : ℕ). has_line (point c n)) (sym t ∙ g) ∙ k in cc
@@ -199,6 +199,6 @@ module _ {terms : Terms} {c : State} {h : Queue} (s : Matches terms c h) where
     | inr l ↦
         let t : length h.ends ≡ b.at = let w = b.waits in omega arith in
         let k = b.own.known in
-        let y = granted_for x s.lies (omega arith) (ap (asker h.order) t ∙ b.own.its) e in
+        let y = granted_for x s.lies (omega arith) (ap (requester_at h.order) t ∙ b.own.its) e in
         let z = y.1 in cc
   ]

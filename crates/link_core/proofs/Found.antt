@@ -1,5 +1,5 @@
 -- What the nodes find, and what the ends of a history say.
-use Rattle.qolb_model.specs.declared.terms.Terms.{Terms}
+use Rattle.qolb_model.specs.declared.config.LineConfig.{LineConfig}
 use Rattle.std.proofs.Common.{◌≡◌, ◌≢◌, ℕ, zero, suc, ◌+◌, ◌-◌, ◌<◌, ◌≤◌, ◌⊎◌, Bool, true, false, ◌||◌, List, [], ◌∷◌, length, take, Option, Some, None, slice_get, refl, sym, ◌∙◌, ap, subst, inl, inr, arith}
 use Rattle.std.proofs.lemmas.Bool.{or_right}
 use Rattle.qolb_model.specs.declared.end.End.{End}
@@ -11,10 +11,10 @@ use Rattle.qolb_model.proofs.Runs.{has_cleared_none, has_cleared_twice}
 use Rattle.link_core.specs.declared.point.Point.TheVariants.{Idle, Ready, Linking, Queued, Holding, Leaving, Marking, Granting, Freeing, Left, Rolled, Shut}
 use Rattle.link_core.specs.declared.point.Point.{Point}
 use Rattle.link_core.specs.declared.place.Place.TheVariants.{Home, Hand}
-use Rattle.link_core.specs.declared.seat.Reason.{Reason}
-use Rattle.link_core.specs.declared.seat.Reason.TheVariants.{Own, Closing, Refused}
+use Rattle.link_core.specs.declared.seat.ReleaseCause.{ReleaseCause}
+use Rattle.link_core.specs.declared.seat.ReleaseCause.TheVariants.{Own, Closing, Refused}
 use Rattle.link_core.specs.declared.event.Event.{Event}
-use Rattle.link_core.specs.Places.{asker, IsLast}
+use Rattle.link_core.specs.Places.{requester_at, IsLast}
 use Rattle.link_core.specs.State.{State, entry, point, IsNode}
 use Rattle.link_core.specs.Shown.{has_line, is_active, EndedBy, ByReason, IsWhole, Lies, at_home, in_hand, granted, left, Shows}
 use Rattle.link_core.specs.Moves.{move_of, Goes}
@@ -32,7 +32,7 @@ use Rattle.link_core.proofs.Sound.{names}
 use Rattle.link_core.proofs.Others.{one_hand, linked_box, granted_box, idle_home}
 use Rattle.link_core.proofs.Unset.{done_unset, granted_unset, rolled_unset, link_unset, freed_unset}
 
-module _ {terms : Terms} {c : State} {q : Queue} (s : Shows terms c q) where
+module _ {config : LineConfig} {c : State} {q : Queue} (s : Shows config c q) where
   pub unset : Unset c
   unset = record {
     link = link_unset s.matches;
@@ -49,14 +49,14 @@ module _ {terms : Terms} {c : State} {q : Queue} (s : Shows terms c q) where
   next : (n m : ℕ) (b : Bool) → IsNode c n → point c n ≡ Granting m → (entry c m).rolled ≡ b → ((b ≡ false) × (point c m ≡ Queued)) ⊎ ((b ≡ true) × (point c m ≡ Rolled))
   next n m b a at e = next_by m b e (node_m s.matches a at) (granted_point s.matches a at)
 
-  whole : ((n : ℕ) → c.place ≢ Hand n) → Lies terms c q.order q.ends → IsWhole terms c q.ends
+  whole : ((n : ℕ) → c.place ≢ Hand n) → Lies config c q.order q.ends → IsWhole config c q.ends
   whole nowhere (at_home a b w) = w
   whole nowhere (in_hand n a b e f g h) = absurd (nowhere n e)
   whole nowhere (granted t a b e f g w) = w
   whole nowhere (left t x a b e f g h i w) = w
 
-  -- the node at its turn, and who has the line, are active
-  over : ((n : ℕ) → IsNode c n → is_active (point c n) ≡ false) → Lies terms c q.order q.ends → (length q.ends ≡ length q.order) × (c.place ≡ Home)
+  -- the node at its turn, and the node that has the line, are active
+  over : ((n : ℕ) → IsNode c n → is_active (point c n) ≡ false) → Lies config c q.order q.ends → (length q.ends ≡ length q.order) × (c.place ≡ Home)
   over rest (at_home a b w) = (a, b)
   over rest (in_hand n a b e f g h) = absurd (never (active (point c n) f) (rest n b))
     where
@@ -77,14 +77,14 @@ module _ {terms : Terms} {c : State} {q : Queue} (s : Shows terms c q) where
   over rest (left t x a b e f g h i w) = absurd (never (ap is_active i) (rest t (subst (λ (x : ℕ). IsNode c x) b (s.matches.nodes (length q.ends) a))))
 
   -- home names the newest open request
-  home_newest : (p : ℕ) → length q.ends ≤ p → p < length q.order → c.home ≡ asker q.order p → p + 1 ≡ length q.order
+  home_newest : (p : ℕ) → length q.ends ≤ p → p < length q.order → c.home ≡ requester_at q.order p → p + 1 ≡ length q.order
   home_newest p a l e =
       let z : ℕ = length q.order - 1 in
       let newest = s.matches.home_last z (omega arith) (omega arith) in
-      let k = last_once q.order (asker q.order p) z p (subst (λ (m : ℕ). IsLast q.order m z) (sym newest ∙ e) (s.matches.distinct z (omega arith) (omega arith))) (s.matches.distinct p a l) in
+      let k = last_once q.order (requester_at q.order p) z p (subst (λ (m : ℕ). IsLast q.order m z) (sym newest ∙ e) (s.matches.distinct z (omega arith) (omega arith))) (s.matches.distinct p a l) in
       omega arith
 
-  pub found : Found terms c q
+  pub found : Found config c q
   found = record {
     names = names s.matches;
     hand = in_its_hand s.matches;
@@ -137,7 +137,7 @@ closed_since (Served w shut ∷ es) (suc p) e = by shut (closed_since es p) e
 closed_since (Gone ∷ es) (suc p) e = closed_since es p e
 closed_since (Told ∷ es) (suc p) e = closed_since es p e
 
-pub ends_close : (lease : Option ℕ) (q : Queue) (n : ℕ) (r : Reason) → IsLegal lease q.order q.ends → r ≢ Own → EndedBy q.order q.ends n r → is_closed q.ends ≡ true
+pub ends_close : (lease : Option ℕ) (q : Queue) (n : ℕ) (r : ReleaseCause) → IsLegal lease q.order q.ends → r ≢ Own → EndedBy q.order q.ends n r → is_closed q.ends ≡ true
 ends_close lease q n Own l ne e = absurd (ne refl)
 ends_close lease q n Closing l ne e = closed_with q.ends e.at e.end e.ended e.how
 ends_close lease q n Refused l ne e = told e.end e.ended e.how
@@ -148,11 +148,11 @@ ends_close lease q n Refused l ne e = told e.end e.ended e.how
     told Told at k = closed_since q.ends e.at (l.closing e.at Told at)
 
 -- one more move at the end of a run
-runs_more : (terms : Terms) (a b g : Queue) (ms : List Move) (m : Option Move) → Runs terms a ms b → Goes terms b m g → (ns : List Move) × Runs terms a ns g
-runs_more terms a b g [] None r k = ([], has_cleared_twice a b g r k.cleared)
-runs_more terms a b g [] (Some x) r k = (x ∷ [], (b, r, k.may, k.cleared))
-runs_more terms a b g (y ∷ ms) m r k = let rest = runs_more terms (moved r.0 y) b g ms m r.3 k in (y ∷ rest.0, (r.0, r.1, r.2, rest.1))
+runs_more : (config : LineConfig) (a b g : Queue) (ms : List Move) (m : Option Move) → Runs config a ms b → Goes config b m g → (ns : List Move) × Runs config a ns g
+runs_more config a b g [] None r k = ([], has_cleared_twice a b g r k.cleared)
+runs_more config a b g [] (Some x) r k = (x ∷ [], (b, r, k.may, k.cleared))
+runs_more config a b g (y ∷ ms) m r k = let rest = runs_more config (moved r.0 y) b g ms m r.3 k in (y ∷ rest.0, (r.0, r.1, r.2, rest.1))
 
-pub runs_move : {terms : Terms} {es : List Event} {c : State} {q : Queue} → Run terms es c q → (moves : List Move) × Runs terms empty_queue moves q
+pub runs_move : {config : LineConfig} {es : List Event} {c : State} {q : Queue} → Run config es c q → (moves : List Move) × Runs config empty_queue moves q
 runs_move opened = ([], has_cleared_none empty_queue)
-runs_move {terms = terms} (event {c = c} {q = q} r e t d g k goes s) = let before = runs_move r in runs_more terms empty_queue q g before.0 (move_of k q.order) before.1 goes
+runs_move {config = config} (event {c = c} {q = q} r e t d g k goes s) = let before = runs_move r in runs_more config empty_queue q g before.0 (move_of k q.order) before.1 goes

@@ -1,20 +1,20 @@
 -- Freeing a passed node.
-use Rattle.qolb_model.specs.declared.terms.Terms.{Terms}
+use Rattle.qolb_model.specs.declared.config.LineConfig.{LineConfig}
 use Rattle.std.proofs.Common.{◌≡◌, ◌≢◌, ℕ, suc, ◌+◌, ◌<◌, ◌≤◌, true, false, ◌||◌, List, [], ◌∷◌, ◌⊎◌, length, None, refl, sym, ◌∙◌, ap, subst, inl, inr, arith}
 use Rattle.std.specs.Prelude.{slice_index_or}
 use Rattle.link_core.specs.declared.point.Point.{Point}
 use Rattle.link_core.specs.declared.point.Point.TheVariants.{Ready, Linking, Queued, Granting, Freeing, Left, Rolled}
-use Rattle.link_core.specs.declared.seat.Reason.{Reason}
-use Rattle.link_core.specs.declared.seat.Reason.TheVariants.{Own, Closing, Refused}
+use Rattle.link_core.specs.declared.seat.ReleaseCause.{ReleaseCause}
+use Rattle.link_core.specs.declared.seat.ReleaseCause.TheVariants.{Own, Closing, Refused}
 use Rattle.link_core.specs.declared.entry.Entry.{Entry}
-use Rattle.link_core.specs.Places.{asker, IsLast}
+use Rattle.link_core.specs.Places.{requester_at, IsLast}
 use Rattle.qolb_model.specs.Histories.{none}
 use Rattle.qolb_model.specs.Queue.{Queue}
-use Rattle.link_core.specs.State.{State, Seat, entry, seat, point, IsNode, current, is_clear}
+use Rattle.link_core.specs.State.{State, NodeCall, entry, seat, point, IsNode, current, is_clear}
 use Rattle.link_core.specs.Shown.{is_rolled, has_line, is_freeing, EndedBy, HasEnded, Sits, IsPassed, ArePassed, IsOnce, IsGranting, IsFresh, passed, Matches}
 use Rattle.std.proofs.lemmas.Bool.{cases_eq}
 use Rattle.link_core.specs.Steps.{seat_with, told_with, point_at_end}
-use Rattle.link_core.proofs.Deeds.{GoesOn}
+use Rattle.link_core.proofs.Deeds.{Advances}
 use Rattle.std.proofs.lemmas.Option.{slice_get_within}
 use Rattle.qolb_model.specs.declared.end.End.TheVariants.{Gone}
 use Rattle.qolb_model.proofs.Prefixes.{prefix_self}
@@ -29,12 +29,12 @@ use Rattle.link_core.proofs.Close.{close_passed, close_reason, close_unpassed, c
 abbrev pub frees : Entry → Entry
 frees w = record w { freed = true }
 
-module _ (terms : Terms) (c : State) (h : Queue) (n x : ℕ) (rest : List ℕ) (s : Matches terms c h) (is : IsNode c n) (at : point c n ≡ Freeing) (ps : (seat c n).passed ≡ x ∷ rest)
-    (ents : List Entry) (sts : List Seat) (ch : Changed c (record c { entries = ents; seats = sts }) n (seat_with rest (point_at_end (seat c n).reason) (seat c n).reason) x (frees (entry c x))) where
+module _ (config : LineConfig) (c : State) (h : Queue) (n x : ℕ) (rest : List ℕ) (s : Matches config c h) (is : IsNode c n) (at : point c n ≡ Freeing) (ps : (seat c n).passed ≡ x ∷ rest)
+    (ents : List Entry) (sts : List NodeCall) (ch : Changed c (record c { entries = ents; seats = sts }) n (seat_with rest (point_at_end (seat c n).reason) (seat c n).reason) x (frees (entry c x))) where
   abbrev d : State
   d = record c { entries = ents; seats = sts }
 
-  abbrev st : Seat
+  abbrev st : NodeCall
   st = seat_with rest (point_at_end (seat c n).reason) (seat c n).reason
 
   ended : EndedBy h.order h.ends n (seat c n).reason
@@ -61,10 +61,10 @@ module _ (terms : Terms) (c : State) (h : Queue) (n x : ℕ) (rest : List ℕ) (
   apart e = let z : Rolled ≡ Freeing = sym first.point ∙ ap (point c) e ∙ at in cc
 
   -- the open requests are of others
-  open_n : (p : ℕ) → length h.ends ≤ p → p < length h.order → asker h.order p ≢ n
+  open_n : (p : ℕ) → length h.ends ≤ p → p < length h.order → requester_at h.order p ≢ n
   open_n p a l e = let k = over p (subst (λ (m : ℕ). IsLast h.order m p) e (s.distinct p a l)) in absurd (omega arith)
 
-  open_x : (p : ℕ) → length h.ends ≤ p → p < length h.order → asker h.order p ≢ x
+  open_x : (p : ℕ) → length h.ends ≤ p → p < length h.order → requester_at h.order p ≢ x
   open_x p a l e = let k = x_over p (subst (λ (m : ℕ). IsLast h.order m p) e (s.distinct p a l)) in absurd (omega arith)
 
   -- first x is cleared, and then n
@@ -88,13 +88,13 @@ module _ (terms : Terms) (c : State) (h : Queue) (n x : ℕ) (rest : List ℕ) (
   granting : IsGranting c → IsGranting d
   granting g = record { by = g.by; to = g.to; node = g.node; place = g.place; point = point_other ch g.by (at_other ch g.by Freeing (Granting g.to) at g.point (λ e. cc)) ∙ g.point }
 
-  fresh : (p : ℕ) → length h.ends ≤ p → p < length h.order → IsFresh d (length h.ends) (asker h.order p) p
-  fresh p a l = fresh_kept c d (length h.ends) (length h.ends) (asker h.order p) p (ap (λ (w : Entry). w.freed) (ch.entry_other (asker h.order p) (open_x p a l))) (field ch (λ w. w.granted) refl (asker h.order p)) (field ch (λ w. w.done) refl (asker h.order p)) (λ e. e) granting (s.fresh p a l)
+  fresh : (p : ℕ) → length h.ends ≤ p → p < length h.order → IsFresh d (length h.ends) (requester_at h.order p) p
+  fresh p a l = fresh_kept c d (length h.ends) (length h.ends) (requester_at h.order p) p (ap (λ (w : Entry). w.freed) (ch.entry_other (requester_at h.order p) (open_x p a l))) (field ch (λ w. w.granted) refl (requester_at h.order p)) (field ch (λ w. w.done) refl (requester_at h.order p)) (λ e. e) granting (s.fresh p a l)
 
   own_passed : (seat d n).passed ≡ rest
-  own_passed = ap (λ (s : Seat). s.passed) ch.seat_own ∙ close_passed rest (point_at_end (seat c n).reason) (seat c n).reason
+  own_passed = ap (λ (s : NodeCall). s.passed) ch.seat_own ∙ close_passed rest (point_at_end (seat c n).reason) (seat c n).reason
 
-  -- what is still passed stood one place later, at n, or where it stood
+  -- a request that is still passed was one place later, at n, or is at its old place
   passed_cases : (m i : ℕ) → i < length (seat d m).passed → (j : ℕ) × (j < length (seat c m).passed) × (passed d m i ≡ passed c m j) × (((m ≡ n) × (j ≡ i + 1)) ⊎ ((m ≢ n) × (j ≡ i)))
   passed_cases m i l = elim (cases_eq m n) [
     | inl e ↦
@@ -102,7 +102,7 @@ module _ (terms : Terms) (c : State) (h : Queue) (n x : ℕ) (rest : List ℕ) (
         let r : (seat c m).passed ≡ x ∷ rest = ap (λ (m : ℕ). (seat c m).passed) e ∙ ps in
         let len : i < length rest = subst (λ (ps : List ℕ). i < length ps) q l in
         (suc i, subst (λ (ps : List ℕ). suc i < length ps) (sym r) (omega arith), ap (λ (ps : List ℕ). slice_index_or ps i 0) q ∙ ap (λ (ps : List ℕ). slice_index_or ps (suc i) 0) (sym r), inl (e, omega arith))
-    | inr ne ↦ (i, subst (λ (s : Seat). i < length s.passed) (ch.seat_other m ne) l, ap (λ (s : Seat). slice_index_or s.passed i 0) (ch.seat_other m ne), inr (ne, refl))
+    | inr ne ↦ (i, subst (λ (s : NodeCall). i < length s.passed) (ch.seat_other m ne) l, ap (λ (s : NodeCall). slice_index_or s.passed i 0) (ch.seat_other m ne), inr (ne, refl))
   ]
 
   -- x is passed no more
@@ -153,13 +153,13 @@ module _ (terms : Terms) (c : State) (h : Queue) (n x : ℕ) (rest : List ℕ) (
     tail = λ q a f g. (point_other ch q (elim a [ inl i ↦ at_other ch q Freeing Left at i (λ e. cc) | inr i ↦ at_other ch q Freeing Rolled at i (λ e. cc) ]), field ch (λ w. w.link) refl q, field ch (λ w. w.done) refl q);
   }
 
-  own : (ps : List ℕ) (r : Reason) → (seat d n).passed ≡ ps → r ≡ (seat d n).reason → EndedBy h.order h.ends n r → Sits d h.order h.ends n (seat_with ps (point_at_end r) r).point
+  own : (ps : List ℕ) (r : ReleaseCause) → (seat d n).passed ≡ ps → r ≡ (seat d n).reason → EndedBy h.order h.ends n r → Sits d h.order h.ends n (seat_with ps (point_at_end r) r).point
   own [] Own f e k = over
   own [] Closing f e k = over
   own [] Refused f e k = over
-  own (m ∷ ms) r f e k = (subst (λ (r : Reason). EndedBy h.order h.ends n r) e k, λ g. let z : m ∷ ms ≡ [] = sym f ∙ g in cc)
+  own (m ∷ ms) r f e k = (subst (λ (r : ReleaseCause). EndedBy h.order h.ends n r) e k, λ g. let z : m ∷ ms ≡ [] = sym f ∙ g in cc)
 
-  pub freed_keeps : GoesOn terms d h n (told_with rest (seat c n).reason) None true
+  pub freed_keeps : Advances config d h n (told_with rest (seat c n).reason) None true
   freed_keeps = record {
     after = record h { clear = cleared.clear };
     makes = refl;
@@ -178,15 +178,15 @@ module _ (terms : Terms) (c : State) (h : Queue) (n x : ℕ) (rest : List ℕ) (
       home_idle = s.home_idle;
       home_last = s.home_last;
       links = λ p a l. elim (s.links p a l) [
-        | inl f ↦ inl (field ch (λ w. w.link) refl (asker h.order p) ∙ f)
-        | inr f ↦ inr (field ch (λ w. w.link) refl (asker h.order p) ∙ f.0, point_other ch (asker h.order (p + 1)) (open_n (p + 1) (omega arith) l) ∙ f.1)
+        | inl f ↦ inl (field ch (λ w. w.link) refl (requester_at h.order p) ∙ f)
+        | inr f ↦ inr (field ch (λ w. w.link) refl (requester_at h.order p) ∙ f.0, point_other ch (requester_at h.order (p + 1)) (open_n (p + 1) (omega arith) l) ∙ f.1)
       ];
-      last_link = λ p a e. field ch (λ w. w.link) refl (asker h.order p) ∙ s.last_link p a e;
-      lies = lies_kept leaves terms s.lies;
-      marks = λ p a l. s.marks p a l ∙ ap is_rolled (sym (point_other ch (asker h.order p) (open_n p a l)));
+      last_link = λ p a e. field ch (λ w. w.link) refl (requester_at h.order p) ∙ s.last_link p a e;
+      lies = lies_kept leaves config s.lies;
+      marks = λ p a l. s.marks p a l ∙ ap is_rolled (sym (point_other ch (requester_at h.order p) (open_n p a l)));
       clears = λ m q a l. cleared.says m q a l;
       sits = λ m a. elim (cases_eq m n) [
-        | inl e ↦ rw (e, point_own ch) (own rest (seat c n).reason own_passed (sym (close_reason rest (point_at_end (seat c n).reason) (seat c n).reason) ∙ ap (λ (s : Seat). s.reason) (sym ch.seat_own)) ended)
+        | inl e ↦ rw (e, point_own ch) (own rest (seat c n).reason own_passed (sym (close_reason rest (point_at_end (seat c n).reason) (seat c n).reason) ∙ ap (λ (s : NodeCall). s.reason) (sym ch.seat_own)) ended)
         | inr ne ↦ sits_kept (spares m a ne) (s.sits m a)
       ];
       fresh = fresh;
@@ -194,7 +194,7 @@ module _ (terms : Terms) (c : State) (h : Queue) (n x : ℕ) (rest : List ℕ) (
       once = once;
       unpassed = λ m a e. elim (cases_eq m n) [
         | inl f ↦ rw (f, ch.seat_own) (close_unpassed rest (point_at_end (seat c n).reason) (seat c n).reason (ap (λ (p : Point). has_line p || is_freeing p) (sym (point_own ch) ∙ ap (point d) (sym f)) ∙ e))
-        | inr ne ↦ ap (λ (s : Seat). s.passed) (ch.seat_other m ne) ∙ s.unpassed m a (ap (λ (p : Point). has_line p || is_freeing p) (sym (point_other ch m ne)) ∙ e)
+        | inr ne ↦ ap (λ (s : NodeCall). s.passed) (ch.seat_other m ne) ∙ s.unpassed m a (ap (λ (p : Point). has_line p || is_freeing p) (sym (point_other ch m ne)) ∙ e)
       ];
       settled = settled_by ch h.order h.order h.ends h.ends h.clear cleared.clear first.node s.settled (λ x ne e. e) (s.settled.boxed x first.node) (λ l. l) (rests_kept leaves h.clear cleared.clear s.known (prefix_self h.order) (clears_begin cleared.grows) s.settled.rests);
     };

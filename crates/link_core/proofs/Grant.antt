@@ -1,22 +1,22 @@
 -- Granting: the next node has the line in its mailbox, or is passed.
-use Rattle.qolb_model.specs.declared.terms.Terms.{Terms}
+use Rattle.qolb_model.specs.declared.config.LineConfig.{LineConfig}
 use Rattle.std.proofs.Common.{◌≡◌, ◌≢◌, ℕ, ◌+◌, ◌<◌, true, false, List, [], ◌∷◌, ◌++◌, ◌⊎◌, length, Some, refl, sym, ◌∙◌, ap, subst, inl, inr, arith}
 use Rattle.std.specs.Prelude.{slice_index_or}
 use Rattle.link_core.specs.declared.point.Point.{Point}
 use Rattle.link_core.specs.declared.point.Point.TheVariants.{Idle, Ready, Linking, Queued, Holding, Leaving, Marking, Granting, Freeing, Left, Rolled, Shut}
-use Rattle.link_core.specs.declared.seat.Reason.{Reason}
-use Rattle.link_core.specs.declared.seat.Reason.TheVariants.{Refused}
+use Rattle.link_core.specs.declared.seat.ReleaseCause.{ReleaseCause}
+use Rattle.link_core.specs.declared.seat.ReleaseCause.TheVariants.{Refused}
 use Rattle.link_core.specs.declared.place.Place.{Place}
 use Rattle.link_core.specs.declared.place.Place.TheVariants.{Mailbox, Hand}
 use Rattle.link_core.specs.declared.entry.Entry.{Entry}
-use Rattle.link_core.specs.Places.{asker, IsLast}
+use Rattle.link_core.specs.Places.{requester_at, IsLast}
 use Rattle.qolb_model.specs.Ends.{is_closed}
 use Rattle.qolb_model.specs.Queue.{Queue, finish}
 use Rattle.link_core.specs.Moves.{end_of}
 use Rattle.qolb_model.specs.declared.end.End.{End}
 use Rattle.qolb_model.specs.declared.end.End.TheVariants.{Gone}
 use Rattle.qolb_model.specs.declared.request.Request.{Request}
-use Rattle.link_core.specs.State.{State, Seat, entry, seat, point, IsNode, last_or, current, is_clear}
+use Rattle.link_core.specs.State.{State, NodeCall, entry, seat, point, IsNode, last_or, current, is_clear}
 use Rattle.link_core.specs.Shown.{has_line, EndedBy, HasEnded, IsWhole, IsCarried, Lies, in_hand, granted, IsReleasing, Sits, IsPassed, ArePassed, IsOnce, IsFresh, passed, Matches}
 use Rattle.std.proofs.lemmas.Bool.{cases_eq, cases_lt, cases_Bool}
 use Rattle.std.proofs.Common.{length-append}
@@ -24,7 +24,7 @@ use Rattle.std.proofs.Math.ListN.{get_or-append}
 use Rattle.std.proofs.Math.Seq.{get_or-append_seam}
 use Rattle.link_core.specs.declared.told.Told.TheVariants as told
 use Rattle.link_core.specs.Steps.{turns_after, seat_at_close, told_with, point_at_end}
-use Rattle.link_core.proofs.Deeds.{GoesOn}
+use Rattle.link_core.proofs.Deeds.{Advances}
 use Rattle.link_core.proofs.Orders.{last_once, ended_at}
 use Rattle.std.proofs.lemmas.Option.{slice_get_within}
 use Rattle.link_core.proofs.Changes.{Changed, point_other, at_other, field}
@@ -38,15 +38,15 @@ last_or_push : (n : ℕ) (ps : List ℕ) (m : ℕ) → last_or n (ps ++ m ∷ []
 last_or_push n [] m = refl
 last_or_push n (p ∷ ps) m = last_or_push p ps m
 
-carried_push : (terms : Terms) (c : State) (o : List Request) (es : List End) (n : ℕ) (r : Reason) (ps : List ℕ) (m : ℕ) → IsWhole terms c es → EndedBy o es n r → (r ≡ Refused → is_closed es ≡ true) → IsCarried terms c o es n r (ps ++ m ∷ [])
-carried_push terms c o es n r [] m w e t = (w, e, t)
-carried_push terms c o es n r (p ∷ ps) m w e t = (w, e, t)
+carried_push : (config : LineConfig) (c : State) (o : List Request) (es : List End) (n : ℕ) (r : ReleaseCause) (ps : List ℕ) (m : ℕ) → IsWhole config c es → EndedBy o es n r → (r ≡ Refused → is_closed es ≡ true) → IsCarried config c o es n r (ps ++ m ∷ [])
+carried_push config c o es n r [] m w e t = (w, e, t)
+carried_push config c o es n r (p ∷ ps) m w e t = (w, e, t)
 
-module _ {terms : Terms} {c : State} {h : Queue} {n m : ℕ} (s : Matches terms c h) (is : IsNode c n) (at : point c n ≡ Granting m) where
+module _ {config : LineConfig} {c : State} {h : Queue} {n m : ℕ} (s : Matches config c h) (is : IsNode c n) (at : point c n ≡ Granting m) where
   pub lined : has_line (point c n) ≡ true
   lined = ap has_line at
 
-  pub sat : IsReleasing c n (current c n) × (length h.ends + 1 < length h.order) × (asker h.order (length h.ends + 1) ≡ m) × ((entry c (current c n)).link ≡ m)
+  pub sat : IsReleasing c n (current c n) × (length h.ends + 1 < length h.order) × (requester_at h.order (length h.ends + 1) ≡ m) × ((entry c (current c n)).link ≡ m)
   sat = sits_at s n (Granting m) is at
 
   more : length h.ends + 1 < length h.order
@@ -83,7 +83,7 @@ module _ {terms : Terms} {c : State} {h : Queue} {n m : ℕ} (s : Matches terms 
       go (Linking q) e y =
           let k = last_once h.order m (y.at + 1) (length h.ends + 1) y.own last_m in
           let j : y.at ≡ length h.ends = omega arith in
-          let f : q ≡ current c n = sym y.before.its ∙ ap (asker h.order) j ∙ (facts s is lined).3 in
+          let f : q ≡ current c n = sym y.before.its ∙ ap (requester_at h.order) j ∙ (facts s is lined).3 in
           absurd (granting_link s n m is at (ap (λ (x : ℕ). (entry c x).link) (sym f) ∙ y.unlinked))
       go Queued e y = inl e
       go Rolled e y = inr e
@@ -101,7 +101,7 @@ module _ {terms : Terms} {c : State} {h : Queue} {n m : ℕ} (s : Matches terms 
   same_clear : m ≢ n → is_clear (point c m) (grants (entry c m)) ≡ is_clear (point c m) (entry c m)
   same_clear ne = clear_same (point c m) (grants (entry c m)) (entry c m) refl refl refl
 
-  fresh_k : (p : ℕ) → length h.ends < p → p < length h.order → asker h.order p ≡ m → ((grants (entry c m)).granted ≡ true → p ≡ length h.ends + 1) × ((grants (entry c m)).done ≡ false)
+  fresh_k : (p : ℕ) → length h.ends < p → p < length h.order → requester_at h.order p ≡ m → ((grants (entry c m)).granted ≡ true → p ≡ length h.ends + 1) × ((grants (entry c m)).done ≡ false)
   fresh_k p a l e =
       let k = last_once h.order m p (length h.ends + 1) (subst (λ (x : ℕ). IsLast h.order x p) e (s.distinct p (omega arith) l)) last_m in (
         λ _. k,
@@ -127,14 +127,14 @@ module _ {terms : Terms} {c : State} {h : Queue} {n m : ℕ} (s : Matches terms 
     box = λ dn un. absurd (unboxed s is lined m (s.settled.boxed m node_m dn un));
   }
 
-  pub grant_keeps : {ents : List Entry} {sts : List Seat} → (entry c m).rolled ≡ false → Changed c (record c { place = Mailbox m; left = turns_after n c; entries = ents; seats = sts }) n (seat_at_close (point_at_end (seat c n).reason) (seat c n)) m (grants (entry c m))
-      → GoesOn terms (record c { place = Mailbox m; left = turns_after n c; entries = ents; seats = sts }) h n (told_with (seat c n).passed (seat c n).reason) (Some (finish (end_of c n))) true
+  pub grant_keeps : {ents : List Entry} {sts : List NodeCall} → (entry c m).rolled ≡ false → Changed c (record c { place = Mailbox m; left = turns_after n c; entries = ents; seats = sts }) n (seat_at_close (point_at_end (seat c n).reason) (seat c n)) m (grants (entry c m))
+      → Advances config (record c { place = Mailbox m; left = turns_after n c; entries = ents; seats = sts }) h n (told_with (seat c n).passed (seat c n).reason) (Some (finish (end_of c n))) true
   grant_keeps unrolled ch =
       let w = whole s is lined in
       let l = longer s is lined in
       let k = more in
       close_keeps s is lined (point_at_end (seat c n).reason) ch (grant_over (Mailbox m))
-      (granted m (omega arith) (ap (asker h.order) l ∙ sat.2) refl (ap (λ (w : Entry). w.granted) ch.entry_own)
+      (granted m (omega arith) (ap (requester_at h.order) l ∙ sat.2) refl (ap (λ (w : Entry). w.granted) ch.entry_own)
       (point_other ch m m_other ∙ queued) (record { bytes = w.bytes; closed = w.closed }))
       (λ g _. rests_at_end s is (seat c n).reason _ _ g) (clear_rest s is _ ch.seat_own)
     where
@@ -144,10 +144,10 @@ module _ {terms : Terms} {c : State} {h : Queue} {n m : ℕ} (s : Matches terms 
         | inr f ↦ let y = sits_at s m Rolled node_m f in cc
       ]
 
-abbrev pub seat_passing : State → ℕ → ℕ → Seat
+abbrev pub seat_passing : State → ℕ → ℕ → NodeCall
 seat_passing c n m = record { point = Leaving m; passed = (seat c n).passed ++ m ∷ []; reason = (seat c n).reason }
 
-module _ {terms : Terms} {c : State} {h : Queue} {n m : ℕ} (s : Matches terms c h) (is : IsNode c n) (at : point c n ≡ Granting m) {ents : List Entry} {sts : List Seat} (rolled : (entry c m).rolled ≡ true)
+module _ {config : LineConfig} {c : State} {h : Queue} {n m : ℕ} (s : Matches config c h) (is : IsNode c n) (at : point c n ≡ Granting m) {ents : List Entry} {sts : List NodeCall} (rolled : (entry c m).rolled ≡ true)
     (ch : Changed c (record c { left = turns_after n c; entries = ents; seats = sts }) n (seat_passing c n m) m (grants (entry c m))) where
   abbrev d : State
   d = record c { left = turns_after n c; entries = ents; seats = sts }
@@ -168,7 +168,7 @@ module _ {terms : Terms} {c : State} {h : Queue} {n m : ℕ} (s : Matches terms 
   place = in_its_hand s n is hs
 
   own_passed : (seat d n).passed ≡ (seat c n).passed ++ m ∷ []
-  own_passed = ap (λ (s : Seat). s.passed) ch.seat_own
+  own_passed = ap (λ (s : NodeCall). s.passed) ch.seat_own
 
   -- what is passed now was passed before, or is m
   passed_cases : (x i : ℕ) → i < length (seat d x).passed → ((i < length (seat c x).passed) × (passed d x i ≡ passed c x i)) ⊎ ((x ≡ n) × (i ≡ length (seat c n).passed) × (passed d x i ≡ m))
@@ -181,7 +181,7 @@ module _ {terms : Terms} {c : State} {h : Queue} {n m : ℕ} (s : Matches terms 
           | inl a ↦ inl (subst (λ (x : ℕ). i < length (seat c x).passed) (sym e) a, val ∙ get_or-append (seat c n).passed (m ∷ []) 0 i a ∙ ap (λ (x : ℕ). passed c x i) (sym e))
           | inr a ↦ let j : i ≡ length (seat c n).passed = omega arith in inr (e, j, val ∙ ap (λ (i : ℕ). slice_index_or ((seat c n).passed ++ m ∷ []) i 0) j ∙ get_or-append_seam (seat c n).passed m [] 0)
         ]
-    | inr ne ↦ inl (subst (λ (s : Seat). i < length s.passed) (ch.seat_other x ne) l, ap (λ (s : Seat). slice_index_or s.passed i 0) (ch.seat_other x ne))
+    | inr ne ↦ inl (subst (λ (s : NodeCall). i < length s.passed) (ch.seat_other x ne) l, ap (λ (s : NodeCall). slice_index_or s.passed i 0) (ch.seat_other x ne))
   ]
 
   passes : ArePassed d h.order es
@@ -225,16 +225,16 @@ module _ {terms : Terms} {c : State} {h : Queue} {n m : ℕ} (s : Matches terms 
     ]
   ]
 
-  pub grant_rolled_keeps : GoesOn terms d h n told.Went (Some (finish (end_of c n))) true
+  pub grant_rolled_keeps : Advances config d h n told.Went (Some (finish (end_of c n))) true
   grant_rolled_keeps =
       let w = whole s is hs in
       let l = longer s is hs in
       let k = more s is at in
       let q = grant_over s is at c.place in
-      let cur : current d n ≡ m = ap (λ (s : Seat). last_or n s.passed) ch.seat_own ∙ last_or_push n (seat c n).passed m in
-      let lies : Lies terms d h.order es = in_hand n (omega arith) is place (ap (λ (s : Seat). has_line s.point) ch.seat_own)
-      (ap (asker h.order) l ∙ (sat s is at).2 ∙ sym cur)
-      (subst (λ (s : Seat). IsCarried terms d h.order es n s.reason s.passed) (sym ch.seat_own) (carried_push terms d h.order es n (seat c n).reason (seat c n).passed m (record { bytes = w.bytes; closed = w.closed }) (ended s is hs) (told_closed s is hs))) in
+      let cur : current d n ≡ m = ap (λ (s : NodeCall). last_or n s.passed) ch.seat_own ∙ last_or_push n (seat c n).passed m in
+      let lies : Lies config d h.order es = in_hand n (omega arith) is place (ap (λ (s : NodeCall). has_line s.point) ch.seat_own)
+      (ap (requester_at h.order) l ∙ (sat s is at).2 ∙ sym cur)
+      (subst (λ (s : NodeCall). IsCarried config d h.order es n s.reason s.passed) (sym ch.seat_own) (carried_push config d h.order es n (seat c n).reason (seat c n).passed m (record { bytes = w.bytes; closed = w.closed }) (ended s is hs) (told_closed s is hs))) in
       record {
         after = after_end s is hs ch q;
         makes = refl;

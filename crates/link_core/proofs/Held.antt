@@ -1,21 +1,21 @@
 -- The steps of a release that end no turn.
-use Rattle.qolb_model.specs.declared.terms.Terms.{Terms}
+use Rattle.qolb_model.specs.declared.config.LineConfig.{LineConfig}
 use Rattle.std.proofs.Common.{◌≡◌, ◌≢◌, ℕ, ◌+◌, ◌<◌, ◌≤◌, Bool, true, false, ◌||◌, List, [], ◌∷◌, ◌⊎◌, length, None, refl, sym, ◌∙◌, ap, subst, inl, inr, arith}
 use Rattle.link_core.specs.declared.point.Point.{Point}
 use Rattle.link_core.specs.declared.point.Point.TheVariants.{Ready, Linking, Holding, Leaving, Marking, Granting, Rolled}
-use Rattle.link_core.specs.declared.seat.Reason.{Reason}
-use Rattle.link_core.specs.declared.seat.Reason.TheVariants.{Own, Closing, Refused}
+use Rattle.link_core.specs.declared.seat.ReleaseCause.{ReleaseCause}
+use Rattle.link_core.specs.declared.seat.ReleaseCause.TheVariants.{Own, Closing, Refused}
 use Rattle.link_core.specs.declared.entry.Entry.{Entry}
-use Rattle.link_core.specs.Places.{asker, IsLast}
+use Rattle.link_core.specs.Places.{requester_at, IsLast}
 use Rattle.qolb_model.specs.Histories.{none}
 use Rattle.qolb_model.specs.Queue.{Queue}
 use Rattle.qolb_model.specs.declared.end.End.{End}
 use Rattle.qolb_model.specs.declared.request.Request.{Request}
-use Rattle.link_core.specs.State.{State, Seat, entry, seat, point, IsNode, last_or, is_clear}
+use Rattle.link_core.specs.State.{State, NodeCall, entry, seat, point, IsNode, last_or, is_clear}
 use Rattle.link_core.specs.Shown.{is_rolled, has_line, is_freeing, IsHeld, IsCarried, Lies, in_hand, Sits, IsPassed, IsGranting, Matches}
 use Rattle.link_core.specs.declared.told.Told.TheVariants as told
 use Rattle.link_core.specs.Steps.{Releases, holding, leaving}
-use Rattle.link_core.proofs.Deeds.{GoesOn}
+use Rattle.link_core.proofs.Deeds.{Advances}
 use Rattle.link_core.proofs.Orders.{last_once}
 use Rattle.link_core.proofs.Changes.{Changed}
 use Rattle.link_core.proofs.Follows.{lined_unclear, lined_unrolled, rolled_unfreed, sits_at, in_its_hand, hand_lies, current_cases}
@@ -28,35 +28,35 @@ use Rattle.link_core.proofs.Kept.{rests_held}
 use Rattle.link_core.specs.declared.place.Place.TheVariants.{Mailbox}
 use Rattle.link_core.proofs.Quiet.{IsQuiet, quiet_shows}
 
-held_again : (terms : Terms) (c : State) (es : List End) (n : ℕ) (ents : List Entry) (sts : List Seat) → (point c n ≡ Holding → is_last_turn terms.lease es ≡ false) → (r : Reason) → IsHeld terms c es n r → IsHeld terms (record c { entries = ents; seats = sts }) es n r
-held_again terms c es n ents sts early Own h = (h.0, h.1, h.2, inr (elim h.3 [ inl y ↦ early y | inr y ↦ y ]))
-held_again terms c es n ents sts early Closing h = h
-held_again terms c es n ents sts early Refused h = h
+held_again : (config : LineConfig) (c : State) (es : List End) (n : ℕ) (ents : List Entry) (sts : List NodeCall) → (point c n ≡ Holding → is_last_turn config.lease es ≡ false) → (r : ReleaseCause) → IsHeld config c es n r → IsHeld config (record c { entries = ents; seats = sts }) es n r
+held_again config c es n ents sts early Own h = (h.0, h.1, h.2, inr (elim h.3 [ inl y ↦ early y | inr y ↦ y ]))
+held_again config c es n ents sts early Closing h = h
+held_again config c es n ents sts early Refused h = h
 
-carried_again : (terms : Terms) (c : State) (o : List Request) (es : List End) (n : ℕ) (ents : List Entry) (sts : List Seat) → (point c n ≡ Holding → is_last_turn terms.lease es ≡ false) → (r : Reason) (ps : List ℕ) → IsCarried terms c o es n r ps → IsCarried terms (record c { entries = ents; seats = sts }) o es n r ps
-carried_again terms c o es n ents sts early r [] h = held_again terms c es n ents sts early r h
-carried_again terms c o es n ents sts early r (m ∷ ms) h = (record { bytes = h.0.bytes; closed = h.0.closed }, h.1, h.2)
+carried_again : (config : LineConfig) (c : State) (o : List Request) (es : List End) (n : ℕ) (ents : List Entry) (sts : List NodeCall) → (point c n ≡ Holding → is_last_turn config.lease es ≡ false) → (r : ReleaseCause) (ps : List ℕ) → IsCarried config c o es n r ps → IsCarried config (record c { entries = ents; seats = sts }) o es n r ps
+carried_again config c o es n ents sts early r [] h = held_again config c es n ents sts early r h
+carried_again config c o es n ents sts early r (m ∷ ms) h = (record { bytes = h.0.bytes; closed = h.0.closed }, h.1, h.2)
 
 lined_points : (p q : Point) → has_line p ≡ true → has_line q ≡ false → p ≢ q
 lined_points p q a b e = let z : true ≡ false = sym a ∙ ap has_line e ∙ b in cc
 
--- from one point with the line in hand to another
-module _ (terms : Terms) (c : State) (h : Queue) (n : ℕ) (s : Matches terms c h) (is : IsNode c n) (lined : has_line (point c n) ≡ true) (pt : Point) (has2 : has_line pt ≡ true)
-    (ents : List Entry) (sts : List Seat) (k : ℕ) (w : Entry) (ch : Changed c (record c { entries = ents; seats = sts }) n (record (seat c n) { point = pt }) k w) where
+-- from one point with the line in n's hand to another
+module _ (config : LineConfig) (c : State) (h : Queue) (n : ℕ) (s : Matches config c h) (is : IsNode c n) (lined : has_line (point c n) ≡ true) (pt : Point) (has2 : has_line pt ≡ true)
+    (ents : List Entry) (sts : List NodeCall) (k : ℕ) (w : Entry) (ch : Changed c (record c { entries = ents; seats = sts }) n (record (seat c n) { point = pt }) k w) where
   abbrev pub d : State
   d = record c { entries = ents; seats = sts }
 
-  pub held_lies : (terms : Terms) → Matches terms c h → (point c n ≡ Holding → is_last_turn terms.lease h.ends ≡ false) → Lies terms d h.order h.ends
-  held_lies terms s early =
+  pub held_lies : (config : LineConfig) → Matches config c h → (point c n ≡ Holding → is_last_turn config.lease h.ends ≡ false) → Lies config d h.order h.ends
+  held_lies config s early =
       let f = hand_lies s n (in_its_hand s n is lined) s.lies in
-      in_hand n f.0 is (in_its_hand s n is lined) (ap (λ (s : Seat). has_line s.point) ch.seat_own ∙ has2)
-      (f.3 ∙ sym (ap (λ (s : Seat). last_or n s.passed) ch.seat_own))
-      (subst (λ (s : Seat). IsCarried terms d h.order h.ends n s.reason s.passed) (sym ch.seat_own) (carried_again terms c h.order h.ends n ents sts early (seat c n).reason (seat c n).passed f.4))
+      in_hand n f.0 is (in_its_hand s n is lined) (ap (λ (s : NodeCall). has_line s.point) ch.seat_own ∙ has2)
+      (f.3 ∙ sym (ap (λ (s : NodeCall). last_or n s.passed) ch.seat_own))
+      (subst (λ (s : NodeCall). IsCarried config d h.order h.ends n s.reason s.passed) (sym ch.seat_own) (carried_again config c h.order h.ends n ents sts early (seat c n).reason (seat c n).passed f.4))
 
   pub held_quiet : w.link ≡ (entry c k).link → w.freed ≡ (entry c k).freed → w.granted ≡ (entry c k).granted → w.rolled ≡ (entry c k).rolled
-      → ((w.done ≡ (entry c k).done) ⊎ ((p : ℕ) → length h.ends ≤ p → p < length h.order → asker h.order p ≡ k → (p ≡ length h.ends) × IsGranting d))
+      → ((w.done ≡ (entry c k).done) ⊎ ((p : ℕ) → length h.ends ≤ p → p < length h.order → requester_at h.order p ≡ k → (p ≡ length h.ends) × IsGranting d))
       → (k ≢ n → point c k ≢ Ready) → (k ≢ n → is_clear (point c k) w ≡ is_clear (point c k) (entry c k)) → ((m : ℕ) → point c n ≢ Granting m)
-      → ((terms : Terms) → Matches terms c h → point c n ≡ Holding → is_last_turn terms.lease h.ends ≡ false) → IsNode c k → (w.done ≡ true → w.link ≡ 0 → c.place ≡ Mailbox k) → Sits d h.order h.ends n pt → IsQuiet c d h h.marked n (record (seat c n) { point = pt }) k w
+      → ((config : LineConfig) → Matches config c h → point c n ≡ Holding → is_last_turn config.lease h.ends ≡ false) → IsNode c k → (w.done ≡ true → w.link ≡ 0 → c.place ≡ Mailbox k) → Sits d h.order h.ends n pt → IsQuiet c d h h.marked n (record (seat c n) { point = pt }) k w
   held_quiet lk fr gr ro dn re cl ng early node box own = record {
     link = lk;
     freed = fr;
@@ -79,15 +79,15 @@ module _ (terms : Terms) (c : State) (h : Queue) (n : ℕ) (s : Matches terms c 
     boxes = λ x ne e. e;
     box = box;
     rests = rests_held d n h.order h.ends h.clear (in_its_hand s n is lined);
-    lies = λ terms s. held_lies terms s (early terms s);
+    lies = λ config s. held_lies config s (early config s);
     own = own;
   }
     where
       lined_free : (p : Point) → has_line p ≡ true → has_line p || is_freeing p ≡ false → ⊥
       lined_free p a e = let z : true || is_freeing p ≡ false = subst (λ (b : Bool). b || is_freeing p ≡ false) a e in cc
 
-module _ (terms : Terms) (c : State) (h : Queue) (n e : ℕ) (s : Matches terms c h) (is : IsNode c n) where
-  pub home_failed_keeps : (r : Releases c n e) → c.home ≢ e → (sts : List Seat) → Changed c (record c { seats = sts }) n (record (seat c n) { point = Marking e }) n (entry c n) → GoesOn terms (record c { seats = sts }) h n told.Went None false
+module _ (config : LineConfig) (c : State) (h : Queue) (n e : ℕ) (s : Matches config c h) (is : IsNode c n) where
+  pub home_failed_keeps : (r : Releases c n e) → c.home ≢ e → (sts : List NodeCall) → Changed c (record c { seats = sts }) n (record (seat c n) { point = Marking e }) n (entry c n) → Advances config (record c { seats = sts }) h n told.Went None false
   home_failed_keeps r ne sts ch =
       let lined = releases_line s is e r in
       let cur = releases_at s is e r in
@@ -99,27 +99,27 @@ module _ (terms : Terms) (c : State) (h : Queue) (n e : ℕ) (s : Matches terms 
         makes = refl;
         clears = none;
         uncleared = λ _. refl;
-        shows = quiet_shows terms c h n s is c.place c.bytes c.closed c.mask c.entries sts h.marked (record (seat c n) { point = Marking e }) n (entry c n) ch
-            (held_quiet terms c h n s is lined (Marking e) refl c.entries sts n (entry c n) ch refl refl refl refl (inl refl) (λ x. absurd (x refl)) (λ x. absurd (x refl)) (not_granting r) (early r) is (s.settled.boxed n is)
-            (record { place = in_its_hand s n is lined; is = ap (λ (s : Seat). last_or n s.passed) ch.seat_own ∙ cur }, grind arith));
+        shows = quiet_shows config c h n s is c.place c.bytes c.closed c.mask c.entries sts h.marked (record (seat c n) { point = Marking e }) n (entry c n) ch
+            (held_quiet config c h n s is lined (Marking e) refl c.entries sts n (entry c n) ch refl refl refl refl (inl refl) (λ x. absurd (x refl)) (λ x. absurd (x refl)) (not_granting r) (early r) is (s.settled.boxed n is)
+            (record { place = in_its_hand s n is lined; is = ap (λ (s : NodeCall). last_or n s.passed) ch.seat_own ∙ cur }, grind arith));
         says = tt;
       }
     where
-      early : Releases c n e → (terms : Terms) → Matches terms c h → point c n ≡ Holding → is_last_turn terms.lease h.ends ≡ false
-      early (holding a f l) terms s at = sym (last-is_one terms.lease h.ends) ∙ ap is_one (sym s.turns) ∙ l
-      early (leaving a) terms s at = let z : Leaving e ≡ Holding = sym a ∙ at in cc
+      early : Releases c n e → (config : LineConfig) → Matches config c h → point c n ≡ Holding → is_last_turn config.lease h.ends ≡ false
+      early (holding a f l) config s at = sym (last-is_one config.lease h.ends) ∙ ap is_one (sym s.turns) ∙ l
+      early (leaving a) config s at = let z : Leaving e ≡ Holding = sym a ∙ at in cc
 
       not_granting : Releases c n e → (m : ℕ) → point c n ≢ Granting m
       not_granting (holding a f l) m g = let z : Holding ≡ Granting m = sym a ∙ g in cc
       not_granting (leaving a) m g = let z : Leaving e ≡ Granting m = sym a ∙ g in cc
 
-  pub done_linked_keeps : (at : point c n ≡ Marking e) → (entry c e).link ≢ 0 → (ents : List Entry) (sts : List Seat) → Changed c (record c { entries = ents; seats = sts }) n (record (seat c n) { point = Granting (entry c e).link }) e (done (entry c e)) → GoesOn terms (record c { entries = ents; seats = sts }) h n told.Went None false
+  pub done_linked_keeps : (at : point c n ≡ Marking e) → (entry c e).link ≢ 0 → (ents : List Entry) (sts : List NodeCall) → Changed c (record c { entries = ents; seats = sts }) n (record (seat c n) { point = Granting (entry c e).link }) e (done (entry c e)) → Advances config (record c { entries = ents; seats = sts }) h n told.Went None false
   done_linked_keeps at linked ents sts ch =
       let lined : has_line (point c n) ≡ true = ap has_line at in
       let y = sits_at s n (Marking e) is at in
       let more = y.1 in
       let at_e : IsLast h.order e (length h.ends) = subst (λ (m : ℕ). IsLast h.order m (length h.ends)) y.0.is (its s is lined) in
-      let next : asker h.order (length h.ends + 1) ≡ (entry c e).link = elim (s.links (length h.ends) (omega arith) more) [
+      let next : requester_at h.order (length h.ends + 1) ≡ (entry c e).link = elim (s.links (length h.ends) (omega arith) more) [
         | inl f ↦ sym f ∙ ap (λ (m : ℕ). (entry c m).link) at_e.its
         | inr f ↦ absurd (linked (sym (ap (λ (m : ℕ). (entry c m).link) at_e.its) ∙ f.0))
       ] in
@@ -129,18 +129,18 @@ module _ (terms : Terms) (c : State) (h : Queue) (n e : ℕ) (s : Matches terms 
         makes = refl;
         clears = none;
         uncleared = λ _. refl;
-        shows = quiet_shows terms c h n s is c.place c.bytes c.closed c.mask ents sts h.marked (record (seat c n) { point = Granting (entry c e).link }) e (done (entry c e)) ch
-            (held_quiet terms c h n s is lined (Granting (entry c e).link) refl ents sts e (done (entry c e)) ch refl refl refl refl
+        shows = quiet_shows config c h n s is c.place c.bytes c.closed c.mask ents sts h.marked (record (seat c n) { point = Granting (entry c e).link }) e (done (entry c e)) ch
+            (held_quiet config c h n s is lined (Granting (entry c e).link) refl ents sts e (done (entry c e)) ch refl refl refl refl
             (inr (λ p a l f. (
               last_once h.order e p (length h.ends) (subst (λ (m : ℕ). IsLast h.order m p) f (s.distinct p a l)) at_e,
-              record { by = n; to = (entry c e).link; node = is; place = place; point = ap (λ (s : Seat). s.point) ch.seat_own },
+              record { by = n; to = (entry c e).link; node = is; place = place; point = ap (λ (s : NodeCall). s.point) ch.seat_own },
             )))
             (unready at) (unclear at)
-            (λ m g. let z : Marking e ≡ Granting m = sym at ∙ g in cc) (λ terms s g. let z : Marking e ≡ Holding = sym at ∙ g in cc) (marked_node s is at) (λ _ un. absurd (linked un)) (
+            (λ m g. let z : Marking e ≡ Granting m = sym at ∙ g in cc) (λ config s g. let z : Marking e ≡ Holding = sym at ∙ g in cc) (marked_node s is at) (λ _ un. absurd (linked un)) (
               record { place = place; is = refl },
               more,
               next,
-              ap (λ (x : ℕ). (entry (record c { entries = ents; seats = sts }) x).link) (ap (λ (s : Seat). last_or n s.passed) ch.seat_own ∙ y.0.is) ∙ ap (λ (w : Entry). w.link) ch.entry_own,
+              ap (λ (x : ℕ). (entry (record c { entries = ents; seats = sts }) x).link) (ap (λ (s : NodeCall). last_or n s.passed) ch.seat_own ∙ y.0.is) ∙ ap (λ (w : Entry). w.link) ch.entry_own,
             ));
         says = tt;
       }

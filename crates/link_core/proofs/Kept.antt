@@ -1,5 +1,5 @@
 -- What an act leaves true of the nodes that it doesn't touch.
-use Rattle.qolb_model.specs.declared.terms.Terms.{Terms}
+use Rattle.qolb_model.specs.declared.config.LineConfig.{LineConfig}
 use Rattle.std.proofs.Common.{◌≡◌, ◌≢◌, ℕ, ◌+◌, ◌<◌, ◌≤◌, true, false, List, [], ◌∷◌, ◌⊎◌, length, refl, sym, ◌∙◌, ap, subst, inl, inr, arith}
 use mathlib.Core.List.{IsPrefix}
 use Rattle.std.proofs.lemmas.Bool.{cases_eq}
@@ -10,15 +10,15 @@ use Rattle.qolb_model.proofs.Bounds.{prefix_get_back}
 use Rattle.line_lanes.specs.declared.line.Line64.{Line64}
 use Rattle.link_core.specs.declared.point.Point.{Point}
 use Rattle.link_core.specs.declared.point.Point.TheVariants.{Idle, Ready, Linking, Queued, Holding, Leaving, Marking, Granting, Freeing, Left, Rolled, Shut}
-use Rattle.link_core.specs.declared.seat.Reason.{Reason}
-use Rattle.link_core.specs.declared.seat.Reason.TheVariants.{Own, Closing, Refused}
+use Rattle.link_core.specs.declared.seat.ReleaseCause.{ReleaseCause}
+use Rattle.link_core.specs.declared.seat.ReleaseCause.TheVariants.{Own, Closing, Refused}
 use Rattle.link_core.specs.declared.place.Place.TheVariants.{Mailbox, Hand}
 use Rattle.link_core.specs.declared.entry.Entry.{Entry}
-use Rattle.link_core.specs.Places.{asker, IsLast}
+use Rattle.link_core.specs.Places.{requester_at, IsLast}
 use Rattle.qolb_model.specs.declared.end.End.{End}
 use Rattle.qolb_model.specs.declared.request.Request.{Request}
-use Rattle.link_core.specs.State.{State, Seat, entry, seat, point, IsNode, last_or, current}
-use Rattle.link_core.specs.Shown.{is_rolled, has_line, ByReason, HasEnded, IsWhole, IsHeld, IsCarried, Lies, at_home, in_hand, granted, left, IsReleasing, Sits, HasCome, IsPassed, IsGranting, IsFresh, HasLeft, Rests, IsSettled}
+use Rattle.link_core.specs.State.{State, NodeCall, entry, seat, point, IsNode, last_or, current}
+use Rattle.link_core.specs.Shown.{is_rolled, has_line, ByReason, HasEnded, IsWhole, IsHeld, IsCarried, Lies, at_home, in_hand, granted, left, IsReleasing, Sits, HasReached, IsPassed, IsGranting, IsFresh, HasLeft, Rests, IsSettled}
 use Rattle.link_core.proofs.Changes.{Changed, is_node}
 
 -- an act from c to d, which takes the order o to o2 and the ends es to fs, leaves alone what x is in
@@ -32,20 +32,20 @@ pub record Spares (c d : State) (o o2 : List Request) (es fs : List End) (x : �
   pub ended : IsPrefix es fs
   pub later : (p : ℕ) → is_rolled (point c x) ≡ false → IsLast o x p → length es ≤ p → length fs ≤ p
   pub behind : (q p : ℕ) → point c x ≡ Linking q → IsLast o q p → IsLast o x (p + 1) → length es ≤ p + 1 → IsLast o2 q p × ((entry d q).link ≡ (entry c q).link)
-  pub line : has_line (point c x) ≡ true → (d.place ≡ c.place) × (length fs ≡ length es) × (length es + 1 < length o → (length es + 1 < length o2) × (asker o2 (length es + 1) ≡ asker o (length es + 1))) × ((m : ℕ) → point c x ≡ Granting m → (entry d (current c x)).link ≡ (entry c (current c x)).link)
+  pub line : has_line (point c x) ≡ true → (d.place ≡ c.place) × (length fs ≡ length es) × (length es + 1 < length o → (length es + 1 < length o2) × (requester_at o2 (length es + 1) ≡ requester_at o (length es + 1))) × ((m : ℕ) → point c x ≡ Granting m → (entry d (current c x)).link ≡ (entry c (current c x)).link)
 
 module _ {c d : State} {o o2 : List Request} {es fs : List End} {x : ℕ} (k : Spares c d o o2 es fs x) where
   ended_kept : HasEnded o es x → HasEnded o2 fs x
   ended_kept h p a = let l = h p (k.back p a) in let e = prefix_length es fs k.ended in omega arith
 
   current_kept : current d x ≡ current c x
-  current_kept = ap (λ (s : Seat). last_or x s.passed) k.seat
+  current_kept = ap (λ (s : NodeCall). last_or x s.passed) k.seat
 
   releasing_kept : (e : ℕ) → has_line (point c x) ≡ true → IsReleasing c x e → IsReleasing d x e
   releasing_kept e t r = record { place = (k.line t).0 ∙ r.place; is = current_kept ∙ r.is }
 
   point_kept : point d x ≡ point c x
-  point_kept = ap (λ (s : Seat). s.point) k.seat
+  point_kept = ap (λ (s : NodeCall). s.point) k.seat
 
   at_point_kept : (p : Point) → point c x ≡ p → Sits c o es x p → Sits d o2 fs x p
   at_point_kept Idle e h = ended_kept h
@@ -58,9 +58,9 @@ module _ {c d : State} {o o2 : List Request} {es fs : List End} {x : ℕ} (k : S
       end = h.0.end;
       last = k.fwd h.0.at h.0.last;
       ended = prefix_get es fs h.0.at h.0.end k.ended h.0.ended;
-      how = subst (λ (r : Reason). ByReason r h.0.end) (sym (ap (λ (s : Seat). s.reason) k.seat)) h.0.how;
+      how = subst (λ (r : ReleaseCause). ByReason r h.0.end) (sym (ap (λ (s : NodeCall). s.reason) k.seat)) h.0.how;
     },
-    λ f. h.1 (ap (λ (s : Seat). s.passed) (sym k.seat) ∙ f),
+    λ f. h.1 (ap (λ (s : NodeCall). s.passed) (sym k.seat) ∙ f),
   )
   at_point_kept (Linking q) e h = record {
     at = h.at;
@@ -78,7 +78,7 @@ module _ {c d : State} {o o2 : List Request} {es fs : List End} {x : ℕ} (k : S
     rolled = k.rolled ∙ h.rolled;
   }
   at_point_kept Rolled e h = k.rolled ∙ h
-  at_point_kept Holding e h = (releasing_kept x (ap has_line e) h.0, ap (λ (s : Seat). s.reason) k.seat ∙ h.1, ap (λ (s : Seat). s.passed) k.seat ∙ h.2)
+  at_point_kept Holding e h = (releasing_kept x (ap has_line e) h.0, ap (λ (s : NodeCall). s.reason) k.seat ∙ h.1, ap (λ (s : NodeCall). s.passed) k.seat ∙ h.2)
   at_point_kept (Leaving n) e h = releasing_kept n (ap has_line e) h
   at_point_kept (Marking n) e h =
       let t = k.line (ap has_line e) in
@@ -88,7 +88,7 @@ module _ {c d : State} {o o2 : List Request} {es fs : List End} {x : ℕ} (k : S
       let u = t.2 h.1 in (
         record { place = t.0 ∙ h.0.place; is = refl },
         subst (λ (t : ℕ). t + 1 < length o2) (sym t.1) u.0,
-        ap (λ (t : ℕ). asker o2 (t + 1)) t.1 ∙ u.1 ∙ h.2,
+        ap (λ (t : ℕ). requester_at o2 (t + 1)) t.1 ∙ u.1 ∙ h.2,
         ap (λ (y : ℕ). (entry d y).link) current_kept ∙ t.3 m e ∙ h.3,
       )
 
@@ -96,7 +96,7 @@ module _ {c d : State} {o o2 : List Request} {es fs : List End} {x : ℕ} (k : S
   sits_kept h = subst (λ (p : Point). Sits d o2 fs x p) (sym point_kept) (at_point_kept (point c x) refl h)
 
 -- what an act that makes no request leaves alone: of the seats only n's is changed, and of the entries only k's
-pub spares_by : {c d : State} {n : ℕ} {s : Seat} {k : ℕ} {w : Entry} (ch : Changed c d n s k w) (o : List Request) (es fs : List End) (x : ℕ) → x ≢ n → (k ≢ n → w.rolled ≡ (entry c k).rolled) → (k ≢ n → point c k ≢ Ready) → IsPrefix es fs
+pub spares_by : {c d : State} {n : ℕ} {s : NodeCall} {k : ℕ} {w : Entry} (ch : Changed c d n s k w) (o : List Request) (es fs : List End) (x : ℕ) → x ≢ n → (k ≢ n → w.rolled ≡ (entry c k).rolled) → (k ≢ n → point c k ≢ Ready) → IsPrefix es fs
     → ((p : ℕ) → is_rolled (point c x) ≡ false → IsLast o x p → length es ≤ p → length fs ≤ p)
     → ((q p : ℕ) → point c x ≡ Linking q → IsLast o q p → IsLast o x (p + 1) → (entry d q).link ≡ (entry c q).link)
     → (has_line (point c x) ≡ true → (d.place ≡ c.place) × (length fs ≡ length es) × ((m : ℕ) → point c x ≡ Granting m → (entry d (current c x)).link ≡ (entry c (current c x)).link))
@@ -129,7 +129,7 @@ fresh_kept c d t t2 x p a b e f g h = record {
 }
 
 -- what is passed stays so
-pub passed_kept : (c d : State) (o o2 : List Request) (es fs : List End) (n x : ℕ) → d.nodes ≡ c.nodes → point d x ≡ point c x → (entry d x).freed ≡ (entry c x).freed → ((p : ℕ) → IsLast o x p → IsLast o2 x p) → ((p : ℕ) → IsLast o x p → HasCome c es n p → HasCome d fs n p) → IsPassed c o es n x → IsPassed d o2 fs n x
+pub passed_kept : (c d : State) (o o2 : List Request) (es fs : List End) (n x : ℕ) → d.nodes ≡ c.nodes → point d x ≡ point c x → (entry d x).freed ≡ (entry c x).freed → ((p : ℕ) → IsLast o x p → IsLast o2 x p) → ((p : ℕ) → IsLast o x p → HasReached c es n p → HasReached d fs n p) → IsPassed c o es n x → IsPassed d o2 fs n x
 passed_kept c d o o2 es fs n x ns a b e f h = record {
   node = (h.node.0, subst (λ (n : ℕ). x ≤ n) (sym ns) h.node.1);
   point = a ∙ h.point;
@@ -143,7 +143,7 @@ passed_kept c d o o2 es fs n x ns a b e f h = record {
 pub has_more : (old new : List Request) (r : Request) → IsPrefix old new → Has old r → Has new r
 has_more old new r b h = subst (λ (rs : List Request). Has rs r) b.1 (has_left old b.0 r h)
 
--- an act that leaves the line alone leaves it where it lies
+-- an act that does not change the line leaves it at its place
 pub record Leaves (c d : State) (o o2 : List Request) (es : List End) : Type 0 where
   pub place : d.place ≡ c.place
   pub bytes : d.bytes ≡ c.bytes
@@ -151,40 +151,40 @@ pub record Leaves (c d : State) (o o2 : List Request) (es : List End) : Type 0 w
   pub mask : d.mask ≡ c.mask
   pub nodes : d.nodes ≡ c.nodes
   pub home : length es ≡ length o → length es ≡ length o2
-  pub turn : length es < length o → (length es < length o2) × (asker o2 (length es) ≡ asker o (length es))
+  pub turn : length es < length o → (length es < length o2) × (requester_at o2 (length es) ≡ requester_at o (length es))
   pub fwd : (n p : ℕ) → has_line (point c n) ≡ true → IsLast o n p → IsLast o2 n p
   pub hand : (n : ℕ) → has_line (point c n) ≡ true → seat d n ≡ seat c n
-  pub box : (t : ℕ) → length es < length o → asker o (length es) ≡ t → point c t ≡ Queued → (entry c t).granted ≡ true → (point d t ≡ Queued) × ((entry d t).granted ≡ true)
-  pub linking : (t q : ℕ) → length es < length o → asker o (length es) ≡ t → point c t ≡ Linking q → point d t ≡ Linking q
+  pub box : (t : ℕ) → length es < length o → requester_at o (length es) ≡ t → point c t ≡ Queued → (entry c t).granted ≡ true → (point d t ≡ Queued) × ((entry d t).granted ≡ true)
+  pub linking : (t q : ℕ) → length es < length o → requester_at o (length es) ≡ t → point c t ≡ Linking q → point d t ≡ Linking q
   pub tail : (q : ℕ) → (point c q ≡ Left) ⊎ (point c q ≡ Rolled) → (entry c q).link ≡ 0 → (entry c q).done ≡ true → (point d q ≡ point c q) × ((entry d q).link ≡ (entry c q).link) × ((entry d q).done ≡ (entry c q).done)
 
 module _ {c d : State} {o o2 : List Request} {es : List End} (k : Leaves c d o o2 es) where
   same_bytes : d.bytes.bytes ≡ c.bytes.bytes
   same_bytes = ap (λ (l : Line64). l.bytes) k.bytes
 
-  whole_kept : (terms : Terms) → IsWhole terms c es → IsWhole terms d es
-  whole_kept terms w = record { bytes = same_bytes ∙ w.bytes; closed = k.closed ∙ w.closed }
+  whole_kept : (config : LineConfig) → IsWhole config c es → IsWhole config d es
+  whole_kept config w = record { bytes = same_bytes ∙ w.bytes; closed = k.closed ∙ w.closed }
 
-  held_kept : (terms : Terms) (n : ℕ) → seat d n ≡ seat c n → (r : Reason) → IsHeld terms c es n r → IsHeld terms d es n r
-  held_kept terms n e Own h = (k.closed ∙ h.0, h.1, rw (k.bytes, k.mask) h.2, elim h.3 [ inl y ↦ inl (ap (λ (s : Seat). s.point) e ∙ y) | inr y ↦ inr y ])
-  held_kept terms n e Closing h = (k.closed ∙ h.0, h.1, rw (k.bytes, k.mask) h.2)
-  held_kept terms n e Refused h = (k.closed ∙ h.0, h.1, same_bytes ∙ h.2)
+  held_kept : (config : LineConfig) (n : ℕ) → seat d n ≡ seat c n → (r : ReleaseCause) → IsHeld config c es n r → IsHeld config d es n r
+  held_kept config n e Own h = (k.closed ∙ h.0, h.1, rw (k.bytes, k.mask) h.2, elim h.3 [ inl y ↦ inl (ap (λ (s : NodeCall). s.point) e ∙ y) | inr y ↦ inr y ])
+  held_kept config n e Closing h = (k.closed ∙ h.0, h.1, rw (k.bytes, k.mask) h.2)
+  held_kept config n e Refused h = (k.closed ∙ h.0, h.1, same_bytes ∙ h.2)
 
-  carried_kept : (terms : Terms) (n : ℕ) → seat d n ≡ seat c n → (r : Reason) (ps : List ℕ) → ((p : ℕ) → IsLast o n p → IsLast o2 n p) → IsCarried terms c o es n r ps → IsCarried terms d o2 es n r ps
-  carried_kept terms n e r [] f h = held_kept terms n e r h
-  carried_kept terms n e r (m ∷ ms) f h = (whole_kept terms h.0, record { at = h.1.at; end = h.1.end; last = f h.1.at h.1.last; ended = h.1.ended; how = h.1.how }, h.2)
+  carried_kept : (config : LineConfig) (n : ℕ) → seat d n ≡ seat c n → (r : ReleaseCause) (ps : List ℕ) → ((p : ℕ) → IsLast o n p → IsLast o2 n p) → IsCarried config c o es n r ps → IsCarried config d o2 es n r ps
+  carried_kept config n e r [] f h = held_kept config n e r h
+  carried_kept config n e r (m ∷ ms) f h = (whole_kept config h.0, record { at = h.1.at; end = h.1.end; last = f h.1.at h.1.last; ended = h.1.ended; how = h.1.how }, h.2)
 
-  pub lies_kept : (terms : Terms) → Lies terms c o es → Lies terms d o2 es
-  lies_kept terms (at_home a b w) = at_home (k.home a) (k.place ∙ b) (whole_kept terms w)
-  lies_kept terms (in_hand n a b e f g h) = in_hand n (k.turn a).0 (b.0, subst (λ (m : ℕ). n ≤ m) (sym k.nodes) b.1) (k.place ∙ e)
-      (ap (λ (s : Seat). has_line s.point) (k.hand n f) ∙ f)
-      ((k.turn a).1 ∙ g ∙ ap (λ (s : Seat). last_or n s.passed) (sym (k.hand n f)))
-      (subst (λ (s : Seat). IsCarried terms d o2 es n s.reason s.passed) (sym (k.hand n f)) (carried_kept terms n (k.hand n f) (seat c n).reason (seat c n).passed (λ p. k.fwd n p f) h))
-  lies_kept terms (granted t a b e f g h) = let y = k.box t a b g f in granted t (k.turn a).0 ((k.turn a).1 ∙ b) (k.place ∙ e) y.1 y.0 (whole_kept terms h)
-  lies_kept terms (left t q a b e f g h i j) =
+  pub lies_kept : (config : LineConfig) → Lies config c o es → Lies config d o2 es
+  lies_kept config (at_home a b w) = at_home (k.home a) (k.place ∙ b) (whole_kept config w)
+  lies_kept config (in_hand n a b e f g h) = in_hand n (k.turn a).0 (b.0, subst (λ (m : ℕ). n ≤ m) (sym k.nodes) b.1) (k.place ∙ e)
+      (ap (λ (s : NodeCall). has_line s.point) (k.hand n f) ∙ f)
+      ((k.turn a).1 ∙ g ∙ ap (λ (s : NodeCall). last_or n s.passed) (sym (k.hand n f)))
+      (subst (λ (s : NodeCall). IsCarried config d o2 es n s.reason s.passed) (sym (k.hand n f)) (carried_kept config n (k.hand n f) (seat c n).reason (seat c n).passed (λ p. k.fwd n p f) h))
+  lies_kept config (granted t a b e f g h) = let y = k.box t a b g f in granted t (k.turn a).0 ((k.turn a).1 ∙ b) (k.place ∙ e) y.1 y.0 (whole_kept config h)
+  lies_kept config (left t q a b e f g h i j) =
       let y = k.tail q h g f in
       let stays : (point d q ≡ Left) ⊎ (point d q ≡ Rolled) = elim h [ inl v ↦ inl (y.0 ∙ v) | inr v ↦ inr (y.0 ∙ v) ] in
-      left t q (k.turn a).0 ((k.turn a).1 ∙ b) (k.place ∙ e) (y.2 ∙ f) (y.1 ∙ g) stays (k.linking t q a b i) (whole_kept terms j)
+      left t q (k.turn a).0 ((k.turn a).1 ∙ b) (k.place ∙ e) (y.2 ∙ f) (y.1 ∙ g) stays (k.linking t q a b i) (whole_kept config j)
 
   -- and what was left behind it leaves there
   left_kept : (x : ℕ) → HasLeft c x → HasLeft d x
@@ -201,7 +201,7 @@ pub rests_held : (d : State) (n : ℕ) (o : List Request) (es : List End) (clear
 rests_held d n o es clear a none = absurd (none n a)
 
 -- of the entries only k's is changed, to w, and the line may move
-pub settled_by : {c d : State} {n : ℕ} {s : Seat} {k : ℕ} {w : Entry} (ch : Changed c d n s k w) (o o2 : List Request) (es fs : List End) (old new : List Request) → IsNode c k → IsSettled c o es old
+pub settled_by : {c d : State} {n : ℕ} {s : NodeCall} {k : ℕ} {w : Entry} (ch : Changed c d n s k w) (o o2 : List Request) (es fs : List End) (old new : List Request) → IsNode c k → IsSettled c o es old
     → ((x : ℕ) → x ≢ k → c.place ≡ Mailbox x → d.place ≡ Mailbox x) → (w.done ≡ true → w.link ≡ 0 → d.place ≡ Mailbox k) → ((entry c k).link ≤ c.nodes → w.link ≤ c.nodes)
     → Rests d o2 fs new → IsSettled d o2 fs new
 settled_by {c} {d} {n} {s} {k} {w} ch o o2 es fs old new a was boxes box bound rests = record {

@@ -4,7 +4,7 @@ pub mod Changes
 pub mod Kept
 pub mod Follows
 pub mod Clearing
-pub mod Arrival
+pub mod Handoff
 pub mod Ending
 pub mod Over
 pub mod Close
@@ -15,7 +15,7 @@ pub mod Prepend
 pub mod Link
 pub mod Quiet
 pub mod Held
-pub mod Comes
+pub mod AtTurn
 pub mod Rest
 pub mod Free
 pub mod Reset
@@ -27,11 +27,11 @@ pub mod Cases
 pub mod Unset
 pub mod Others
 pub mod Made
-pub mod Came
+pub mod HandoffClears
 pub mod Steady
 pub mod Marked
 pub mod Chained
-pub mod Behind
+pub mod Queued
 pub mod Sums
 pub mod Costs
 pub mod Ranks

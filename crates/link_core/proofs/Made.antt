@@ -1,5 +1,5 @@
--- Each case makes its move where the queue may make it, and for the acting node.
-use Rattle.qolb_model.specs.declared.terms.Terms.{Terms}
+-- Each case makes its move if the queue may make it, and for the acting node.
+use Rattle.qolb_model.specs.declared.config.LineConfig.{LineConfig}
 use Rattle.std.proofs.Common.{◌≡◌, ℕ, ◌≤◌, true, false, List, [], ◌∷◌, length, Option, Some, None, refl, sym, ◌∙◌, ap, subst}
 use Rattle.qolb_model.specs.declared.request.Request.{Request}
 use Rattle.qolb_model.specs.EndKinds.{is_gone}
@@ -7,11 +7,11 @@ use Rattle.qolb_model.specs.Requests.{has, Has, last_of}
 use Rattle.qolb_model.specs.Histories.{IsLegal, Clears}
 use Rattle.qolb_model.specs.Queue.{Queue, Move, ask, mark, finish, CanMove}
 use Rattle.link_core.specs.declared.point.Point.TheVariants.{Ready, Queued, Holding, Leaving, Marking, Granting}
-use Rattle.link_core.specs.declared.seat.Reason.{Reason}
-use Rattle.link_core.specs.declared.seat.Reason.TheVariants.{Own, Closing, Refused}
+use Rattle.link_core.specs.declared.seat.ReleaseCause.{ReleaseCause}
+use Rattle.link_core.specs.declared.seat.ReleaseCause.TheVariants.{Own, Closing, Refused}
 use Rattle.link_core.specs.declared.told.Told.{Told as Answer}
 use Rattle.link_core.specs.declared.event.Event.{Event}
-use Rattle.link_core.specs.Places.{request, asker}
+use Rattle.link_core.specs.Places.{request, requester_at}
 use Rattle.link_core.specs.State.{State, IsWide, entry, seat, point, IsNode, last_or, is_clear}
 use Rattle.link_core.specs.Steps.{Step, Releases, holding, leaving, node_of}
 use Rattle.link_core.specs.Steps as row
@@ -27,8 +27,8 @@ use Rattle.qolb_model.specs.Steps.{is_one}
 use Rattle.qolb_model.proofs.Leases.{last-is_one}
 
 -- a move and what it makes, with the clear list that is made besides
-pub goes_by : (terms : Terms) (h g : Queue) (m : Option Move) → MayMake terms h m → g ≡ record (made h m) { clear = g.clear } → Clears g.order (length g.ends) h.clear g.clear → Goes terms h m g
-goes_by terms h g m a e k = record { may = a; cleared = (g.clear, cleared m e, e) }
+pub goes_by : (config : LineConfig) (h g : Queue) (m : Option Move) → MayMake config h m → g ≡ record (made h m) { clear = g.clear } → Clears g.order (length g.ends) h.clear g.clear → Goes config h m g
+goes_by config h g m a e k = record { may = a; cleared = (g.clear, cleared m e, e) }
   where
     cleared : (m : Option Move) → g ≡ record (made h m) { clear = g.clear } → Clears (made h m).order (length (made h m).ends) (made h m).clear g.clear
     cleared None e = along h e k
@@ -39,37 +39,38 @@ goes_by terms h g m a e k = record { may = a; cleared = (g.clear, cleared m e, e
     cleared (Some (mark r)) e = subst (λ (z : Queue). Clears z.order (length z.ends) h.clear g.clear) e k
     cleared (Some (finish x)) e = subst (λ (z : Queue). Clears z.order (length z.ends) h.clear g.clear) e k
 
--- The move is one of n's: it asks, marks its own request, or, with the line in its hand, ends the request at its turn: its own, unless that is gone.
+-- The move is one of n's: it asks, marks its own request, or, with the line in its hand, ends the request at its turn: its own, unless that
+-- end is Gone.
 abbrev pub IsMoveOf : State → Queue → ℕ → Option Move → Type 0
 IsMoveOf c h n None = Unit {0}
 IsMoveOf c h n (Some (ask m)) = m ≡ n
 IsMoveOf c h n (Some (mark r)) = r.node ≡ n
-IsMoveOf c h n (Some (finish x)) = IsNode c n × (has_line (point c n) ≡ true) × (is_gone x ≡ false → asker h.order (length h.ends) ≡ n)
+IsMoveOf c h n (Some (finish x)) = IsNode c n × (has_line (point c n) ≡ true) × (is_gone x ≡ false → requester_at h.order (length h.ends) ≡ n)
 
-module _ {terms : Terms} {c : State} {h : Queue} (s : Matches terms c h) where
+module _ {config : LineConfig} {c : State} {h : Queue} (s : Matches config c h) where
   pub own_end : (n : ℕ) (a : IsNode c n) (f : has_line (point c n) ≡ true) → IsMoveOf c h n (Some (finish (end_of c n)))
   own_end n a f = (a, f, go (seat c n).reason (seat c n).passed refl)
     where
-      go : (r : Reason) (ps : List ℕ) → (seat c n).passed ≡ ps → is_gone (end_by c r ps) ≡ false → asker h.order (length h.ends) ≡ n
+      go : (r : ReleaseCause) (ps : List ℕ) → (seat c n).passed ≡ ps → is_gone (end_by c r ps) ≡ false → requester_at h.order (length h.ends) ≡ n
       go r [] e ne = (facts s a f).3 ∙ ap (last_or n) e
       go Own (m ∷ ms) e ne = cc
       go Closing (m ∷ ms) e ne = cc
       go Refused (m ∷ ms) e ne = cc
 
-  pub can_ask : (n : ℕ) → IsLegal terms.lease h.order h.ends → IsNode c n → point c n ≡ Ready → CanMove terms h (ask n)
+  pub can_ask : (n : ℕ) → IsLegal config.lease h.order h.ends → IsNode c n → point c n ≡ Ready → CanMove config h (ask n)
   can_ask n l a at = (
     a.0,
     subst (λ (x : ℕ). n ≤ x) s.size a.1,
-    λ some. let f = last_place terms.lease h.order h.ends n l some in subst (λ (r : Request). Has h.clear r) f.2 (s.clears n f.0 a f.1 ∙ ap (λ p. is_clear p (entry c n)) at),
+    λ some. let f = last_place config.lease h.order h.ends n l some in subst (λ (r : Request). Has h.clear r) f.2 (s.clears n f.0 a f.1 ∙ ap (λ p. is_clear p (entry c n)) at),
   )
 
-  pub can_finish : (n : ℕ) → IsNode c n → has_line (point c n) ≡ true → (point c n ≡ Holding → is_last_turn terms.lease h.ends ≡ false) → CanMove terms h (finish (end_of c n))
+  pub can_finish : (n : ℕ) → IsNode c n → has_line (point c n) ≡ true → (point c n ≡ Holding → is_last_turn config.lease h.ends ≡ false) → CanMove config h (finish (end_of c n))
   can_finish n a f early = (request h.order (length h.ends), get_request h.order (length h.ends) (facts s a f).0, may s a f early)
 
-  pub can_mark : (n : ℕ) → IsLegal terms.lease h.order h.ends → IsNode c n → point c n ≡ Queued → (entry c n).granted ≡ false → CanMove terms h (mark (last_of n h.order))
+  pub can_mark : (n : ℕ) → IsLegal config.lease h.order h.ends → IsNode c n → point c n ≡ Queued → (entry c n).granted ≡ false → CanMove config h (mark (last_of n h.order))
   can_mark n l a at un =
       let b = sits_at s n Queued a at in
-      let r = last_is terms.lease h.order h.ends n b.at l b.own in (
+      let r = last_is config.lease h.order h.ends n b.at l b.own in (
         b.at,
         waits_behind s n a at un b,
         get_request h.order b.at b.own.known ∙ ap Some r,
@@ -77,11 +78,11 @@ module _ {terms : Terms} {c : State} {h : Queue} (s : Matches terms c h) where
       )
 
   -- a release from the holder's own entry is not of the last turn
-  pub early : (n e : ℕ) → Releases c n e → point c n ≡ Holding → is_last_turn terms.lease h.ends ≡ false
-  early n e (holding a f l) at = sym (last-is_one terms.lease h.ends) ∙ ap is_one (sym s.turns) ∙ l
+  pub early : (n e : ℕ) → Releases c n e → point c n ≡ Holding → is_last_turn config.lease h.ends ≡ false
+  early n e (holding a f l) at = sym (last-is_one config.lease h.ends) ∙ ap is_one (sym s.turns) ∙ l
   early n e (leaving a) at = let z : Leaving e ≡ Holding = sym a ∙ at in cc
 
-module _ {terms : Terms} {c : State} {h : Queue} (w : IsWide c) (s : Matches terms c h) where
+module _ {config : LineConfig} {c : State} {h : Queue} (w : IsWide c) (s : Matches config c h) where
   pub step_of : {e : Event} {t : Answer} {d : State} (k : Step c e t d) → IsMoveOf c h (node_of e) (move_of k h.order)
   step_of (row.prepend_first n a at e) = refl
   step_of (row.prepend n a at ne) = refl
@@ -94,7 +95,7 @@ module _ {terms : Terms} {c : State} {h : Queue} (w : IsWide c) (s : Matches ter
   step_of (row.roll n a at un) = refl
   step_of _ = tt
 
-  pub step_may : (l : IsLegal terms.lease h.order h.ends) → {e : Event} {t : Answer} {d : State} (k : Step c e t d) → MayMake terms h (move_of k h.order)
+  pub step_may : (l : IsLegal config.lease h.order h.ends) → {e : Event} {t : Answer} {d : State} (k : Step c e t d) → MayMake config h (move_of k h.order)
   step_may l (row.prepend_first n a at e) = can_ask s n l a at
   step_may l (row.prepend n a at ne) = can_ask s n l a at
   step_may l (row.home n e a r f) = can_finish s n a (releases_line s a e r) (early s n e r)

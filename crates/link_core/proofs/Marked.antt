@@ -1,5 +1,5 @@
--- The ended requests that were marked are those that are gone, and requests that are not their node's last are clear, whatever move is made.
-use Rattle.qolb_model.specs.declared.terms.Terms.{Terms}
+-- After any move, the ended requests that were marked are those with the end Gone, and requests that are not their node's last are clear.
+use Rattle.qolb_model.specs.declared.config.LineConfig.{LineConfig}
 use Rattle.std.proofs.lemmas.Bool.{cases_eq, cases_lt}
 use Rattle.std.proofs.Common.{◌≡◌, ℕ, ◌+◌, ◌<◌, ◌⊎◌, List, [], ◌∷◌, ◌++◌, length, Option, Some, None, slice_get, refl, sym, ◌∙◌, ap, subst, inl, inr, arith, length-append}
 use Rattle.std.proofs.lemmas.Option.{slice_get_within}
@@ -30,26 +30,26 @@ gone_only lease q r Told a h = absurd (never h a.0)
 gone_marked : (lease : Option ℕ) (q : Queue) (r : Request) (x : End) → EndsAs lease q r x → x ≡ Gone → Has q.marked r
 gone_marked lease q r x a e = subst (λ (y : End). EndsAs lease q r y) e a
 
-marked_move : (terms : Terms) (q : Queue) (m : Move) → CanMove terms q m → IsLegal terms.lease q.order q.ends → AreMarked q → AreMarked (moved q m)
-marked_move terms q (ask n) can l a = record {
+marked_move : (config : LineConfig) (q : Queue) (m : Move) → CanMove config q m → IsLegal config.lease q.order q.ends → AreMarked q → AreMarked (moved q m)
+marked_move config q (ask n) can l a = record {
   gone = λ p r at e. let k = slice_get_within q.ends p Gone e in a.gone p r (old_place q.order (next_of n q.order) p r (omega (arith, l.ended, k)) at) e;
   marked = λ p r at lt h. a.marked p r (old_place q.order (next_of n q.order) p r (omega (arith, l.ended, lt)) at) lt h;
 }
-marked_move terms q (mark x) can l a = record {
+marked_move config q (mark x) can l a = record {
   gone = λ p r at e. has_left q.marked (x ∷ []) r (a.gone p r at e);
   marked = λ p r at lt h. elim (has_push q.marked x r h) [
     | inl old ↦ a.marked p r at lt old
-    | inr is ↦ let k = same_place_legal terms.lease q.order q.ends l p can.0 x (at ∙ ap Some is) can.2 in let j = can.1 in absurd (omega arith)
+    | inr is ↦ let k = same_place_legal config.lease q.order q.ends l p can.0 x (at ∙ ap Some is) can.2 in let j = can.1 in absurd (omega arith)
   ];
 }
-marked_move terms q (finish x) can l a = record {
+marked_move config q (finish x) can l a = record {
   gone = λ p r at e. elim (push_cases q.ends x p Gone e) [
     | inl old ↦ a.gone p r at old.1
-    | inr new ↦ gone_marked terms.lease q r x (subst (λ (y : Request). EndsAs terms.lease q y x) (turn p r at new.0) can.2) (sym new.1)
+    | inr new ↦ gone_marked config.lease q r x (subst (λ (y : Request). EndsAs config.lease q y x) (turn p r at new.0) can.2) (sym new.1)
   ];
   marked = λ p r at lt h. elim (below p lt) [
     | inl old ↦ slice_get-append_left q.ends (x ∷ []) p old ∙ a.marked p r at old h
-    | inr new ↦ ap (slice_get (q.ends ++ x ∷ [])) new ∙ slice_get-push q.ends x ∙ ap Some (gone_only terms.lease q r x (subst (λ (y : Request). EndsAs terms.lease q y x) (turn p r at new) can.2) h)
+    | inr new ↦ ap (slice_get (q.ends ++ x ∷ [])) new ∙ slice_get-push q.ends x ∙ ap Some (gone_only config.lease q r x (subst (λ (y : Request). EndsAs config.lease q y x) (turn p r at new) can.2) h)
   ];
 }
   where
@@ -59,20 +59,20 @@ marked_move terms q (finish x) can l a = record {
     below : (p : ℕ) → p < length (q.ends ++ x ∷ []) → (p < length q.ends) ⊎ (p ≡ length q.ends)
     below p lt = let k = length-append q.ends (x ∷ []) in grind arith
 
-marked_made : (terms : Terms) (q : Queue) (m : Option Move) → MayMake terms q m → IsLegal terms.lease q.order q.ends → AreMarked q → AreMarked (made q m)
-marked_made terms q None may l a = a
-marked_made terms q (Some x) may l a = marked_move terms q x may l a
+marked_made : (config : LineConfig) (q : Queue) (m : Option Move) → MayMake config q m → IsLegal config.lease q.order q.ends → AreMarked q → AreMarked (made q m)
+marked_made config q None may l a = a
+marked_made config q (Some x) may l a = marked_move config q x may l a
 
-pub marked_goes : (terms : Terms) (q : Queue) (m : Option Move) (g : Queue) → Goes terms q m g → IsLegal terms.lease q.order q.ends → AreMarked q → AreMarked g
-marked_goes terms q m g k l a =
-    let b = marked_made terms q m k.may l a in
+pub marked_goes : (config : LineConfig) (q : Queue) (m : Option Move) (g : Queue) → Goes config q m g → IsLegal config.lease q.order q.ends → AreMarked q → AreMarked g
+marked_goes config q m g k l a =
+    let b = marked_made config q m k.may l a in
     subst (λ (y : Queue). AreMarked y) (sym k.cleared.2) (record { gone = b.gone; marked = b.marked })
 
--- a node asks where its last request is clear
-earlier_move : (terms : Terms) (q : Queue) (m : Move) → CanMove terms q m → IsLegal terms.lease q.order q.ends → AreEarlierClear q → AreEarlierClear (moved q m)
-earlier_move terms q (mark x) can l a r h lt = a r h lt
-earlier_move terms q (finish x) can l a r h lt = a r h lt
-earlier_move terms q (ask n) can l a r h lt = elim (has_push q.order (next_of n q.order) r h) [
+-- a node makes a request if its last one is clear
+earlier_move : (config : LineConfig) (q : Queue) (m : Move) → CanMove config q m → IsLegal config.lease q.order q.ends → AreEarlierClear q → AreEarlierClear (moved q m)
+earlier_move config q (mark x) can l a r h lt = a r h lt
+earlier_move config q (finish x) can l a r h lt = a r h lt
+earlier_move config q (ask n) can l a r h lt = elim (has_push q.order (next_of n q.order) r h) [
   | inl old ↦ elim (cases_eq r.node n) [
     | inl same ↦
         let (p, at) = place_of_request q.order r old in
@@ -95,11 +95,11 @@ earlier_move terms q (ask n) can l a r h lt = elim (has_push q.order (next_of n 
       absurd (omega arith)
 ]
 
-earlier_made : (terms : Terms) (q : Queue) (m : Option Move) → MayMake terms q m → IsLegal terms.lease q.order q.ends → AreEarlierClear q → AreEarlierClear (made q m)
-earlier_made terms q None may l a = a
-earlier_made terms q (Some x) may l a = earlier_move terms q x may l a
+earlier_made : (config : LineConfig) (q : Queue) (m : Option Move) → MayMake config q m → IsLegal config.lease q.order q.ends → AreEarlierClear q → AreEarlierClear (made q m)
+earlier_made config q None may l a = a
+earlier_made config q (Some x) may l a = earlier_move config q x may l a
 
-pub earlier_goes : (terms : Terms) (q : Queue) (m : Option Move) (g : Queue) → Goes terms q m g → IsLegal terms.lease q.order q.ends → AreEarlierClear q → AreEarlierClear g
-earlier_goes terms q m g k l a =
-    let b = earlier_made terms q m k.may l a in
+pub earlier_goes : (config : LineConfig) (q : Queue) (m : Option Move) (g : Queue) → Goes config q m g → IsLegal config.lease q.order q.ends → AreEarlierClear q → AreEarlierClear g
+earlier_goes config q m g k l a =
+    let b = earlier_made config q m k.may l a in
     subst (λ (y : Queue). AreEarlierClear y) (sym k.cleared.2) (λ r h lt. has_more (made q m).clear k.cleared.0 r (clears_begin k.cleared.1) (b r h lt))

@@ -4,8 +4,8 @@ use Rattle.std.proofs.lemmas.Bool.{cases_order}
 use Rattle.std.proofs.lemmas.Option.{slice_get_within}
 use Rattle.std.proofs.Math.ListN.{get_or-append}
 use Rattle.std.proofs.Math.Seq.{get_or-append_seam}
-use Rattle.link_core.specs.declared.seat.Reason.{Reason}
-use Rattle.link_core.specs.Places.{nobody, request, asker, IsLast}
+use Rattle.link_core.specs.declared.seat.ReleaseCause.{ReleaseCause}
+use Rattle.link_core.specs.Places.{nobody, request, requester_at, IsLast}
 use Rattle.link_core.specs.Shown.{EndedBy, HasEnded}
 use Rattle.qolb_model.specs.Requests.{count_of, last_of}
 use Rattle.qolb_model.specs.Histories.{IsLegal}
@@ -27,11 +27,11 @@ request_old o r p l = get_or-append o (r ∷ []) nobody p l
 pub request_new : (o : List Request) (r : Request) → request (pushed o r) (length o) ≡ r
 request_new o r = get_or-append_seam o r [] nobody
 
-pub asker_old : (o : List Request) (r : Request) (p : ℕ) → p < length o → asker (pushed o r) p ≡ asker o p
-asker_old o r p l = ap (λ (s : Request). s.node) (request_old o r p l)
+pub requester_old : (o : List Request) (r : Request) (p : ℕ) → p < length o → requester_at (pushed o r) p ≡ requester_at o p
+requester_old o r p l = ap (λ (s : Request). s.node) (request_old o r p l)
 
-pub asker_new : (o : List Request) (r : Request) → asker (pushed o r) (length o) ≡ r.node
-asker_new o r = ap (λ (s : Request). s.node) (request_new o r)
+pub requester_new : (o : List Request) (r : Request) → requester_at (pushed o r) (length o) ≡ r.node
+requester_new o r = ap (λ (s : Request). s.node) (request_new o r)
 
 -- a place in the longer order is an old one or the new one
 pub place_cases : (o : List Request) (r : Request) (p : ℕ) → p < length (pushed o r) → (p < length o) ⊎ (p ≡ length o)
@@ -44,35 +44,35 @@ last_once o n p q a b =
     let g : q < p → ⊥ = λ l. b.newest p l a.known a.its in
     grind arith
 
-newer : (o : List Request) (r : Request) (n p : ℕ) → n ≢ r.node → IsLast o n p → (q : ℕ) → p < q → q < length (pushed o r) → asker (pushed o r) q ≢ n
+newer : (o : List Request) (r : Request) (n p : ℕ) → n ≢ r.node → IsLast o n p → (q : ℕ) → p < q → q < length (pushed o r) → requester_at (pushed o r) q ≢ n
 newer o r n p ne a q l m e = elim (place_cases o r q m) [
-  | inl old ↦ a.newest q l old (sym (asker_old o r q old) ∙ e)
-  | inr new ↦ ne (sym e ∙ ap (asker (pushed o r)) new ∙ asker_new o r)
+  | inl old ↦ a.newest q l old (sym (requester_old o r q old) ∙ e)
+  | inr new ↦ ne (sym e ∙ ap (requester_at (pushed o r)) new ∙ requester_new o r)
 ]
 
 -- another node's last request stays its last
 pub last_kept : (o : List Request) (r : Request) (n p : ℕ) → n ≢ r.node → IsLast o n p → IsLast (pushed o r) n p
 last_kept o r n p ne a = record {
   known = let e = length_pushed o r in let k = a.known in omega arith;
-  its = asker_old o r p a.known ∙ a.its;
+  its = requester_old o r p a.known ∙ a.its;
   newest = newer o r n p ne a;
 }
 
-was_newer : (o : List Request) (r : Request) (n p : ℕ) → IsLast (pushed o r) n p → (q : ℕ) → p < q → q < length o → asker o q ≢ n
-was_newer o r n p a q l m e = a.newest q l (let f = length_pushed o r in omega arith) (asker_old o r q m ∙ e)
+was_newer : (o : List Request) (r : Request) (n p : ℕ) → IsLast (pushed o r) n p → (q : ℕ) → p < q → q < length o → requester_at o q ≢ n
+was_newer o r n p a q l m e = a.newest q l (let f = length_pushed o r in omega arith) (requester_old o r q m ∙ e)
 
 -- and was it
 pub last_back : (o : List Request) (r : Request) (n p : ℕ) → n ≢ r.node → IsLast (pushed o r) n p → IsLast o n p
 last_back o r n p ne a = elim (place_cases o r p a.known) [
-  | inl old ↦ record { known = old; its = sym (asker_old o r p old) ∙ a.its; newest = was_newer o r n p a }
-  | inr new ↦ absurd (ne (sym a.its ∙ ap (asker (pushed o r)) new ∙ asker_new o r))
+  | inl old ↦ record { known = old; its = sym (requester_old o r p old) ∙ a.its; newest = was_newer o r n p a }
+  | inr new ↦ absurd (ne (sym a.its ∙ ap (requester_at (pushed o r)) new ∙ requester_new o r))
 ]
 
 -- the new request is its node's last
 pub last_new : (o : List Request) (r : Request) → IsLast (pushed o r) r.node (length o)
 last_new o r = record {
   known = let e = length_pushed o r in omega arith;
-  its = asker_new o r;
+  its = requester_new o r;
   newest = λ q l m e. let f = length_pushed o r in absurd (omega arith);
 }
 
@@ -91,13 +91,13 @@ request_got (x ∷ xs) zero r e = cc
 request_got (x ∷ xs) (suc p) r e = request_got xs p r e
 
 -- a request that has ended by a reason has ended
-pub ended_at : {o : List Request} {es : List End} {n : ℕ} {r : Reason} (e : EndedBy o es n r) → e.at < length es
+pub ended_at : {o : List Request} {es : List End} {n : ℕ} {r : ReleaseCause} (e : EndedBy o es n r) → e.at < length es
 ended_at {es = es} e = slice_get_within es e.at e.end e.ended
 
-pub has_ended : {o : List Request} {es : List End} {n : ℕ} {r : Reason} → EndedBy o es n r → HasEnded o es n
+pub has_ended : {o : List Request} {es : List End} {n : ℕ} {r : ReleaseCause} → EndedBy o es n r → HasEnded o es n
 has_ended {o} {es} {n} e p l = let k = last_once o n p e.at l e.last in let b = ended_at e in omega arith
 
--- in a legal order, a node's last request is where its last place is
+-- in a legal order, a node's last request is at its last place
 pub last_is : (lease : Option ℕ) (o : List Request) (es : List End) (n p : ℕ) → IsLegal lease o es → IsLast o n p → request o p ≡ last_of n o
 last_is lease o es n p l a =
     let r : Request = request o p in

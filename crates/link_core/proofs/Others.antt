@@ -1,5 +1,5 @@
 -- What an act of one node leaves to the others.
-use Rattle.qolb_model.specs.declared.terms.Terms.{Terms}
+use Rattle.qolb_model.specs.declared.config.LineConfig.{LineConfig}
 use Rattle.std.proofs.Common.{◌≡◌, ◌≢◌, ℕ, ◌-◌, ◌<◌, ◌≤◌, Bool, true, false, List, [], ◌∷◌, length, Option, Some, None, slice_get, refl, sym, ◌∙◌, ap, subst, inl, inr, arith}
 use mathlib.Core.List.{IsPrefix}
 use Rattle.std.proofs.lemmas.Option.{slice_get_within}
@@ -8,7 +8,7 @@ use Rattle.link_core.specs.declared.point.Point.TheVariants.{Linking, Queued}
 use Rattle.link_core.specs.declared.place.Place.TheVariants.{Home, Mailbox, Hand}
 use Rattle.link_core.specs.declared.told.Told.{Told as Answer}
 use Rattle.link_core.specs.declared.event.Event.{Event}
-use Rattle.link_core.specs.Places.{asker, IsLast}
+use Rattle.link_core.specs.Places.{requester_at, IsLast}
 use Rattle.qolb_model.specs.EndKinds.{is_gone}
 use Rattle.qolb_model.specs.Queue.{Queue, Move, ask, mark, finish}
 use Rattle.qolb_model.specs.Requests.{has, count_of, next_of}
@@ -26,14 +26,14 @@ use Rattle.link_core.specs.Steps as row
 use Rattle.link_core.specs.Shown.{has_line, Lies, at_home, in_hand, granted, left, Matches}
 use Rattle.link_core.specs.Moves.{made, move_of}
 use Rattle.link_core.specs.Others.{Spared}
-use Rattle.link_core.proofs.Deeds.{GoesOn}
+use Rattle.link_core.proofs.Deeds.{Advances}
 use Rattle.link_core.proofs.Orders.{last_kept, last_back, request_got}
 use Rattle.link_core.proofs.Follows.{sits_at, in_its_hand, left_for, granted_for, granted_turn, done_turn}
 use Rattle.link_core.proofs.Ending.{facts}
 use Rattle.link_core.proofs.Made.{IsMoveOf, step_of}
 use Rattle.link_core.proofs.Sound.{step_sizes}
 
-module _ {terms : Terms} {c : State} {h : Queue} (s : Matches terms c h) where
+module _ {config : LineConfig} {c : State} {h : Queue} (s : Matches config c h) where
   pub one_hand : (m n : ℕ) → IsNode c m → IsNode c n → has_line (point c m) ≡ true → has_line (point c n) ≡ true → m ≡ n
   one_hand m n a b e f = let k : Hand m ≡ Hand n = sym (in_its_hand s m a e) ∙ in_its_hand s n b f in cc
 
@@ -55,12 +55,12 @@ module _ {terms : Terms} {c : State} {h : Queue} (s : Matches terms c h) where
       let b = sits_at s n (Linking p) a at in
       let t = done_turn s n p a at dn b in
       let k = b.own.known in
-      (left_for s n p s.lies (omega arith) (ap (asker h.order) t ∙ b.own.its) at).0
+      (left_for s n p s.lies (omega arith) (ap (requester_at h.order) t ∙ b.own.its) at).0
 
   pub granted_box : (n : ℕ) → IsNode c n → point c n ≡ Queued → (entry c n).granted ≡ true → c.place ≡ Mailbox n
   granted_box n a at gr = let t = granted_turn s n a at gr in (granted_for s n s.lies t.known t.its at).0
 
-  -- where home names nobody the line is at home
+  -- if home names no node the line is at home
   pub idle_home : c.home ≡ 0 → c.place ≡ Home
   idle_home e = go s.lies
     where
@@ -72,7 +72,7 @@ module _ {terms : Terms} {c : State} {h : Queue} (s : Matches terms c h) where
           let i = (s.nodes p l).0 in
           omega arith
 
-      go : Lies terms c h.order h.ends → c.place ≡ Home
+      go : Lies config c h.order h.ends → c.place ≡ Home
       go (at_home a b w) = b
       go (in_hand m a b i f g y) = absurd (busy a)
       go (granted t a b i f g y) = absurd (busy a)
@@ -86,7 +86,7 @@ module _ {terms : Terms} {c : State} {h : Queue} (s : Matches terms c h) where
   seats_kept (row.home_last_failed n a at l ne) m other = get_or-set_other (closed_by n c).seats _ m _ unused other ∙ get_or-set_other c.seats _ m _ unused other
   seats_kept _ m other = get_or-set_other c.seats _ m _ unused other
 
-  -- the line is changed by arrivals and by who has it alone
+  -- the line is changed only by arrivals and by the node that has it
   line_kept : {e : Event} {t : Answer} {d : State} (k : Step c e t d) (m : ℕ) → m ≢ node_of e → IsNode c m → has_line (point c m) ≡ true → (d.bytes ≡ c.bytes) × (d.closed ≡ c.closed) × (d.mask ≡ c.mask)
   line_kept (row.prepend_first n a at e) m other b f = absurd (home_busy m b f e)
   line_kept (row.link_done n p a at dn) m other b f = absurd (no_box m p (linked_box n p a at dn) b f)
@@ -133,7 +133,7 @@ module _ (c : State) (h : Queue) (n : ℕ) where
   its_kept : (x : Option Move) → IsMoveOf c h n x → (p : ℕ) (r : Request) (e : End) → length h.ends ≤ p → slice_get (made h x).order p ≡ Some r → slice_get (made h x).ends p ≡ Some e → is_gone e ≡ false → r.node ≡ n
   its_kept (Some (finish x)) y p r e a at was ng = elim (push_cases h.ends x p e was) [
     | inl old ↦ let k = old.0 in absurd (omega arith)
-    | inr new ↦ ap (λ (z : Request). z.node) (sym (request_got h.order p r at)) ∙ ap (asker h.order) new.0 ∙ y.2 (ap is_gone (sym new.1) ∙ ng)
+    | inr new ↦ ap (λ (z : Request). z.node) (sym (request_got h.order p r at)) ∙ ap (requester_at h.order) new.0 ∙ y.2 (ap is_gone (sym new.1) ∙ ng)
   ]
   its_kept None y p r e a at was ng = let k = slice_get_within h.ends p e was in absurd (omega arith)
   its_kept (Some (ask m)) y p r e a at was ng = let k = slice_get_within h.ends p e was in absurd (omega arith)
@@ -151,8 +151,8 @@ ends_begin h None = prefix_self h.ends
 ends_begin h (Some (ask n)) = prefix_self h.ends
 ends_begin h (Some (mark r)) = prefix_self h.ends
 
-pub spared : (terms : Terms) (c : State) (h : Queue) (w : IsWide c) (s : Matches terms c h) {e : Event} {t : Answer} {d : State} (k : Step c e t d) (b : Bool) (on : GoesOn terms d h (node_of e) t (move_of k h.order) b) → Spared c d h on.after (node_of e)
-spared terms c h w s {e} {t} {d} k b on =
+pub spared : (config : LineConfig) (c : State) (h : Queue) (w : IsWide c) (s : Matches config c h) {e : Event} {t : Answer} {d : State} (k : Step c e t d) (b : Bool) (on : Advances config d h (node_of e) t (move_of k h.order) b) → Spared c d h on.after (node_of e)
+spared config c h w s {e} {t} {d} k b on =
     let n : ℕ = node_of e in
     let x : Option Move = move_of k h.order in
     let y : IsMoveOf c h n x = step_of w s k in
@@ -164,7 +164,7 @@ spared terms c h w s {e} {t} {d} k b on =
       line = λ m other i f.
           let z = line_kept s k m other i f in
           let same = ends ∙ ends_kept c h n x y (λ g. other (one_hand s m n i g.0 f g.1)) in
-          (z.0, z.1, z.2, on.shows.turns ∙ ap (turns_left terms.lease) same ∙ sym s.turns, same);
+          (z.0, z.1, z.2, on.shows.turns ∙ ap (turns_left config.lease) same ∙ sym s.turns, same);
       asks = λ m ne. ap (count_of m) order ∙ asks_kept c h n x y m ne;
       last = λ m p ne l. subst (λ (o : List Request). IsLast o m p) (sym order) (lasts_kept c h n x y m p ne l);
       back = λ m p ne l. lasts_back c h n x y m p ne (subst (λ (o : List Request). IsLast o m p) order l);

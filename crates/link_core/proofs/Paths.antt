@@ -1,6 +1,6 @@
 -- Events that follow each other, and what they take from the rank; and what an act leaves of a way on.
-use Rattle.qolb_model.specs.declared.terms.Terms.{Terms}
-use Rattle.qolb_model.specs.declared.terms.TheConstants.{MOST_NODES}
+use Rattle.qolb_model.specs.declared.config.LineConfig.{LineConfig}
+use Rattle.qolb_model.specs.declared.config.TheConstants.{MAX_NODES}
 use Rattle.std.proofs.Common.{◌≡◌, ◌≢◌, ℕ, zero, suc, ◌+◌, ◌*◌, ◌<◌, ◌≤◌, Bool, true, false, ◌&&◌, not, List, [], ◌∷◌, length, Option, Some, None, refl, sym, ◌∙◌, ap, subst, inl, inr, arith, length-append}
 use Rattle.std.proofs.lemmas.Bool.{cases_Bool}
 use Rattle.qolb_model.specs.Queue.{Queue, Move, ask, mark, finish}
@@ -12,12 +12,12 @@ use Rattle.link_core.specs.declared.point.Point.TheVariants.{Linking, Queued, Ho
 use Rattle.link_core.specs.declared.told.Told.{Told as Answer}
 use Rattle.link_core.specs.declared.state.TheConstants.{PLACES}
 use Rattle.link_core.specs.Places.{IsLast}
-use Rattle.link_core.specs.State.{State, IsWide, Seat, entry, point, IsNode, first}
+use Rattle.link_core.specs.State.{State, IsWide, NodeCall, entry, point, IsNode, first}
 use Rattle.link_core.specs.Steps.{Step, node_of}
 use Rattle.link_core.specs.Moves.{move_of, made, Goes}
 use Rattle.link_core.specs.Shown.{has_line, Shows}
 use Rattle.link_core.specs.Promise.{Run, opened, event as run_event}
-use Rattle.link_core.specs.Progress.{sum_over, is_productive, to_go, to_go_at, rank, rank_at, asks_behind, one_if, ActsNext, holds, leaves, marks, grants, loads, links, Path, here, then', productive_on, productive_for, asked_on, IsShort, productive_in, asked_in}
+use Rattle.link_core.specs.Progress.{sum_over, is_productive, steps_left, steps_left_at, rank, rank_at, asks_behind, one_if, ActsNext, holds, leaves, marks, grants, loads, links, Path, here, then', productive_on, productive_for, asked_on, IsShort, productive_in, asked_in}
 use Rattle.link_core.proofs.Sums.{sum_le}
 use Rattle.link_core.proofs.Falls.{ends_more, goes_down}
 use Rattle.link_core.proofs.Follows.{sits_at, in_its_hand, left_for, granted_for, granted_turn, done_turn}
@@ -32,23 +32,23 @@ made_order_more q (Some (ask n)) = omega (arith, length-append q.order (next_of 
 made_order_more q (Some (mark r)) = omega arith
 made_order_more q (Some (finish x)) = omega arith
 
-order_more : (terms : Terms) (q r : Queue) (m : Option Move) → Goes terms q m r → length q.order ≤ length r.order
-order_more terms q r m goes = let a = made_order_more q m in let b : length r.order ≡ length (made q m).order = ap (λ (g : Queue). length g.order) goes.cleared.2 in omega arith
+order_more : (config : LineConfig) (q r : Queue) (m : Option Move) → Goes config q m r → length q.order ≤ length r.order
+order_more config q r m goes = let a = made_order_more q m in let b : length r.order ≡ length (made q m).order = ap (λ (g : Queue). length g.order) goes.cleared.2 in omega arith
 
-module _ {terms : Terms} {c : State} {q : Queue} (w : IsWide c) (s : Shows terms c q) where
-  path_wide : {d : State} {r : Queue} → Path terms c q d r → IsWide d
+module _ {config : LineConfig} {c : State} {q : Queue} (w : IsWide c) (s : Shows config c q) where
+  path_wide : {d : State} {r : Queue} → Path config c q d r → IsWide d
   path_wide here = w
   path_wide (then' path e t f u step goes shows) = step_wide _ (path_wide path) step
 
-  path_shows : {d : State} {r : Queue} → Path terms c q d r → Shows terms d r
+  path_shows : {d : State} {r : Queue} → Path config c q d r → Shows config d r
   path_shows here = s
   path_shows (then' path e t f u step goes shows) = shows
 
-  path_order : {d : State} {r : Queue} → Path terms c q d r → length q.order ≤ length r.order
+  path_order : {d : State} {r : Queue} → Path config c q d r → length q.order ≤ length r.order
   path_order here = omega arith
-  path_order (then' {r = r} path e t f u step goes shows) = let a = path_order path in let b = order_more terms r u (move_of step r.order) goes in omega arith
+  path_order (then' {r = r} path e t f u step goes shows) = let a = path_order path in let b = order_more config r u (move_of step r.order) goes in omega arith
 
-  short_all : {d : State} {r : Queue} (path : Path terms c q d r) → productive_on path + rank d ≤ rank c + 5 * asked_on path
+  short_all : {d : State} {r : Queue} (path : Path config c q d r) → productive_on path + rank d ≤ rank c + 5 * asked_on path
   short_all here = omega arith
   short_all (then' {d = d} {r = r} path e t f u step goes shows) =
       let a = short_all path in
@@ -59,7 +59,7 @@ module _ {terms : Terms} {c : State} {q : Queue} (w : IsWide c) (s : Shows terms
         | inr z ↦ let o : one_if (is_productive e t) ≡ 0 = ap one_if z in omega arith
       ]
 
-  short_at : {d : State} {r : Queue} (path : Path terms c q d r) (p : ℕ) → p < length q.order → length r.ends ≤ p → productive_for p path + rank_at d r.order p ≤ rank_at c q.order p
+  short_at : {d : State} {r : Queue} (path : Path config c q d r) (p : ℕ) → p < length q.order → length r.ends ≤ p → productive_for p path + rank_at d r.order p ≤ rank_at c q.order p
   short_at here p l o = omega arith
   short_at (then' {d = d} {r = r} path e t f u step goes shows) p l o =
       let more = ends_more (path_wide path) (path_shows path).matches step u goes in
@@ -81,31 +81,31 @@ module _ {terms : Terms} {c : State} {q : Queue} (w : IsWide c) (s : Shows terms
       both true false e = (refl, refl)
       both false b e = cc
 
-  pub is_short : {d : State} {r : Queue} (path : Path terms c q d r) → IsShort path
+  pub is_short : {d : State} {r : Queue} (path : Path config c q d r) → IsShort path
   is_short path = record { all = short_all path; at = short_at path }
 
 -- a run from the opening
-first_rank : (terms : Terms) → rank (first terms) ≡ 0
-first_rank terms =
-    let a = sum_le terms.nodes (to_go (first terms)) (λ _. 0) (λ k _ _. let e : to_go (first terms) k ≡ 0 = ap (λ (s : Seat). to_go_at (first terms) (entry (first terms) k) s.point) (seat_first PLACES k) in omega arith) in
-    let b = zeros terms.nodes in
+first_rank : (config : LineConfig) → rank (first config) ≡ 0
+first_rank config =
+    let a = sum_le config.nodes (steps_left (first config)) (λ _. 0) (λ k _ _. let e : steps_left (first config) k ≡ 0 = ap (λ (s : NodeCall). steps_left_at (first config) (entry (first config) k) s.point) (seat_first PLACES k) in omega arith) in
+    let b = zeros config.nodes in
     omega arith
   where
     zeros : (n : ℕ) → sum_over n (λ _. 0) ≡ 0
     zeros zero = refl
     zeros (suc n) = let e = zeros n in omega arith
 
-module _ {terms : Terms} (few : terms.nodes ≤ MOST_NODES) (long : length terms.opening.bytes ≡ 64) where
-  run_wide : {es : List Event} {c : State} {q : Queue} → Run terms es c q → IsWide c
+module _ {config : LineConfig} (few : config.nodes ≤ MAX_NODES) (long : length config.opening.bytes ≡ 64) where
+  run_wide : {es : List Event} {c : State} {q : Queue} → Run config es c q → IsWide c
   run_wide opened = record { entries = omega arith; seats = omega arith }
   run_wide (run_event r e t d g step goes shows) = step_wide _ (run_wide r) step
 
-  run_shows : {es : List Event} {c : State} {q : Queue} → Run terms es c q → Shows terms c q
-  run_shows opened = first_shows terms long
+  run_shows : {es : List Event} {c : State} {q : Queue} → Run config es c q → Shows config c q
+  run_shows opened = first_shows config long
   run_shows (run_event r e t d g step goes shows) = shows
 
-  pub run_short : {es : List Event} {c : State} {q : Queue} (run : Run terms es c q) → productive_in run + rank c ≤ 5 * asked_in run
-  run_short opened = let e = first_rank terms in omega arith
+  pub run_short : {es : List Event} {c : State} {q : Queue} (run : Run config es c q) → productive_in run + rank c ≤ 5 * asked_in run
+  run_short opened = let e = first_rank config in omega arith
   run_short (run_event {c = c} {q = q} r e t d u step goes shows) =
       let a = run_short r in
       let g = goes_down (run_wide r) (run_shows r).matches step u goes in
@@ -116,15 +116,15 @@ module _ {terms : Terms} (few : terms.nodes ≤ MOST_NODES) (long : length terms
       ]
 
 -- no other node takes a way on away
-module _ {terms : Terms} {c : State} {q : Queue} (w : IsWide c) (s : Shows terms c q) {e : Event} {t : Answer} {d : State} (k : Step c e t d) where
+module _ {config : LineConfig} {c : State} {q : Queue} (w : IsWide c) (s : Shows config c q) {e : Event} {t : Answer} {d : State} (k : Step c e t d) where
   abbrev after : Queue
-  after = (step_shows terms c q w s k).after
+  after = (step_shows config c q w s k).after
 
-  now : Shows terms d after
-  now = (step_shows terms c q w s k).shows
+  now : Shows config d after
+  now = (step_shows config c q w s k).shows
 
   same_point : (n : ℕ) (p : Point) → n ≢ node_of e → point c n ≡ p → point d n ≡ p
-  same_point n p ne at = ap (λ (x : Seat). x.point) ((step_shows terms c q w s k).spared.seats n ne) ∙ at
+  same_point n p ne at = ap (λ (x : NodeCall). x.point) ((step_shows config c q w s k).spared.seats n ne) ∙ at
 
   node : (n : ℕ) → IsNode c n → IsNode d n
   node n a = (a.0, subst (λ (x : ℕ). n ≤ x) (sym (step_sizes c k).0) a.1)
@@ -134,8 +134,8 @@ module _ {terms : Terms} {c : State} {q : Queue} (w : IsWide c) (s : Shows terms
 
   turn_stays : (n p : ℕ) → n ≢ node_of e → IsLast q.order n (length q.ends) → IsLast after.order n p → length after.ends ≤ p → (length after.ends ≡ length q.ends) × IsLast after.order n (length after.ends)
   turn_stays n p ne l m o =
-      let same = last_once after.order n p (length q.ends) m ((step_shows terms c q w s k).spared.last n (length q.ends) ne l) in
-      let more = ends_more w s.matches k after (step_shows terms c q w s k).goes in
+      let same = last_once after.order n p (length q.ends) m ((step_shows config c q w s k).spared.last n (length q.ends) ne l) in
+      let more = ends_more w s.matches k after (step_shows config c q w s k).goes in
       let z : length after.ends ≡ length q.ends = omega arith in
       (z, subst (λ (x : ℕ). IsLast after.order n x) (same ∙ sym z) m)
 

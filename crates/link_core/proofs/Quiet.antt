@@ -1,5 +1,5 @@
 -- A step that ends no turn and adds no request: what all such steps have in common.
-use Rattle.qolb_model.specs.declared.terms.Terms.{Terms}
+use Rattle.qolb_model.specs.declared.config.LineConfig.{LineConfig}
 use Rattle.std.proofs.Common.{◌≡◌, ◌≢◌, ℕ, ◌+◌, ◌<◌, ◌≤◌, Bool, true, false, ◌||◌, List, [], ◌⊎◌, length, refl, sym, ◌∙◌, ap, subst, inl, inr}
 use Rattle.line_lanes.specs.declared.line.Line64.{Line64}
 use Rattle.line_lanes.specs.declared.line.Mask.{Mask}
@@ -7,12 +7,12 @@ use Rattle.link_core.specs.declared.point.Point.TheVariants.{Ready, Linking, Gra
 use Rattle.link_core.specs.declared.place.Place.{Place}
 use Rattle.link_core.specs.declared.place.Place.TheVariants.{Mailbox, Hand}
 use Rattle.link_core.specs.declared.entry.Entry.{Entry}
-use Rattle.link_core.specs.Places.{request, asker, IsLast}
+use Rattle.link_core.specs.Places.{request, requester_at, IsLast}
 use Rattle.qolb_model.specs.Queue.{Queue}
 use Rattle.qolb_model.specs.Requests.{count_of, has}
 use Rattle.qolb_model.specs.declared.request.Request.{Request}
-use Rattle.link_core.specs.State.{State, Seat, entry, seat, point, IsNode, current, is_clear}
-use Rattle.link_core.specs.Shown.{is_rolled, has_line, is_freeing, Lies, IsLinked, Sits, HasCome, IsGranting, IsFresh, Rests, Matches}
+use Rattle.link_core.specs.State.{State, NodeCall, entry, seat, point, IsNode, current, is_clear}
+use Rattle.link_core.specs.Shown.{is_rolled, has_line, is_freeing, Lies, IsLinked, Sits, HasReached, IsGranting, IsFresh, Rests, Matches}
 use Rattle.std.proofs.lemmas.Bool.{cases_eq}
 use Rattle.qolb_model.proofs.Prefixes.{prefix_self}
 use Rattle.link_core.proofs.Changes.{Changed, point_other, point_own, field, passes_kept, once_kept, unpassed_kept}
@@ -20,19 +20,19 @@ use Rattle.link_core.proofs.Follows.{in_its_hand}
 use Rattle.link_core.proofs.Kept.{Spares, spares_by, sits_kept, settled_by}
 
 -- what the step does to n, at its point before and at its seat after, and to the entry of k
-pub record IsQuiet (c d : State) (h : Queue) (marked : List Request) (n : ℕ) (st : Seat) (k : ℕ) (w : Entry) : Type 0 where
+pub record IsQuiet (c d : State) (h : Queue) (marked : List Request) (n : ℕ) (st : NodeCall) (k : ℕ) (w : Entry) : Type 0 where
   pub link : w.link ≡ (entry c k).link
   pub freed : w.freed ≡ (entry c k).freed
   pub granted : w.granted ≡ (entry c k).granted
   pub rolled : k ≢ n → w.rolled ≡ (entry c k).rolled
-  pub done : (w.done ≡ (entry c k).done) ⊎ ((p : ℕ) → length h.ends ≤ p → p < length h.order → asker h.order p ≡ k → (p ≡ length h.ends) × IsGranting d)
+  pub done : (w.done ≡ (entry c k).done) ⊎ ((p : ℕ) → length h.ends ≤ p → p < length h.order → requester_at h.order p ≡ k → (p ≡ length h.ends) × IsGranting d)
   pub ready : k ≢ n → point c k ≢ Ready
   pub clear : k ≢ n → is_clear (point c k) w ≡ is_clear (point c k) (entry c k)
   pub clear_own : is_clear st.point (entry d n) ≡ is_clear (point c n) (entry c n)
   pub passed : st.passed ≡ (seat c n).passed
   pub hands : (m : ℕ) → c.place ≡ Hand m → d.place ≡ Hand m
-  pub marks : (p : ℕ) → length h.ends ≤ p → p < length h.order → asker h.order p ≡ n → has marked (request h.order p) ≡ is_rolled st.point
-  pub marks_other : (p : ℕ) → asker h.order p ≢ n → has marked (request h.order p) ≡ has h.marked (request h.order p)
+  pub marks : (p : ℕ) → length h.ends ≤ p → p < length h.order → requester_at h.order p ≡ n → has marked (request h.order p) ≡ is_rolled st.point
+  pub marks_other : (p : ℕ) → requester_at h.order p ≢ n → has marked (request h.order p) ≡ has h.marked (request h.order p)
   pub marked_known : (r : Request) → has marked r ≡ true → r.number ≤ count_of r.node h.order
   pub not_granting : (m : ℕ) → point c n ≢ Granting m
   pub not_linking : (q : ℕ) → point c n ≢ Linking q
@@ -42,26 +42,26 @@ pub record IsQuiet (c d : State) (h : Queue) (marked : List Request) (n : ℕ) (
   pub boxes : (x : ℕ) → x ≢ k → c.place ≡ Mailbox x → d.place ≡ Mailbox x
   pub box : w.done ≡ true → w.link ≡ 0 → d.place ≡ Mailbox k
   pub rests : Rests d h.order h.ends h.clear
-  pub lies : (terms : Terms) → Matches terms c h → Lies terms d h.order h.ends
+  pub lies : (config : LineConfig) → Matches config c h → Lies config d h.order h.ends
   pub own : Sits d h.order h.ends n st.point
 
-module _ (terms : Terms) (c : State) (h : Queue) (n : ℕ) (s : Matches terms c h) (is : IsNode c n)
-    (pl : Place) (bs : Line64) (cl : Bool) (mk : Mask) (ents : List Entry) (sts : List Seat) (marked : List Request) (st : Seat) (k : ℕ) (w : Entry)
+module _ (config : LineConfig) (c : State) (h : Queue) (n : ℕ) (s : Matches config c h) (is : IsNode c n)
+    (pl : Place) (bs : Line64) (cl : Bool) (mk : Mask) (ents : List Entry) (sts : List NodeCall) (marked : List Request) (st : NodeCall) (k : ℕ) (w : Entry)
     (ch : Changed c (record c { place = pl; bytes = bs; closed = cl; mask = mk; entries = ents; seats = sts }) n st k w)
     (q : IsQuiet c (record c { place = pl; bytes = bs; closed = cl; mask = mk; entries = ents; seats = sts }) h marked n st k w) where
   abbrev d : State
   d = record c { place = pl; bytes = bs; closed = cl; mask = mk; entries = ents; seats = sts }
 
-  links : (p : ℕ) → length h.ends ≤ p → p + 1 < length h.order → IsLinked d (asker h.order p) (asker h.order (p + 1))
+  links : (p : ℕ) → length h.ends ≤ p → p + 1 < length h.order → IsLinked d (requester_at h.order p) (requester_at h.order (p + 1))
   links p a l = elim (s.links p a l) [
-    | inl f ↦ inl (field ch (λ w. w.link) q.link (asker h.order p) ∙ f)
-    | inr f ↦ inr (field ch (λ w. w.link) q.link (asker h.order p) ∙ f.0, point_other ch (asker h.order (p + 1)) (λ e. q.not_linking (asker h.order p) (ap (point c) (sym e) ∙ f.1)) ∙ f.1)
+    | inl f ↦ inl (field ch (λ w. w.link) q.link (requester_at h.order p) ∙ f)
+    | inr f ↦ inr (field ch (λ w. w.link) q.link (requester_at h.order p) ∙ f.0, point_other ch (requester_at h.order (p + 1)) (λ e. q.not_linking (requester_at h.order p) (ap (point c) (sym e) ∙ f.1)) ∙ f.1)
   ]
 
-  marks : (p : ℕ) → length h.ends ≤ p → p < length h.order → has marked (request h.order p) ≡ is_rolled (point d (asker h.order p))
-  marks p a l = elim (cases_eq (asker h.order p) n) [
+  marks : (p : ℕ) → length h.ends ≤ p → p < length h.order → has marked (request h.order p) ≡ is_rolled (point d (requester_at h.order p))
+  marks p a l = elim (cases_eq (requester_at h.order p) n) [
     | inl e ↦ q.marks p a l e ∙ ap is_rolled (sym (point_own ch) ∙ ap (point d) (sym e))
-    | inr ne ↦ q.marks_other p ne ∙ s.marks p a l ∙ ap is_rolled (sym (point_other ch (asker h.order p) ne))
+    | inr ne ↦ q.marks_other p ne ∙ s.marks p a l ∙ ap is_rolled (sym (point_other ch (requester_at h.order p) ne))
   ]
 
   clears : (m p : ℕ) → IsNode d m → IsLast h.order m p → has h.clear (request h.order p) ≡ is_clear (point d m) (entry d m)
@@ -80,29 +80,29 @@ module _ (terms : Terms) (c : State) (h : Queue) (n : ℕ) (s : Matches terms c 
   granting : IsGranting c → IsGranting d
   granting g = record { by = g.by; to = g.to; node = g.node; place = q.hands g.by g.place; point = point_other ch g.by (λ e. q.not_granting g.to (ap (point c) (sym e) ∙ g.point)) ∙ g.point }
 
-  fresh : (p : ℕ) → length h.ends ≤ p → p < length h.order → IsFresh d (length h.ends) (asker h.order p) p
+  fresh : (p : ℕ) → length h.ends ≤ p → p < length h.order → IsFresh d (length h.ends) (requester_at h.order p) p
   fresh p a l =
       let old = s.fresh p a l in
       record {
-        freed = field ch (λ w. w.freed) q.freed (asker h.order p) ∙ old.freed;
-        granted = λ y. old.granted (sym (field ch (λ w. w.granted) q.granted (asker h.order p)) ∙ y);
-        done = λ y. elim (cases_eq (asker h.order p) k) [
+        freed = field ch (λ w. w.freed) q.freed (requester_at h.order p) ∙ old.freed;
+        granted = λ y. old.granted (sym (field ch (λ w. w.granted) q.granted (requester_at h.order p)) ∙ y);
+        done = λ y. elim (cases_eq (requester_at h.order p) k) [
           | inl f ↦ elim q.done [
-            | inl same ↦ let z = old.done (sym (field ch (λ w. w.done) same (asker h.order p)) ∙ y) in (z.0, granting z.1)
+            | inl same ↦ let z = old.done (sym (field ch (λ w. w.done) same (requester_at h.order p)) ∙ y) in (z.0, granting z.1)
             | inr now ↦ now p a l f
           ]
-          | inr f ↦ let z = old.done (sym (ap (λ (w : Entry). w.done) (ch.entry_other (asker h.order p) f)) ∙ y) in (z.0, granting z.1)
+          | inr f ↦ let z = old.done (sym (ap (λ (w : Entry). w.done) (ch.entry_other (requester_at h.order p) f)) ∙ y) in (z.0, granting z.1)
         ];
       }
 
   not_passed : (x : ℕ) → point c x ≡ Rolled → (entry c x).freed ≡ false → x ≢ n
   not_passed x at kept e = let y = q.not_passed (ap (point c) (sym e) ∙ at) in let z : false ≡ true = sym kept ∙ ap (λ (x : ℕ). (entry c x).freed) e ∙ y in cc
 
-  come : (m p : ℕ) → HasCome c h.ends m p → HasCome d h.ends m p
+  come : (m p : ℕ) → HasReached c h.ends m p → HasReached d h.ends m p
   come m p (inl e) = inl e
   come m p (inr e) = inr (e.0, q.hands m e.1)
 
-  pub quiet_shows : Matches terms d (record h { marked = marked })
+  pub quiet_shows : Matches config d (record h { marked = marked })
   quiet_shows = record {
     opened = s.opened;
     size = s.size;
@@ -116,8 +116,8 @@ module _ (terms : Terms) (c : State) (h : Queue) (n : ℕ) (s : Matches terms c 
     home_idle = s.home_idle;
     home_last = s.home_last;
     links = links;
-    last_link = λ p a e. field ch (λ w. w.link) q.link (asker h.order p) ∙ s.last_link p a e;
-    lies = q.lies terms s;
+    last_link = λ p a e. field ch (λ w. w.link) q.link (requester_at h.order p) ∙ s.last_link p a e;
+    lies = q.lies config s;
     marks = marks;
     clears = clears;
     sits = λ m a. elim (cases_eq m n) [

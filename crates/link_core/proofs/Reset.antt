@@ -1,24 +1,24 @@
 -- Resetting an entry.
-use Rattle.qolb_model.specs.declared.terms.Terms.{Terms}
+use Rattle.qolb_model.specs.declared.config.LineConfig.{LineConfig}
 use Rattle.std.proofs.Common.{◌≡◌, ◌≢◌, ℕ, ◌+◌, ◌<◌, ◌≤◌, true, false, ◌||◌, List, [], ◌⊎◌, length, None, refl, sym, ◌∙◌, ap, subst, inl, inr, arith}
 use Rattle.link_core.specs.declared.point.Point.{Point}
 use Rattle.link_core.specs.declared.point.Point.TheVariants.{Idle, Ready, Linking, Queued, Granting, Left, Rolled, Shut}
 use Rattle.link_core.specs.declared.entry.Entry.{Entry}
-use Rattle.link_core.specs.Places.{asker, IsLast}
+use Rattle.link_core.specs.Places.{requester_at, IsLast}
 use Rattle.qolb_model.specs.Histories.{none}
 use Rattle.qolb_model.specs.Queue.{Queue}
-use Rattle.link_core.specs.State.{State, Seat, empty, entry, seat, point, IsNode, current, is_clear}
+use Rattle.link_core.specs.State.{State, NodeCall, empty, entry, seat, point, IsNode, current, is_clear}
 use Rattle.link_core.specs.Shown.{is_rolled, has_line, is_freeing, HasEnded, IsGranting, IsFresh, Matches}
 use Rattle.std.proofs.lemmas.Bool.{cases_eq}
 use Rattle.link_core.specs.declared.told.Told.TheVariants as told
-use Rattle.link_core.proofs.Deeds.{GoesOn}
+use Rattle.link_core.proofs.Deeds.{Advances}
 use Rattle.qolb_model.proofs.Prefixes.{prefix_self}
 use Rattle.link_core.proofs.Changes.{Changed, point_other, point_own, passes_kept, once_kept, unpassed_kept}
 use Rattle.link_core.proofs.Follows.{sits_at, behind_unclear, current_cases}
 use Rattle.link_core.proofs.Kept.{Spares, spares_by, sits_kept, fresh_kept, Leaves, lies_kept, rests_kept, settled_by}
 
-module _ (terms : Terms) (c : State) (h : Queue) (n : ℕ) (s : Matches terms c h) (is : IsNode c n) (at : (point c n ≡ Idle) ⊎ (point c n ≡ Shut))
-    (ents : List Entry) (sts : List Seat) (ch : Changed c (record c { entries = ents; seats = sts }) n (record (seat c n) { point = Ready }) n empty) where
+module _ (config : LineConfig) (c : State) (h : Queue) (n : ℕ) (s : Matches config c h) (is : IsNode c n) (at : (point c n ≡ Idle) ⊎ (point c n ≡ Shut))
+    (ents : List Entry) (sts : List NodeCall) (ch : Changed c (record c { entries = ents; seats = sts }) n (record (seat c n) { point = Ready }) n empty) where
   abbrev d : State
   d = record c { entries = ents; seats = sts }
 
@@ -41,10 +41,10 @@ module _ (terms : Terms) (c : State) (h : Queue) (n : ℕ) (s : Matches terms c 
     | inr g ↦ let z : has_line Shut ≡ true = ap has_line (sym g) ∙ ap (λ (x : ℕ). has_line (point c x)) (sym f) ∙ e in cc
   ]
 
-  open_n : (p : ℕ) → length h.ends ≤ p → p < length h.order → asker h.order p ≢ n
+  open_n : (p : ℕ) → length h.ends ≤ p → p < length h.order → requester_at h.order p ≢ n
   open_n p a l e = let k = over p (subst (λ (m : ℕ). IsLast h.order m p) e (s.distinct p a l)) in absurd (omega arith)
 
-  -- nobody is to link to n
+  -- no node is to link to n
   unlinked : (m q : ℕ) → IsNode c m → point c m ≡ Linking q → q ≢ n
   unlinked m q a e f =
       let k = behind_unclear s m q a e in
@@ -64,9 +64,9 @@ module _ (terms : Terms) (c : State) (h : Queue) (n : ℕ) (s : Matches terms c 
   granting : IsGranting c → IsGranting d
   granting g = record { by = g.by; to = g.to; node = g.node; place = g.place; point = point_other ch g.by (not_n g.by (Granting g.to) g.point (λ e. cc) (λ e. cc)) ∙ g.point }
 
-  fresh : (p : ℕ) → length h.ends ≤ p → p < length h.order → IsFresh d (length h.ends) (asker h.order p) p
-  fresh p a l = let e = ch.entry_other (asker h.order p) (open_n p a l) in
-      fresh_kept c d (length h.ends) (length h.ends) (asker h.order p) p (ap (λ (w : Entry). w.freed) e) (ap (λ (w : Entry). w.granted) e) (ap (λ (w : Entry). w.done) e) (λ e. e) granting (s.fresh p a l)
+  fresh : (p : ℕ) → length h.ends ≤ p → p < length h.order → IsFresh d (length h.ends) (requester_at h.order p) p
+  fresh p a l = let e = ch.entry_other (requester_at h.order p) (open_n p a l) in
+      fresh_kept c d (length h.ends) (length h.ends) (requester_at h.order p) p (ap (λ (w : Entry). w.freed) e) (ap (λ (w : Entry). w.granted) e) (ap (λ (w : Entry). w.done) e) (λ e. e) granting (s.fresh p a l)
 
   leaves : Leaves c d h.order h.order h.ends
   leaves = record {
@@ -85,7 +85,7 @@ module _ (terms : Terms) (c : State) (h : Queue) (n : ℕ) (s : Matches terms c 
         (point_other ch q ne, ap (λ (w : Entry). w.link) (ch.entry_other q ne), ap (λ (w : Entry). w.done) (ch.entry_other q ne));
   }
 
-  pub reset_keeps : GoesOn terms d h n told.Went None false
+  pub reset_keeps : Advances config d h n told.Went None false
   reset_keeps = record {
     after = h;
     makes = refl;
@@ -104,12 +104,12 @@ module _ (terms : Terms) (c : State) (h : Queue) (n : ℕ) (s : Matches terms c 
       home_idle = s.home_idle;
       home_last = s.home_last;
       links = λ p a l. elim (s.links p a l) [
-        | inl f ↦ inl (ap (λ (w : Entry). w.link) (ch.entry_other (asker h.order p) (open_n p a (omega arith))) ∙ f)
-        | inr f ↦ inr (ap (λ (w : Entry). w.link) (ch.entry_other (asker h.order p) (open_n p a (omega arith))) ∙ f.0, point_other ch (asker h.order (p + 1)) (open_n (p + 1) (omega arith) l) ∙ f.1)
+        | inl f ↦ inl (ap (λ (w : Entry). w.link) (ch.entry_other (requester_at h.order p) (open_n p a (omega arith))) ∙ f)
+        | inr f ↦ inr (ap (λ (w : Entry). w.link) (ch.entry_other (requester_at h.order p) (open_n p a (omega arith))) ∙ f.0, point_other ch (requester_at h.order (p + 1)) (open_n (p + 1) (omega arith) l) ∙ f.1)
       ];
-      last_link = λ p a e. ap (λ (w : Entry). w.link) (ch.entry_other (asker h.order p) (open_n p a (omega arith))) ∙ s.last_link p a e;
-      lies = lies_kept leaves terms s.lies;
-      marks = λ p a l. s.marks p a l ∙ ap is_rolled (sym (point_other ch (asker h.order p) (open_n p a l)));
+      last_link = λ p a e. ap (λ (w : Entry). w.link) (ch.entry_other (requester_at h.order p) (open_n p a (omega arith))) ∙ s.last_link p a e;
+      lies = lies_kept leaves config s.lies;
+      marks = λ p a l. s.marks p a l ∙ ap is_rolled (sym (point_other ch (requester_at h.order p) (open_n p a l)));
       clears = λ m q a l. s.clears m q a l ∙ elim (cases_eq m n) [
         | inl e ↦ rw (e, point_own ch) was_clear
         | inr ne ↦ rw (point_other ch m ne, ch.entry_other m ne) refl

@@ -1,25 +1,25 @@
 -- Writing, closing, and a node found free.
-use Rattle.qolb_model.specs.declared.terms.Terms.{Terms}
+use Rattle.qolb_model.specs.declared.config.LineConfig.{LineConfig}
 use Rattle.std.proofs.Common.{◌≡◌, ◌≢◌, ℕ, ◌<◌, ◌≤◌, Bool, true, false, ◌||◌, ◌&&◌, List, [], ◌⊎◌, length, None, refl, sym, ◌∙◌, ap, subst, inl, inr, arith}
 use Rattle.link_core.specs.declared.point.Point.{Point}
 use Rattle.link_core.specs.declared.point.Point.TheVariants.{Idle, Linking, Queued, Holding, Leaving, Granting, Left, Rolled}
-use Rattle.link_core.specs.declared.seat.Reason.{Reason}
-use Rattle.link_core.specs.declared.seat.Reason.TheVariants.{Own, Closing}
+use Rattle.link_core.specs.declared.seat.ReleaseCause.{ReleaseCause}
+use Rattle.link_core.specs.declared.seat.ReleaseCause.TheVariants.{Own, Closing}
 use Rattle.link_core.specs.declared.place.Place.TheVariants.{Hand}
 use Rattle.link_core.specs.declared.entry.Entry.{Entry}
-use Rattle.link_core.specs.Places.{request, asker, IsLast}
+use Rattle.link_core.specs.Places.{request, requester_at, IsLast}
 use Rattle.qolb_model.specs.Ends.{bytes_after}
 use Rattle.qolb_model.specs.Histories.{none}
 use Rattle.qolb_model.specs.Queue.{Queue}
 use Rattle.qolb_model.specs.Requests.{has}
-use Rattle.link_core.specs.State.{State, Seat, entry, seat, point, IsNode, last_or, is_clear}
+use Rattle.link_core.specs.State.{State, NodeCall, entry, seat, point, IsNode, last_or, is_clear}
 use Rattle.link_core.specs.Shown.{is_rolled, has_line, is_freeing, HasEnded, IsHeld, IsCarried, in_hand, IsReleasing, Sits, Matches}
 use Rattle.link_core.specs.declared.told.Told.TheVariants as told
 use Rattle.link_core.specs.Steps.{either, write_line}
 use Rattle.line_lanes.specs.declared.line.Line64.{Line64}
 use Rattle.line_lanes.specs.declared.line.Mask.{Mask}
 use Rattle.line_lanes.proofs.Masked.{merged-twice}
-use Rattle.link_core.proofs.Deeds.{GoesOn}
+use Rattle.link_core.proofs.Deeds.{Advances}
 use Rattle.qolb_model.proofs.Prefixes.{prefix_self}
 use Rattle.link_core.proofs.Changes.{Changed, point_other, at_other}
 use Rattle.link_core.proofs.Follows.{sits_at, in_its_hand, hand_lies, clear_ended}
@@ -27,7 +27,7 @@ use Rattle.link_core.proofs.Kept.{Leaves, lies_kept, rests_kept, rests_held}
 use Rattle.link_core.proofs.Quiet.{quiet_shows}
 
 -- the holder writes, or closes the line
-module _ (terms : Terms) (c : State) (h : Queue) (n : ℕ) (s : Matches terms c h) (is : IsNode c n) (at : point c n ≡ Holding) where
+module _ (config : LineConfig) (c : State) (h : Queue) (n : ℕ) (s : Matches config c h) (is : IsNode c n) (at : point c n ≡ Holding) where
   lined : has_line (point c n) ≡ true
   lined = ap has_line at
 
@@ -37,15 +37,15 @@ module _ (terms : Terms) (c : State) (h : Queue) (n : ℕ) (s : Matches terms c 
   sat : IsReleasing c n n × ((seat c n).reason ≡ Own) × ((seat c n).passed ≡ [])
   sat = sits_at s n Holding is at
 
-  held : (terms : Terms) → Matches terms c h → (length h.ends < length h.order) × (asker h.order (length h.ends) ≡ n) × IsHeld terms c h.ends n Own
-  held terms s =
+  held : (config : LineConfig) → Matches config c h → (length h.ends < length h.order) × (requester_at h.order (length h.ends) ≡ n) × IsHeld config c h.ends n Own
+  held config s =
       let f = hand_lies s n place s.lies in
-      (f.0, f.3 ∙ sat.0.is, subst (λ (ps : List ℕ). IsCarried terms c h.order h.ends n Own ps) sat.2 (subst (λ (r : Reason). IsCarried terms c h.order h.ends n r (seat c n).passed) sat.1 f.4))
+      (f.0, f.3 ∙ sat.0.is, subst (λ (ps : List ℕ). IsCarried config c h.order h.ends n Own ps) sat.2 (subst (λ (r : ReleaseCause). IsCarried config c h.order h.ends n r (seat c n).passed) sat.1 f.4))
 
-  same_marks : (p : ℕ) → length h.ends ≤ p → p < length h.order → asker h.order p ≡ n → has h.marked (request h.order p) ≡ false
+  same_marks : (p : ℕ) → length h.ends ≤ p → p < length h.order → requester_at h.order p ≡ n → has h.marked (request h.order p) ≡ false
   same_marks p a l e = s.marks p a l ∙ ap (λ (m : ℕ). is_rolled (point c m)) e ∙ ap is_rolled at
 
-  pub write_keeps : (mask : Mask) (bytes : Line64) → GoesOn terms (record c { bytes = write_line c.bytes mask bytes; mask = either c.mask mask }) h n told.Went None false
+  pub write_keeps : (mask : Mask) (bytes : Line64) → Advances config (record c { bytes = write_line c.bytes mask bytes; mask = either c.mask mask }) h n told.Went None false
   write_keeps mask bytes =
       let d : State = record c { bytes = write_line c.bytes mask bytes; mask = either c.mask mask } in
       let ch : Changed c (record c { bytes = write_line c.bytes mask bytes; mask = either c.mask mask }) n (seat c n) n (entry c n) = record { nodes = refl; seat_own = refl; seat_other = λ _ _. refl; entry_own = refl; entry_other = λ _ _. refl } in
@@ -54,7 +54,7 @@ module _ (terms : Terms) (c : State) (h : Queue) (n : ℕ) (s : Matches terms c 
         makes = refl;
         clears = none;
         uncleared = λ _. refl;
-        shows = quiet_shows terms c h n s is c.place (write_line c.bytes mask bytes) c.closed (either c.mask mask) c.entries c.seats h.marked (seat c n) n (entry c n) ch (record {
+        shows = quiet_shows config c h n s is c.place (write_line c.bytes mask bytes) c.closed (either c.mask mask) c.entries c.seats h.marked (seat c n) n (entry c n) ch (record {
           link = refl;
           freed = refl;
           granted = refl;
@@ -76,18 +76,18 @@ module _ (terms : Terms) (c : State) (h : Queue) (n : ℕ) (s : Matches terms c 
           boxes = λ x ne e. e;
           box = s.settled.boxed n is;
           rests = rests_held _ n h.order h.ends h.clear place;
-          lies = λ terms s. let f = held terms s in in_hand n f.0 is place lined (f.1 ∙ sym sat.0.is)
-              (subst (λ (ps : List ℕ). IsCarried terms (record c { bytes = write_line c.bytes mask bytes; mask = either c.mask mask }) h.order h.ends n (seat c n).reason ps) (sym sat.2)
-              (subst (λ (r : Reason). IsHeld terms (record c { bytes = write_line c.bytes mask bytes; mask = either c.mask mask }) h.ends n r) (sym sat.1)
-              (f.2.0, f.2.1, merged-twice (bytes_after terms.opening.bytes h.ends) c.bytes.bytes bytes.bytes c.mask.0 mask.0 f.2.2, inl at)));
+          lies = λ config s. let f = held config s in in_hand n f.0 is place lined (f.1 ∙ sym sat.0.is)
+              (subst (λ (ps : List ℕ). IsCarried config (record c { bytes = write_line c.bytes mask bytes; mask = either c.mask mask }) h.order h.ends n (seat c n).reason ps) (sym sat.2)
+              (subst (λ (r : ReleaseCause). IsHeld config (record c { bytes = write_line c.bytes mask bytes; mask = either c.mask mask }) h.ends n r) (sym sat.1)
+              (f.2.0, f.2.1, merged-twice (bytes_after config.opening.bytes h.ends) c.bytes.bytes bytes.bytes c.mask.0 mask.0 f.2.2, inl at)));
           own = subst (λ (p : Point). Sits (record c { bytes = write_line c.bytes mask bytes; mask = either c.mask mask }) h.order h.ends n p) (sym at) (record { place = place; is = sat.0.is }, sat.1, sat.2);
         });
         says = tt;
       }
 
-  module _ {sts : List Seat} (ch : Changed c (record c { closed = true; seats = sts }) n (record (seat c n) { point = Leaving n; reason = Closing }) n (entry c n)) where
-    pub closed_matches : Matches terms (record c { closed = true; seats = sts }) h
-    closed_matches = quiet_shows terms c h n s is c.place c.bytes true c.mask c.entries sts h.marked (record (seat c n) { point = Leaving n; reason = Closing }) n (entry c n) ch (record {
+  module _ {sts : List NodeCall} (ch : Changed c (record c { closed = true; seats = sts }) n (record (seat c n) { point = Leaving n; reason = Closing }) n (entry c n)) where
+    pub closed_matches : Matches config (record c { closed = true; seats = sts }) h
+    closed_matches = quiet_shows config c h n s is c.place c.bytes true c.mask c.entries sts h.marked (record (seat c n) { point = Leaving n; reason = Closing }) n (entry c n) ch (record {
       link = refl;
       freed = refl;
       granted = refl;
@@ -109,18 +109,18 @@ module _ (terms : Terms) (c : State) (h : Queue) (n : ℕ) (s : Matches terms c 
       boxes = λ x ne e. e;
       box = s.settled.boxed n is;
       rests = rests_held _ n h.order h.ends h.clear place;
-      lies = λ terms s. let f = held terms s in in_hand n f.0 is place (ap (λ (s : Seat). has_line s.point) ch.seat_own) (f.1 ∙ sym sat.0.is ∙ sym (ap (λ (s : Seat). last_or n s.passed) ch.seat_own))
-          (subst (λ (s : Seat). IsCarried terms (record c { closed = true; seats = sts }) h.order h.ends n s.reason s.passed) (sym ch.seat_own)
-          (subst (λ (ps : List ℕ). IsCarried terms (record c { closed = true; seats = sts }) h.order h.ends n Closing ps) (sym sat.2) (refl, f.2.1, f.2.2)));
-      own = record { place = place; is = ap (λ (s : Seat). last_or n s.passed) ch.seat_own ∙ sat.0.is };
+      lies = λ config s. let f = held config s in in_hand n f.0 is place (ap (λ (s : NodeCall). has_line s.point) ch.seat_own) (f.1 ∙ sym sat.0.is ∙ sym (ap (λ (s : NodeCall). last_or n s.passed) ch.seat_own))
+          (subst (λ (s : NodeCall). IsCarried config (record c { closed = true; seats = sts }) h.order h.ends n s.reason s.passed) (sym ch.seat_own)
+          (subst (λ (ps : List ℕ). IsCarried config (record c { closed = true; seats = sts }) h.order h.ends n Closing ps) (sym sat.2) (refl, f.2.1, f.2.2)));
+      own = record { place = place; is = ap (λ (s : NodeCall). last_or n s.passed) ch.seat_own ∙ sat.0.is };
     })
 
-    pub close_line_keeps : GoesOn terms (record c { closed = true; seats = sts }) h n told.Went None false
+    pub close_line_keeps : Advances config (record c { closed = true; seats = sts }) h n told.Went None false
     close_line_keeps = record { after = h; makes = refl; clears = none; uncleared = λ _. refl; shows = closed_matches; says = tt }
 
 -- a node that is found free
-module _ (terms : Terms) (c : State) (h : Queue) (n : ℕ) (s : Matches terms c h) (is : IsNode c n) (at : (point c n ≡ Left) ⊎ (point c n ≡ Rolled)) (free : is_clear (point c n) (entry c n) ≡ true)
-    (sts : List Seat) (ch : Changed c (record c { seats = sts }) n (record (seat c n) { point = Idle }) n (entry c n)) where
+module _ (config : LineConfig) (c : State) (h : Queue) (n : ℕ) (s : Matches config c h) (is : IsNode c n) (at : (point c n ≡ Left) ⊎ (point c n ≡ Rolled)) (free : is_clear (point c n) (entry c n) ≡ true)
+    (sts : List NodeCall) (ch : Changed c (record c { seats = sts }) n (record (seat c n) { point = Idle }) n (entry c n)) where
   abbrev e : State
   e = record c { seats = sts }
 
@@ -172,13 +172,13 @@ module _ (terms : Terms) (c : State) (h : Queue) (n : ℕ) (s : Matches terms c 
     tail = λ q a f g. (point_other ch q (λ i. not_tail (ap (λ (m : ℕ). (entry c m).link) (sym i) ∙ f) (ap (λ (m : ℕ). (entry c m).done) (sym i) ∙ g)), refl, refl);
   }
 
-  pub load_free_keeps : GoesOn terms e h n told.Free None false
+  pub load_free_keeps : Advances config e h n told.Free None false
   load_free_keeps = record {
     after = h;
     makes = refl;
     clears = none;
     uncleared = λ _. refl;
-    shows = quiet_shows terms c h n s is c.place c.bytes c.closed c.mask c.entries sts h.marked (record (seat c n) { point = Idle }) n (entry c n) ch (record {
+    shows = quiet_shows config c h n s is c.place c.bytes c.closed c.mask c.entries sts h.marked (record (seat c n) { point = Idle }) n (entry c n) ch (record {
       link = refl;
       freed = refl;
       granted = refl;
@@ -196,7 +196,7 @@ module _ (terms : Terms) (c : State) (h : Queue) (n : ℕ) (s : Matches terms c 
       not_linking = λ q g. elsewhere n (Linking q) g (λ e. cc) (λ e. cc) refl;
       not_passed = λ g. freed_true (entry c n) (ap (λ (p : Point). is_clear p (entry c n)) (sym g) ∙ free);
       unpassed = λ _. s.unpassed n is (elim at [ inl g ↦ ap (λ (p : Point). has_line p || is_freeing p) g | inr g ↦ ap (λ (p : Point). has_line p || is_freeing p) g ]);
-      lies = λ terms s. lies_kept leaves terms s.lies;
+      lies = λ config s. lies_kept leaves config s.lies;
       node = is;
       boxes = λ x ne e. e;
       box = s.settled.boxed n is;

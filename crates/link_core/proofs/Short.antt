@@ -1,5 +1,5 @@
 -- A release passes each other node at most once, and after all of them the line goes home.
-use Rattle.qolb_model.specs.declared.terms.Terms.{Terms}
+use Rattle.qolb_model.specs.declared.config.LineConfig.{LineConfig}
 use Rattle.std.proofs.Common.{◌≡◌, ◌≢◌, ℕ, zero, suc, ◌+◌, ◌<◌, ◌≤◌, Bool, true, false, ◌||◌, List, [], ◌∷◌, length, refl, sym, ◌∙◌, ap, subst, inl, inr, arith, eqb}
 use Rattle.std.specs.Prelude.{slice_index_or}
 use Rattle.std.proofs.lemmas.Bool.{cases_eq, cases_lt}
@@ -11,7 +11,7 @@ use Rattle.qolb_model.specs.declared.end.End.TheVariants.{Gone}
 use Rattle.qolb_model.specs.Queue.{Queue}
 use Rattle.link_core.specs.declared.point.Point.{Point}
 use Rattle.link_core.specs.declared.point.Point.TheVariants.{Rolled}
-use Rattle.link_core.specs.Places.{asker, IsLast}
+use Rattle.link_core.specs.Places.{requester_at, IsLast}
 use Rattle.link_core.specs.State.{State, seat, point, IsNode}
 use Rattle.link_core.specs.Shown.{has_line, is_freeing, passed, Matches}
 use Rattle.link_core.specs.Laws.{Short}
@@ -58,7 +58,7 @@ few ps n k a b f g =
     below (suc zero) l = omega arith
     below (suc (suc i)) l = let z = (f i (omega arith)).1 in omega arith
 
-module _ {terms : Terms} {c : State} {h : Queue} (s : Matches terms c h) where
+module _ {config : LineConfig} {c : State} {h : Queue} (s : Matches config c h) where
   -- no node has passed itself
   not_own : (n i : ℕ) → IsNode c n → i < length (seat c n).passed → passed c n i ≢ n
   not_own n i a l e =
@@ -80,21 +80,21 @@ module _ {terms : Terms} {c : State} {h : Queue} (s : Matches terms c h) where
       let k = last_once h.order m j.at (length h.ends + 1) (subst (λ (x : ℕ). IsLast h.order x j.at) e j.last) last in
       elim j.come [ inl f ↦ let g = slice_get_within h.ends j.at Gone f in omega arith | inr f ↦ let g = f.0 in omega arith ]
 
-  -- so with all others passed nobody follows
+  -- so with all others passed no request follows
   pub none_follows : (n : ℕ) → IsNode c n → has_line (point c n) ≡ true → length h.ends + 1 < length h.order → length (seat c n).passed + 1 < c.nodes
   none_follows n a lined more =
       let last = s.distinct (length h.ends + 1) (omega arith) more in
-      let few_more = few (asker h.order (length h.ends + 1) ∷ (seat c n).passed) n c.nodes a.1 a.0 (each last) (apart last) in
+      let few_more = few (requester_at h.order (length h.ends + 1) ∷ (seat c n).passed) n c.nodes a.1 a.0 (each last) (apart last) in
       omega arith
     where
-      each : IsLast h.order (asker h.order (length h.ends + 1)) (length h.ends + 1) → (i : ℕ) → i < length (asker h.order (length h.ends + 1) ∷ (seat c n).passed) → (0 < slice_index_or (asker h.order (length h.ends + 1) ∷ (seat c n).passed) i 0) × (slice_index_or (asker h.order (length h.ends + 1) ∷ (seat c n).passed) i 0 ≤ c.nodes) × (slice_index_or (asker h.order (length h.ends + 1) ∷ (seat c n).passed) i 0 ≢ n)
+      each : IsLast h.order (requester_at h.order (length h.ends + 1)) (length h.ends + 1) → (i : ℕ) → i < length (requester_at h.order (length h.ends + 1) ∷ (seat c n).passed) → (0 < slice_index_or (requester_at h.order (length h.ends + 1) ∷ (seat c n).passed) i 0) × (slice_index_or (requester_at h.order (length h.ends + 1) ∷ (seat c n).passed) i 0 ≤ c.nodes) × (slice_index_or (requester_at h.order (length h.ends + 1) ∷ (seat c n).passed) i 0 ≢ n)
       each last zero l = let j = s.nodes (length h.ends + 1) more in (j.0, j.1, later_other s a lined (length h.ends + 1) (omega arith) more)
       each last (suc i) l = own n i a (omega arith)
 
-      apart : IsLast h.order (asker h.order (length h.ends + 1)) (length h.ends + 1) → (i j : ℕ) → i < length (asker h.order (length h.ends + 1) ∷ (seat c n).passed) → j < length (asker h.order (length h.ends + 1) ∷ (seat c n).passed) → slice_index_or (asker h.order (length h.ends + 1) ∷ (seat c n).passed) i 0 ≡ slice_index_or (asker h.order (length h.ends + 1) ∷ (seat c n).passed) j 0 → i ≡ j
+      apart : IsLast h.order (requester_at h.order (length h.ends + 1)) (length h.ends + 1) → (i j : ℕ) → i < length (requester_at h.order (length h.ends + 1) ∷ (seat c n).passed) → j < length (requester_at h.order (length h.ends + 1) ∷ (seat c n).passed) → slice_index_or (requester_at h.order (length h.ends + 1) ∷ (seat c n).passed) i 0 ≡ slice_index_or (requester_at h.order (length h.ends + 1) ∷ (seat c n).passed) j 0 → i ≡ j
       apart last zero zero k l e = refl
-      apart last zero (suc j) k l e = absurd (next_unpassed n j (asker h.order (length h.ends + 1)) a (omega arith) last (sym e))
-      apart last (suc i) zero k l e = absurd (next_unpassed n i (asker h.order (length h.ends + 1)) a (omega arith) last e)
+      apart last zero (suc j) k l e = absurd (next_unpassed n j (requester_at h.order (length h.ends + 1)) a (omega arith) last (sym e))
+      apart last (suc i) zero k l e = absurd (next_unpassed n i (requester_at h.order (length h.ends + 1)) a (omega arith) last e)
       apart last (suc i) (suc j) k l e = ap suc (s.once n n i j a a (omega arith) (omega arith) e).1
 
   pub short : Short c

@@ -1,5 +1,5 @@
 -- The states of the machine: their room, and what each step keeps of them.
-use Rattle.qolb_model.specs.declared.terms.Terms.{Terms}
+use Rattle.qolb_model.specs.declared.config.LineConfig.{LineConfig}
 use Rattle.std.proofs.Common.{◌≡◌, ℕ, length, refl, ◌∙◌, ap, subst, inl, inr, arith}
 use Rattle.link_core.specs.declared.point.Point.{Point}
 use Rattle.link_core.specs.declared.point.Point.TheVariants.{Idle, Ready, Linking, Queued, Holding, Leaving, Marking, Granting, Freeing, Left, Rolled, Shut}
@@ -16,7 +16,7 @@ use Rattle.link_core.specs.Promise.{IsSound}
 use Rattle.link_core.proofs.Follows.{sits_at, current_cases}
 use Rattle.link_core.proofs.Grant.{node_m}
 
-module _ {terms : Terms} {c : State} {h : Queue} (s : Matches terms c h) where
+module _ {config : LineConfig} {c : State} {h : Queue} (s : Matches config c h) where
   pub names : (n : ℕ) → IsNode c n → Names c (point c n)
   names n a = go (point c n) refl (s.sits n a)
     where

@@ -1,5 +1,5 @@
 -- What an adding step finds unset.
-use Rattle.qolb_model.specs.declared.terms.Terms.{Terms}
+use Rattle.qolb_model.specs.declared.config.LineConfig.{LineConfig}
 use Rattle.std.proofs.Common.{◌≡◌, ℕ, ◌<◌, true, false, List, ◌∷◌, length, sym, ◌∙◌, ap, subst, inl, inr, arith}
 use Rattle.std.specs.Prelude.{slice_index_or}
 use Rattle.link_core.specs.declared.point.Point.TheVariants.{Linking, Queued, Marking, Granting}
@@ -12,7 +12,7 @@ use Rattle.link_core.proofs.Follows.{sits_at, in_its_hand}
 use Rattle.link_core.proofs.Ending.{facts}
 use Rattle.link_core.proofs.Grant.{fresh_m}
 
-module _ {terms : Terms} {c : State} {h : Queue} (s : Matches terms c h) where
+module _ {config : LineConfig} {c : State} {h : Queue} (s : Matches config c h) where
   pub done_unset : (n e : ℕ) → IsNode c n → point c n ≡ Marking e → (entry c e).done ≡ false
   done_unset n e a at = elim (cases_Bool (entry c e).done) [
     | inl t ↦

@@ -1,5 +1,5 @@
--- Where a request is open there is a way on, and it is short.
-use Rattle.qolb_model.specs.declared.terms.Terms.{Terms}
+-- While a request is open there is a productive event that is enabled, and the rank is bounded.
+use Rattle.qolb_model.specs.declared.config.LineConfig.{LineConfig}
 use Rattle.std.proofs.Common.{◌≡◌, ℕ, zero, suc, ◌+◌, ◌*◌, ◌<◌, ◌≤◌, Bool, true, false, length, refl, sym, ◌∙◌, ap, subst, inl, inr, arith}
 use Rattle.std.specs.Prelude.{cond}
 use Rattle.std.proofs.lemmas.Bool.{cases_eq, cases_lt, cases_Bool}
@@ -12,12 +12,12 @@ use Rattle.link_core.specs.declared.place.Place.TheVariants.{Hand}
 use Rattle.link_core.specs.declared.point.Point.{Point}
 use Rattle.link_core.specs.declared.point.Point.TheVariants.{Idle, Ready, Linking, Queued, Holding, Leaving, Marking, Granting, Freeing, Left, Rolled, Shut}
 use Rattle.link_core.specs.declared.told.Told.{Told as Answer}
-use Rattle.link_core.specs.Places.{asker, IsLast}
+use Rattle.link_core.specs.Places.{requester_at, IsLast}
 use Rattle.link_core.specs.State.{State, entry, point, IsNode}
 use Rattle.link_core.specs.Steps.{Step, holding, leaving, node_of}
 use Rattle.link_core.specs.Steps as row
 use Rattle.link_core.specs.Shown.{has_line, AreBehind, Sits, Lies, at_home, in_hand, granted, left, Matches}
-use Rattle.link_core.specs.Progress.{sum_over, is_productive, to_go, to_go_at, all_to_go, rank_at, asks_behind, is_pending_at, pending, ActsNext, holds, leaves, marks, grants, loads, links, HasWay, IsNear}
+use Rattle.link_core.specs.Progress.{sum_over, is_productive, steps_left, steps_left_at, all_steps_left, rank_at, asks_behind, is_pending_at, pending, ActsNext, holds, leaves, marks, grants, loads, links, HasWay, IsNear}
 use Rattle.link_core.proofs.Sums.{sum_le, sum_one, sum_has, sum_times}
 use Rattle.link_core.proofs.Costs.{brings_arrival}
 use Rattle.link_core.proofs.Ranks.{not_behind, last_not_behind}
@@ -71,17 +71,17 @@ module _ (c : State) (n : ℕ) (a : IsNode c n) where
   link_enabled : (e : ℕ) → point c n ≡ Linking e → (entry c e).done ≡ true → Enabled c (event.Link n)
   link_enabled e at dn = record { told = _; next = _; step = row.link_done n e a at dn; productive = refl }
 
-module _ {terms : Terms} {c : State} {q : Queue} (s : Matches terms c q) where
+module _ {config : LineConfig} {c : State} {q : Queue} (s : Matches config c q) where
   way : (e : Event) → IsNode c (node_of e) → ActsNext c e → ((p : ℕ) → length q.ends ≤ p → asks_behind q.order p (node_of e) ≡ false) → Enabled c e → HasWay c q
   way e a w b k = record { event = e; node = a; who = w; before = b; told = k.told; next = k.next; step = k.step; productive = k.productive }
 
   held_before : (n : ℕ) → IsNode c n → has_line (point c n) ≡ true → (p : ℕ) → length q.ends ≤ p → asks_behind q.order p n ≡ false
   held_before n a f p l = not_behind q.order p n (λ i b k. later_other s a f i (omega arith) k)
 
-  turn_before : (t : ℕ) → length q.ends < length q.order → asker q.order (length q.ends) ≡ t → (p : ℕ) → length q.ends ≤ p → asks_behind q.order p t ≡ false
+  turn_before : (t : ℕ) → length q.ends < length q.order → requester_at q.order (length q.ends) ≡ t → (p : ℕ) → length q.ends ≤ p → asks_behind q.order p t ≡ false
   turn_before t l e p b = last_not_behind q.order p t (length q.ends) (subst (λ (x : ℕ). IsLast q.order x (length q.ends)) e (s.distinct (length q.ends) (omega arith) l)) b
 
-  pub turn_node : (t : ℕ) → length q.ends < length q.order → asker q.order (length q.ends) ≡ t → IsNode c t
+  pub turn_node : (t : ℕ) → length q.ends < length q.order → requester_at q.order (length q.ends) ≡ t → IsNode c t
   turn_node t l e = subst (λ (x : ℕ). IsNode c x) e (s.nodes (length q.ends) l)
 
   held_way : (n : ℕ) (a : IsNode c n) → c.place ≡ Hand n → has_line (point c n) ≡ true → (x : Point) → point c n ≡ x → HasWay c q
@@ -98,30 +98,30 @@ module _ {terms : Terms} {c : State} {q : Queue} (s : Matches terms c q) where
   held_way n a h f Queued e = let z : false ≡ true = sym (ap has_line e) ∙ f in cc
   held_way n a h f (Linking x) e = let z : false ≡ true = sym (ap has_line e) ∙ f in cc
 
-  pub has_way : length q.ends < length q.order → Lies terms c q.order q.ends → HasWay c q
+  pub has_way : length q.ends < length q.order → Lies config c q.order q.ends → HasWay c q
   has_way l (at_home e b w) = absurd (omega arith)
   has_way l (in_hand n _ a b f g h) = held_way n a b f (point c n) refl
   has_way l (granted t _ b h f g w) = let a = turn_node t l b in way (event.Load t) a (loads t h g f) (turn_before t l b) (load_enabled c t a g f)
   has_way l (left t x _ b h f g y i w) = let a = turn_node t l b in way (event.Link t) a (links t x h i f) (turn_before t l b) (link_enabled c t a x i f)
 
 -- a pending node has at most five events to go, and any other none
-to_go_most : (c : State) (w : Entry) (p : Point) → to_go_at c w p ≤ 5 * cond (is_pending_at w p) 1 0
-to_go_most c w Idle = omega arith
-to_go_most c w Ready = omega arith
-to_go_most c w Shut = omega arith
-to_go_most c w Left = omega arith
-to_go_most c w Freeing = omega arith
-to_go_most c w (Linking x) = most (entry c x).done
+steps_left_most : (c : State) (w : Entry) (p : Point) → steps_left_at c w p ≤ 5 * cond (is_pending_at w p) 1 0
+steps_left_most c w Idle = omega arith
+steps_left_most c w Ready = omega arith
+steps_left_most c w Shut = omega arith
+steps_left_most c w Left = omega arith
+steps_left_most c w Freeing = omega arith
+steps_left_most c w (Linking x) = most (entry c x).done
   where
     most : (b : Bool) → cond b 4 5 ≤ 5
     most true = omega arith
     most false = omega arith
-to_go_most c w Queued = omega arith
-to_go_most c w Holding = omega arith
-to_go_most c w (Leaving x) = omega arith
-to_go_most c w (Marking x) = omega arith
-to_go_most c w (Granting x) = omega arith
-to_go_most c w Rolled = most w.freed w.granted
+steps_left_most c w Queued = omega arith
+steps_left_most c w Holding = omega arith
+steps_left_most c w (Leaving x) = omega arith
+steps_left_most c w (Marking x) = omega arith
+steps_left_most c w (Granting x) = omega arith
+steps_left_most c w Rolled = most w.freed w.granted
   where
     most : (a b : Bool) → cond a 0 (cond b 1 4) ≤ 5 * cond (cond a false true) 1 0
     most true b = omega arith
@@ -136,24 +136,24 @@ left_out_most : (b : Bool) (x : ℕ) → cond b 0 x ≤ x
 left_out_most true x = omega arith
 left_out_most false x = omega arith
 
-module _ {terms : Terms} {c : State} {q : Queue} (s : Matches terms c q) where
+module _ {config : LineConfig} {c : State} {q : Queue} (s : Matches config c q) where
   abbrev one : ℕ → ℕ
   one k = cond (is_pending_at (entry c k) (point c k)) 1 0
 
-  all_most : all_to_go c ≤ 5 * pending c
-  all_most = let a = sum_le c.nodes (to_go c) (λ k. 5 * one k) (λ k _ _. to_go_most c (entry c k) (point c k)) in let b = sum_times c.nodes 5 one in omega arith
+  all_most : all_steps_left c ≤ 5 * pending c
+  all_most = let a = sum_le c.nodes (steps_left c) (λ k. 5 * one k) (λ k _ _. steps_left_most c (entry c k) (point c k)) in let b = sum_times c.nodes 5 one in omega arith
 
   -- but the node that is next to act has at most four
-  all_fewer : (n : ℕ) → IsNode c n → to_go c n + 1 ≤ 5 * one n → all_to_go c + 1 ≤ 5 * pending c
+  all_fewer : (n : ℕ) → IsNode c n → steps_left c n + 1 ≤ 5 * one n → all_steps_left c + 1 ≤ 5 * pending c
   all_fewer n a l =
-      let x = sum_one c.nodes n (to_go c) (λ k. 5 * one k) a.0 a.1 (λ k _ _ _. to_go_most c (entry c k) (point c k)) in
+      let x = sum_one c.nodes n (steps_left c) (λ k. 5 * one k) a.0 a.1 (λ k _ _ _. steps_left_most c (entry c k) (point c k)) in
       let b = sum_times c.nodes 5 one in
       omega arith
 
-  fewer_at : (n : ℕ) → IsNode c n → (x : Point) → point c n ≡ x → to_go_at c (entry c n) x + 1 ≤ 5 * cond (is_pending_at (entry c n) x) 1 0 → all_to_go c + 1 ≤ 5 * pending c
-  fewer_at n a x e l = all_fewer n a (subst (λ (x : Point). to_go_at c (entry c n) x + 1 ≤ 5 * cond (is_pending_at (entry c n) x) 1 0) (sym e) l)
+  fewer_at : (n : ℕ) → IsNode c n → (x : Point) → point c n ≡ x → steps_left_at c (entry c n) x + 1 ≤ 5 * cond (is_pending_at (entry c n) x) 1 0 → all_steps_left c + 1 ≤ 5 * pending c
+  fewer_at n a x e l = all_fewer n a (subst (λ (x : Point). steps_left_at c (entry c n) x + 1 ≤ 5 * cond (is_pending_at (entry c n) x) 1 0) (sym e) l)
 
-  held_fewer : (n : ℕ) → IsNode c n → (x : Point) → point c n ≡ x → has_line x ≡ true → all_to_go c + 1 ≤ 5 * pending c
+  held_fewer : (n : ℕ) → IsNode c n → (x : Point) → point c n ≡ x → has_line x ≡ true → all_steps_left c + 1 ≤ 5 * pending c
   held_fewer n a Holding e f = fewer_at n a Holding e (omega arith)
   held_fewer n a (Leaving x) e f = fewer_at n a (Leaving x) e (omega arith)
   held_fewer n a (Marking x) e f = fewer_at n a (Marking x) e (omega arith)
@@ -167,7 +167,7 @@ module _ {terms : Terms} {c : State} {q : Queue} (s : Matches terms c q) where
   held_fewer n a Queued e f = cc
   held_fewer n a Rolled e f = cc
 
-  open_fewer : length q.ends < length q.order → Lies terms c q.order q.ends → all_to_go c + 1 ≤ 5 * pending c
+  open_fewer : length q.ends < length q.order → Lies config c q.order q.ends → all_steps_left c + 1 ≤ 5 * pending c
   open_fewer l (at_home e b w) = absurd (omega arith)
   open_fewer l (in_hand n _ a b f g h) = held_fewer n a (point c n) refl f
   open_fewer l (granted t _ b h f g w) = fewer_at t (turn_node s t l b) Queued g (omega arith)
@@ -180,21 +180,21 @@ module _ {terms : Terms} {c : State} {q : Queue} (s : Matches terms c q) where
       ones zero = refl
       ones (suc n) = let e = ones n in omega arith
 
-  rank_at_most : (p : ℕ) → rank_at c q.order p ≤ all_to_go c
-  rank_at_most p = sum_le c.nodes (λ k. cond (asks_behind q.order p k) 0 (to_go c k)) (to_go c) (λ k _ _. left_out_most (asks_behind q.order p k) (to_go c k))
+  rank_at_most : (p : ℕ) → rank_at c q.order p ≤ all_steps_left c
+  rank_at_most p = sum_le c.nodes (λ k. cond (asks_behind q.order p k) 0 (steps_left c k)) (steps_left c) (λ k _ _. left_out_most (asks_behind q.order p k) (steps_left c k))
 
   -- with a request open the node that is next to act has something to go
-  some_at : (n : ℕ) → IsNode c n → ((p : ℕ) → length q.ends ≤ p → asks_behind q.order p n ≡ false) → 0 < to_go c n → (p : ℕ) → length q.ends ≤ p → 0 < rank_at c q.order p
+  some_at : (n : ℕ) → IsNode c n → ((p : ℕ) → length q.ends ≤ p → asks_behind q.order p n ≡ false) → 0 < steps_left c n → (p : ℕ) → length q.ends ≤ p → 0 < rank_at c q.order p
   some_at n a f l p b =
-      let k = sum_has c.nodes n (λ k. cond (asks_behind q.order p k) 0 (to_go c k)) a.0 a.1 in
-      let e : cond (asks_behind q.order p n) 0 (to_go c n) ≡ to_go c n = ap (λ b. cond b 0 (to_go c n)) (f p b) in
+      let k = sum_has c.nodes n (λ k. cond (asks_behind q.order p k) 0 (steps_left c k)) a.0 a.1 in
+      let e : cond (asks_behind q.order p n) 0 (steps_left c n) ≡ steps_left c n = ap (λ b. cond b 0 (steps_left c n)) (f p b) in
       omega arith
 
-  held_some : (n : ℕ) → (x : Point) → point c n ≡ x → has_line x ≡ true → 0 < to_go c n
-  held_some n Holding e f = let k : to_go c n ≡ 3 = ap (to_go_at c (entry c n)) e in omega arith
-  held_some n (Leaving x) e f = let k : to_go c n ≡ 3 = ap (to_go_at c (entry c n)) e in omega arith
-  held_some n (Marking x) e f = let k : to_go c n ≡ 2 = ap (to_go_at c (entry c n)) e in omega arith
-  held_some n (Granting x) e f = let k : to_go c n ≡ 1 = ap (to_go_at c (entry c n)) e in omega arith
+  held_some : (n : ℕ) → (x : Point) → point c n ≡ x → has_line x ≡ true → 0 < steps_left c n
+  held_some n Holding e f = let k : steps_left c n ≡ 3 = ap (steps_left_at c (entry c n)) e in omega arith
+  held_some n (Leaving x) e f = let k : steps_left c n ≡ 3 = ap (steps_left_at c (entry c n)) e in omega arith
+  held_some n (Marking x) e f = let k : steps_left c n ≡ 2 = ap (steps_left_at c (entry c n)) e in omega arith
+  held_some n (Granting x) e f = let k : steps_left c n ≡ 1 = ap (steps_left_at c (entry c n)) e in omega arith
   held_some n Idle e f = cc
   held_some n Ready e f = cc
   held_some n Shut e f = cc
@@ -204,11 +204,11 @@ module _ {terms : Terms} {c : State} {q : Queue} (s : Matches terms c q) where
   held_some n Queued e f = cc
   held_some n Rolled e f = cc
 
-  open_some : length q.ends < length q.order → Lies terms c q.order q.ends → (p : ℕ) → length q.ends ≤ p → 0 < rank_at c q.order p
+  open_some : length q.ends < length q.order → Lies config c q.order q.ends → (p : ℕ) → length q.ends ≤ p → 0 < rank_at c q.order p
   open_some l (at_home e b w) = absurd (omega arith)
   open_some l (in_hand n _ a b f g h) = some_at n a (held_before s n a f) (held_some n (point c n) refl f)
-  open_some l (granted t _ b h f g w) = some_at t (turn_node s t l b) (turn_before s t l b) (let k : to_go c t ≡ 4 = ap (to_go_at c (entry c t)) g in omega arith)
-  open_some l (left t x _ b h f g y i w) = some_at t (turn_node s t l b) (turn_before s t l b) (let k : to_go c t ≡ 4 = ap (to_go_at c (entry c t)) i ∙ ap (λ b. cond b 4 5) f in omega arith)
+  open_some l (granted t _ b h f g w) = some_at t (turn_node s t l b) (turn_before s t l b) (let k : steps_left c t ≡ 4 = ap (steps_left_at c (entry c t)) g in omega arith)
+  open_some l (left t x _ b h f g y i w) = some_at t (turn_node s t l b) (turn_before s t l b) (let k : steps_left c t ≡ 4 = ap (steps_left_at c (entry c t)) i ∙ ap (λ b. cond b 4 5) f in omega arith)
 
   -- with no request open only freeings are left
   module _ (behind : AreBehind c q.order q.ends) (over : length q.ends ≡ length q.order) where
@@ -220,7 +220,7 @@ module _ {terms : Terms} {c : State} {q : Queue} (s : Matches terms c q) where
     rolled_over n a e false true f = omega arith
     rolled_over n a e false false f = let k = behind n a e f in let l = k.1.known in let m = k.2 in absurd (omega arith)
 
-    over_most : (n : ℕ) → IsNode c n → (x : Point) → point c n ≡ x → Sits c q.order q.ends n x → to_go_at c (entry c n) x ≤ cond (is_pending_at (entry c n) x) 1 0
+    over_most : (n : ℕ) → IsNode c n → (x : Point) → point c n ≡ x → Sits c q.order q.ends n x → steps_left_at c (entry c n) x ≤ cond (is_pending_at (entry c n) x) 1 0
     over_most n a Idle e y = omega arith
     over_most n a Ready e y = omega arith
     over_most n a Shut e y = omega arith
@@ -234,8 +234,8 @@ module _ {terms : Terms} {c : State} {q : Queue} (s : Matches terms c q) where
     over_most n a (Marking x) e y = absurd (held_over n a (Marking x) e refl)
     over_most n a (Granting x) e y = absurd (held_over n a (Granting x) e refl)
 
-    all_over : all_to_go c ≤ pending c
-    all_over = sum_le c.nodes (to_go c) one (λ k a b. over_most k (a, b) (point c k) refl (s.sits k (a, b)))
+    all_over : all_steps_left c ≤ pending c
+    all_over = sum_le c.nodes (steps_left c) one (λ k a b. over_most k (a, b) (point c k) refl (s.sits k (a, b)))
 
   over_at_home : c.home ≡ 0 → length q.ends ≡ length q.order
   over_at_home e = elim (cases_lt (length q.ends) (length q.order)) [

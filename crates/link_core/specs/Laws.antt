@@ -1,7 +1,7 @@
--- What a lock whose words are those of a core may rest on. (Of this project.)
+-- The laws that a lock whose words are those of a core may use. (Of this project.)
 use Rattle.std.specs.Prelude.{◌≡◌, ◌≢◌, ◌↔◌, ℕ, ◌+◌, ◌*◌, ◌<◌, ◌≤◌, true, false, Option, List, [], ◌∷◌, length}
-use Rattle.qolb_model.specs.declared.terms.Terms.{Terms}
-use Rattle.qolb_model.specs.declared.terms.TheConstants.{MOST_NODES}
+use Rattle.qolb_model.specs.declared.config.LineConfig.{LineConfig}
+use Rattle.qolb_model.specs.declared.config.TheConstants.{MAX_NODES}
 use Rattle.qolb_model.specs.Ends.{is_closed}
 use Rattle.qolb_model.specs.Histories.{IsLegal}
 use Rattle.qolb_model.specs.Requests.{count_of, last_of}
@@ -10,11 +10,11 @@ use Rattle.qolb_model.specs.declared.request.Request.{Request}
 use Rattle.qolb_model.specs.Queue.{Queue, empty_queue, Move, Runs}
 use Rattle.link_core.specs.declared.point.Point.TheVariants.{Linking, Queued, Holding, Marking, Granting, Rolled}
 use Rattle.link_core.specs.declared.place.Place.TheVariants.{Home, Mailbox, Hand}
-use Rattle.link_core.specs.declared.seat.Reason.{Reason}
-use Rattle.link_core.specs.declared.seat.Reason.TheVariants.{Own}
+use Rattle.link_core.specs.declared.seat.ReleaseCause.{ReleaseCause}
+use Rattle.link_core.specs.declared.seat.ReleaseCause.TheVariants.{Own}
 use Rattle.link_core.specs.declared.told.Told.{Told}
 use Rattle.link_core.specs.declared.event.Event.{Event}
-use Rattle.link_core.specs.Places.{request, asker, IsLast}
+use Rattle.link_core.specs.Places.{request, requester_at, IsLast}
 use Rattle.link_core.specs.State.{State, IsWide, entry, seat, point, IsNode, current, first}
 use Rattle.link_core.specs.Steps.{Step, Releases, Names, node_of, allows}
 use Rattle.link_core.specs.Shown.{has_line, is_active, EndedBy, IsWhole, IsCarried, IsBehind, Shows}
@@ -22,19 +22,20 @@ use Rattle.link_core.specs.Moves.{move_of, may_clear, made, Goes}
 use Rattle.link_core.specs.Promise.{Keeps, Run}
 use Rattle.link_core.specs.Progress.{GoesDown, ActsNext, HasWay, IsNear, Path, IsShort, rank, productive_in, asked_in}
 
--- A line that is opened shows the empty queue.
+-- A new line shows the empty queue.
 abbrev pub OpenedShows : Type 0
-OpenedShows = (terms : Terms) → terms.nodes ≤ MOST_NODES → length terms.opening.bytes ≡ 64 → IsWide (first terms) × Shows terms (first terms) empty_queue
+OpenedShows = (config : LineConfig) → config.nodes ≤ MAX_NODES → length config.opening.bytes ≡ 64 → IsWide (first config) × Shows config (first config) empty_queue
 
--- Each event goes on from a state that shows a queue to one that shows a queue after the event's move, and spares the other nodes.
+-- Each event leads from a state that shows a queue to one that shows a queue after the event's move, and changes nothing of the other
+-- nodes.
 abbrev pub EachEventKeeps : Type 0
-EachEventKeeps = (terms : Terms) (c d : State) (q : Queue) (e : Event) (t : Told) → IsWide c → Shows terms c q → (step : Step c e t d) → Keeps terms c e t d step q × IsWide d
+EachEventKeeps = (config : LineConfig) (c d : State) (q : Queue) (e : Event) (t : Told) → IsWide c → Shows config c q → (step : Step c e t d) → Keeps config c e t d step q × IsWide d
 
--- So the queue is after it as the step's move makes it, but for the clear list; and that too, where the step clears nothing.
+-- The queue after an event is that after the step's move, but for the clear list; and that too, if the step clears nothing.
 abbrev pub MovesAreMade : Type 0
-MovesAreMade = (terms : Terms) (c d : State) (q : Queue) (e : Event) (t : Told) (step : Step c e t d) (on : Keeps terms c e t d step q) → (on.after ≡ record (made q (move_of step q.order)) { clear = on.after.clear }) × (may_clear e (move_of step q.order) ≡ false → on.after ≡ made q (move_of step q.order))
+MovesAreMade = (config : LineConfig) (c d : State) (q : Queue) (e : Event) (t : Told) (step : Step c e t d) (on : Keeps config c e t d step q) → (on.after ≡ record (made q (move_of step q.order)) { clear = on.after.clear }) × (may_clear e (move_of step q.order) ≡ false → on.after ≡ made q (move_of step q.order))
 
--- An event has an effect only where its node's point allows it, and then one.
+-- An event has an effect only if its node's point allows it, and then exactly one.
 abbrev pub EventsAreEnabled : Type 0
 EventsAreEnabled = (c d : State) (e : Event) (t : Told) → Step c e t d → IsNode c (node_of e) × (allows e (point c (node_of e)) ≡ true)
 
@@ -50,26 +51,26 @@ pub record Unset (c : State) : Type 0 where
   pub freed : (n x : ℕ) (rest : List ℕ) → IsNode c n → (seat c n).passed ≡ x ∷ rest → (entry c x).freed ≡ false
 
 abbrev pub AddsFindUnset : Type 0
-AddsFindUnset = (terms : Terms) (c : State) (q : Queue) → Shows terms c q → Unset c
+AddsFindUnset = (config : LineConfig) (c : State) (q : Queue) → Shows config c q → Unset c
 
--- What the nodes find: a point names nodes alone; a release has the line in its hand, alone, carries it as it should be, and is at the
--- entry that its list of passed nodes says; the next node waits or is withdrawn, and its flag tells which; who is to link stands right
--- behind the one that it links to; home names the newest open request; where a flag says that the line has come, it lies there; and
--- where no node waits or has the line, all requests have ended.
-pub record Found (terms : Terms) (c : State) (q : Queue) : Type 0 where
+-- What the nodes find. A point names nodes only. A node in a release has the line in its hand, alone, as it is to be handed over, and is at
+-- the entry that its list of passed nodes says. The next node waits or is withdrawn, and its flag tells which. A node that is to link is
+-- right behind the one that it links to. Home names the newest open request. If a flag says that the line is granted, it is in that
+-- mailbox. If no node waits or has the line, all requests have ended.
+pub record Found (config : LineConfig) (c : State) (q : Queue) : Type 0 where
   pub names : (n : ℕ) → IsNode c n → Names c (point c n)
   pub hand : (n : ℕ) → IsNode c n → has_line (point c n) ≡ true → c.place ≡ Hand n
   pub one : (n m : ℕ) → IsNode c n → IsNode c m → has_line (point c n) ≡ true → has_line (point c m) ≡ true → n ≡ m
   pub turn : (n : ℕ) → IsNode c n → has_line (point c n) ≡ true → IsLast q.order (current c n) (length q.ends)
-  pub carried : (n : ℕ) → IsNode c n → has_line (point c n) ≡ true → IsCarried terms c q.order q.ends n (seat c n).reason (seat c n).passed
-  pub whole : ((n : ℕ) → c.place ≢ Hand n) → IsWhole terms c q.ends
+  pub carried : (n : ℕ) → IsNode c n → has_line (point c n) ≡ true → IsCarried config c q.order q.ends n (seat c n).reason (seat c n).passed
+  pub whole : ((n : ℕ) → c.place ≢ Hand n) → IsWhole config c q.ends
   pub holds : (n : ℕ) → IsNode c n → point c n ≡ Holding → ((seat c n).reason ≡ Own) × ((seat c n).passed ≡ [])
   pub passed : (n x : ℕ) (rest : List ℕ) → IsNode c n → (seat c n).passed ≡ x ∷ rest → IsNode c x × (point c x ≡ Rolled)
   pub releases : (n e : ℕ) → IsNode c n → Releases c n e → (has_line (point c n) ≡ true) × (current c n ≡ e)
   pub marks : (n e : ℕ) → IsNode c n → point c n ≡ Marking e → (current c n ≡ e) × (length q.ends + 1 < length q.order)
-  pub late : (n e : ℕ) → IsNode c n → point c n ≡ Marking e → (entry c e).link ≡ 0 → point c (asker q.order (length q.ends + 1)) ≡ Linking e
-  pub home : (p : ℕ) → length q.ends ≤ p → p < length q.order → (c.home ≡ asker q.order p) ↔ (p + 1 ≡ length q.order)
-  pub grant : (n m : ℕ) → IsNode c n → point c n ≡ Granting m → (length q.ends + 1 < length q.order) × (asker q.order (length q.ends + 1) ≡ m)
+  pub late : (n e : ℕ) → IsNode c n → point c n ≡ Marking e → (entry c e).link ≡ 0 → point c (requester_at q.order (length q.ends + 1)) ≡ Linking e
+  pub home : (p : ℕ) → length q.ends ≤ p → p < length q.order → (c.home ≡ requester_at q.order p) ↔ (p + 1 ≡ length q.order)
+  pub grant : (n m : ℕ) → IsNode c n → point c n ≡ Granting m → (length q.ends + 1 < length q.order) × (requester_at q.order (length q.ends + 1) ≡ m)
   pub grant_waits : (n m : ℕ) → IsNode c n → point c n ≡ Granting m → (entry c m).rolled ≡ false → point c m ≡ Queued
   pub grant_rolled : (n m : ℕ) → IsNode c n → point c n ≡ Granting m → (entry c m).rolled ≡ true → point c m ≡ Rolled
   pub link : (n p : ℕ) → IsNode c n → point c n ≡ Linking p → IsBehind c q.order q.ends p n
@@ -80,9 +81,9 @@ pub record Found (terms : Terms) (c : State) (q : Queue) : Type 0 where
   pub over : ((n : ℕ) → IsNode c n → is_active (point c n) ≡ false) → (length q.ends ≡ length q.order) × (c.place ≡ Home)
 
 abbrev pub NodesFind : Type 0
-NodesFind = (terms : Terms) (c : State) (q : Queue) → Shows terms c q → Found terms c q
+NodesFind = (config : LineConfig) (c : State) (q : Queue) → Shows config c q → Found config c q
 
--- No event changes how many nodes there are, or the lengths of the lists.
+-- No event changes the number of nodes, or the lengths of the lists.
 abbrev pub SizesStay : Type 0
 SizesStay = (c d : State) (e : Event) (t : Told) → Step c e t d → (d.nodes ≡ c.nodes) × (length d.entries ≡ length c.entries) × (length d.seats ≡ length c.seats)
 
@@ -94,51 +95,52 @@ pub record LastPlaces (order : List Request) (n : ℕ) : Type 0 where
 abbrev pub LastsHavePlaces : Type 0
 LastsHavePlaces = (lease : Option ℕ) (order : List Request) (ends : List End) (n : ℕ) → IsLegal lease order ends → LastPlaces order n
 
--- A release passes fewer nodes than there are, and where it has passed all others it finds itself named at home.
+-- A release passes fewer nodes than there are, and finds itself named at home if it has passed all others.
 pub record Short (c : State) : Type 0 where
   pub passed : (n : ℕ) → IsNode c n → length (seat c n).passed < c.nodes
   pub home : (n : ℕ) → IsNode c n → has_line (point c n) ≡ true → length (seat c n).passed + 1 ≡ c.nodes → c.home ≡ current c n
 
 abbrev pub WalksAreShort : Type 0
-WalksAreShort = (terms : Terms) (c : State) (q : Queue) → Shows terms c q → Short c
+WalksAreShort = (config : LineConfig) (c : State) (q : Queue) → Shows config c q → Short c
 
--- Where a node's last request has ended by closing the line, or by being told that it is closed, the line is closed.
+-- If a node's last request has ended by closing the line, or was told that it is closed, the line is closed.
 abbrev pub EndsClose : Type 0
-EndsClose = (terms : Terms) (c : State) (q : Queue) (n : ℕ) (r : Reason) → Shows terms c q → r ≢ Own → EndedBy q.order q.ends n r → is_closed q.ends ≡ true
+EndsClose = (config : LineConfig) (c : State) (q : Queue) (n : ℕ) (r : ReleaseCause) → Shows config c q → r ≢ Own → EndedBy q.order q.ends n r → is_closed q.ends ≡ true
 
 -- A run of events is a run of the queue.
 abbrev pub RunsMove : Type 0
-RunsMove = (terms : Terms) (es : List Event) (c : State) (q : Queue) → Run terms es c q → (moves : List Move) × Runs terms empty_queue moves q
+RunsMove = (config : LineConfig) (es : List Event) (c : State) (q : Queue) → Run config es c q → (moves : List Move) × Runs config empty_queue moves q
 
--- A productive event lowers the rank, and none but an ask raises it; and so for each request that is open.
+-- A productive event lowers the rank, and only a prepend raises it (ranking function); the same for each request that is open.
 abbrev pub EventsGoDown : Type 0
-EventsGoDown = (terms : Terms) (c d : State) (q r : Queue) (e : Event) (t : Told) → IsWide c → Shows terms c q → (step : Step c e t d) → Goes terms q (move_of step q.order) r → GoesDown c d q r e t
+EventsGoDown = (config : LineConfig) (c d : State) (q r : Queue) (e : Event) (t : Told) → IsWide c → Shows config c q → (step : Step c e t d) → Goes config q (move_of step q.order) r → GoesDown c d q r e t
 
--- Where a request is open, some node that asks behind none such has a productive event that is enabled; and the line says which node.
+-- While a request is open, some node that asks behind no open request has a productive event that is enabled; the line's place says which
+-- node.
 abbrev pub OpenHaveWays : Type 0
-OpenHaveWays = (terms : Terms) (c : State) (q : Queue) → Shows terms c q → length q.ends < length q.order → HasWay c q
+OpenHaveWays = (config : LineConfig) (c : State) (q : Queue) → Shows config c q → length q.ends < length q.order → HasWay c q
 
--- And no other node takes it away.
+-- No other node can disable that event.
 abbrev pub WaysStay : Type 0
-WaysStay = (terms : Terms) (c d : State) (q : Queue) (e f : Event) (t : Told) → IsWide c → Shows terms c q → IsNode c (node_of f) → Step c e t d → node_of e ≢ node_of f → ActsNext c f → ActsNext d f
+WaysStay = (config : LineConfig) (c d : State) (q : Queue) (e f : Event) (t : Told) → IsWide c → Shows config c q → IsNode c (node_of f) → Step c e t d → node_of e ≢ node_of f → ActsNext c f → ActsNext d f
 
--- How much is left.
+-- Bounds of the rank.
 abbrev pub FewAreLeft : Type 0
-FewAreLeft = (terms : Terms) (c : State) (q : Queue) → Shows terms c q → IsNear c q
+FewAreLeft = (config : LineConfig) (c : State) (q : Queue) → Shows config c q → IsNear c q
 
--- So no path has more productive events than its rank and its asks pay for,
+-- A path has at most as many productive events as its rank and its requests allow,
 abbrev pub PathsAreShort : Type 0
-PathsAreShort = (terms : Terms) (c d : State) (q r : Queue) → IsWide c → Shows terms c q → (path : Path terms c q d r) → IsShort path
+PathsAreShort = (config : LineConfig) (c d : State) (q r : Queue) → IsWide c → Shows config c q → (path : Path config c q d r) → IsShort path
 
--- and no run from the opening has more than 5 for each ask.
+-- and a run from the opening at most 5 for each request.
 abbrev pub RunsAreShort : Type 0
-RunsAreShort = (terms : Terms) (es : List Event) (c : State) (q : Queue) → terms.nodes ≤ MOST_NODES → length terms.opening.bytes ≡ 64 → (run : Run terms es c q) → productive_in run + rank c ≤ 5 * asked_in run
+RunsAreShort = (config : LineConfig) (es : List Event) (c : State) (q : Queue) → config.nodes ≤ MAX_NODES → length config.opening.bytes ≡ 64 → (run : Run config es c q) → productive_in run + rank c ≤ 5 * asked_in run
 
--- The open requests are of different nodes. So of an open request at most N - 1 others end before its own, as its place stays and what
--- is asked later stands behind it.
+-- The open requests are of different nodes. So at most N - 1 others end before an open one, as its place stays and a later request is
+-- behind it.
 pub record AreFew (c : State) (q : Queue) : Type 0 where
-  pub apart : (p i : ℕ) → length q.ends ≤ p → p < length q.order → length q.ends ≤ i → i < length q.order → asker q.order p ≡ asker q.order i → p ≡ i
+  pub apart : (p i : ℕ) → length q.ends ≤ p → p < length q.order → length q.ends ≤ i → i < length q.order → requester_at q.order p ≡ requester_at q.order i → p ≡ i
   pub near : (p : ℕ) → length q.ends ≤ p → p < length q.order → p < length q.ends + c.nodes
 
 abbrev pub FewAreOpen : Type 0
-FewAreOpen = (terms : Terms) (c : State) (q : Queue) → Shows terms c q → AreFew c q
+FewAreOpen = (config : LineConfig) (c : State) (q : Queue) → Shows config c q → AreFew c q

@@ -1,14 +1,14 @@
--- Which move of the queue each case of an event makes: at most one, and then ended requests may be cleared.
--- (The queue at a line is that of Goodman, Vernon and Woest, 1989; the order of the ends as a list's links give it is of this project.)
+-- The move of the queue that each case of an event makes: at most one, and then ended requests may be cleared. (The queue at a line is that
+-- of Goodman, Vernon and Woest, 1989; the order of the ends as a list's links give it is of this project.)
 use Rattle.std.specs.Prelude.{ℕ, Bool, true, false, List, [], ◌∷◌, Option, Some, None}
 use Rattle.qolb_model.specs.declared.request.Request.{Request}
 use Rattle.qolb_model.specs.declared.end.End.{End}
 use Rattle.qolb_model.specs.declared.end.End.TheVariants as end
-use Rattle.qolb_model.specs.declared.terms.Terms.{Terms}
+use Rattle.qolb_model.specs.declared.config.LineConfig.{LineConfig}
 use Rattle.qolb_model.specs.Requests.{last_of}
 use Rattle.qolb_model.specs.Queue.{Queue, Move, ask, mark, finish, CanMove, moved, HasCleared}
-use Rattle.link_core.specs.declared.seat.Reason.{Reason}
-use Rattle.link_core.specs.declared.seat.Reason.TheVariants.{Own, Closing, Refused}
+use Rattle.link_core.specs.declared.seat.ReleaseCause.{ReleaseCause}
+use Rattle.link_core.specs.declared.seat.ReleaseCause.TheVariants.{Own, Closing, Refused}
 use Rattle.link_core.specs.declared.event.Event.{Event}
 use Rattle.link_core.specs.declared.event.Event.TheVariants as event
 use Rattle.link_core.specs.declared.told.Told.{Told}
@@ -16,8 +16,8 @@ use Rattle.link_core.specs.State.{State, seat}
 use Rattle.link_core.specs.Steps.{Step, closed_by}
 use Rattle.link_core.specs.Steps as row
 
--- how the request at its turn ends, by the reason of the release and the nodes that it has passed
-abbrev pub end_by : State → Reason → List ℕ → End
+-- the end of the request at its turn, by the cause of the release and the nodes that it has passed
+abbrev pub end_by : State → ReleaseCause → List ℕ → End
 end_by c Own [] = end.Served (record { mask = c.mask; bytes = c.bytes }) false
 end_by c Closing [] = end.Served (record { mask = c.mask; bytes = c.bytes }) true
 end_by c Refused [] = end.Told
@@ -26,8 +26,8 @@ end_by c _ (m ∷ ms) = end.Gone
 abbrev pub end_of : State → ℕ → End
 end_of c n = end_by c (seat c n).reason (seat c n).passed
 
--- A prepend asks. The request at its turn ends where the line leaves its entry: it goes home, stays with an entry that has no link,
--- or is given to the next. A withdrawal that comes before the grant marks the node's last request.
+-- A prepend asks. The request at its turn ends when the line leaves its entry: it goes home, stays with an entry that has no link, or is
+-- granted to the next. A withdrawal before the grant marks the node's last request.
 abbrev pub move_of : {c : State} {e : Event} {t : Told} {d : State} → Step c e t d → List Request → Option Move
 move_of (row.prepend_first n a at idle) order = Some (ask n)
 move_of (row.prepend n a at busy) order = Some (ask n)
@@ -40,22 +40,22 @@ move_of {c} (row.grant_rolled n m a at rolled) order = Some (finish (end_of c n)
 move_of (row.roll n a at ungranted) order = Some (mark (last_of n order))
 move_of _ order = None
 
--- requests may become clear where one ends, by a link, and by a freeing
+-- requests may become clear by an end, by a link, and by a freeing
 abbrev pub may_clear : Event → Option Move → Bool
 may_clear e (Some (finish x)) = true
 may_clear (event.Link n) m = true
 may_clear (event.Freed n) m = true
 may_clear _ _ = false
 
--- one move or none: when it may be made, and the queue after it
-abbrev pub MayMake : Terms → Queue → Option Move → Type 0
-MayMake terms q None = Unit {0}
-MayMake terms q (Some move) = CanMove terms q move
+-- one move or none: its condition, and the queue after it
+abbrev pub MayMake : LineConfig → Queue → Option Move → Type 0
+MayMake config q None = Unit {0}
+MayMake config q (Some move) = CanMove config q move
 
 abbrev pub made : Queue → Option Move → Queue
 made q None = q
 made q (Some move) = moved q move
 
-pub record Goes (terms : Terms) (q : Queue) (move : Option Move) (next : Queue) : Type 0 where
-  pub may : MayMake terms q move
+pub record Goes (config : LineConfig) (q : Queue) (move : Option Move) (next : Queue) : Type 0 where
+  pub may : MayMake config q move
   pub cleared : HasCleared (made q move) next

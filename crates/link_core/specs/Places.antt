@@ -2,7 +2,7 @@
 use Rattle.std.specs.Prelude.{◌≡◌, ◌≢◌, ℕ, ◌<◌, List, length, slice_index_or}
 use Rattle.qolb_model.specs.declared.request.Request.{Request}
 
--- a request that nobody makes
+-- a request of no node
 abbrev pub nobody : Request
 nobody = record { node = 0; number = 0 }
 
@@ -11,11 +11,11 @@ abbrev pub request : List Request → ℕ → Request
 request order p = slice_index_or order p nobody
 
 -- the node that made it
-abbrev pub asker : List Request → ℕ → ℕ
-asker order p = (request order p).node
+abbrev pub requester_at : List Request → ℕ → ℕ
+requester_at order p = (request order p).node
 
 -- p is the place of n's last request
 pub record IsLast (order : List Request) (n p : ℕ) : Type 0 where
   pub known : p < length order
-  pub its : asker order p ≡ n
-  pub newest : (q : ℕ) → p < q → q < length order → asker order q ≢ n
+  pub its : requester_at order p ≡ n
+  pub newest : (q : ℕ) → p < q → q < length order → requester_at order q ≢ n

@@ -1,7 +1,7 @@
--- What a step promises: a state that shows a queue goes on to show one, after at most one move.
+-- The promise of a step: a state that shows a queue leads to one that shows a queue after at most one move.
 use Rattle.std.specs.Prelude.{◌≡◌, ◌≢◌, ℕ, ◌+◌, ◌<◌, ◌≤◌, false, List, [], ◌∷◌, ◌++◌, length, take, slice_get, Some}
-use Rattle.qolb_model.specs.declared.terms.Terms.{Terms}
-use Rattle.qolb_model.specs.declared.terms.TheConstants.{MOST_NODES}
+use Rattle.qolb_model.specs.declared.config.LineConfig.{LineConfig}
+use Rattle.qolb_model.specs.declared.config.TheConstants.{MAX_NODES}
 use Rattle.link_core.specs.declared.state.TheConstants.{PLACES}
 use Rattle.qolb_model.specs.declared.request.Request.{Request}
 use Rattle.qolb_model.specs.declared.end.End.{End}
@@ -9,7 +9,7 @@ use Rattle.qolb_model.specs.Requests.{Has, Lacks}
 use Rattle.qolb_model.specs.EndKinds.{is_gone}
 use Rattle.qolb_model.specs.Ends.{is_closed}
 use Rattle.qolb_model.specs.Queue.{Queue, empty_queue}
-use Rattle.link_core.specs.declared.seat.Reason.TheVariants.{Own, Closing, Refused}
+use Rattle.link_core.specs.declared.seat.ReleaseCause.TheVariants.{Own, Closing, Refused}
 use Rattle.link_core.specs.declared.place.Place.TheVariants.{Hand}
 use Rattle.link_core.specs.declared.told.Told.{Told}
 use Rattle.link_core.specs.declared.told.Told.TheVariants as told
@@ -32,8 +32,8 @@ pub record Waits (q : Queue) (n : ℕ) : Type 0 where
   pub last : IsLast q.order n at
   pub behind : length q.ends < at
 
--- what is told of n's last request: granted only at its turn; queued, waiting and withdrawn only before it; released, shut and closed
--- only where it has ended so; free and busy as the clear list has it
+-- What is told of n's last request: granted only at its turn; queued, waiting and withdrawn only before it; released, shut and closed only
+-- if it has ended so; free and busy as the clear list has it.
 abbrev pub Says : Queue → ℕ → Told → Type 0
 Says q n told.Went = Unit {0}
 Says q n told.Granted = AtTurn q n
@@ -46,16 +46,16 @@ Says q n told.Closed = EndedBy q.order q.ends n Refused
 Says q n told.Free = (p : ℕ) → IsLast q.order n p → Has q.clear (request q.order p)
 Says q n told.Busy = (p : ℕ) → IsLast q.order n p → Lacks q.clear (request q.order p)
 
--- the request that ended last is clear, unless it is gone
+-- the request that ended last is clear, unless its end is Gone
 abbrev pub IsClearBefore : Queue → Type 0
 IsClearBefore q = (p : ℕ) (r : Request) (e : End) → p + 1 ≡ length q.ends → slice_get q.order p ≡ Some r → slice_get q.ends p ≡ Some e → is_gone e ≡ false → Has q.clear r
 
--- The step, from a state that shows q, leads to one that shows a queue after the step's move. Where the line comes into a hand, the
--- request before is clear.
-pub record Keeps (terms : Terms) (c : State) (e : Event) (t : Told) (d : State) (step : Step c e t d) (q : Queue) : Type 0 where
+-- The step, from a state that shows q, leads to one that shows a queue after the step's move. If the line gets into a hand, the request
+-- before is clear.
+pub record Keeps (config : LineConfig) (c : State) (e : Event) (t : Told) (d : State) (step : Step c e t d) (q : Queue) : Type 0 where
   pub after : Queue
-  pub goes : Goes terms q (move_of step q.order) after
-  pub shows : Shows terms d after
+  pub goes : Goes config q (move_of step q.order) after
+  pub shows : Shows config d after
   pub says : Says after (node_of e) t
   pub comes : (n : ℕ) → d.place ≡ Hand n → ((m : ℕ) → c.place ≢ Hand m) → IsClearBefore after
   pub uncleared : may_clear e (move_of step q.order) ≡ false → after.clear ≡ q.clear
@@ -63,22 +63,22 @@ pub record Keeps (terms : Terms) (c : State) (e : Event) (t : Told) (d : State) 
 
 -- what holds of every state of a core: it shows some queue, and there is a place for each of its nodes
 pub record IsSound (c : State) : Type 0 where
-  pub nodes : c.nodes ≤ MOST_NODES
+  pub nodes : c.nodes ≤ MAX_NODES
   pub entries : length c.entries ≡ PLACES
   pub seats : length c.seats ≡ PLACES
-  pub terms : Terms
+  pub config : LineConfig
   pub queue : Queue
-  pub shows : Shows terms c queue
+  pub shows : Shows config c queue
 
--- these events, each with its move and a queue that is shown after it, lead from the opening to a state and a queue
-pub data Run (terms : Terms) : List Event → State → Queue → Type 0 where
-  opened : Run terms [] (first terms) empty_queue
-  event : {es : List Event} {c : State} {q : Queue} → Run terms es c q → (e : Event) (t : Told) (d : State) (r : Queue) (step : Step c e t d) → Goes terms q (move_of step q.order) r → Shows terms d r → Run terms (es ++ e ∷ []) d r
+-- a run: these events, each with its move and a queue that is shown after it, lead from the opening to a state and a queue
+pub data Run (config : LineConfig) : List Event → State → Queue → Type 0 where
+  opened : Run config [] (first config) empty_queue
+  event : {es : List Event} {c : State} {q : Queue} → Run config es c q → (e : Event) (t : Told) (d : State) (r : Queue) (step : Step c e t d) → Goes config q (move_of step q.order) r → Shows config d r → Run config (es ++ e ∷ []) d r
 
 -- the events before i lead to a state, and the event at i is refused there
-pub record Stops (terms : Terms) (es : List Event) (i : ℕ) (r : NotEnabled) : Type 0 where
+pub record Stops (config : LineConfig) (es : List Event) (i : ℕ) (r : NotEnabled) : Type 0 where
   pub state : State
   pub queue : Queue
-  pub before : Run terms (take i es) state queue
+  pub before : Run config (take i es) state queue
   pub here : i < length es
   pub refused : (e : Event) → slice_get es i ≡ Some e → IsRefused state e r

@@ -1,16 +1,16 @@
--- When a state shows a queue. Each clause is by place in the order of requests: those below `length ends` have ended, the one at
--- that place is at its turn, and the open ones from there on are those of the nodes in the list, the oldest first.
--- (The list of a line's requesters, with its head named at home, is of IEEE Std 1596-1992; queueing at the line and handing it on from
--- the tail is of Goodman, Vernon and Woest, 1989; the reversed links, the flags and what is shown by them are of this project.)
+-- The queue that a state shows (refinement mapping). Each clause goes by place in the order of requests: those below `length ends` have
+-- ended, the one at that place is at its turn, and the open ones from there on are those of the nodes in the list, the oldest first. (The
+-- list of a line's requesters, with its head named at home, is of IEEE Std 1596-1992; queueing at the line and handing it over from the
+-- tail is of Goodman, Vernon and Woest, 1989; the reversed links, the flags and what is shown by them are of this project.)
 use Rattle.std.specs.Prelude.{◌≡◌, ◌≢◌, ℕ, ◌+◌, ◌<◌, ◌≤◌, Bool, true, false, ◌||◌, List, [], ◌∷◌, ◌⊎◌, length, Some, slice_get, slice_index_or}
 use Rattle.link_core.specs.declared.point.Point.{Point}
 use Rattle.link_core.specs.declared.point.Point.TheVariants.{Idle, Ready, Linking, Queued, Holding, Leaving, Marking, Granting, Freeing, Left, Rolled, Shut}
-use Rattle.link_core.specs.declared.seat.Reason.{Reason}
-use Rattle.link_core.specs.declared.seat.Reason.TheVariants.{Own, Closing, Refused}
+use Rattle.link_core.specs.declared.seat.ReleaseCause.{ReleaseCause}
+use Rattle.link_core.specs.declared.seat.ReleaseCause.TheVariants.{Own, Closing, Refused}
 use Rattle.link_core.specs.declared.place.Place.TheVariants.{Home, Mailbox, Hand}
 use Rattle.line_lanes.specs.Line.{merged}
-use Rattle.link_core.specs.Places.{request, asker, IsLast}
-use Rattle.qolb_model.specs.declared.terms.Terms.{Terms}
+use Rattle.link_core.specs.Places.{request, requester_at, IsLast}
+use Rattle.qolb_model.specs.declared.config.LineConfig.{LineConfig}
 use Rattle.qolb_model.specs.Ends.{is_closed, bytes_after}
 use Rattle.qolb_model.specs.Leases.{is_last_turn, turns_left}
 use Rattle.qolb_model.specs.EndKinds.{is_gone}
@@ -43,15 +43,15 @@ abbrev pub is_freeing : Point → Bool
 is_freeing Freeing = true
 is_freeing _ = false
 
--- how a request ends whose node releases the line for this reason
-abbrev pub ByReason : Reason → End → Type 0
+-- the end of a request whose node releases the line for this cause
+abbrev pub ByReason : ReleaseCause → End → Type 0
 ByReason Own (Served w shut) = shut ≡ false
 ByReason Closing (Served w shut) = shut ≡ true
 ByReason Refused Told = Unit {0}
 ByReason _ _ = ⊥
 
--- n's last request has ended, by this reason
-pub record EndedBy (order : List Request) (ends : List End) (n : ℕ) (r : Reason) : Type 0 where
+-- n's last request has ended, by this cause
+pub record EndedBy (order : List Request) (ends : List End) (n : ℕ) (r : ReleaseCause) : Type 0 where
   pub at : ℕ
   pub end : End
   pub last : IsLast order n at
@@ -62,35 +62,34 @@ pub record EndedBy (order : List Request) (ends : List End) (n : ℕ) (r : Reaso
 abbrev pub HasEnded : List Request → List End → ℕ → Type 0
 HasEnded order ends n = (p : ℕ) → IsLast order n p → p < length ends
 
--- the line is as all ends left it
-pub record IsWhole (terms : Terms) (c : State) (ends : List End) : Type 0 where
-  pub bytes : c.bytes.bytes ≡ bytes_after terms.opening.bytes ends
+-- the line is as after all ends
+pub record IsWhole (config : LineConfig) (c : State) (ends : List End) : Type 0 where
+  pub bytes : c.bytes.bytes ≡ bytes_after config.opening.bytes ends
   pub closed : c.closed ≡ is_closed ends
 
--- The line is in the hand of n, whose own request is at its turn: open and not yet closed, with the bytes of the ends but for what was
--- written in this turn, and at the last turn of a lease not yet released; the same, closed by this turn; or closed before, and only
--- passed on.
-abbrev pub IsHeld : Terms → State → List End → ℕ → Reason → Type 0
-IsHeld terms c ends n Own = (c.closed ≡ false) × (is_closed ends ≡ false) × (merged (bytes_after terms.opening.bytes ends) c.bytes.bytes c.mask.0 ≡ c.bytes.bytes) × ((point c n ≡ Holding) ⊎ (is_last_turn terms.lease ends ≡ false))
-IsHeld terms c ends n Closing = (c.closed ≡ true) × (is_closed ends ≡ false) × (merged (bytes_after terms.opening.bytes ends) c.bytes.bytes c.mask.0 ≡ c.bytes.bytes)
-IsHeld terms c ends n Refused = (c.closed ≡ true) × (is_closed ends ≡ true) × (c.bytes.bytes ≡ bytes_after terms.opening.bytes ends)
+-- The line is in the hand of n, whose own request is at its turn: open and not yet closed, with the bytes after the ends but for what this
+-- turn wrote, and at the last turn of a lease not yet in release; or so, closed by this turn; or closed before, and only forwarded.
+abbrev pub IsHeld : LineConfig → State → List End → ℕ → ReleaseCause → Type 0
+IsHeld config c ends n Own = (c.closed ≡ false) × (is_closed ends ≡ false) × (merged (bytes_after config.opening.bytes ends) c.bytes.bytes c.mask.0 ≡ c.bytes.bytes) × ((point c n ≡ Holding) ⊎ (is_last_turn config.lease ends ≡ false))
+IsHeld config c ends n Closing = (c.closed ≡ true) × (is_closed ends ≡ false) × (merged (bytes_after config.opening.bytes ends) c.bytes.bytes c.mask.0 ≡ c.bytes.bytes)
+IsHeld config c ends n Refused = (c.closed ≡ true) × (is_closed ends ≡ true) × (c.bytes.bytes ≡ bytes_after config.opening.bytes ends)
 
--- the line is in the hand of n, which has passed these nodes: with some passed, n's own request has ended and nothing is under way
-abbrev pub IsCarried : Terms → State → List Request → List End → ℕ → Reason → List ℕ → Type 0
-IsCarried terms c order ends n r [] = IsHeld terms c ends n r
-IsCarried terms c order ends n r (m ∷ ms) = IsWhole terms c ends × EndedBy order ends n r × (r ≡ Refused → is_closed ends ≡ true)
+-- the line is in the hand of n, which has passed these nodes: if there are some, n's own request has ended, and nothing is written
+abbrev pub IsCarried : LineConfig → State → List Request → List End → ℕ → ReleaseCause → List ℕ → Type 0
+IsCarried config c order ends n r [] = IsHeld config c ends n r
+IsCarried config c order ends n r (m ∷ ms) = IsWhole config c ends × EndedBy order ends n r × (r ≡ Refused → is_closed ends ≡ true)
 
--- Where the line lies. With no open request it is at home. Else it is in the hand of n, whose release has come to the request at its
+-- The place of the line. With no open request it is at home. Else it is in the hand of n, whose release has reached the request at its
 -- turn; or in the mailbox of t, whose turn it is, which waits; or in the mailbox of q, for t to find when it links.
-pub data Lies (terms : Terms) (c : State) (order : List Request) (ends : List End) : Type 0 where
-  at_home : length ends ≡ length order → c.place ≡ Home → IsWhole terms c ends → Lies terms c order ends
-  in_hand : (n : ℕ) → length ends < length order → IsNode c n → c.place ≡ Hand n → has_line (point c n) ≡ true → asker order (length ends) ≡ current c n → IsCarried terms c order ends n (seat c n).reason (seat c n).passed → Lies terms c order ends
-  granted : (t : ℕ) → length ends < length order → asker order (length ends) ≡ t → c.place ≡ Mailbox t → (entry c t).granted ≡ true → point c t ≡ Queued → IsWhole terms c ends → Lies terms c order ends
-  left : (t q : ℕ) → length ends < length order → asker order (length ends) ≡ t → c.place ≡ Mailbox q → (entry c q).done ≡ true → (entry c q).link ≡ 0 → (point c q ≡ Left) ⊎ (point c q ≡ Rolled) → point c t ≡ Linking q → IsWhole terms c ends → Lies terms c order ends
+pub data Lies (config : LineConfig) (c : State) (order : List Request) (ends : List End) : Type 0 where
+  at_home : length ends ≡ length order → c.place ≡ Home → IsWhole config c ends → Lies config c order ends
+  in_hand : (n : ℕ) → length ends < length order → IsNode c n → c.place ≡ Hand n → has_line (point c n) ≡ true → requester_at order (length ends) ≡ current c n → IsCarried config c order ends n (seat c n).reason (seat c n).passed → Lies config c order ends
+  granted : (t : ℕ) → length ends < length order → requester_at order (length ends) ≡ t → c.place ≡ Mailbox t → (entry c t).granted ≡ true → point c t ≡ Queued → IsWhole config c ends → Lies config c order ends
+  left : (t q : ℕ) → length ends < length order → requester_at order (length ends) ≡ t → c.place ≡ Mailbox q → (entry c q).done ≡ true → (entry c q).link ≡ 0 → (point c q ≡ Left) ⊎ (point c q ≡ Rolled) → point c t ≡ Linking q → IsWhole config c ends → Lies config c order ends
 
 -- neighbours among the open requests: the older one's link names the younger, or the younger is about to link
 abbrev pub IsLinked : State → ℕ → ℕ → Type 0
-IsLinked c older younger = ((entry c older).link ≡ younger) ⊎ (((entry c older).link ≡ 0) × (point c younger ≡ Linking older))
+IsLinked c predecessor younger = ((entry c predecessor).link ≡ younger) ⊎ (((entry c predecessor).link ≡ 0) × (point c younger ≡ Linking predecessor))
 
 -- n is to link to q, which made the request just before n's, its last one
 pub record IsBehind (c : State) (order : List Request) (ends : List End) (q n : ℕ) : Type 0 where
@@ -114,7 +113,7 @@ pub record IsReleasing (c : State) (n e : ℕ) : Type 0 where
   pub place : c.place ≡ Hand n
   pub is : current c n ≡ e
 
--- What the point of n says. At Marking another request follows the one at its turn; at Granting that is m's, and it is linked.
+-- What the point of n means. At Marking another request follows the one at its turn; at Granting that is m's, and it is linked.
 abbrev pub Sits : State → List Request → List End → ℕ → Point → Type 0
 Sits c order ends n Idle = HasEnded order ends n
 Sits c order ends n Ready = HasEnded order ends n × (entry c n ≡ empty)
@@ -127,11 +126,11 @@ Sits c order ends n Rolled = (entry c n).rolled ≡ true
 Sits c order ends n Holding = IsReleasing c n n × ((seat c n).reason ≡ Own) × ((seat c n).passed ≡ [])
 Sits c order ends n (Leaving e) = IsReleasing c n e
 Sits c order ends n (Marking e) = IsReleasing c n e × (length ends + 1 < length order)
-Sits c order ends n (Granting m) = IsReleasing c n (current c n) × (length ends + 1 < length order) × (asker order (length ends + 1) ≡ m) × ((entry c (current c n)).link ≡ m)
+Sits c order ends n (Granting m) = IsReleasing c n (current c n) × (length ends + 1 < length order) × (requester_at order (length ends + 1) ≡ m) × ((entry c (current c n)).link ≡ m)
 
--- the request at this place is gone, or is at its turn with the line in n's hand
-abbrev pub HasCome : State → List End → ℕ → ℕ → Type 0
-HasCome c ends n at = (slice_get ends at ≡ Some Gone) ⊎ ((at ≡ length ends) × (c.place ≡ Hand n))
+-- the request at this place has the end Gone, or is at its turn with the line in n's hand
+abbrev pub HasReached : State → List End → ℕ → ℕ → Type 0
+HasReached c ends n at = (slice_get ends at ≡ Some Gone) ⊎ ((at ≡ length ends) × (c.place ≡ Hand n))
 
 -- n's release has passed x and not freed it
 pub record IsPassed (c : State) (order : List Request) (ends : List End) (n x : ℕ) : Type 0 where
@@ -140,7 +139,7 @@ pub record IsPassed (c : State) (order : List Request) (ends : List End) (n x : 
   pub kept : (entry c x).freed ≡ false
   pub at : ℕ
   pub last : IsLast order x at
-  pub come : HasCome c ends n at
+  pub come : HasReached c ends n at
 
 -- some node has the line in its hand and is about to grant
 pub record IsGranting (c : State) : Type 0 where
@@ -171,13 +170,13 @@ IsOnce c = (n m i j : ℕ) → IsNode c n → IsNode c m → i < length (seat c 
 abbrev pub IsUnpassed : State → Type 0
 IsUnpassed c = (n : ℕ) → IsNode c n → has_line (point c n) || is_freeing (point c n) ≡ false → (seat c n).passed ≡ []
 
--- n has left the line in its own mailbox, and nobody is linked to its entry
+-- n has left the line in its own mailbox, and no node is linked to its entry
 pub record HasLeft (c : State) (n : ℕ) : Type 0 where
   pub point : point c n ≡ Left
   pub done : (entry c n).done ≡ true
   pub unlinked : (entry c n).link ≡ 0
 
--- While the line is in no hand, the request that ended last is clear, unless it is gone or its node has left the line.
+-- While the line is in no hand, the request that ended last is clear, unless its end is Gone or its node has left the line.
 abbrev pub Rests : State → List Request → List End → List Request → Type 0
 Rests c order ends clear = ((n : ℕ) → c.place ≢ Hand n) → (p : ℕ) (r : Request) (e : End) → p + 1 ≡ length ends → slice_get order p ≡ Some r → slice_get ends p ≡ Some e → is_gone e ≡ false → Has clear r ⊎ HasLeft c r.node
 
@@ -188,41 +187,41 @@ pub record IsSettled (c : State) (order : List Request) (ends : List End) (clear
   pub bounded : (n : ℕ) → IsNode c n → (entry c n).link ≤ c.nodes
 
 -- the words, the line, the points and the lists of passed nodes fit the queue
-pub record Matches (terms : Terms) (c : State) (q : Queue) : Type 0 where
+pub record Matches (config : LineConfig) (c : State) (q : Queue) : Type 0 where
   -- the line is as it was opened, with the turns left that are not served
-  pub opened : length terms.opening.bytes ≡ 64
-  pub size : c.nodes ≡ terms.nodes
-  pub turns : c.left ≡ turns_left terms.lease q.ends
-  -- the queue: some first requests have ended, and what is marked or clear was made
+  pub opened : length config.opening.bytes ≡ 64
+  pub size : c.nodes ≡ config.nodes
+  pub turns : c.left ≡ turns_left config.lease q.ends
+  -- the queue: a prefix of the requests has ended, and only requests that were made are marked or clear
   pub known : length q.ends ≤ length q.order
-  pub nodes : (p : ℕ) → p < length q.order → IsNode c (asker q.order p)
-  pub numbered : (p : ℕ) → p < length q.order → (request q.order p).number ≤ count_of (asker q.order p) q.order
+  pub nodes : (p : ℕ) → p < length q.order → IsNode c (requester_at q.order p)
+  pub numbered : (p : ℕ) → p < length q.order → (request q.order p).number ≤ count_of (requester_at q.order p) q.order
   pub marked_known : (r : Request) → has q.marked r ≡ true → r.number ≤ count_of r.node q.order
   pub clear_known : (r : Request) → has q.clear r ≡ true → r.number ≤ count_of r.node q.order
   -- the open requests are their nodes' last, so these are distinct; home names the newest, or is 0
-  pub distinct : (p : ℕ) → length q.ends ≤ p → p < length q.order → IsLast q.order (asker q.order p) p
+  pub distinct : (p : ℕ) → length q.ends ≤ p → p < length q.order → IsLast q.order (requester_at q.order p) p
   pub home_idle : length q.ends ≡ length q.order → c.home ≡ 0
-  pub home_last : (p : ℕ) → length q.ends ≤ p → p + 1 ≡ length q.order → c.home ≡ asker q.order p
+  pub home_last : (p : ℕ) → length q.ends ≤ p → p + 1 ≡ length q.order → c.home ≡ requester_at q.order p
   -- the links between neighbours; the newest has none
-  pub links : (p : ℕ) → length q.ends ≤ p → p + 1 < length q.order → IsLinked c (asker q.order p) (asker q.order (p + 1))
-  pub last_link : (p : ℕ) → length q.ends ≤ p → p + 1 ≡ length q.order → (entry c (asker q.order p)).link ≡ 0
+  pub links : (p : ℕ) → length q.ends ≤ p → p + 1 < length q.order → IsLinked c (requester_at q.order p) (requester_at q.order (p + 1))
+  pub last_link : (p : ℕ) → length q.ends ≤ p → p + 1 ≡ length q.order → (entry c (requester_at q.order p)).link ≡ 0
   -- the line
-  pub lies : Lies terms c q.order q.ends
-  -- an open request is marked exactly where its node is at Rolled; a node's last request is clear exactly where point and entry say
-  pub marks : (p : ℕ) → length q.ends ≤ p → p < length q.order → has q.marked (request q.order p) ≡ is_rolled (point c (asker q.order p))
+  pub lies : Lies config c q.order q.ends
+  -- an open request is marked exactly if its node is at Rolled; a node's last request is clear exactly if point and entry say so
+  pub marks : (p : ℕ) → length q.ends ≤ p → p < length q.order → has q.marked (request q.order p) ≡ is_rolled (point c (requester_at q.order p))
   pub clears : (n p : ℕ) → IsNode c n → IsLast q.order n p → has q.clear (request q.order p) ≡ is_clear (point c n) (entry c n)
   -- the points
   pub sits : (n : ℕ) → IsNode c n → Sits c q.order q.ends n (point c n)
   -- the entries of open requests
-  pub fresh : (p : ℕ) → length q.ends ≤ p → p < length q.order → IsFresh c (length q.ends) (asker q.order p) p
+  pub fresh : (p : ℕ) → length q.ends ≤ p → p < length q.order → IsFresh c (length q.ends) (requester_at q.order p) p
   -- the passed nodes, and what is left behind
   pub passes : ArePassed c q.order q.ends
   pub once : IsOnce c
   pub unpassed : IsUnpassed c
   pub settled : IsSettled c q.order q.ends q.clear
 
--- A release leaves a chain of links behind it: that of the releasing node's own entry, and those of the nodes that it has passed
--- and not freed, but for the last. Where it is about to grant, the entry that it has come to is done.
+-- A release leaves a chain of links behind it: that of the releasing node's own entry, and those of the nodes that it has passed and not
+-- freed, but for the last. If it is about to grant, the entry that it has reached is done.
 pub record IsChained (c : State) : Type 0 where
   pub links : (n i : ℕ) → IsNode c n → i < length (seat c n).passed → (entry c (slice_index_or (n ∷ (seat c n).passed) i 0)).link ≢ 0
   pub done : (n m : ℕ) → IsNode c n → point c n ≡ Granting m → (entry c (current c n)).done ≡ true
@@ -231,7 +230,7 @@ pub record IsChained (c : State) : Type 0 where
 abbrev pub AreBehind : State → List Request → List End → Type 0
 AreBehind c order ends = (n : ℕ) → IsNode c n → point c n ≡ Rolled → (entry c n).granted ≡ false → (p : ℕ) × IsLast order n p × (length ends < p)
 
--- the requests that are gone are those of the ended ones that were marked
+-- the requests with the end Gone are the ended ones that were marked
 pub record AreMarked (q : Queue) : Type 0 where
   pub gone : (p : ℕ) (r : Request) → slice_get q.order p ≡ Some r → slice_get q.ends p ≡ Some Gone → Has q.marked r
   pub marked : (p : ℕ) (r : Request) → slice_get q.order p ≡ Some r → p < length q.ends → Has q.marked r → slice_get q.ends p ≡ Some Gone
@@ -241,10 +240,10 @@ abbrev pub AreEarlierClear : Queue → Type 0
 AreEarlierClear q = (r : Request) → Has q.order r → r.number < count_of r.node q.order → Has q.clear r
 
 -- The state shows the queue: that is legal, and the state matches it.
-pub record Shows (terms : Terms) (c : State) (q : Queue) : Type 0 where
-  pub legal : IsLegal terms.lease q.order q.ends
+pub record Shows (config : LineConfig) (c : State) (q : Queue) : Type 0 where
+  pub legal : IsLegal config.lease q.order q.ends
   pub gone : AreMarked q
   pub earlier : AreEarlierClear q
-  pub matches : Matches terms c q
+  pub matches : Matches config c q
   pub chained : IsChained c
   pub behind : AreBehind c q.order q.ends

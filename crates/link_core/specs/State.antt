@@ -1,16 +1,15 @@
--- The state of a line with reversed links, and what one act changes in it.
--- (A list of requesters at a line is of IEEE Std 1596-1992; that its links are made by the younger node, from the tail's side
--- to the head's, and the words that hold them are of this project.)
+-- The state of a line with reversed links, and the changes that one act makes. (A list of requesters at a line is of IEEE Std 1596-1992;
+-- that its links are made by the younger node, from the tail's side to the head's, and the words that hold them are of this project.)
 use Rattle.std.specs.Prelude.{ℕ, ◌<◌, ◌≤◌, ◌==◌, Bool, true, false, ◌&&◌, not, List, [], ◌∷◌, length, replicate, slice_index_or, slice_set}
 use Rattle.link_core.specs.declared.point.Point.{Point}
 use Rattle.link_core.specs.declared.point.Point.TheVariants.{Idle, Ready, Linking, Queued, Holding, Leaving, Marking, Granting, Freeing, Left, Rolled, Shut}
 use Rattle.link_core.specs.declared.place.Place.TheVariants.{Home}
-use Rattle.link_core.specs.declared.seat.Reason.TheVariants.{Own}
-use Rattle.qolb_model.specs.declared.terms.Terms.{Terms}
+use Rattle.link_core.specs.declared.seat.ReleaseCause.TheVariants.{Own}
+use Rattle.qolb_model.specs.declared.config.LineConfig.{LineConfig}
 use Rattle.link_core.specs.declared.state.TheConstants.{PLACES}
 use Rattle.line_lanes.specs.declared.line.Mask.{Mask}
 use Rattle.link_core.specs.declared.entry.Entry.{Entry}
-pub use Rattle.link_core.specs.declared.seat.Seat.{Seat}
+pub use Rattle.link_core.specs.declared.seat.NodeCall.{NodeCall}
 pub use Rattle.link_core.specs.declared.state.State.{State}
 
 -- an entry after its reset
@@ -18,14 +17,14 @@ abbrev pub empty : Entry
 empty = record { granted = false; rolled = false; done = false; freed = false; link = 0 }
 
 -- the seat of a node that has made no call
-abbrev pub unused : Seat
+abbrev pub unused : NodeCall
 unused = record { point = Idle; passed = []; reason = Own }
 
 -- the entry, the seat and the point of a node
 abbrev pub entry : State → ℕ → Entry
 entry c n = slice_index_or c.entries n empty
 
-abbrev pub seat : State → ℕ → Seat
+abbrev pub seat : State → ℕ → NodeCall
 seat c n = slice_index_or c.seats n unused
 
 abbrev pub point : State → ℕ → Point
@@ -67,7 +66,7 @@ is_clear Freeing w = false
 abbrev pub put_entry : ℕ → Entry → State → State
 put_entry n w c = record c { entries = slice_set c.entries n w }
 
-abbrev pub put_seat : ℕ → Seat → State → State
+abbrev pub put_seat : ℕ → NodeCall → State → State
 put_seat n s c = record c { seats = slice_set c.seats n s }
 
 abbrev pub at_point : ℕ → Point → State → State
@@ -77,6 +76,6 @@ at_point n p c = put_seat n (record (seat c n) { point = p }) c
 abbrev pub no_mask : Mask
 no_mask = record { 0 = 0 }
 
--- the state in which a line is opened; place 0 of both lists is not used
-abbrev pub first : Terms → State
-first terms = record { nodes = terms.nodes; home = 0; place = Home; bytes = terms.opening; closed = false; mask = no_mask; left = terms.lease; entries = replicate PLACES empty; seats = replicate PLACES unused }
+-- the state of a new line; place 0 of both lists is not used
+abbrev pub first : LineConfig → State
+first config = record { nodes = config.nodes; home = 0; place = Home; bytes = config.opening; closed = false; mask = no_mask; left = config.lease; entries = replicate PLACES empty; seats = replicate PLACES unused }

@@ -9,7 +9,7 @@ use crate::state::State;
 use crate::told::{NotEnabled, Told};
 
 impl State {
-    /// n stores 0 in its own entry.
+    /// Stores 0 in n's own entry.
     pub fn reset(&mut self, n: u64) -> Result<Told, NotEnabled>
         requires fits { Fits self.old }
         requires node { IsNode self.old n }
@@ -27,7 +27,7 @@ impl State {
         }
     }
 
-    /// n puts its number into the home word; where that was idle, the line comes from home.
+    /// Puts n's number into the home word. If that was 0, n takes the line from home.
     pub fn prepend(&mut self, n: u64) -> Result<Told, NotEnabled>
         requires fits { Fits self.old }
         requires node { IsNode self.old n }
@@ -37,12 +37,12 @@ impl State {
     {
         match self.point(n) {
             Point::Ready => {
-                let older = self.home;
+                let predecessor = self.home;
                 self.home = n;
-                if older == 0 {
+                if predecessor == 0 {
                     Ok(self.arrive(n))
                 } else {
-                    self.go_to(n, Point::Linking(older));
+                    self.go_to(n, Point::Linking(predecessor));
                     Ok(Told::Went)
                 }
             }
@@ -50,7 +50,7 @@ impl State {
         }
     }
 
-    /// n adds its link to the entry that it found; where that was done, the line comes from its mailbox.
+    /// Adds n's link to the entry that it found at home. If that was done, n takes the line from its mailbox.
     pub fn link(&mut self, n: u64) -> Result<Told, NotEnabled>
         requires fits { Fits self.old }
         requires node { IsNode self.old n }

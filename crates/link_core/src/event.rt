@@ -3,7 +3,7 @@ ghost use Rattle.link_core.specs.Steps.{node_of};
 
 use line_lanes::{Line64, Mask};
 
-/// One atomic act of one node: a step on a word, or one of the two acts of a holder on the line in its hand.
+/// One atomic act of one node: a word step, or an act of a holder on the line in its hand.
 #[derive(Clone, Copy, Debug, PartialEq, Eq)]
 pub enum Event {
     /// The node stores 0 in its own entry.
@@ -16,7 +16,7 @@ pub enum Event {
     Load(u64),
     /// A release tries to put 0 into the home word.
     Home(u64),
-    /// A release adds the flag done to the entry that it has come to.
+    /// A release adds the flag done to the entry that it has reached.
     Done(u64),
     /// A release adds the flag granted to the next entry.
     Grant(u64),
@@ -24,14 +24,14 @@ pub enum Event {
     Roll(u64),
     /// A release adds the flag freed to the entry of a node that it passed.
     Freed(u64),
-    /// The holder writes these bytes, at the places of the mask.
+    /// The holder writes the bytes, at the places of the mask.
     Write(u64, Mask, Line64),
     /// The holder closes the line.
     Close(u64),
 }
 
 impl Event {
-    /// The node that acts.
+    /// Returns the node that acts.
     pub fn node(&self) -> u64
         ensures { result ≡ node_of self.now }
     {

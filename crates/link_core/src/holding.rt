@@ -5,13 +5,13 @@ ghost use Rattle.link_core.specs.Steps.{Step, Fits, IsRefused, closed_by};
 
 use crate::event::Event;
 use crate::point::Point;
-use crate::seat::Reason;
+use crate::seat::ReleaseCause;
 use crate::state::State;
 use crate::told::{NotEnabled, Told};
 use line_lanes::{Line64, Mask, merge};
 
 impl State {
-    /// The holder writes.
+    /// Writes the bytes for the holder n.
     pub fn write(&mut self, n: u64, mask: Mask, bytes: Line64) -> Result<Told, NotEnabled>
         requires fits { Fits self.old }
         requires node { IsNode self.old n }
@@ -29,7 +29,7 @@ impl State {
         }
     }
 
-    /// The holder closes the line.
+    /// Closes the line for the holder n.
     pub fn close(&mut self, n: u64) -> Result<Told, NotEnabled>
         requires fits { Fits self.old }
         requires node { IsNode self.old n }
@@ -46,7 +46,7 @@ impl State {
         }
     }
 
-    /// n closes the line, and its release starts.
+    /// Closes the line for n, whose release starts.
     pub fn shut_by(&mut self, n: u64)
         requires { n < PLACES }
         ensures { self.new ≡ closed_by n self.old }
@@ -54,6 +54,6 @@ impl State {
         self.closed = true;
         let seat = &mut self.seats[n as usize];
         seat.point = Point::Leaving(n);
-        seat.reason = Reason::Closing;
+        seat.reason = ReleaseCause::Closing;
     }
 }

@@ -1,28 +1,28 @@
-//! What a lock whose words are those of a core may rest on, as laws of its events. Each law is the contract of a function that does nothing.
+//! Laws of a core's events, for a lock whose words are those of a core. Each is the contract of a function that does nothing.
 
 ghost use Rattle.link_core.specs.Laws.{OpenedShows, EachEventKeeps, MovesAreMade, EventsAreEnabled, EventsHaveOneEffect, AddsFindUnset, NodesFind, SizesStay, LastsHavePlaces, WalksAreShort, EndsClose, RunsMove, FewAreOpen, EventsGoDown, OpenHaveWays, WaysStay, FewAreLeft, PathsAreShort, RunsAreShort};
 
-/// A line that is opened shows the empty queue.
+/// A new line shows the empty queue.
 pub fn opened_shows()
     ensures { OpenedShows }
 {}
 
-/// Each event keeps that a queue is shown: by its move, and sparing the other nodes.
+/// Each event keeps the invariant that a queue is shown: by its move, and without a change for the other nodes.
 pub fn each_event_keeps()
     ensures { EachEventKeeps }
 {}
 
-/// What the queue is after an event.
+/// The queue after an event is that after its move.
 pub fn moves_are_made()
     ensures { MovesAreMade }
 {}
 
-/// An event has an effect only where its node's point allows it.
+/// An event has an effect only if its node's point allows it.
 pub fn events_are_enabled()
     ensures { EventsAreEnabled }
 {}
 
-/// And then it has one.
+/// An event that is allowed has exactly one effect.
 pub fn events_have_one_effect()
     ensures { EventsHaveOneEffect }
 {}
@@ -37,7 +37,7 @@ pub fn nodes_find()
     ensures { NodesFind }
 {}
 
-/// How many nodes there are stays.
+/// No event changes the number of nodes.
 pub fn sizes_stay()
     ensures { SizesStay }
 {}
@@ -62,37 +62,39 @@ pub fn runs_move()
     ensures { RunsMove }
 {}
 
-/// Open requests are of different nodes, so at most N - 1 of them end before one's own.
+/// Open requests are of different nodes, so at most N - 1 others end before one's own.
 pub fn few_are_open()
     ensures { FewAreOpen }
 {}
 
-/// Each productive event lowers the rank, and none but an ask raises it; and so for each open request, whatever comes behind it.
+/// Ranking function: each productive event lowers the rank, and only a prepend raises it.
+///
+/// So it is for the rank of each open request, for any requests behind it.
 pub fn events_go_down()
     ensures { EventsGoDown }
 {}
 
-/// Where a request is open, a productive event is enabled, of the node that the line says.
+/// While a request is open, some node has a productive event that is enabled. The line's place says which node.
 pub fn open_have_ways()
     ensures { OpenHaveWays }
 {}
 
-/// No other node takes that way away.
+/// No other node can disable that event.
 pub fn ways_stay()
     ensures { WaysStay }
 {}
 
-/// How much is left, by the nodes that are in a call, or withdrawn and not freed.
+/// Bounds of the rank, by the nodes that are in a call, or withdrawn and not freed.
 pub fn few_are_left()
     ensures { FewAreLeft }
 {}
 
-/// Events that follow each other have no more productive ones than their rank and their asks pay for.
+/// A path has at most as many productive events as its rank and its requests allow.
 pub fn paths_are_short()
     ensures { PathsAreShort }
 {}
 
-/// A run of events has at most 5 productive ones for each request that is made in it.
+/// A run of events has at most 5 productive ones for each request made in it.
 pub fn runs_are_short()
     ensures { RunsAreShort }
 {}

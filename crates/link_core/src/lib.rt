@@ -24,5 +24,5 @@ pub use machine::Core;
 pub use place::Place;
 pub use point::Point;
 pub use replaying::replay;
-pub use seat::{Passed, Reason, Seat};
+pub use seat::{NodeCall, Passed, ReleaseCause};
 pub use told::{NotEnabled, Told};

@@ -14,11 +14,12 @@ use crate::point::Point;
 use crate::state::State;
 use crate::told::{NotEnabled, Told};
 use line_lanes::Line64;
-use qolb_model::Terms;
+use qolb_model::LineConfig;
 use std::marker::Model;
 
-/// The core of a line with reversed links, in a state that shows a queue. It takes 49,976 bytes, whatever the number of nodes: nearly
-/// all for the lists of passed nodes.
+/// The core of a line with reversed links, in a state that shows a queue.
+///
+/// It takes 49,976 bytes for any number of nodes, nearly all for the lists of passed nodes.
 #[derive(Drop)]
 pub struct Core {
     state: State,
@@ -37,65 +38,69 @@ impl Model for Core {
 }
 
 impl Core {
-    /// A line of so many nodes with these bytes, open and at home; None where the nodes are not 1 to `MOST_NODES`.
+    /// Opens a line of `nodes` nodes with the bytes `opening`, at home.
+    ///
+    /// Returns `None` if `nodes` is not 1 to `MAX_NODES`.
     pub fn start(nodes: u64, opening: Line64) -> Option<Core>
-        ensures state { let terms : Terms = record { nodes = nodes; opening = opening; lease = None } in IfSome result (λ c. c ≡ first terms) }
-        ensures shows { let terms : Terms = record { nodes = nodes; opening = opening; lease = None } in IfSome result (λ c. Shows terms c empty_queue) }
+        ensures state { let config : LineConfig = record { nodes = nodes; opening = opening; lease = None } in IfSome result (λ c. c ≡ first config) }
+        ensures shows { let config : LineConfig = record { nodes = nodes; opening = opening; lease = None } in IfSome result (λ c. Shows config c empty_queue) }
         ensures some { IsSome result ↔ AreNodes nodes }
     {
-        Core::with_terms(Terms {
+        Core::with_config(LineConfig {
             nodes,
             opening,
             lease: None,
         })
     }
 
-    /// The same with a lease: the line closes at the `lease`-th turn that is served. None too where that is 0.
+    /// Opens a line as `start` does, which closes at the `lease`-th served turn.
+    ///
+    /// Returns `None` as `start`, and if `lease` is 0.
     pub fn start_leased(nodes: u64, opening: Line64, lease: u64) -> Option<Core>
-        ensures state { let terms : Terms = record { nodes = nodes; opening = opening; lease = Some lease } in IfSome result (λ c. c ≡ first terms) }
-        ensures shows { let terms : Terms = record { nodes = nodes; opening = opening; lease = Some lease } in IfSome result (λ c. Shows terms c empty_queue) }
+        ensures state { let config : LineConfig = record { nodes = nodes; opening = opening; lease = Some lease } in IfSome result (λ c. c ≡ first config) }
+        ensures shows { let config : LineConfig = record { nodes = nodes; opening = opening; lease = Some lease } in IfSome result (λ c. Shows config c empty_queue) }
         ensures some { IsSome result ↔ (AreNodes nodes × (1 ≤ lease)) }
     {
-        Core::with_terms(Terms {
+        Core::with_config(LineConfig {
             nodes,
             opening,
             lease: Some(lease),
         })
     }
 
-    /// The same, for these terms.
-    pub fn with_terms(terms: Terms) -> Option<Core>
-        ensures state { IfSome result (λ c. c ≡ first terms) }
-        ensures shows { IfSome result (λ c. Shows terms c empty_queue) }
-        ensures some { IsSome result ↔ MayOpen terms }
+    /// Opens a line by `config`: its nodes, opening bytes and lease.
+    pub fn with_config(config: LineConfig) -> Option<Core>
+        ensures state { IfSome result (λ c. c ≡ first config) }
+        ensures shows { IfSome result (λ c. Shows config c empty_queue) }
+        ensures some { IsSome result ↔ MayOpen config }
     {
-        match terms.check() {
+        match config.check() {
             Ok(()) => {
-                let state = State::opened(terms);
+                let state = State::opened(config);
                 Some(Core { state })
             }
             Err(_) => None,
         }
     }
 
-    /// Makes one event. A refused one changes nothing.
+    /// Makes one event. If it is refused, nothing changes.
     pub fn step(&mut self, event: Event) -> Result<Told, NotEnabled>
         ensures step { IfOk result (λ t. Step self.old event t self.new) }
         ensures refused { IfErr result (λ e. IsRefused self.old event e) }
         ensures unchanged { OnErr result (self.new ≡ self.old) }
-        ensures shows { (terms : Terms) (q : Queue) → Shows terms self.old q → IfOk result (λ t. (step : Step self.old event t self.new) × Keeps terms self.old event t self.new step q) }
+        ensures shows { (config : LineConfig) (q : Queue) → Shows config self.old q → IfOk result (λ t. (step : Step self.old event t self.new) × Keeps config self.old event t self.new step q) }
     {
         self.state.apply(event)
     }
 
-    /// How many nodes the line has.
+    /// Returns the number of nodes.
     pub fn nodes(&self) -> u64
         ensures { result ≡ self.now.nodes }
     {
         self.state.nodes
     }
 
-    /// Where the node is in its call.
+    /// Returns the node's point in its call.
     pub fn point(&self, node: u64) -> Point
         requires { IsNode self.now node }
         ensures { result ≡ point self.now node }
@@ -103,29 +108,31 @@ impl Core {
         self.state.point(node)
     }
 
-    /// How many productive events can follow each other from here: links, loads that bring the line, releases and freeings. None of
-    /// them waits for another request, and where one is open some node can make one.
+    /// Returns the rank: a bound of the productive events that can follow each other without a new request.
+    ///
+    /// These are links, loads that bring the line, releases and freeings. None of them waits for another request, and while a request is open
+    /// some node can make one.
     pub fn rank(&self) -> u64
         ensures { result ≡ rank self.now }
     {
         self.state.rank()
     }
 
-    /// Where the line lies.
+    /// Returns the place of the line.
     pub fn place(&self) -> Place
         ensures { result ≡ self.now.place }
     {
         self.state.place
     }
 
-    /// The home word: 0, or the node that prepended last.
+    /// Returns the home word: 0, or the node that prepended last.
     pub fn home(&self) -> u64
         ensures { result ≡ self.now.home }
     {
         self.state.home
     }
 
-    /// The entry word of the node.
+    /// Returns the entry word of the node.
     pub fn entry(&self, node: u64) -> Entry
         requires { IsNode self.now node }
         ensures { result ≡ entry self.now node }

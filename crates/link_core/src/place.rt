@@ -1,4 +1,4 @@
-/// Where the line lies.
+/// The place of the line.
 #[derive(Clone, Copy, Debug, PartialEq, Eq)]
 pub enum Place {
     Home,

@@ -1,28 +1,28 @@
-/// Where a node is in its call.
+/// The point of a node in its call.
 #[derive(Clone, Copy, Debug, PartialEq, Eq)]
 pub enum Point {
-    /// In no call.
+    /// The node is in no call.
     Idle,
-    /// About to prepend: its entry is reset.
+    /// The node is about to prepend: its entry is reset.
     Ready,
-    /// About to link to the entry of this node.
+    /// The node is about to link to the entry of this node.
     Linking(u64),
-    /// Its request waits.
+    /// The node's request waits.
     Queued,
-    /// The line is in its hand, open.
+    /// The line is in the node's hand, open.
     Holding,
-    /// Its release has come to the entry of this node and tries home next.
+    /// The node's release has reached the entry of this node, and tries home next.
     Leaving(u64),
-    /// Its release adds done to the entry of this node next.
+    /// The node's release adds done to the entry of this node next.
     Marking(u64),
-    /// Its release grants this node next.
+    /// The node's release grants this node next.
     Granting(u64),
-    /// Its release is over, and it frees the nodes that it passed.
+    /// The node's release is over, and it frees the nodes that it passed.
     Freeing,
-    /// It left the line in its own mailbox, to be taken by a late linker.
+    /// The node has left the line in its own mailbox, for a late linker.
     Left,
-    /// Its request is withdrawn.
+    /// The node's request is withdrawn.
     Rolled,
-    /// In no call, after closing the line or being told that it is closed.
+    /// The node is in no call; it has closed the line or was told that it is closed.
     Shut,
 }

@@ -1,22 +1,22 @@
-//! How far a core is from its rest.
+//! The rank of a core: a ranking function.
 ghost use Rattle.std.specs.Prelude.{◌≡◌, ◌≤◌};
 ghost use Rattle.link_core.specs.State.{IsNode};
 ghost use Rattle.link_core.specs.Steps.{Fits};
-ghost use Rattle.link_core.specs.Progress.{to_go, rank};
+ghost use Rattle.link_core.specs.Progress.{steps_left, rank};
 
 use crate::point::Point;
 use crate::state::State;
 
 impl State {
-    /// How many productive events n's request still takes, with another behind it.
-    pub fn to_go(&self, n: u64) -> u64
+    /// Returns the number of productive events that n's request still takes, with another behind it.
+    pub fn steps_left(&self, n: u64) -> u64
         requires fits { Fits self.now }
         requires node { IsNode self.now n }
-        ensures is { result ≡ to_go self.now n }
+        ensures is { result ≡ steps_left self.now n }
         ensures most { result ≤ 5 }
     {
         match self.point(n) {
-            Point::Linking(older) => { if self.entry(older).done { 4 } else { 5 } }
+            Point::Linking(predecessor) => { if self.entry(predecessor).done { 4 } else { 5 } }
             Point::Queued => 4,
             Point::Holding | Point::Leaving(_) => 3,
             Point::Marking(_) => 2,
@@ -35,14 +35,14 @@ impl State {
         }
     }
 
-    /// How many productive events can follow each other from here.
+    /// Returns the rank: a bound of the productive events that can follow each other without a new request.
     pub fn rank(&self) -> u64
         requires { Fits self.now }
         ensures { result ≡ rank self.now }
     {
         let mut total = 0;
         for before in 0..self.nodes {
-            total += self.to_go(before + 1);
+            total += self.steps_left(before + 1);
         }
         if self.home == 0 {
             total

@@ -1,6 +1,6 @@
 ghost use Rattle.std.specs.Prelude.{◌≡◌, ◌≢◌, ◌<◌, ◌≤◌, ℕ, List, [], ◌∷◌, ◌++◌, length, IfOk, IfErr, OnErr};
-ghost use Rattle.qolb_model.specs.declared.terms.TheConstants.{MOST_NODES};
-ghost use Rattle.link_core.specs.declared.seat.TheConstants.{MOST_PASSED};
+ghost use Rattle.qolb_model.specs.declared.config.TheConstants.{MAX_NODES};
+ghost use Rattle.link_core.specs.declared.seat.TheConstants.{MAX_PASSED};
 ghost use Rattle.link_core.specs.declared.state.TheConstants.{PLACES};
 ghost use Rattle.link_core.specs.State.{IsNode, seat, put_seat, at_point};
 ghost use Rattle.link_core.specs.Steps.{Step, Fits, IsRefused, gone_home, told_home, seat_with, told_with, point_at_end};
@@ -13,7 +13,8 @@ use crate::state::{State, point_at_end, told_at_end};
 use crate::told::{NotEnabled, Told};
 
 impl State {
-    /// n releases the line: home, where no younger request is known to home. At the last turn of a lease its holder first closes it.
+    /// Tries to release n's line to home, which works if home names no younger request. A holder first closes the line at the last turn of
+    /// a lease.
     pub fn go_home(&mut self, n: u64) -> Result<Told, NotEnabled>
         requires fits { Fits self.old }
         requires node { IsNode self.old n }
@@ -33,7 +34,7 @@ impl State {
         }
     }
 
-    /// n's release tries to take the line home from e.
+    /// Tries to take the line home from e, in n's release.
     pub fn go_home_from(&mut self, n: u64, e: u64) -> Told
         requires { n < PLACES }
         ensures home { self.old.home ≡ e → (result ≡ told_home n self.old) × (self.new ≡ gone_home n self.old) }
@@ -51,7 +52,7 @@ impl State {
         }
     }
 
-    /// n marks the entry that its release has come to as done; without a link the line stays in its mailbox.
+    /// Marks the entry that n's release has reached as done. Without a link the line stays in its mailbox.
     pub fn mark_done(&mut self, n: u64) -> Result<Told, NotEnabled>
         requires fits { Fits self.old }
         requires node { IsNode self.old n }
@@ -81,7 +82,7 @@ impl State {
         }
     }
 
-    /// n grants the next node; a rolled one is passed.
+    /// Grants the next node in n's release; a rolled one is passed.
     pub fn grant(&mut self, n: u64) -> Result<Told, NotEnabled>
         requires fits { Fits self.old }
         requires node { IsNode self.old n }
@@ -113,11 +114,11 @@ impl State {
         }
     }
 
-    /// n's release goes on at m.
+    /// Continues n's release at m, which it has passed.
     pub fn pass(&mut self, n: u64, m: u64)
         requires node { n < PLACES }
-        requires room { length (seat self.old n).passed < MOST_PASSED }
-        requires other { m ≤ MOST_NODES }
+        requires room { length (seat self.old n).passed < MAX_PASSED }
+        requires other { m ≤ MAX_NODES }
         ensures { self.new ≡ put_seat n (record { point = Point.Leaving m; passed = (seat self.old n).passed ++ m ∷ []; reason = (seat self.old n).reason }) self.old }
     {
         let seat = &mut self.seats[n as usize];
@@ -125,7 +126,7 @@ impl State {
         seat.point = Point::Leaving(m);
     }
 
-    /// The first passed node of n's release, taken off its list, and what is told when it is freed.
+    /// Takes the first passed node off the list of n's release. Returns it, and what is told when it is freed.
     pub fn next_freed(&mut self, n: u64) -> (u64, Told)
         requires node { n < PLACES }
         requires some { (seat self.old n).passed ≢ [] }
@@ -146,7 +147,7 @@ impl State {
         }
     }
 
-    /// n frees the first node that it passed.
+    /// Frees the first node that n passed.
     pub fn free_next(&mut self, n: u64) -> Result<Told, NotEnabled>
         requires fits { Fits self.old }
         requires node { IsNode self.old n }

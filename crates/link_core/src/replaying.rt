@@ -9,12 +9,14 @@ use crate::event::Event;
 use crate::machine::Core;
 use crate::told::NotEnabled;
 use line_lanes::Line64;
-use qolb_model::Terms;
+use qolb_model::LineConfig;
 
-/// The core after these events; or the first that is refused, by its index. A bad number of nodes is (0, Node), whatever the events.
+/// Makes the events in turn, and returns the core or the first refused event.
+///
+/// A refused event is returned by its index, with its cause; `(0, Node)` if `nodes` is out of range, for any events.
 pub fn replay(nodes: u64, opening: Line64, events: &[Event]) -> Result<Core, (usize, NotEnabled)>
-    ensures ok { let terms : Terms = record { nodes = nodes; opening = opening; lease = None } in IfOk result (λ c. AreNodes nodes × (q : Queue) × Run terms events.now c q × IsLegal None q.order q.ends × Shows terms c q) }
-    ensures err { let terms : Terms = record { nodes = nodes; opening = opening; lease = None } in IfErr result (λ e. ((AreNodes nodes → ⊥) × (e.0 ≡ 0) × (e.1 ≡ NotEnabled.Node)) ⊎ (AreNodes nodes × Stops terms events.now e.0 e.1)) }
+    ensures ok { let config : LineConfig = record { nodes = nodes; opening = opening; lease = None } in IfOk result (λ c. AreNodes nodes × (q : Queue) × Run config events.now c q × IsLegal None q.order q.ends × Shows config c q) }
+    ensures err { let config : LineConfig = record { nodes = nodes; opening = opening; lease = None } in IfErr result (λ e. ((AreNodes nodes → ⊥) × (e.0 ≡ 0) × (e.1 ≡ NotEnabled.Node)) ⊎ (AreNodes nodes × Stops config events.now e.0 e.1)) }
 {
     let Some(mut core) = Core::start(nodes, opening) else {
         return Err((0, NotEnabled::Node));

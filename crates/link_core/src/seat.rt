@@ -1,32 +1,32 @@
 ghost use Rattle.std.specs.Prelude.{◌≡◌, ◌↔◌, ◌<◌, ◌≤◌, List, [], ◌∷◌, ◌++◌, length, IsTrue, MatchOption};
-ghost use Rattle.qolb_model.specs.declared.terms.TheConstants.{MOST_NODES};
-ghost use Rattle.link_core.specs.declared.seat.TheConstants.{MOST_PASSED};
+ghost use Rattle.qolb_model.specs.declared.config.TheConstants.{MAX_NODES};
+ghost use Rattle.link_core.specs.declared.seat.TheConstants.{MAX_PASSED};
 ghost use Rattle.link_core.specs.State.{unused};
 
 use crate::point::Point;
 use arrayvec::ArrayVec;
-use qolb_model::MOST_NODES;
+use qolb_model::MAX_NODES;
 use std::marker::Model;
 
-/// Why a node releases the line.
+/// The cause of a node's release.
 #[derive(Clone, Copy, Debug, PartialEq, Eq)]
-pub enum Reason {
-    /// It held the line and leaves it open.
+pub enum ReleaseCause {
+    /// The node held the line and leaves it open.
     Own,
-    /// It held the line and has closed it.
+    /// The node held the line and has closed it.
     Closing,
-    /// The line came to it closed.
+    /// The line reached the node closed.
     Refused,
 }
 
-/// A release passes each other node at most once.
-pub const MOST_PASSED: usize = MOST_NODES as usize - 1;
+/// The maximum number of nodes that a release passes: each other node once.
+pub const MAX_PASSED: usize = MAX_NODES as usize - 1;
 
 /// The nodes that a release has passed and not freed, oldest first.
 #[derive(Drop)]
 pub struct Passed {
-    /// In bytes, as there is such a list for each node.
-    nodes: ArrayVec<u8, MOST_PASSED>,
+    /// As bytes, since each node has such a list.
+    nodes: ArrayVec<u8, MAX_PASSED>,
 }
 
 impl Model for Passed {
@@ -38,7 +38,7 @@ impl Model for Passed {
 }
 
 impl Passed {
-    /// None yet.
+    /// Returns an empty list.
     pub fn new() -> Self
         ensures { result ≡ [] }
     {
@@ -47,23 +47,23 @@ impl Passed {
         }
     }
 
-    /// One more is passed.
+    /// Adds a passed node.
     pub fn push(&mut self, node: u64)
-        requires room { length self.old < MOST_PASSED }
-        requires node { node ≤ MOST_NODES }
+        requires room { length self.old < MAX_PASSED }
+        requires node { node ≤ MAX_NODES }
         ensures { self.new ≡ self.old ++ node ∷ [] }
     {
         self.nodes.push(node as u8);
     }
 
-    /// Whether there is none.
+    /// Returns `true` if the list is empty.
     pub fn is_empty(&self) -> bool
         ensures { IsTrue result ↔ (self.now ≡ []) }
     {
         self.nodes.is_empty()
     }
 
-    /// The first, taken off the list.
+    /// Takes the first node off the list.
     pub fn take_first(&mut self) -> Option<u64>
         ensures none { MatchOption result (self.old ≡ []) (λ x. self.old ≡ x ∷ self.new) }
         ensures kept { result ≡ None → self.new ≡ [] }
@@ -76,22 +76,22 @@ impl Passed {
     }
 }
 
-/// What a node knows of its own call.
+/// The state of a node in its own call.
 #[derive(Drop)]
-pub struct Seat {
+pub struct NodeCall {
     pub point: Point,
     pub passed: Passed,
-    pub reason: Reason,
+    pub reason: ReleaseCause,
 }
 
-impl Default for Seat {
+impl Default for NodeCall {
     ghost is_default = { λ s. s ≡ unused };
 
     fn default() -> Self {
-        Seat {
+        NodeCall {
             point: Point::Idle,
             passed: Passed::new(),
-            reason: Reason::Own,
+            reason: ReleaseCause::Own,
         }
     }
 }

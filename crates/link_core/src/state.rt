@@ -7,13 +7,13 @@ ghost use Rattle.link_core.specs.Steps.{turns_after, arrive, told_at_arrival, se
 use crate::entry::{EMPTY, Entry};
 use crate::place::Place;
 use crate::point::Point;
-use crate::seat::{Passed, Reason, Seat};
+use crate::seat::{NodeCall, Passed, ReleaseCause};
 use crate::told::Told;
 use line_lanes::{Line64, Mask};
-use qolb_model::{MOST_NODES, Terms};
+use qolb_model::{LineConfig, MAX_NODES};
 
-/// A place for each node. Number 0 is no node, so the first place is not used.
-pub const PLACES: usize = MOST_NODES as usize + 1;
+/// The number of places for nodes. No node has number 0, so the first place is not used.
+pub const PLACES: usize = MAX_NODES as usize + 1;
 
 /// The whole state: the words, the line and the seats.
 #[derive(Drop)]
@@ -23,41 +23,41 @@ pub struct State {
     pub place: Place,
     pub bytes: Line64,
     pub closed: bool,
-    /// The places that were written in this turn.
+    /// The places that this turn has written.
     pub mask: Mask,
-    /// The turns that are left of the lease, if there is one.
+    /// The number of turns left, if there is a lease.
     pub left: Option<u64>,
     pub entries: [Entry; PLACES],
-    pub seats: [Seat; PLACES],
+    pub seats: [NodeCall; PLACES],
 }
 
 impl State {
-    /// A line that is opened so, at home.
-    pub fn opened(terms: Terms) -> State
-        ensures { result ≡ first terms }
+    /// Returns the state of a new line with this config, at home.
+    pub fn opened(config: LineConfig) -> State
+        ensures { result ≡ first config }
     {
         let seats = Default::default();
         State {
-            nodes: terms.nodes,
+            nodes: config.nodes,
             home: 0,
             place: Place::Home,
-            bytes: terms.opening,
+            bytes: config.opening,
             closed: false,
             mask: Mask(0),
-            left: terms.lease,
+            left: config.lease,
             entries: [EMPTY; PLACES],
             seats,
         }
     }
 
-    /// Whether n is a node.
+    /// Returns `true` if n is a node.
     pub fn is_node(&self, n: u64) -> bool
         ensures { IsTrue result ↔ IsNode self.now n }
     {
         0 < n && n <= self.nodes
     }
 
-    /// The entry of n.
+    /// Returns the entry of n.
     pub fn entry(&self, n: u64) -> Entry
         requires { n < PLACES }
         ensures { result ≡ entry self.now n }
@@ -72,7 +72,7 @@ impl State {
         self.entries[n as usize] = word;
     }
 
-    /// Where n is in its call.
+    /// Returns the point of n in its call.
     pub fn point(&self, n: u64) -> Point
         requires { n < PLACES }
         ensures { result ≡ point self.now n }
@@ -80,22 +80,22 @@ impl State {
         self.seats[n as usize].point
     }
 
-    /// Why n releases the line.
-    pub fn reason(&self, n: u64) -> Reason
+    /// Returns the cause of n's release.
+    pub fn reason(&self, n: u64) -> ReleaseCause
         requires { n < PLACES }
         ensures { result ≡ (seat self.now n).reason }
     {
         self.seats[n as usize].reason
     }
 
-    pub fn put_seat(&mut self, n: u64, seat: Seat)
+    pub fn put_seat(&mut self, n: u64, seat: NodeCall)
         requires { n < PLACES }
         ensures { self.new ≡ put_seat n seat self.old }
     {
         self.seats[n as usize] = seat;
     }
 
-    /// n goes on to this point.
+    /// Moves n to `point`.
     pub fn go_to(&mut self, n: u64, point: Point)
         requires { n < PLACES }
         ensures { self.new ≡ at_point n point self.old }
@@ -103,7 +103,7 @@ impl State {
         self.seats[n as usize].point = point;
     }
 
-    /// Whether n's last request is clear.
+    /// Returns `true` if n's last request is clear.
     pub fn is_clear(&self, n: u64) -> bool
         requires { n < PLACES }
         ensures { result ≡ is_clear (point self.now n) (entry self.now n) }
@@ -117,7 +117,7 @@ impl State {
         }
     }
 
-    /// The line comes into n's hand: open, to be held; closed, to be released at once.
+    /// Puts the line into n's hand: to be held if it is open, to be released at once if it is closed.
     pub fn arrive(&mut self, n: u64) -> Told
         requires { n < PLACES }
         ensures state { self.new ≡ arrive n self.old }
@@ -128,27 +128,27 @@ impl State {
         if self.closed {
             self.put_seat(
                 n,
-                Seat {
+                NodeCall {
                     point: Point::Leaving(n),
                     passed: Passed::new(),
-                    reason: Reason::Refused,
+                    reason: ReleaseCause::Refused,
                 },
             );
             Told::Went
         } else {
             self.put_seat(
                 n,
-                Seat {
+                NodeCall {
                     point: Point::Holding,
                     passed: Passed::new(),
-                    reason: Reason::Own,
+                    reason: ReleaseCause::Own,
                 },
             );
             Told::Granted
         }
     }
 
-    /// Whether a lease has one turn left.
+    /// Returns `true` if a lease has one turn left.
     pub fn is_last_turn(&self) -> bool
         ensures { result ≡ is_one self.now.left }
     {
@@ -158,14 +158,14 @@ impl State {
         }
     }
 
-    /// The request at its turn has ended by n's release: where it was n's own, and served, it has used a turn of the lease.
+    /// Takes one turn off the lease if n's release has ended n's own, served request.
     pub fn use_turn(&mut self, n: u64)
         requires { n < PLACES }
         ensures { self.new ≡ record self.old { left = turns_after n self.old } }
     {
         let served = match self.reason(n) {
-            Reason::Own | Reason::Closing => true,
-            Reason::Refused => false,
+            ReleaseCause::Own | ReleaseCause::Closing => true,
+            ReleaseCause::Refused => false,
         };
         if served && self.seats[n as usize].passed.is_empty() {
             if let Some(turns) = self.left {
@@ -174,7 +174,7 @@ impl State {
         }
     }
 
-    /// The line has left n's hand: n has nodes to free, or its call ends at this point.
+    /// Ends n's possession of the line: n has nodes to free, or its call ends at `point`.
     pub fn close_call(&mut self, n: u64, point: Point) -> Told
         requires { n < PLACES }
         ensures state { self.new ≡ put_seat n (seat_at_close point (seat self.old n)) self.old }
@@ -190,24 +190,24 @@ impl State {
     }
 }
 
-/// What a call tells at its end.
-pub fn told_at_end(reason: Reason) -> Told
+/// Returns what a call tells at its end.
+pub fn told_at_end(reason: ReleaseCause) -> Told
     ensures { result ≡ told_at_end reason }
 {
     match reason {
-        Reason::Own => Told::Released,
-        Reason::Closing => Told::Shut,
-        Reason::Refused => Told::Closed,
+        ReleaseCause::Own => Told::Released,
+        ReleaseCause::Closing => Told::Shut,
+        ReleaseCause::Refused => Told::Closed,
     }
 }
 
-/// Where a node is after its call.
-pub fn point_at_end(reason: Reason) -> Point
+/// Returns the point of a node after its call.
+pub fn point_at_end(reason: ReleaseCause) -> Point
     ensures { result ≡ point_at_end reason }
 {
     match reason {
-        Reason::Own => Point::Idle,
-        Reason::Closing => Point::Shut,
-        Reason::Refused => Point::Shut,
+        ReleaseCause::Own => Point::Idle,
+        ReleaseCause::Closing => Point::Shut,
+        ReleaseCause::Refused => Point::Shut,
     }
 }

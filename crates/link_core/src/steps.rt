@@ -1,15 +1,15 @@
 //! The events, each by its case.
 //!
-//! The flags of node n's entry, from its reset to the next. Node m is the next younger, and o a node whose release has come to n's
-//! request. A request that found the line at home has no granted.
+//! The flags of node n's entry, from its reset to the next. Node m is n's successor, and o a node whose release has reached n's request.
+//! A request that found the line at home is never granted.
 //!
 //! ```text
 //!     0 ---------- Roll(n) ----------> rolled             n withdraws before the grant: Withdrawn
 //!     |                                  |
-//!   Grant(o)                           Grant(o)           on the left the line is laid for n; on the right n is passed
+//!   Grant(o)                           Grant(o)           on the left the line is n's to take; on the right n is passed
 //!     |                                  |
 //!     v                                  v
-//!   granted ------ Roll(n) ----> rolled granted           after the grant a withdrawal comes too late, and n takes the line
+//!   granted ------ Roll(n) ----> rolled granted           after the grant a withdrawal is too late, and n takes the line
 //!     |                                  |
 //!   Done(n)                            Done(n) or Done(o)  the release at n's entry has found a younger request at home
 //!     |                                  |
@@ -22,8 +22,8 @@
 //!                          rolled granted done freed
 //! ```
 //!
-//! The link is 0 until Link(m), which may come at each of these. Where Done finds it 0 the line stays in n's mailbox, and where Link
-//! finds done m takes it from there.
+//! The link is 0 until Link(m), which may happen at each of these. If Done finds it 0, the line stays in n's mailbox; if Link finds done,
+//! m takes the line from there.
 
 ghost use Rattle.std.specs.Prelude.{◌≡◌, IfOk, IfErr, OnErr};
 ghost use Rattle.link_core.specs.Steps.{Step, Fits, IsRefused};
@@ -33,7 +33,7 @@ use crate::state::State;
 use crate::told::{NotEnabled, Told};
 
 impl State {
-    /// Makes one event. A refused one changes nothing.
+    /// Makes one event. If it is refused, nothing changes.
     pub fn apply(&mut self, event: Event) -> Result<Told, NotEnabled>
         requires fits { Fits self.old }
         ensures step { IfOk result (λ t. Step self.old event t self.new) }

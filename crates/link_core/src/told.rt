@@ -1,4 +1,4 @@
-/// What an accepted event tells its node.
+/// The answer of an accepted event to its node.
 #[derive(Clone, Copy, Debug, PartialEq, Eq)]
 pub enum Told {
     /// The call goes on.
@@ -7,9 +7,9 @@ pub enum Told {
     Granted,
     /// The request is linked and waits.
     Queued,
-    /// The request waits still.
+    /// The request still waits.
     Waiting,
-    /// The line was closed; the node has passed it on.
+    /// The line was closed, and the node has forwarded it.
     Closed,
     /// The node's last request is not clear yet.
     Busy,
@@ -17,13 +17,13 @@ pub enum Told {
     Free,
     /// The request is withdrawn.
     Withdrawn,
-    /// The line was passed on.
+    /// The line was released.
     Released,
-    /// The line was closed and passed on.
+    /// The line was closed and released.
     Shut,
 }
 
-/// Why an event is refused.
+/// The cause of a refused event.
 #[derive(Clone, Copy, Debug, PartialEq, Eq)]
 pub enum NotEnabled {
     /// There is no such node.

@@ -9,7 +9,7 @@ use crate::state::State;
 use crate::told::{NotEnabled, Told};
 
 impl State {
-    /// n loads its own entry: is the line granted, or has its last request become clear?
+    /// Loads n's own entry: n takes the line if it is granted, or learns if its last request has become clear.
     pub fn load(&mut self, n: u64) -> Result<Told, NotEnabled>
         requires fits { Fits self.old }
         requires node { IsNode self.old n }
@@ -37,7 +37,7 @@ impl State {
         }
     }
 
-    /// n withdraws; where it was granted before, the line comes.
+    /// Withdraws n's request. If it was granted before, n takes the line.
     pub fn roll(&mut self, n: u64) -> Result<Told, NotEnabled>
         requires fits { Fits self.old }
         requires node { IsNode self.old n }

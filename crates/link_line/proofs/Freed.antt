@@ -6,25 +6,25 @@ use Rattle.qolb_model.specs.declared.request.Request.{Request}
 use Rattle.qolb_model.specs.declared.view.View.{View}
 use Rattle.qolb_model.specs.Requests.{Has, Lacks}
 use Rattle.qolb_model.specs.Histories.{turn_of}
-use Rattle.qolb_model.specs.LettingGo.{IsShort}
+use Rattle.qolb_model.specs.Releasing.{SuccessorUnlinked}
 use Rattle.qolb_model.specs.Views.{own, Extends}
 use Rattle.qolb_model.proofs.Lists.{element_at, drop_with, same_some}
 use Rattle.qolb_model.proofs.Requests.{has_prefix}
 use Rattle.link_core.specs.declared.point.Point.TheVariants.{Freeing}
-use Rattle.link_line.specs.Known.{Known}
+use Rattle.link_line.specs.Ghost.{LinkGhost}
 use Rattle.link_line.specs.Links.{At}
-use Rattle.link_line.specs.Words.{IsWithin}
-use Rattle.shared_line.specs.Steps.{SameSeat}
-use Rattle.link_line.specs.Steps.{LinkSeat, known_of, after_release, Frees, GoesOn}
+use Rattle.link_line.specs.Layout.{IsWithin}
+use Rattle.line_generic.specs.Steps.{IsSameSeat}
+use Rattle.link_line.specs.Steps.{LinkSeat, ghost_of, after_release, Frees, Advances}
 use Rattle.link_line.specs.Releases.{AreNodesAt, FreesAll}
 use Rattle.link_line.proofs.Stepping.{goes_trans}
 
 -- the request at the place is clear, unless the line was left behind it
 abbrev IsClearOrLast : View → ℕ → Request → Type 0
-IsClearOrLast v p r = Has v.clear r ⊎ ((p + 1 ≡ length v.ends) × IsShort v)
+IsClearOrLast v p r = Has v.clear r ⊎ ((p + 1 ≡ length v.ends) × SuccessorUnlinked v)
 
 -- the first of the requests that were passed are freed
-pub record FreesFirst (v : Known) (i : ℕ) (w : Known) : Type 0 where
+pub record FreesFirst (v : LinkGhost) (i : ℕ) (w : LinkGhost) : Type 0 where
   pub point : w.own.seat.point ≡ after_release v.view.state (drop i v.own.passed)
   pub passed : w.own.passed ≡ drop i v.own.passed
   pub state : w.view.state ≡ v.view.state
@@ -42,7 +42,7 @@ some_passed state [] n = absurd (n refl)
 some_passed state (q ∷ ps) n = refl
 
 -- at first none is
-pub frees_none : (v : Known) → v.own.seat.point ≡ Freeing → v.own.passed ≢ [] → FreesFirst v 0 v
+pub frees_none : (v : LinkGhost) → v.own.seat.point ≡ Freeing → v.own.passed ≢ [] → FreesFirst v 0 v
 frees_none v p some = record {
   point = p ∙ some_passed v.view.state v.own.passed some;
   passed = refl;
@@ -58,8 +58,8 @@ frees_none v p some = record {
 }
 
 -- the node that is freed next
-pub frees_which : (v w : Known) (nodes : List ℕ) (i node : ℕ) → FreesFirst v i w → length nodes ≡ length v.own.passed → AreNodesAt v.view v.own.passed nodes → At nodes i node
-    → (w.own.seat.point ≡ Freeing) × IsWithin v.view.terms.nodes node × ((q : ℕ) × (ps : List ℕ) × (r : Request) × (w.own.passed ≡ q ∷ ps) × At w.view.order q r × (r.node ≡ node))
+pub frees_which : (v w : LinkGhost) (nodes : List ℕ) (i node : ℕ) → FreesFirst v i w → length nodes ≡ length v.own.passed → AreNodesAt v.view v.own.passed nodes → At nodes i node
+    → (w.own.seat.point ≡ Freeing) × IsWithin v.view.config.nodes node × ((q : ℕ) × (ps : List ℕ) × (r : Request) × (w.own.passed ≡ q ∷ ps) × At w.view.order q r × (r.node ≡ node))
 frees_which v w nodes i node f many are is =
     let here = element_at v.own.passed i (omega (arith, many, slice_get_within nodes i node is)) in
     let cut : drop i v.own.passed ≡ here.0 ∷ drop (i + 1) v.own.passed = drop_with v.own.passed i here.0 here.1 in
@@ -67,11 +67,11 @@ frees_which v w nodes i node f many are is =
     (f.point ∙ ap (after_release v.view.state) cut, made.3, (here.0, drop (i + 1) v.own.passed, made.0, f.passed ∙ cut, subst (λ o. At o here.0 made.0) (sym f.order) made.1, made.2))
 
 -- a release stays short while its nodes are freed
-short_stays : (v w : View) → w.order ≡ v.order → w.ends ≡ v.ends → w.joined ≡ v.joined → IsShort v → IsShort w
+short_stays : (v w : View) → w.order ≡ v.order → w.ends ≡ v.ends → w.joined ≡ v.joined → SuccessorUnlinked v → SuccessorUnlinked w
 short_stays v w orders ends joined s = (s.0, (λ i. turn_of (orders i) (ends i)) ∙ s.1, subst (λ rs. Lacks rs s.0) (sym joined) s.2)
 
 -- and one more is freed
-pub frees_next : (v w x : Known) (nodes : List ℕ) (i node : ℕ) → FreesFirst v i w → length nodes ≡ length v.own.passed → AreNodesAt v.view v.own.passed nodes → At nodes i node → Extends w.view x.view
+pub frees_next : (v w x : LinkGhost) (nodes : List ℕ) (i node : ℕ) → FreesFirst v i w → length nodes ≡ length v.own.passed → AreNodesAt v.view v.own.passed nodes → At nodes i node → Extends w.view x.view
     → ((p : ℕ) (ps : List ℕ) (r : Request) → w.own.passed ≡ p ∷ ps → At w.view.order p r → Frees w p ps r x) → FreesFirst v (i + 1) x
 frees_next v w x nodes i node f many are is more frees =
     let here = element_at v.own.passed i (omega (arith, many, slice_get_within nodes i node is)) in
@@ -116,8 +116,8 @@ frees_next v w x nodes i node f many are is more frees =
     stays p r orders ends joined c = ⊎_elim (λ h. inl (has_prefix w.view.clear x.view.clear r more.clear h)) (λ l. inr (l.0 ∙ ap length (sym ends), short_stays w.view x.view orders ends joined l.1)) c
 
 -- until all are
-pub frees_all : (v w : Known) (i : ℕ) → FreesFirst v i w → length v.own.passed ≤ i → FreesAll v w
-frees_all v w i f le = let none : drop i v.own.passed ≡ [] = past i v.own.passed le in record {
+pub frees_all : (v w : LinkGhost) (i : ℕ) → FreesFirst v i w → length v.own.passed ≤ i → FreesAll v w
+frees_all v w i f le = let none : drop i v.own.passed ≡ [] = history i v.own.passed le in record {
   point = f.point ∙ ap (after_release v.view.state) none;
   state = f.state;
   count = f.count;
@@ -130,34 +130,34 @@ frees_all v w i f le = let none : drop i v.own.passed ≡ [] = past i v.own.pass
   own_clear = f.own_clear none;
 }
   where
-    past : (i : ℕ) (xs : List ℕ) → length xs ≤ i → drop i xs ≡ []
-    past zero [] h = refl
-    past zero (x ∷ xs) h = absurd (omega (arith, h))
-    past (suc i) [] h = refl
-    past (suc i) (x ∷ xs) h = past i xs (omega (arith, h))
+    history : (i : ℕ) (xs : List ℕ) → length xs ≤ i → drop i xs ≡ []
+    history zero [] h = refl
+    history zero (x ∷ xs) h = absurd (omega (arith, h))
+    history (suc i) [] h = refl
+    history (suc i) (x ∷ xs) h = history i xs (omega (arith, h))
 
 -- what the freeing of the nodes of all passed requests has done so far, from the seat s on
 pub record IsFreeing (allows : List ℕ → List ℕ → Type 0) (s : LinkSeat) (i : ℕ) (t : LinkSeat) : Type 0 where
-  pub same : SameSeat s t
+  pub seat : IsSameSeat s t
   pub carried : t.me.1 ≡ s.me.1
-  pub goes_on : GoesOn allows s.me t.me i
-  pub within : i ≤ length (known_of s).own.passed
-  pub frees : FreesFirst (known_of s) i (known_of t)
+  pub advances : Advances allows s.me t.me i
+  pub within : i ≤ length (ghost_of s).own.passed
+  pub frees : FreesFirst (ghost_of s) i (ghost_of t)
 
-pub freeing_which : {allows : List ℕ → List ℕ → Type 0} (s t : LinkSeat) (nodes : List ℕ) (i : ℕ) → IsFreeing allows s i t → length nodes ≡ length (known_of s).own.passed → AreNodesAt (known_of s).view (known_of s).own.passed nodes → i < length nodes
-    → ((known_of t).own.seat.point ≡ Freeing) × IsWithin (known_of s).view.terms.nodes (get_or nodes i 0) × ((q : ℕ) × (ps : List ℕ) × (r : Request) × ((known_of t).own.passed ≡ q ∷ ps) × At (known_of t).view.order q r × (r.node ≡ get_or nodes i 0))
-freeing_which s t nodes i f many are lt = frees_which (known_of s) (known_of t) nodes i (get_or nodes i 0) f.frees many are (slice_get-get_or nodes i 0 lt)
+pub freeing_which : {allows : List ℕ → List ℕ → Type 0} (s t : LinkSeat) (nodes : List ℕ) (i : ℕ) → IsFreeing allows s i t → length nodes ≡ length (ghost_of s).own.passed → AreNodesAt (ghost_of s).view (ghost_of s).own.passed nodes → i < length nodes
+    → ((ghost_of t).own.seat.point ≡ Freeing) × IsWithin (ghost_of s).view.config.nodes (get_or nodes i 0) × ((q : ℕ) × (ps : List ℕ) × (r : Request) × ((ghost_of t).own.passed ≡ q ∷ ps) × At (ghost_of t).view.order q r × (r.node ≡ get_or nodes i 0))
+freeing_which s t nodes i f many are lt = frees_which (ghost_of s) (ghost_of t) nodes i (get_or nodes i 0) f.frees many are (slice_get-get_or nodes i 0 lt)
 
-pub freeing_next : (allows : List ℕ → List ℕ → Type 0) (s t u : LinkSeat) (nodes : List ℕ) (i : ℕ) → IsFreeing allows s i t → length nodes ≡ length (known_of s).own.passed → AreNodesAt (known_of s).view (known_of s).own.passed nodes → i < length nodes
-    → SameSeat t u → u.me.1 ≡ t.me.1 → GoesOn allows t.me u.me 1
-    → ((p : ℕ) (ps : List ℕ) (r : Request) → (known_of t).own.passed ≡ p ∷ ps → At (known_of t).view.order p r → Frees (known_of t) p ps r (known_of u)) → IsFreeing allows s (i + 1) u
-freeing_next allows s t u nodes i f many are lt same slot went frees = record {
-  same = (same.0 ∙ f.same.0, same.1 ∙ f.same.1);
+pub freeing_next : (allows : List ℕ → List ℕ → Type 0) (s t u : LinkSeat) (nodes : List ℕ) (i : ℕ) → IsFreeing allows s i t → length nodes ≡ length (ghost_of s).own.passed → AreNodesAt (ghost_of s).view (ghost_of s).own.passed nodes → i < length nodes
+    → IsSameSeat t u → u.me.1 ≡ t.me.1 → Advances allows t.me u.me 1
+    → ((p : ℕ) (ps : List ℕ) (r : Request) → (ghost_of t).own.passed ≡ p ∷ ps → At (ghost_of t).view.order p r → Frees (ghost_of t) p ps r (ghost_of u)) → IsFreeing allows s (i + 1) u
+freeing_next allows s t u nodes i f many are lt same slot advances frees = record {
+  seat = (same.0 ∙ f.seat.0, same.1 ∙ f.seat.1);
   carried = slot ∙ f.carried;
-  goes_on = goes_trans allows s.me t.me u.me i 1 f.goes_on went;
+  advances = goes_trans allows s.me t.me u.me i 1 f.advances advances;
   within = omega (arith, many, lt);
-  frees = frees_next (known_of s) (known_of t) (known_of u) nodes i (get_or nodes i 0) f.frees many are (slice_get-get_or nodes i 0 lt) went.extends frees;
+  frees = frees_next (ghost_of s) (ghost_of t) (ghost_of u) nodes i (get_or nodes i 0) f.frees many are (slice_get-get_or nodes i 0 lt) advances.extends frees;
 }
 
-pub freed_steps : (allows : List ℕ → List ℕ → Type 0) (s t : LinkSeat) (nodes : List ℕ) (i : ℕ) → IsFreeing allows s i t → length nodes ≡ length (known_of s).own.passed → length nodes ≤ i → GoesOn allows s.me t.me (length nodes)
-freed_steps allows s t nodes i f many all = let is : i ≡ length nodes = omega (arith, many, f.within) in subst (GoesOn allows s.me t.me) is f.goes_on
+pub freed_steps : (allows : List ℕ → List ℕ → Type 0) (s t : LinkSeat) (nodes : List ℕ) (i : ℕ) → IsFreeing allows s i t → length nodes ≡ length (ghost_of s).own.passed → length nodes ≤ i → Advances allows s.me t.me (length nodes)
+freed_steps allows s t nodes i f many all = let is : i ≡ length nodes = omega (arith, many, f.within) in subst (Advances allows s.me t.me) is f.advances

@@ -8,7 +8,7 @@ use native.Mathlib.Decide.{ℕ_discrete}
 use Rattle.line_lanes.specs.declared.line.Line64.{Line64}
 use Rattle.qolb_model.specs.declared.request.Request.{Request}
 use Rattle.qolb_model.specs.declared.end.End.{End}
-use Rattle.qolb_model.specs.declared.terms.TheConstants.{MOST_NODES}
+use Rattle.qolb_model.specs.declared.config.TheConstants.{MAX_NODES}
 use Rattle.qolb_model.specs.EndKinds.{is_gone}
 use Rattle.qolb_model.specs.Ends.{bytes_after}
 use Rattle.qolb_model.specs.Histories.{Clears}
@@ -24,7 +24,7 @@ use Rattle.qolb_model.proofs.Requests.{has_left, has_prefix, place_of_request, s
 use Rattle.qolb_model.proofs.Runs.{clears_twice}
 use Rattle.link_core.specs.declared.point.Point.{Point}
 use Rattle.link_core.specs.declared.point.Point.TheVariants.{Idle, Ready, Linking, Queued, Holding, Leaving, Marking, Granting, Freeing, Left, Rolled, Shut}
-use Rattle.link_core.specs.declared.seat.Seat.{Seat}
+use Rattle.link_core.specs.declared.seat.NodeCall.{NodeCall}
 use Rattle.link_core.specs.declared.state.State.{State as Core}
 use Rattle.link_core.specs.declared.entry.Entry.{Entry}
 use Rattle.link_core.specs.declared.told.Told.{Told as Answer}
@@ -33,18 +33,18 @@ use Rattle.link_core.specs.State.{empty, entry, seat, point, IsNode, IsWide, is_
 use Rattle.link_core.specs.Steps.{Step, node_of, allows, left_after}
 use Rattle.link_core.specs.Steps as row
 use Rattle.link_core.specs.Moves.{move_of, made}
-use Rattle.link_core.specs.Places.{request, asker, IsLast}
+use Rattle.link_core.specs.Places.{request, requester_at, IsLast}
 use Rattle.link_core.specs.Promise.{Keeps}
 use Rattle.link_core.specs.Shown.{has_line, Shows}
 use Rattle.link_core.proofs.Cases.{step_allowed}
 use Rattle.link_core.proofs.Found.{found}
 use Rattle.link_core.proofs.Orders.{get_request, request_got, last_once}
-use Rattle.qolb_model.specs.declared.terms.Terms.{Terms}
+use Rattle.qolb_model.specs.declared.config.LineConfig.{LineConfig}
 use Rattle.link_core.proofs.Sound.{step_sizes}
 use Rattle.link_core.proofs.Steady.{step_shows, after_is}
-use Rattle.link_line.specs.Known.{Known}
-use Rattle.shared_line.specs.declared.rule.Setup.{Setup}
-use Rattle.link_line.specs.Links.{At, Past, NodeOk, Standing, Passing, Joining, Knowing, PastOk, IsFreed, MayServe, is_leaving}
+use Rattle.link_line.specs.Ghost.{LinkGhost}
+use Rattle.line_generic.specs.declared.table.TableKey.{TableKey}
+use Rattle.link_line.specs.Links.{At, History, NodeInv, PointInv, PassedInv, JoinedInv, ViewInv, HistoryInv, IsFreed, MayServe, is_leaving}
 use Rattle.link_line.specs.Laws.Histories.{clear_is, asked_by, joined_clear}
 
 pub leaving_lined : (p : Point) → is_leaving p ≡ true → has_line p ≡ true
@@ -94,7 +94,7 @@ freed_stays {c} (row.roll n a at un) m ne f = freed_set c.entries n m _ (λ z. z
 freed_stays {c} (row.freed n x rest a at ps) m ne f = freed_set c.entries x m _ (λ z. refl) f
 freed_stays _ m ne f = f
 
--- an entry that is done and has no link was so before, where its node has withdrawn and its request has ended
+-- an entry that is done and has no link was so before, if its node has withdrawn and its request has ended
 record IsBoxed (w : Entry) : Type 0 where
   done : w.done ≡ true
   unlinked : w.link ≡ 0
@@ -106,12 +106,12 @@ boxed_set (x ∷ xs) zero (suc m) w f b = b
 boxed_set (x ∷ xs) (suc k) zero w f b = b
 boxed_set (x ∷ xs) (suc k) (suc m) w f b = boxed_set xs k m w (λ e. f (ap suc e)) b
 
--- where the entry's link and flag stay
+-- if the entry's link and flag are unchanged
 boxed_same : (c : Core) (k m : ℕ) (w : Entry) → w.done ≡ (entry c k).done → w.link ≡ (entry c k).link → k ≡ m → IsBoxed w → IsBoxed (entry c m)
 boxed_same c k m w a b e o = subst (λ (q : ℕ). IsBoxed (entry c q)) e (record { done = sym a ∙ o.done; unlinked = sym b ∙ o.unlinked })
 
-module _ {terms : Terms} {c : Core} {q : Queue} (s : Shows terms c q) (m p : ℕ) (rolled : point c m ≡ Rolled) (last : IsLast q.order m p) (over : p < length q.ends) where
-  -- no release comes to it
+module _ {config : LineConfig} {c : Core} {q : Queue} (s : Shows config c q) (m p : ℕ) (rolled : point c m ≡ Rolled) (last : IsLast q.order m p) (over : p < length q.ends) where
+  -- no release reaches it
   unmarked : {A : Type 0} (n e : ℕ) → IsNode c n → point c n ≡ Marking e → e ≡ m → A
   unmarked n e a at same =
       let turn = subst (λ (x : ℕ). IsLast q.order x (length q.ends)) (((found s).marks n e a at).0 ∙ same) ((found s).turn n a (ap has_line at)) in
@@ -170,7 +170,7 @@ map_same g h [] e = refl
 map_same g h (x ∷ xs) e = λ j. e 0 x refl j ∷ map_same g h xs (λ i p at. e (suc i) p at) j
 
 -- how the sets of a past grow by an act of n
-pub record SetsGrow (x y : Past) (n : ℕ) : Type 0 where
+pub record SetsGrow (x y : History) (n : ℕ) : Type 0 where
   pub joined : IsSubset x.joined y.joined
   pub early : IsSubset x.early y.early
   pub late : IsSubset x.late y.late
@@ -178,16 +178,16 @@ pub record SetsGrow (x y : Past) (n : ℕ) : Type 0 where
   pub new_early : (r : Request) → Has y.early r → Has x.early r ⊎ (IsFreed y.core y.queue.order r × Lacks y.queue.clear r)
   pub new_late : (r : Request) → Has y.late r → Has x.late r ⊎ (Has y.queue.clear r × (Has x.early r ⊎ Has x.late r → ⊥))
 
-module _ (allows : List ℕ → List ℕ → Type 0) (about : Setup) (few : about.terms.nodes ≤ MOST_NODES) (x : Past) (f : PastOk allows about x) where
+module _ (allows : List ℕ → List ℕ → Type 0) (key : TableKey) (few : key.config.nodes ≤ MAX_NODES) (x : History) (f : HistoryInv allows key x) where
   pub wide : IsWide x.core
   wide = let a = f.shown.matches.size in let b = few in let c = f.entries in let d = f.seats in record { entries = omega arith; seats = omega arith }
 
   module _ {e : Event} {t : Answer} {d : Core} (k : Step x.core e t d) where
-    pub on : Keeps about.terms x.core e t d k x.queue
-    on = step_shows about.terms x.core x.queue wide f.shown k
+    pub on : Keeps key.config x.core e t d k x.queue
+    on = step_shows key.config x.core x.queue wide f.shown k
 
     -- the past after the event, with these sets
-    abbrev pub next : List Request → List Request → List Request → Past
+    abbrev pub next : List Request → List Request → List Request → History
     next joined early late = record { core = d; queue = on.after; joined = joined; early = early; late = late }
 
     pub marks_next : IsSubset x.queue.marked on.after.marked
@@ -208,7 +208,7 @@ module _ (allows : List ℕ → List ℕ → Type 0) (about : Setup) (few : abou
         at = i.at;
         here = prefix_get x.queue.order on.after.order i.at r on.spared.order i.here;
         last = on.spared.last r.node i.at ne i.last;
-        rolled = ap (λ (s : Seat). s.point) (on.spared.seats r.node ne) ∙ i.rolled;
+        rolled = ap (λ (s : NodeCall). s.point) (on.spared.seats r.node ne) ∙ i.rolled;
         freed = freed_stays k r.node ne i.freed;
       }
 
@@ -222,27 +222,27 @@ module _ (allows : List ℕ → List ℕ → Type 0) (about : Setup) (few : abou
       freed_next (inl h) = inl (has_prefix x.queue.clear on.after.clear r on.spared.clear h)
       freed_next (inr i) = dite (ℕ_discrete r.node (node_of e)) (λ same. freed_own same i) (λ ne. inr (freed_other ne i))
 
-    lawful_else : (m : ℕ) → m ≢ node_of e → IsNode x.core m → MayServe (seat d m) → allows (bytes_after about.terms.opening.bytes on.after.ends) d.bytes.bytes
+    lawful_else : (m : ℕ) → m ≢ node_of e → IsNode x.core m → MayServe (seat d m) → allows (bytes_after key.config.opening.bytes on.after.ends) d.bytes.bytes
     lawful_else m i a s =
         let was : MayServe (seat x.core m) = subst MayServe (on.spared.seats m i) s in
         let l = on.spared.line m i a (leaving_lined (point x.core m) was.leaves) in
-        subst (λ (z : Line64 × List End). allows (bytes_after about.terms.opening.bytes z.1) z.0.bytes) (λ j. (sym l.0 j, sym l.4 j)) (f.lawful m a was)
+        subst (λ (z : Line64 × List End). allows (bytes_after key.config.opening.bytes z.1) z.0.bytes) (λ j. (sym l.0 j, sym l.4 j)) (f.lawful m a was)
 
     module _ (joined early late : List Request) (grows : SetsGrow x (next joined early late) (node_of e)) where
-      abbrev y : Past
+      abbrev y : History
       y = next joined early late
 
       unjoined_else : (m q : ℕ) → m ≢ node_of e → IsNode d m → point d m ≡ Linking q → Lacks joined (last_of m on.after.order)
       unjoined_else m q ne a at = lacks_from joined (last_of m on.after.order) (λ h. elim (grows.new_joined (last_of m on.after.order) h) [
-        | inl old ↦ never old (ap (λ (c : ℕ). has x.joined (record { node = m; number = c })) (on.spared.asks m ne) ∙ f.unjoined m q (a.0, subst (λ (z : ℕ). m ≤ z) (step_sizes x.core k).0 a.1) (ap (λ (s : Seat). s.point) (sym (on.spared.seats m ne)) ∙ at))
+        | inl old ↦ never old (ap (λ (c : ℕ). has x.joined (record { node = m; number = c })) (on.spared.asks m ne) ∙ f.unjoined m q (a.0, subst (λ (z : ℕ). m ≤ z) (step_sizes x.core k).0 a.1) (ap (λ (s : NodeCall). s.point) (sym (on.spared.seats m ne)) ∙ at))
         | inr new ↦ absurd (ne new.0)
       ])
 
       waiting_else : (m : ℕ) → m ≢ node_of e → IsNode d m → point d m ≡ Queued → Has joined (last_of m on.after.order)
-      waiting_else m ne a at = grows.joined (last_of m on.after.order) (ap (λ (c : ℕ). has x.joined (record { node = m; number = c })) (on.spared.asks m ne) ∙ f.waiting m (a.0, subst (λ (z : ℕ). m ≤ z) (step_sizes x.core k).0 a.1) (ap (λ (s : Seat). s.point) (sym (on.spared.seats m ne)) ∙ at))
+      waiting_else m ne a at = grows.joined (last_of m on.after.order) (ap (λ (c : ℕ). has x.joined (record { node = m; number = c })) (on.spared.asks m ne) ∙ f.waiting m (a.0, subst (λ (z : ℕ). m ≤ z) (step_sizes x.core k).0 a.1) (ap (λ (s : NodeCall). s.point) (sym (on.spared.seats m ne)) ∙ at))
 
-      -- what the rule says of the past alone
-      pub fine_next : AreAllowed allows about.terms.opening.bytes on.after.ends → (MayServe (seat d (node_of e)) → allows (bytes_after about.terms.opening.bytes on.after.ends) d.bytes.bytes) → ((q : ℕ) → point d (node_of e) ≡ Linking q → Lacks joined (last_of (node_of e) on.after.order)) → (point d (node_of e) ≡ Queued → Has joined (last_of (node_of e) on.after.order)) → PastOk allows about y
+      -- the invariant's part for the history alone
+      pub fine_next : AreAllowed allows key.config.opening.bytes on.after.ends → (MayServe (seat d (node_of e)) → allows (bytes_after key.config.opening.bytes on.after.ends) d.bytes.bytes) → ((q : ℕ) → point d (node_of e) ≡ Linking q → Lacks joined (last_of (node_of e) on.after.order)) → (point d (node_of e) ≡ Queued → Has joined (last_of (node_of e) on.after.order)) → HistoryInv allows key y
       fine_next kept lawful unjoined waiting = record {
         entries = (step_sizes x.core k).1 ∙ f.entries;
         seats = (step_sizes x.core k).2 ∙ f.seats;
@@ -266,9 +266,9 @@ module _ (allows : List ℕ → List ℕ → Type 0) (about : Setup) (few : abou
       }
 
       -- another node
-      module _ (fine : PastOk allows about y) (m : ℕ) (v : Known) (node : IsNode x.core m) (ne : m ≢ node_of e) (ok : NodeOk about x m v) where
+      module _ (history_inv : HistoryInv allows key y) (m : ℕ) (v : LinkGhost) (node : IsNode x.core m) (ne : m ≢ node_of e) (ok : NodeInv key x m v) where
         line : has_line v.own.seat.point ≡ true → (d.bytes ≡ x.core.bytes) × (d.closed ≡ x.core.closed) × (d.mask ≡ x.core.mask) × (d.left ≡ x.core.left) × (on.after.ends ≡ x.queue.ends)
-        line l = on.spared.line m ne node (ap (λ (s : Seat). has_line s.point) (sym ok.stands.seat) ∙ l)
+        line l = on.spared.line m ne node (ap (λ (s : NodeCall). has_line s.point) (sym ok.stands.seat) ∙ l)
 
         own_ends : (p : ℕ) (r : Request) (z : End) → At on.after.order p r → r.node ≡ m → At on.after.ends p z → is_gone z ≡ false → p < length v.view.ends
         own_ends p r z at mine en g = elim (cases_lt p (length x.queue.ends)) [
@@ -276,7 +276,7 @@ module _ (allows : List ℕ → List ℕ → Type 0) (about : Setup) (few : abou
           | inr new ↦ absurd (ne (sym mine ∙ on.spared.its p r z new at en g))
         ]
 
-        knowing : Knowing on.after m v.view
+        knowing : ViewInv on.after m v.view
         knowing = record {
           orders = prefix_trans v.view.order x.queue.order on.after.order ok.knows.orders on.spared.order;
           endings = prefix_trans v.view.ends x.queue.ends on.after.ends ok.knows.endings on.spared.ends;
@@ -296,10 +296,10 @@ module _ (allows : List ℕ → List ℕ → Type 0) (about : Setup) (few : abou
             let within = slice_get_within x.queue.order known.0 q known.1 in
             elim (grows.new_early r h) [
               | inl old ↦ ok.joins.joined_last p r q (prefix_get_back x.queue.order on.after.order p r on.spared.order (omega arith) here) (subst (λ (z : ℕ). At x.queue.order z q) same known.1) old j
-              | inr new ↦ absurd (never (joined_clear on.shows joined fine.unjoined p r q here behind new.0 (grows.joined q (ok.joins.all_joined q j))) new.1)
+              | inr new ↦ absurd (never (joined_clear on.shows joined history_inv.unjoined p r q here behind new.0 (grows.joined q (ok.joins.all_joined q j))) new.1)
             ]
 
-        joining : Joining y m v.view
+        joining : JoinedInv y m v.view
         joining = record {
           own_joined = λ r mine h. elim (grows.new_joined r h) [ inl old ↦ ok.joins.own_joined r mine old | inr new ↦ absurd (ne (sym mine ∙ new.0)) ];
           all_joined = λ r h. grows.joined r (ok.joins.all_joined r h);
@@ -310,24 +310,24 @@ module _ (allows : List ℕ → List ℕ → Type 0) (about : Setup) (few : abou
 
         -- a passed request stays its node's last
         module _ (i p : ℕ) (at : At v.own.passed i p) where
-          was : IsLast x.queue.order (asker x.queue.order p) p
+          was : IsLast x.queue.order (requester_at x.queue.order p) p
           was = ok.passes.last i p at
 
-          same_asker : asker on.after.order p ≡ asker x.queue.order p
-          same_asker = ap (λ (z : Request). z.node) (request_got on.after.order p (request x.queue.order p) (prefix_get x.queue.order on.after.order p (request x.queue.order p) on.spared.order (get_request x.queue.order p was.known)))
+          same_requester : requester_at on.after.order p ≡ requester_at x.queue.order p
+          same_requester = ap (λ (z : Request). z.node) (request_got on.after.order p (request x.queue.order p) (prefix_get x.queue.order on.after.order p (request x.queue.order p) on.spared.order (get_request x.queue.order p was.known)))
 
-          still_last : point x.core (asker x.queue.order p) ≡ Rolled → IsLast on.after.order (asker on.after.order p) p
-          still_last rolled = subst (λ (n : ℕ). IsLast on.after.order n p) (sym same_asker) (dite (ℕ_discrete (asker x.queue.order p) (node_of e))
-              (λ same. subst (λ (o : List Request). IsLast o (asker x.queue.order p) p) (sym (order_same (λ z. let w : Ready ≡ Rolled = sym z ∙ ap (point x.core) (sym same) ∙ rolled in cc))) was)
-              (λ other. on.spared.last (asker x.queue.order p) p other was))
+          still_last : point x.core (requester_at x.queue.order p) ≡ Rolled → IsLast on.after.order (requester_at on.after.order p) p
+          still_last rolled = subst (λ (n : ℕ). IsLast on.after.order n p) (sym same_requester) (dite (ℕ_discrete (requester_at x.queue.order p) (node_of e))
+              (λ same. subst (λ (o : List Request). IsLast o (requester_at x.queue.order p) p) (sym (order_same (λ z. let w : Ready ≡ Rolled = sym z ∙ ap (point x.core) (sym same) ∙ rolled in cc))) was)
+              (λ other. on.spared.last (requester_at x.queue.order p) p other was))
 
-          rolled : point x.core (asker x.queue.order p) ≡ Rolled
+          rolled : point x.core (requester_at x.queue.order p) ≡ Rolled
           rolled =
-              let k = map_at (asker x.queue.order) v.own.passed i p at in
-              let same : (seat x.core m).passed ≡ map (asker x.queue.order) v.own.passed = sym (ap (λ (s : Seat). s.passed) ok.stands.seat) ∙ ok.passes.places in
+              let k = map_at (requester_at x.queue.order) v.own.passed i p at in
+              let same : (seat x.core m).passed ≡ map (requester_at x.queue.order) v.own.passed = sym (ap (λ (s : NodeCall). s.passed) ok.stands.seat) ∙ ok.passes.places in
               subst (λ (n : ℕ). point x.core n ≡ Rolled) (ap (λ (ps : List ℕ). slice_index_or ps i 0) same ∙ k.1) (f.shown.matches.passes m i node (subst (λ (ps : List ℕ). i < length ps) (sym same) k.0)).point
 
-        standing : Standing d on.after.ends m v
+        standing : PointInv d on.after.ends m v
         standing = record {
           seat = ok.stands.seat ∙ sym (on.spared.seats m ne);
           state = ok.stands.state;
@@ -341,21 +341,21 @@ module _ (allows : List ℕ → List ℕ → Type 0) (about : Setup) (few : abou
             shut = c.shut;
           };
           left = λ fr i z p a b dn un.
-              let same : z ≡ asker x.queue.order p = map_get (asker x.queue.order) v.own.passed i p z b (subst (λ (ps : List ℕ). At ps i z) ok.passes.places a) in
+              let same : z ≡ requester_at x.queue.order p = map_get (requester_at x.queue.order) v.own.passed i p z b (subst (λ (ps : List ℕ). At ps i z) ok.passes.places a) in
               let e = ok.passes.ended fr i p b in
               let l = prefix_length v.view.ends x.queue.ends ok.knows.endings in
-              let o = was_boxed f.shown (asker x.queue.order p) p (rolled i p b) (was i p b) (omega arith) k (ap (λ (n : ℕ). (entry d n).done) (sym same) ∙ dn) (ap (λ (n : ℕ). (entry d n).link) (sym same) ∙ un) in
+              let o = was_boxed f.shown (requester_at x.queue.order p) p (rolled i p b) (was i p b) (omega arith) k (ap (λ (n : ℕ). (entry d n).done) (sym same) ∙ dn) (ap (λ (n : ℕ). (entry d n).link) (sym same) ∙ un) in
               ok.stands.left fr i z p a b (ap (λ (n : ℕ). (entry x.core n).done) same ∙ o.0) (ap (λ (n : ℕ). (entry x.core n).link) same ∙ o.1);
         }
 
-        passing : Passing on.after.order v
+        passing : PassedInv on.after.order v
         passing = record {
-          places = ok.passes.places ∙ map_same (asker x.queue.order) (asker on.after.order) v.own.passed (λ i p at. sym (same_asker i p at));
+          places = ok.passes.places ∙ map_same (requester_at x.queue.order) (requester_at on.after.order) v.own.passed (λ i p at. sym (same_requester i p at));
           last = λ i p at. still_last i p at (rolled i p at);
           known = ok.passes.known;
           within = ok.passes.within;
           ended = ok.passes.ended;
         }
 
-        pub others_next : NodeOk about y m v
+        pub others_next : NodeInv key y m v
         others_next = record { who = ok.who; knows = knowing; joins = joining; stands = standing; passes = passing }

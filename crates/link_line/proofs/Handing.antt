@@ -1,22 +1,22 @@
--- What becomes of a line that is let go at an entry, by up to three steps: home, done, grant.
-use Rattle.std.proofs.Common.{ℕ, ◌≤◌, length, List, [], ◌∷◌, ◌++◌, refl, ap, ◌∙◌, subst, inr, arith}
-use Rattle.qolb_model.specs.declared.terms.Terms.{Terms}
-use Rattle.qolb_model.specs.PortStates.{left_by}
+-- A handoff at an entry, in up to three steps: home, done, grant.
+use Rattle.std.proofs.Common.{ℕ, length, List, [], ◌∷◌, ◌++◌, refl, ap, ◌∙◌, subst, inr, arith}
+use Rattle.qolb_model.specs.declared.config.LineConfig.{LineConfig}
+use Rattle.qolb_model.specs.PortStates.{state_after}
 use Rattle.qolb_model.specs.Ends.{is_closed}
 use Rattle.qolb_model.specs.Views.{own, Extends}
 use Rattle.link_core.specs.declared.point.Point.{Point}
 use Rattle.link_core.specs.declared.point.Point.TheVariants.{Marking, Granting}
-use Rattle.link_line.specs.Known.{Known}
-use Rattle.shared_line.specs.declared.rule.Parcel.{Parcel}
-use Rattle.link_line.specs.declared.release.Handed.TheVariants as handed
+use Rattle.link_line.specs.Ghost.{LinkGhost}
+use Rattle.line_generic.specs.declared.table.Payload.{Payload}
+use Rattle.link_line.specs.declared.release.Handoff.TheVariants as handoff
 use Rattle.link_line.specs.Links.{At}
-use Rattle.link_line.specs.Words.{IsWithin}
-use Rattle.shared_line.specs.Steps.{HasSlot, HasNoSlot}
-use Rattle.link_line.specs.Steps.{LinkSeat, known_of, GoesOn, Carries, IsOneLeft, Ended, GoesOut, IsLeft, Passes, end_of, after_release, left_in}
-use Rattle.link_line.specs.Releases.{HandsOn, with_line}
+use Rattle.link_line.specs.Layout.{IsWithin}
+use Rattle.line_generic.specs.Steps.{HasSlot, HasNoSlot}
+use Rattle.link_line.specs.Steps.{LinkSeat, ghost_of, Advances, KeepsPayload, IsOneLeft, Ended, LeavesNode, IsLeft, Passes, end_of, after_release, left_in}
+use Rattle.link_line.specs.Releases.{HandsOff, with_line}
 
 -- the line was carried on from v to h; what a step then tells is true of the line and the node as they were before
-module _ (v h w : Known) (y : Parcel) (point : Point) (c : Carries v h y point) where
+module _ (v h w : LinkGhost) (y : Payload) (point : Point) (c : KeepsPayload v h y point) where
   pub carried_ended : Ended h w h.own.line → Ended v w y
   carried_ended e = record {
     known = e.known;
@@ -25,10 +25,10 @@ module _ (v h w : Known) (y : Parcel) (point : Point) (c : Carries v h y point) 
     own_turn = λ none. subst (λ es. At w.view.order (length es) (own w.view)) c.ends (e.own_turn (c.passed ∙ none));
   }
 
-  pub carried_out : GoesOut h w h.own.line → GoesOut v w y
+  pub carried_out : LeavesNode h w h.own.line → LeavesNode v w y
   carried_out o = record {
-    point = o.point ∙ (λ i. after_release (left_by (c.line_is i).closed) (c.passed i));
-    state = o.state ∙ (λ i. left_by (c.line_is i).closed);
+    point = o.point ∙ (λ i. after_release (state_after (c.line_is i).closed) (c.passed i));
+    state = o.state ∙ (λ i. state_after (c.line_is i).closed);
     passed = o.passed ∙ c.passed;
     unmarked = o.unmarked;
     clear = λ none. o.clear (c.passed ∙ none);
@@ -46,7 +46,7 @@ module _ (v h w : Known) (y : Parcel) (point : Point) (c : Carries v h y point) 
   pub carried_passes : (next : ℕ) → Passes h w next → Passes (with_line v y) w next
   carried_passes next p = record {
     point = p.point;
-    state = p.state ∙ (λ i. left_by (c.line_is i).closed);
+    state = p.state ∙ (λ i. state_after (c.line_is i).closed);
     passed = p.passed ∙ ap (λ ps. ps ++ length w.view.ends ∷ []) c.passed;
     line_is = p.line_is ∙ c.line_is;
     request = p.request;
@@ -56,7 +56,7 @@ module _ (v h w : Known) (y : Parcel) (point : Point) (c : Carries v h y point) 
     few = p.few;
   }
 
-  pub carried_on : (next : Point) → Carries h w h.own.line next → Carries v w y next
+  pub carried_on : (next : Point) → KeepsPayload h w h.own.line next → KeepsPayload v w y next
   carried_on next d = record {
     point_is = d.point_is;
     state = d.state ∙ c.state;
@@ -66,38 +66,38 @@ module _ (v h w : Known) (y : Parcel) (point : Point) (c : Carries v h y point) 
     line_is = d.line_is ∙ c.line_is;
   }
 
-one_left : (v h : Known) (y : Parcel) (point : Point) → Carries v h y point → Extends v.view h.view → IsOneLeft h → IsOneLeft v
-one_left v h y point c e l = omega (arith, l, ap length c.passed, ap (λ (t : Terms). t.nodes) e.terms)
+one_left : (v h : LinkGhost) (y : Payload) (point : Point) → KeepsPayload v h y point → Extends v.view h.view → IsOneLeft h → IsOneLeft v
+one_left v h y point c e l = omega (arith, l, ap length c.passed, ap (λ (t : LineConfig). t.nodes) e.config)
 
 -- home does not name the entry, and so it is marked as done; s, t and u are the seat before, between and after
-module _ (allows : List ℕ → List ℕ → Type 0) (s t u : LinkSeat) (y : Parcel) (at : ℕ) (first : GoesOn allows s.me t.me 1) (one : IsOneLeft (known_of t)) (c : Carries (known_of s) (known_of t) y (Marking at)) where
-  pub hands_left : HasNoSlot u → Ended (known_of t) (known_of u) (known_of t).own.line → IsLeft (known_of t) (known_of u) (known_of t).own.line → HandsOn s y u 2 handed.Left
+module _ (allows : List ℕ → List ℕ → Type 0) (s t u : LinkSeat) (y : Payload) (at : ℕ) (first : Advances allows s.me t.me 1) (one : IsOneLeft (ghost_of t)) (c : KeepsPayload (ghost_of s) (ghost_of t) y (Marking at)) where
+  pub hands_left : HasNoSlot u → Ended (ghost_of t) (ghost_of u) (ghost_of t).own.line → IsLeft (ghost_of t) (ghost_of u) (ghost_of t).own.line → HandsOff s y u 2 handoff.Left
   hands_left slot ended left = (
     slot,
-    carried_ended (known_of s) (known_of t) (known_of u) y (Marking at) c ended,
-    carried_left (known_of s) (known_of t) (known_of u) y (Marking at) c left,
+    carried_ended (ghost_of s) (ghost_of t) (ghost_of u) y (Marking at) c ended,
+    carried_left (ghost_of s) (ghost_of t) (ghost_of u) y (Marking at) c left,
     refl,
-    one_left (known_of s) (known_of t) y (Marking at) c first.extends one,
+    one_left (ghost_of s) (ghost_of t) y (Marking at) c first.extends one,
   )
 
   -- a link is found there, and its request is granted
-  module _ (w : LinkSeat) (next : ℕ) (d : Carries (known_of t) (known_of u) (known_of t).own.line (Granting next)) where
-    both : Carries (known_of s) (known_of u) y (Granting next)
-    both = carried_on (known_of s) (known_of t) (known_of u) y (Marking at) c (Granting next) d
+  module _ (w : LinkSeat) (next : ℕ) (d : KeepsPayload (ghost_of t) (ghost_of u) (ghost_of t).own.line (Granting next)) where
+    both : KeepsPayload (ghost_of s) (ghost_of u) y (Granting next)
+    both = carried_on (ghost_of s) (ghost_of t) (ghost_of u) y (Marking at) c (Granting next) d
 
-    pub hands_out : HasNoSlot w → Ended (known_of u) (known_of w) (known_of u).own.line → GoesOut (known_of u) (known_of w) (known_of u).own.line → HandsOn s y w 3 handed.On
+    pub hands_out : HasNoSlot w → Ended (ghost_of u) (ghost_of w) (ghost_of u).own.line → LeavesNode (ghost_of u) (ghost_of w) (ghost_of u).own.line → HandsOff s y w 3 handoff.On
     hands_out slot ended out = (
       slot,
-      carried_ended (known_of s) (known_of u) (known_of w) y (Granting next) both ended,
-      carried_out (known_of s) (known_of u) (known_of w) y (Granting next) both out,
-      inr (refl, one_left (known_of s) (known_of t) y (Marking at) c first.extends one),
+      carried_ended (ghost_of s) (ghost_of u) (ghost_of w) y (Granting next) both ended,
+      carried_out (ghost_of s) (ghost_of u) (ghost_of w) y (Granting next) both out,
+      inr (refl, one_left (ghost_of s) (ghost_of t) y (Marking at) c first.extends one),
     )
 
-    pub hands_passed : HasSlot w y → IsWithin (known_of w).view.terms.nodes next → Ended (known_of u) (known_of w) (known_of u).own.line → Passes (known_of u) (known_of w) next → HandsOn s y w 3 (handed.Passed next)
+    pub hands_passed : HasSlot w y → IsWithin (ghost_of w).view.config.nodes next → Ended (ghost_of u) (ghost_of w) (ghost_of u).own.line → Passes (ghost_of u) (ghost_of w) next → HandsOff s y w 3 (handoff.Passed next)
     hands_passed slot high ended passes = (
       slot,
-      carried_ended (known_of s) (known_of u) (known_of w) y (Granting next) both ended,
-      carried_passes (known_of s) (known_of u) (known_of w) y (Granting next) both next passes,
+      carried_ended (ghost_of s) (ghost_of u) (ghost_of w) y (Granting next) both ended,
+      carried_passes (ghost_of s) (ghost_of u) (ghost_of w) y (Granting next) both next passes,
       refl,
       high,
     )

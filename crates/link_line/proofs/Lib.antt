@@ -6,7 +6,7 @@ pub mod Laying
 pub mod Turning
 pub mod Quiet
 pub mod Resting
-pub mod Arriving
+pub mod AtTurn
 pub mod Polling
 pub mod Linking
 pub mod Prepend

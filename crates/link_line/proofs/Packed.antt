@@ -1,11 +1,11 @@
 -- What adding to the word of an entry does, and what its fields are.
 use Rattle.std.proofs.Common.{◌≡◌, ℕ, ◌+◌, ◌*◌, ◌%◌, ◌^◌, ◌<◌, ◌≤◌, Bool, true, false, refl, ap, arith, eq-eqb, ne_eqb}
 use Rattle.std.specs.Prelude.{◌==◌}
-use Rattle.qolb_model.specs.declared.terms.TheConstants.{MOST_NODES}
+use Rattle.qolb_model.specs.declared.config.TheConstants.{MAX_NODES}
 use Rattle.link_core.specs.declared.entry.Entry.{Entry}
 use Rattle.link_core.specs.State.{empty}
-use Rattle.link_line.specs.declared.words.TheConstants.{GRANTED, ROLLED, DONE, FREED, LINK}
-use Rattle.link_line.specs.Words.{one_if, pack, is_granted, is_rolled, is_done, is_freed, link_of}
+use Rattle.link_line.specs.declared.layout.TheConstants.{GRANTED, ROLLED, DONE, FREED, LINK}
+use Rattle.link_line.specs.Layout.{one_if, pack, is_granted, is_rolled, is_done, is_freed, link_of}
 
 pub one_if_low : (b : Bool) → one_if b ≤ 1
 one_if_low true = omega arith
@@ -34,7 +34,7 @@ link_is e = let a = one_if_low e.granted in let b = one_if_low e.rolled in let c
 pub pack_empty : pack empty ≡ 0
 pack_empty = refl
 
--- each field is added where it is unset
+-- each field is added while it is unset
 module _ (e : Entry) (small : pack e < 18446744073709551616) where
   bits : (one_if e.granted ≤ 1) × (one_if e.rolled ≤ 1) × (one_if e.done ≤ 1) × (one_if e.freed ≤ 1)
   bits = (one_if_low e.granted, one_if_low e.rolled, one_if_low e.done, one_if_low e.freed)
@@ -51,5 +51,5 @@ module _ (e : Entry) (small : pack e < 18446744073709551616) where
   pub add_freed : e.freed ≡ false → (pack e + FREED) % 2 ^ 64 ≡ pack (record e { freed = true })
   add_freed u = let z : one_if e.freed ≡ 0 = ap one_if u in let b = bits in let s = small in omega arith
 
-  pub add_link : (n : ℕ) → n ≤ MOST_NODES → e.link ≡ 0 → (pack e + LINK * n) % 2 ^ 64 ≡ pack (record e { link = n })
+  pub add_link : (n : ℕ) → n ≤ MAX_NODES → e.link ≡ 0 → (pack e + LINK * n) % 2 ^ 64 ≡ pack (record e { link = n })
   add_link n l u = let z : e.link ≡ 0 = u in let b = bits in let s = small in omega arith

@@ -1,26 +1,26 @@
--- A node asks: its number is put into the home word. Where that was idle the line comes, else the request is to be linked.
+-- A node makes a request: its number is put into the home word. If that was 0 the request is at its turn, else it is to be linked.
 use Rattle.std.proofs.Common.{◌≡◌, ◌≢◌, ◌||◌, slice_get, ℕ, ◌+◌, ◌<◌, ◌≤◌, List, [], ◌∷◌, ◌++◌, length, set, slice_index, true, sym, refl, ap, ◌∙◌, subst, arith, Some, get_or-set_same}
 use mathlib.Core.Option.{some, none}
 use mathlib.Core.Logic.{dite}
 use native.Mathlib.Decide.{ℕ_discrete}
 use lib.ListN.{get_elem?}
 use Rattle.atomic_table.specs.Table.{step, Act, keeps, takes, Valid, stepped, carried_after, Allows}
-use Rattle.qolb_model.specs.declared.terms.TheConstants.{MOST_NODES}
-use Rattle.qolb_model.specs.declared.terms.Terms.{Terms}
+use Rattle.qolb_model.specs.declared.config.TheConstants.{MAX_NODES}
+use Rattle.qolb_model.specs.declared.config.LineConfig.{LineConfig}
 use Rattle.qolb_model.specs.declared.request.Request.{Request}
 use Rattle.qolb_model.specs.declared.end.End.{End}
 use Rattle.qolb_model.specs.Kept.{AreAllowed}
 use Rattle.qolb_model.specs.Queue.{Queue}
 use Rattle.qolb_model.specs.Requests.{Has, Lacks, has, count_of, next_of}
 use Rattle.qolb_model.specs.Views.{own}
-use Rattle.qolb_model.specs.Asking.{Asks}
+use Rattle.qolb_model.specs.Enqueueing.{Asks}
 use Rattle.qolb_model.proofs.Lists.{slice_get-push}
 use Rattle.qolb_model.proofs.Prefixes.{prefix_length}
 use Rattle.qolb_model.proofs.Requests.{has_at, has_last, has_prefix, lacks_from, count_of-push_same, number_le_count_all}
 use Rattle.link_core.specs.declared.point.Point.{Point}
 use Rattle.link_core.specs.declared.point.Point.TheVariants.{Ready, Linking, Queued, Holding, Freeing}
 use Rattle.link_core.specs.declared.place.Place.TheVariants.{Home, Hand}
-use Rattle.link_core.specs.declared.seat.Seat.{Seat}
+use Rattle.link_core.specs.declared.seat.NodeCall.{NodeCall}
 use Rattle.link_core.specs.declared.state.State.{State as Core}
 use Rattle.link_core.specs.declared.told.Told.{Told as Answer}
 use Rattle.link_core.specs.declared.event.Event.{Event}
@@ -32,55 +32,55 @@ use Rattle.link_core.specs.Shown.{has_line, is_rolled, is_freeing}
 use Rattle.link_core.proofs.Found.{found}
 use Rattle.link_core.proofs.Orders.{last_new, last_place}
 use Rattle.link_core.proofs.Steady.{after_is}
-use Rattle.link_line.specs.Known.{Known}
-use Rattle.shared_line.specs.declared.rule.Parcel.{Parcel}
-use Rattle.shared_line.specs.declared.rule.Setup.{Setup}
-use Rattle.link_line.specs.Words.{home_at}
-use Rattle.link_line.specs.Links.{At, Past, NodeOk, InSlot, HasLine, state_at, is_leaving}
-use Rattle.link_line.specs.Steps.{Contents, prepended, LinksTo}
+use Rattle.link_line.specs.Ghost.{LinkGhost}
+use Rattle.line_generic.specs.declared.table.Payload.{Payload}
+use Rattle.line_generic.specs.declared.table.TableKey.{TableKey}
+use Rattle.link_line.specs.Layout.{home_at}
+use Rattle.link_line.specs.Links.{At, History, NodeInv, InSlot, SlotHasLine, state_at, is_leaving}
+use Rattle.link_line.specs.Steps.{SeatContents, prepended, LinksTo}
 use Rattle.link_line.proofs.Window.{few_open}
 use Rattle.link_line.proofs.Going.{next, on, wide}
 use Rattle.link_line.specs.Laws.Histories.{at_point}
 use Rattle.link_line.specs.Laws.Nodes.{St, Rule, mine_ok, is_node}
 use Rattle.link_line.proofs.Laying.{home_laid, deep_taken, in_slot}
 use Rattle.link_line.proofs.Turning.{whole, goes_step, grows_none, grows_joined, joins_same, joins_push, passes_none, Owes, via_none, turned, own_marked}
-use Rattle.link_line.proofs.Arriving.{view_come, Arrives, comes, come_turned}
+use Rattle.link_line.proofs.AtTurn.{view_come, Arrives, at_turn, come_turned}
 
-module _ (good : List ℕ → Type 0) (allows : List ℕ → List ℕ → Type 0) (about : Setup) (v : Known) (ready : v.own.seat.point ≡ Ready) where
+module _ (good : List ℕ → Type 0) (allows : List ℕ → List ℕ → Type 0) (key : TableKey) (v : LinkGhost) (phase : v.own.seat.point ≡ Ready) where
   abbrev n : ℕ
   n = v.view.node
 
   abbrev asked : Request
   asked = record { node = v.view.node; number = v.view.count + 1 }
 
-  module _ (me slots : ℕ) (carried : List (ℕ × Parcel)) (s : St good allows about) (r : Rule good allows about s) (at : get_elem? s.views me ≡ some (v ∷ [])) where
-    ok : NodeOk about r.past n v
-    ok = mine_ok good allows about s r me v at
+  module _ (me slots : ℕ) (carried : List (ℕ × Payload)) (s : St good allows key) (r : Rule good allows key s) (at : get_elem? s.views me ≡ some (v ∷ [])) where
+    ok : NodeInv key r.history n v
+    ok = mine_ok good allows key s r me v at
 
-    node : IsNode r.past.core n
-    node = is_node good allows about s r me v at
+    node : IsNode r.history.core n
+    node = is_node good allows key s r me v at
 
-    here : point r.past.core n ≡ Ready
-    here = at_point allows about r.past r.fine n v node ok ∙ ready
+    here : point r.history.core n ≡ Ready
+    here = at_point allows key r.history r.history_inv n v node ok ∙ phase
 
-    inside : IsWide r.past.core
-    inside = wide allows about r.may_open.nodes.few r.past r.fine
+    inside : IsWide r.history.core
+    inside = wide allows key r.may_open.nodes.few r.history r.history_inv
 
-    own_seat : (st : Seat) → seat (record r.past.core { seats = set r.past.core.seats n st }) n ≡ st
-    own_seat st = get_or-set_same r.past.core.seats n st unused (let w = inside.seats in let a = node.1 in omega arith)
+    own_seat : (st : NodeCall) → seat (record r.history.core { seats = set r.history.core.seats n st }) n ≡ st
+    own_seat st = get_or-set_same r.history.core.seats n st unused (let w = inside.seats in let a = node.1 in omega arith)
 
-    found_word : slice_index s.words home_at ≡ r.past.core.home
-    found_word = r.laid.home
+    found_word : slice_index s.words home_at ≡ r.history.core.home
+    found_word = r.represents.home
 
     abbrev q : Queue
-    q = r.past.queue
+    q = r.history.queue
 
     is_next : next_of n q.order ≡ asked
     is_next = λ i. record { node = n; number = ok.knows.counts i + 1 }
 
-    module _ {e : Event} {t : Answer} {d : Core} (k : Step r.past.core e t d) (joined : List Request) where
-      abbrev past_after : Past
-      past_after = next allows about r.may_open.nodes.few r.past r.fine k joined r.past.early r.past.late
+    module _ {e : Event} {t : Answer} {d : Core} (k : Step r.history.core e t d) (joined : List Request) where
+      abbrev past_after : History
+      past_after = next allows key r.may_open.nodes.few r.history r.history_inv k joined r.history.early r.history.late
 
       module _ (order : past_after.queue.order ≡ q.order ++ next_of n q.order ∷ []) where
         counts : count_of n past_after.queue.order ≡ v.view.count + 1
@@ -92,35 +92,35 @@ module _ (good : List ℕ → Type 0) (allows : List ℕ → List ℕ → Type 0
         last : IsLast past_after.queue.order n (length q.order)
         last = subst (λ o. IsLast o n (length q.order)) (sym order) (last_new q.order (next_of n q.order))
 
-        asks : (joins : List Request) (line : Parcel) → Asks v.view (whole past_after v (v.view.count + 1) joins [] line).view
+        asks : (joins : List Request) (line : Payload) → Asks v.view (whole past_after v (v.view.count + 1) joins [] line).view
         asks joins line = record {
           was_clear = λ more.
-              let p = last_place about.terms.lease q.order q.ends n r.fine.shown.legal (subst (λ (c : ℕ). 1 ≤ c) (sym ok.knows.counts) more) in
-              has_prefix q.clear past_after.queue.clear (own v.view) (on allows about r.may_open.nodes.few r.past r.fine k).spared.clear
-              (ap (has q.clear) (λ i. record { node = n; number = sym ok.knows.counts i }) ∙ ap (has q.clear) (sym p.2) ∙ r.fine.shown.matches.clears n p.0 node p.1 ∙ ap (λ (z : Point). is_clear z (entry r.past.core n)) here);
+              let p = last_place key.config.lease q.order q.ends n r.history_inv.shown.legal (subst (λ (c : ℕ). 1 ≤ c) (sym ok.knows.counts) more) in
+              has_prefix q.clear past_after.queue.clear (own v.view) (on allows key r.may_open.nodes.few r.history r.history_inv k).spared.clear
+              (ap (has q.clear) (λ i. record { node = n; number = sym ok.knows.counts i }) ∙ ap (has q.clear) (sym p.2) ∙ r.history_inv.shown.matches.clears n p.0 node p.1 ∙ ap (λ (z : Point). is_clear z (entry r.history.core n)) here);
           count = refl;
           behind = (length q.order, prefix_length v.view.order q.order ok.knows.orders, asked_at);
         }
 
     abbrev Goal : Type 0
-    Goal = (w : List Known) × (a : Act Parcel) × Valid s.homes carried a × Rule good allows about (stepped s home_at n me carried w a) × prepended allows (step slots home_at n 0 none) (v ∷ [], carried) (slice_index s.words home_at) (w, carried_after carried a)
+    Goal = (w : List LinkGhost) × (a : Act Payload) × Valid s.homes carried a × Rule good allows key (stepped s home_at n me carried w a) × prepended allows (step slots home_at n 0 none) (v ∷ [], carried) (slice_index s.words home_at) (w, carried_after carried a)
 
     -- none of its requests that are joined is the new one
-    not_joined : Has r.past.joined asked → ⊥
-    not_joined h = let z = number_le_count_all q.order r.fine.shown.legal.numbered asked (r.fine.joined asked h) in let c = ok.knows.counts in omega arith
+    not_joined : Has r.history.joined asked → ⊥
+    not_joined h = let z = number_le_count_all q.order r.history_inv.shown.legal.numbered asked (r.history_inv.joined asked h) in let c = ok.knows.counts in omega arith
 
-    prepend_comes : r.past.core.home ≡ 0 → Goal
+    prepend_comes : r.history.core.home ≡ 0 → Goal
     prepend_comes idle =
         let k = row.prepend_first n node here idle in
-        let joined : List Request = r.past.joined ++ asked ∷ [] in
+        let joined : List Request = r.history.joined ++ asked ∷ [] in
         let joins : List Request = v.view.joined ++ asked ∷ [] in
-        let y : Past = past_after k joined in
-        let is = after_is (on allows about r.may_open.nodes.few r.past r.fine k) in
+        let y : History = past_after k joined in
+        let is = after_is (on allows key r.may_open.nodes.few r.history r.history_inv k) in
         let order = ap (λ (q : Queue). q.order) is in
-        let home = (found r.fine.shown).idle idle in
-        let line : HasLine r.past.core s.homes = subst (InSlot r.past.core s.homes) home r.laid.slot in
-        let a : Arrives good allows about s r me v at k refl joined (v.view.count + 1) joins line = record {
-          seat_is = own_seat (seat_at_arrival n r.past.core.closed);
+        let home = (found r.history_inv.shown).idle idle in
+        let line : SlotHasLine r.history.core s.homes = subst (InSlot r.history.core s.homes) home r.represents.slot in
+        let a : Arrives good allows key s r me v at k refl joined (v.view.count + 1) joins line = record {
+          seat_is = own_seat (seat_at_arrival n r.history.core.closed);
           place = refl;
           mask = refl;
           bytes = refl;
@@ -130,12 +130,12 @@ module _ (good : List ℕ → Type 0) (allows : List ℕ → List ℕ → Type 0
           nowhere = λ m e. let z : Home ≡ Hand m = sym home ∙ e in cc;
           ends = ap (λ (q : Queue). q.ends) is;
           counts = counts k joined order;
-          grows = grows_joined r.past y n asked refl (has_at y.queue.order (length q.order) asked (asked_at k joined order)) refl refl refl;
-          joins_are = joins_push about r.past y v asked ok refl;
+          grows = grows_joined r.history y n asked refl (has_at y.queue.order (length q.order) asked (asked_at k joined order)) refl refl refl;
+          joins_are = joins_push key r.history y v asked ok refl;
         } in
-        let t = come_turned good allows about s r me v at k refl joined (v.view.count + 1) joins line a (set s.words home_at n) (set s.homes 0 none)
-        (home_laid r.past.core y.core s.words s.homes (set s.homes 0 none) n r.laid refl refl refl (deep_taken s.homes r.laid.deep) tt) in
-        let w : Known = view_come good allows about s r me v at k refl joined (v.view.count + 1) joins line in (
+        let t = come_turned good allows key s r me v at k refl joined (v.view.count + 1) joins line a (set s.words home_at n) (set s.homes 0 none)
+        (home_laid r.history.core y.core s.words s.homes (set s.homes 0 none) n r.represents refl refl refl (deep_taken s.homes r.represents.deep) tt) in
+        let w : LinkGhost = view_come good allows key s r me v at k refl joined (v.view.count + 1) joins line in (
           w ∷ [],
           takes 0 line.line,
           line.at,
@@ -143,46 +143,46 @@ module _ (good : List ℕ → Type 0) (allows : List ℕ → List ℕ → Type 0
           (
             goes_step allows v w carried ((0, line.line) ∷ carried) t.continues refl,
             asks k joined order joins line.line,
-            (λ _. (has_last v.view.joined asked, (line.line, refl, comes good allows about s r me v at k refl joined (v.view.count + 1) joins line a))),
+            (λ _. (has_last v.view.joined asked, (line.line, refl, at_turn good allows key s r me v at k refl joined (v.view.count + 1) joins line a))),
             (λ busy. absurd (busy (found_word ∙ idle))),
           ),
         )
 
-    prepend_links : r.past.core.home ≢ 0 → Goal
+    prepend_links : r.history.core.home ≢ 0 → Goal
     prepend_links busy =
         let k = row.prepend n node here busy in
-        let y : Past = past_after k r.past.joined in
-        let step' = on allows about r.may_open.nodes.few r.past r.fine k in
+        let y : History = past_after k r.history.joined in
+        let step' = on allows key r.may_open.nodes.few r.history r.history_inv k in
         let is = after_is step' in
         let order = ap (λ (q : Queue). q.order) is in
         let ends = ap (λ (q : Queue). q.ends) is in
-        let own' : point y.core n ≡ Linking r.past.core.home = ap (λ (z : Seat). z.point) (own_seat (record (seat r.past.core n) { point = Linking r.past.core.home })) in
-        let number = counts k r.past.joined order in
-        let unjoined : Lacks r.past.joined asked = lacks_from r.past.joined asked not_joined in
-        let behind : length y.queue.ends < length q.order = let e = ap (λ (es : List End). length es) ends in let l = r.fine.shown.matches.known in open' (λ z. busy (r.fine.shown.matches.home_idle z)) e l in
-        let owes : Owes good allows about y v (v.view.count + 1) v.view.joined [] v.own.line = record {
-          kept = subst (AreAllowed allows about.terms.opening.bytes) (sym ends) r.fine.kept;
-          lawful = λ z. let l : is_leaving (Linking r.past.core.home) ≡ true = ap is_leaving (sym own') ∙ z.leaves in cc;
-          unjoined = λ _ _. ap (λ (c : ℕ). has r.past.joined (record { node = n; number = c })) number ∙ unjoined;
-          waiting = λ z. let l : Linking r.past.core.home ≡ Queued = sym own' ∙ z in cc;
+        let own' : point y.core n ≡ Linking r.history.core.home = ap (λ (z : NodeCall). z.point) (own_seat (record (seat r.history.core n) { point = Linking r.history.core.home })) in
+        let number = counts k r.history.joined order in
+        let unjoined : Lacks r.history.joined asked = lacks_from r.history.joined asked not_joined in
+        let behind : length y.queue.ends < length q.order = let e = ap (λ (es : List End). length es) ends in let l = r.history_inv.shown.matches.known in open' (λ z. busy (r.history_inv.shown.matches.home_idle z)) e l in
+        let owes : Owes good allows key y v (v.view.count + 1) v.view.joined [] v.own.line = record {
+          kept = subst (AreAllowed allows key.config.opening.bytes) (sym ends) r.history_inv.kept;
+          lawful = λ z. let l : is_leaving (Linking r.history.core.home) ≡ true = ap is_leaving (sym own') ∙ z.leaves in cc;
+          unjoined = λ _ _. ap (λ (c : ℕ). has r.history.joined (record { node = n; number = c })) number ∙ unjoined;
+          waiting = λ z. let l : Linking r.history.core.home ≡ Queued = sym own' ∙ z in cc;
           counts = number;
-          joins = joins_same about r.past y v ok refl;
-          unwritten = λ z. let l : Linking r.past.core.home ≡ Holding = sym own' ∙ z in cc;
-          carries = λ z. let l : is_leaving (Linking r.past.core.home) ≡ true = ap is_leaving (sym own') ∙ z in cc;
-          left = λ z. let l : Linking r.past.core.home ≡ Freeing = sym own' ∙ z in cc;
+          joins = joins_same key r.history y v ok refl;
+          unwritten = λ z. let l : Linking r.history.core.home ≡ Holding = sym own' ∙ z in cc;
+          carries = λ z. let l : is_leaving (Linking r.history.core.home) ≡ true = ap is_leaving (sym own') ∙ z in cc;
+          left = λ z. let l : Linking r.history.core.home ≡ Freeing = sym own' ∙ z in cc;
           passes = passes_none y.queue.order _ (step'.shows.matches.unpassed n node (ap (λ (z : Point). has_line z || is_freeing z) own')) refl;
         } in
-        let t = turned good allows about s r me v at r.past (via_none good allows about r.past v r.fine) k refl r.past.joined r.past.early r.past.late (grows_none r.past y n refl refl refl) (v.view.count + 1) v.view.joined [] v.own.line owes (set s.words home_at n) s.homes
-        (home_laid r.past.core y.core s.words s.homes s.homes n r.laid refl refl refl r.laid.deep (in_slot r.past.core y.core s.homes r.past.core.place refl refl refl r.laid.slot)) in
-        let w : Known = whole y v (v.view.count + 1) v.view.joined [] v.own.line in
-        let links : LinksTo r.past.core.home w = record {
+        let t = turned good allows key s r me v at r.history (via_none good allows key r.history v r.history_inv) k refl r.history.joined r.history.early r.history.late (grows_none r.history y n refl refl refl) (v.view.count + 1) v.view.joined [] v.own.line owes (set s.words home_at n) s.homes
+        (home_laid r.history.core y.core s.words s.homes s.homes n r.represents refl refl refl r.represents.deep (in_slot r.history.core y.core s.homes r.history.core.place refl refl refl r.represents.slot)) in
+        let w : LinkGhost = whole y v (v.view.count + 1) v.view.joined [] v.own.line in
+        let links : LinksTo r.history.core.home w = record {
           stands = (own', (let z = subst (Names y.core) own' ((found step'.shows).names n node) in let f = few in let l = z.1 in let k = many in (omega arith, omega arith)));
           linking = record {
             state = ap (λ (p : Point). state_at p (seat y.core n).reason (seat y.core n).passed) own';
-            waits = (length q.order, behind, asked_at k r.past.joined order);
-            near = few_open about.terms y.core y.queue step'.shows v.view.terms ok.who.terms;
+            waits = (length q.order, behind, asked_at k r.history.joined order);
+            near = few_open key.config y.core y.queue step'.shows v.view.config ok.who.config;
             unjoined = lacks_from v.view.joined asked (λ h. not_joined (ok.joins.all_joined asked h));
-            unmarked = own_marked good allows about y v (v.view.count + 1) (length q.order) step'.shows number (last k r.past.joined order) (omega arith) ∙ ap is_rolled own';
+            unmarked = own_marked good allows key y v (v.view.count + 1) (length q.order) step'.shows number (last k r.history.joined order) (omega arith) ∙ ap is_rolled own';
           };
         } in (
           w ∷ [],
@@ -191,21 +191,21 @@ module _ (good : List ℕ → Type 0) (allows : List ℕ → List ℕ → Type 0
           t.rule,
           (
             goes_step allows v w carried carried t.continues refl,
-            asks k r.past.joined order v.view.joined v.own.line,
+            asks k r.history.joined order v.view.joined v.own.line,
             (λ idle. absurd (busy (sym found_word ∙ idle))),
-            (λ _. (refl, subst (λ (older : ℕ). LinksTo older w) (sym found_word) links)),
+            (λ _. (refl, subst (λ (predecessor : ℕ). LinksTo predecessor w) (sym found_word) links)),
           ),
         )
       where
-        few : r.past.core.nodes ≤ MOST_NODES
-        few = subst (λ (n : ℕ). n ≤ MOST_NODES) (sym r.fine.shown.matches.size) r.may_open.nodes.few
+        few : r.history.core.nodes ≤ MAX_NODES
+        few = subst (λ (n : ℕ). n ≤ MAX_NODES) (sym r.history_inv.shown.matches.size) r.may_open.nodes.few
 
-        many : v.view.terms.nodes ≡ r.past.core.nodes
-        many = ap (λ (t : Terms). t.nodes) ok.who.terms ∙ sym r.fine.shown.matches.size
+        many : v.view.config.nodes ≡ r.history.core.nodes
+        many = ap (λ (t : LineConfig). t.nodes) ok.who.config ∙ sym r.history_inv.shown.matches.size
 
         open' : (length q.ends ≡ length q.order → ⊥) → {a : ℕ} → a ≡ length q.ends → length q.ends ≤ length q.order → a < length q.order
         open' ne e l = dite (ℕ_discrete (length q.ends) (length q.order)) (λ z. absurd (ne z)) (λ z. omega arith)
 
-  pub prepends_next : (me slots node : ℕ) (m : Contents) → m.0 ≡ v ∷ [] → node ≡ v.view.node → Allows (Rule good allows about) slots me m home_at (λ _. node) (prepended allows (step slots home_at node 0 none) m)
-  prepends_next me slots number m is its = subst (λ (z : ℕ × Contents). Allows (Rule good allows about) slots me z.1 home_at (λ _. z.0) (prepended allows (step slots home_at z.0 0 none) z.1)) (λ j. (sym its j, (sym is j, m.1)))
-      (λ s r deep at small. dite (ℕ_discrete r.past.core.home 0) (λ idle. prepend_comes me slots m.1 s r at idle) (λ busy. prepend_links me slots m.1 s r at busy))
+  pub prepends_next : (me slots node : ℕ) (m : SeatContents) → m.0 ≡ v ∷ [] → node ≡ v.view.node → Allows (Rule good allows key) slots me m home_at (λ _. node) (prepended allows (step slots home_at node 0 none) m)
+  prepends_next me slots number m is its = subst (λ (z : ℕ × SeatContents). Allows (Rule good allows key) slots me z.1 home_at (λ _. z.0) (prepended allows (step slots home_at z.0 0 none) z.1)) (λ j. (sym its j, (sym is j, m.1)))
+      (λ s r deep at small. dite (ℕ_discrete r.history.core.home 0) (λ idle. prepend_comes me slots m.1 s r at idle) (λ busy. prepend_links me slots m.1 s r at busy))

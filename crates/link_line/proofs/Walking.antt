@@ -3,11 +3,10 @@ use Rattle.std.proofs.Common.{◌≡◌, ◌≢◌, ℕ, zero, suc, ◌+◌, ◌
 use Rattle.std.proofs.lemmas.List.{length-replicate}
 use Rattle.qolb_model.specs.declared.answer.PortState.{PortState}
 use Rattle.qolb_model.specs.declared.request.Request.{Request}
-use Rattle.qolb_model.specs.declared.terms.Terms.{Terms}
-use Rattle.qolb_model.specs.declared.terms.TheConstants.{MOST_NODES}
+use Rattle.qolb_model.specs.declared.config.LineConfig.{LineConfig}
 use Rattle.qolb_model.specs.declared.end.End.{End}
 use Rattle.qolb_model.specs.declared.end.End.TheVariants.{Gone}
-use Rattle.qolb_model.specs.PortStates.{left_by}
+use Rattle.qolb_model.specs.PortStates.{state_after}
 use Rattle.qolb_model.specs.Requests.{Lacks, AreOfOthers}
 use Rattle.qolb_model.specs.Ends.{is_closed}
 use Rattle.qolb_model.specs.Histories.{turn_of}
@@ -17,21 +16,21 @@ use Rattle.qolb_model.proofs.Prefixes.{prefix_get}
 use Rattle.qolb_model.proofs.Once.{others_longer, others_within, once_walked}
 use Rattle.std.proofs.lemmas.Option.{slice_get_within}
 use Rattle.link_core.specs.declared.point.Point.TheVariants.{Leaving, Freeing}
-use Rattle.link_line.specs.Known.{Known}
-use Rattle.shared_line.specs.declared.rule.Parcel.{Parcel}
-use Rattle.link_line.specs.declared.release.Handed.{Handed}
-use Rattle.link_line.specs.declared.release.Handed.TheVariants as handed
+use Rattle.link_line.specs.Ghost.{LinkGhost}
+use Rattle.line_generic.specs.declared.table.Payload.{Payload}
+use Rattle.link_line.specs.declared.release.Handoff.{Handoff}
+use Rattle.link_line.specs.declared.release.Handoff.TheVariants as handoff
 use Rattle.link_line.specs.Links.{At}
-use Rattle.link_line.specs.Words.{IsWithin}
-use Rattle.shared_line.specs.Steps.{SameSeat, HasSlot, HasNoSlot}
-use Rattle.link_line.specs.Steps.{LinkSeat, known_of, after_release, left_in, end_of, next_end, point_by, Ended, IsOneLeft, Passes, GoesOn}
-use Rattle.link_line.specs.Releases.{HandsOn, NamesTurn, with_line, WalksOn, AreNodesAt, FreesAll}
-use Rattle.link_line.specs.Stances.{word_of, turn_word}
+use Rattle.link_line.specs.Layout.{IsWithin}
+use Rattle.line_generic.specs.Steps.{IsSameSeat, HasSlot, HasNoSlot}
+use Rattle.link_line.specs.Steps.{LinkSeat, ghost_of, after_release, left_in, end_of, next_end, point_by, Ended, IsOneLeft, Passes, Advances}
+use Rattle.link_line.specs.Releases.{HandsOff, NamesTurn, with_line, FinishesWalk, AreNodesAt, FreesAll}
+use Rattle.link_line.specs.BetweenCalls.{word_of, turn_word}
 use Rattle.link_line.proofs.Stepping.{goes_trans}
 
 -- a walk that began at v has passed the requests of these nodes
-pub record Walked (v : Known) (nodes : List ℕ) (w : Known) : Type 0 where
-  pub terms : w.view.terms ≡ v.view.terms
+pub record Walked (v : LinkGhost) (nodes : List ℕ) (w : LinkGhost) : Type 0 where
+  pub config : w.view.config ≡ v.view.config
   pub state : w.view.state ≡ v.view.state
   pub count : w.view.count ≡ v.view.count
   pub ends : w.view.ends ≡ v.view.ends ++ replicate (length nodes) Gone
@@ -39,27 +38,27 @@ pub record Walked (v : Known) (nodes : List ℕ) (w : Known) : Type 0 where
   pub made : AreNodesAt w.view w.own.passed nodes
   pub node : w.view.node ≡ v.view.node
   pub others : AreOfOthers v.view.node w.view.order w.own.passed
-  pub few : length w.own.passed + 1 ≤ v.view.terms.nodes
+  pub few : length w.own.passed + 1 ≤ v.view.config.nodes
 
--- it stands at the withdrawn request of one more node
-pub record StandsAt (nodes : List ℕ) (node : ℕ) (w : Known) : Type 0 where
+-- the walk is at the withdrawn request of one more node
+pub record StandsAt (nodes : List ℕ) (node : ℕ) (w : LinkGhost) : Type 0 where
   pub point : w.own.seat.point ≡ Leaving node
   pub many : length w.own.passed ≡ length nodes + 1
   pub request : Request
   pub at : At w.view.order (length w.view.ends) request
   pub made_by : request.node ≡ node
-  pub high : IsWithin w.view.terms.nodes node
+  pub high : IsWithin w.view.config.nodes node
 
 -- the line is away
-pub record IsAway (nodes : List ℕ) (w : Known) : Type 0 where
+pub record IsAway (nodes : List ℕ) (w : LinkGhost) : Type 0 where
   pub point : w.own.seat.point ≡ Freeing
   pub many : length w.own.passed ≡ length nodes
   pub some : w.own.passed ≢ []
   pub known : length w.view.ends ≤ length w.view.order
   pub unmarked : (r : Request) → turn_of w.view.order w.view.ends ≡ Some r → Lacks w.view.marked r
 
--- who has passed one ends a withdrawn request next
-ends_gone : (ps : List ℕ) (closed : Bool) (y : Parcel) (k : ℕ) → length ps ≡ k + 1 → end_of ps closed y ≡ Gone
+-- a node that has passed one ends a withdrawn request next
+ends_gone : (ps : List ℕ) (closed : Bool) (y : Payload) (k : ℕ) → length ps ≡ k + 1 → end_of ps closed y ≡ Gone
 ends_gone [] closed y k e = absurd (omega (arith, e))
 ends_gone (p ∷ ps) closed y k e = refl
 
@@ -71,14 +70,14 @@ frees_after state [] some = absurd (some refl)
 frees_after state (p ∷ ps) some = refl
 
 -- what letting the line go at an entry does to the places
-record Grows (w x : Known) (first : ℕ) (most : ℕ) : Type 0 where
+record Grows (w x : LinkGhost) (first : ℕ) (max_steps : ℕ) : Type 0 where
   run : (i p : ℕ) → At x.own.passed i p → p ≡ first + i
   front : (i p : ℕ) → i < length w.own.passed → At x.own.passed i p → At w.own.passed i p
   others : AreOfOthers w.view.node x.view.order x.own.passed
-  few : length x.own.passed + 1 ≤ most
+  few : length x.own.passed + 1 ≤ max_steps
 
-module _ (v w x : Known) (nodes : List ℕ) (k : Walked v nodes w) (more : Extends w.view x.view) where
-  grows_none : (node : ℕ) → StandsAt nodes node w → x.own.passed ≡ w.own.passed → Grows w x (length v.view.ends) v.view.terms.nodes
+module _ (v w x : LinkGhost) (nodes : List ℕ) (k : Walked v nodes w) (more : Extends w.view x.view) where
+  grows_none : (node : ℕ) → StandsAt nodes node w → x.own.passed ≡ w.own.passed → Grows w x (length v.view.ends) v.view.config.nodes
   grows_none node s same = record {
     run = λ i p at. k.run i p (subst (λ ps. At ps i p) same at);
     front = λ i p lt at. subst (λ ps. At ps i p) same at;
@@ -88,7 +87,7 @@ module _ (v w x : Known) (nodes : List ℕ) (k : Walked v nodes w) (more : Exten
     few = omega (arith, ap length same, k.few);
   }
 
-  grows_more : (next : ℕ) (y : Parcel) → length w.own.passed ≡ length nodes + 1 → length x.view.ends ≡ length v.view.ends + (length nodes + 1) → x.view.terms.nodes ≡ v.view.terms.nodes → Passes (with_line w y) x next → Grows w x (length v.view.ends) v.view.terms.nodes
+  grows_more : (next : ℕ) (y : Payload) → length w.own.passed ≡ length nodes + 1 → length x.view.ends ≡ length v.view.ends + (length nodes + 1) → x.view.config.nodes ≡ v.view.config.nodes → Passes (with_line w y) x next → Grows w x (length v.view.ends) v.view.config.nodes
   grows_more next y many long n h = record {
     run = λ i p at. elim (push_cases w.own.passed (length x.view.ends) i p (subst (λ ps. At ps i p) h.passed at)) [
       | inl old ↦ k.run i p old.1
@@ -107,7 +106,7 @@ replicate-push zero e = refl
 replicate-push (suc n) e = ap (λ es. e ∷ es) (replicate-push n e)
 
 -- one more withdrawn request ends, at which the walk stood
-module _ (v w x : Known) (nodes : List ℕ) (node : ℕ) (y : Parcel) (k : Walked v nodes w) (s : StandsAt nodes node w) (e : Ended w x y) (more : Extends w.view x.view) where
+module _ (v w x : LinkGhost) (nodes : List ℕ) (node : ℕ) (y : Payload) (k : Walked v nodes w) (s : StandsAt nodes node w) (e : Ended w x y) (more : Extends w.view x.view) where
   gone : next_end w y ≡ Gone
   gone = ends_gone w.own.passed (is_closed w.view.ends) y (length nodes) s.many
 
@@ -123,12 +122,12 @@ module _ (v w x : Known) (nodes : List ℕ) (node : ℕ) (y : Parcel) (k : Walke
   before : length w.view.ends ≡ length v.view.ends + length nodes
   before = ap length k.ends ∙ omega (arith, length-append v.view.ends (replicate (length nodes) Gone), length-replicate (length nodes) Gone)
 
-  size : x.view.terms.nodes ≡ w.view.terms.nodes
-  size = ap (λ (t : Terms). t.nodes) more.terms
+  size : x.view.config.nodes ≡ w.view.config.nodes
+  size = ap (λ (t : LineConfig). t.nodes) more.config
 
-  walked_on : x.view.state ≡ v.view.state → Grows w x (length v.view.ends) v.view.terms.nodes → Walked v (nodes ++ node ∷ []) x
+  walked_on : x.view.state ≡ v.view.state → Grows w x (length v.view.ends) v.view.config.nodes → Walked v (nodes ++ node ∷ []) x
   walked_on stays g = record {
-    terms = more.terms ∙ k.terms;
+    config = more.config ∙ k.config;
     state = stays;
     count = e.count ∙ k.count;
     ends = ends_now;
@@ -147,7 +146,7 @@ module _ (v w x : Known) (nodes : List ℕ) (node : ℕ) (y : Parcel) (k : Walke
   }
 
 -- when the line is away and the passed requests are freed, the walk is over
-pub walk_over : (v w x : Known) (nodes : List ℕ) → Walked v nodes w → IsAway nodes w → FreesAll w x → WalksOn v x
+pub walk_over : (v w x : LinkGhost) (nodes : List ℕ) → Walked v nodes w → IsAway nodes w → FreesAll w x → FinishesWalk v x
 walk_over v w x nodes k h f =
     let last = nonempty w.own.passed h.some in
     let many : length nodes ≡ suc last.0 = sym h.many ∙ last.1 in
@@ -162,7 +161,7 @@ walk_over v w x nodes k h f =
       ends = ends;
       others = others_within v.view.node (length v.view.ends) (length x.view.ends) x.view.order w.own.passed k.run long others;
       once = once_walked v.view.node (length v.view.ends) (length x.view.ends) x.view.order w.own.passed k.run long others;
-      lets_go = record {
+      releases = record {
         known = omega (arith, h.known, ap length f.order, ap length f.ends);
         unmarked = λ r is. subst (λ ms. Lacks ms r) (sym f.marked) (h.unmarked r (sym (λ i. turn_of (f.order i) (f.ends i)) ∙ is));
         freed = λ p r low high at. let one = passed_at v w nodes p k low (omega (arith, high, long)) in f.freed one.0 p r one.1 (subst (λ o. At o p r) f.order at);
@@ -175,90 +174,90 @@ walk_over v w x nodes k h f =
     nonempty [] h = absurd (h refl)
     nonempty (x ∷ xs) h = (length xs, omega arith)
 
-    passed_at : (v w : Known) (nodes : List ℕ) (p : ℕ) → Walked v nodes w → length v.view.ends ≤ p → p < length v.view.ends + length w.own.passed → (i : ℕ) × At w.own.passed i p
+    passed_at : (v w : LinkGhost) (nodes : List ℕ) (p : ℕ) → Walked v nodes w → length v.view.ends ≤ p → p < length v.view.ends + length w.own.passed → (i : ℕ) × At w.own.passed i p
     passed_at v w nodes p k low high =
         let i = p - length v.view.ends in
         let one = element_at w.own.passed i (omega (arith, low, high)) in
         (i, subst (At w.own.passed i) (k.run i one.0 one.1 ∙ omega (arith, low)) one.1)
 
 -- it put an end for each node that it passed
-pub walked_long : (v w x : Known) (nodes : List ℕ) → Walked v nodes w → FreesAll w x → length x.view.ends ≡ length v.view.ends + length nodes
+pub walked_long : (v w x : LinkGhost) (nodes : List ℕ) → Walked v nodes w → FreesAll w x → length x.view.ends ≡ length v.view.ends + length nodes
 walked_long v w x nodes k f = ap length (f.ends ∙ k.ends) ∙ omega (arith, length-append v.view.ends (replicate (length nodes) Gone), length-replicate (length nodes) Gone)
 
--- where a walk from the seat s stands, by what became of the line, after so many word steps: each passed request took three; and when
--- the line is away, the last one took one to three, and a step more for each is within what a release may take
-abbrev pub StandsBy : LinkSeat → List ℕ → LinkSeat → ℕ → Handed → Type 0
-StandsBy s nodes t taken handed.On = HasNoSlot t × IsAway nodes (known_of t) × (taken + length nodes + 6 ≤ 4 * (known_of s).view.terms.nodes) × (3 * length nodes ≤ taken + 2) × (taken ≤ 3 * length nodes)
-StandsBy s nodes t taken handed.Left = HasNoSlot t × IsAway nodes (known_of t) × (taken + length nodes + 6 ≤ 4 * (known_of s).view.terms.nodes) × (3 * length nodes ≤ taken + 2) × (taken ≤ 3 * length nodes)
-StandsBy s nodes t taken (handed.Passed node) = (t.me.1 ≡ s.me.1) × StandsAt nodes node (known_of t) × ((known_of t).own.line ≡ (known_of s).own.line) × (taken ≡ 3 * length nodes)
+-- the result of a walk from the seat s, by that of its last handoff, in `taken` word steps: each passed request took three; and if the line
+-- is handed over, the last one took one to three, and a step more for each is within what a release may take
+abbrev pub StandsBy : LinkSeat → List ℕ → LinkSeat → ℕ → Handoff → Type 0
+StandsBy s nodes t taken handoff.On = HasNoSlot t × IsAway nodes (ghost_of t) × (taken + length nodes + 6 ≤ 4 * (ghost_of s).view.config.nodes) × (3 * length nodes ≤ taken + 2) × (taken ≤ 3 * length nodes)
+StandsBy s nodes t taken handoff.Left = HasNoSlot t × IsAway nodes (ghost_of t) × (taken + length nodes + 6 ≤ 4 * (ghost_of s).view.config.nodes) × (3 * length nodes ≤ taken + 2) × (taken ≤ 3 * length nodes)
+StandsBy s nodes t taken (handoff.Passed node) = (t.me.1 ≡ s.me.1) × StandsAt nodes node (ghost_of t) × ((ghost_of t).own.line ≡ (ghost_of s).own.line) × (taken ≡ 3 * length nodes)
 
 -- what a walk that began at the seat s has done so far
-pub record IsWalking (allows : List ℕ → List ℕ → Type 0) (s : LinkSeat) (before : ℕ) (nodes : List ℕ) (result : Handed) (t : LinkSeat) (steps : ℕ) : Type 0 where
-  pub same : SameSeat s t
+pub record IsWalking (allows : List ℕ → List ℕ → Type 0) (s : LinkSeat) (before : ℕ) (nodes : List ℕ) (result : Handoff) (t : LinkSeat) (steps : ℕ) : Type 0 where
+  pub seat : IsSameSeat s t
   pub taken : ℕ
-  pub counted : steps ≡ before + taken
-  pub goes_on : GoesOn allows s.me t.me taken
-  pub walked : Walked (known_of s) nodes (known_of t)
+  pub steps_are : steps ≡ before + taken
+  pub advances : Advances allows s.me t.me taken
+  pub walked : Walked (ghost_of s) nodes (ghost_of t)
   pub stands : StandsBy s nodes t taken result
 
--- and what the walk has done when it is let go
-module _ (allows : List ℕ → List ℕ → Type 0) (s t u : LinkSeat) (nodes : List ℕ) (taken node : ℕ) (n : ℕ) (k : Walked (known_of s) nodes (known_of t)) (b : StandsBy s nodes t taken (handed.Passed node)) (slot : HasSlot s (known_of s).own.line) (state : (known_of s).view.state ≡ left_by (known_of s).own.line.closed)
-    (went : GoesOn allows t.me u.me n) where
-  out_state : (ps : List ℕ) (closed : Bool) → ps ≢ [] → left_in ps closed ≡ left_by closed
+-- and what the walk has done when the line is handed over
+module _ (allows : List ℕ → List ℕ → Type 0) (s t u : LinkSeat) (nodes : List ℕ) (taken node : ℕ) (n : ℕ) (k : Walked (ghost_of s) nodes (ghost_of t)) (b : StandsBy s nodes t taken (handoff.Passed node)) (slot : HasSlot s (ghost_of s).own.line) (state : (ghost_of s).view.state ≡ state_after (ghost_of s).own.line.closed)
+    (advances : Advances allows t.me u.me n) where
+  out_state : (ps : List ℕ) (closed : Bool) → ps ≢ [] → left_in ps closed ≡ state_after closed
   out_state [] closed some = absurd (some refl)
   out_state (p ∷ ps) closed some = refl
 
   longer : length (nodes ++ node ∷ []) ≡ length nodes + 1
   longer = length-append nodes (node ∷ [])
 
-  some : (known_of t).own.passed ≢ []
-  some = some_passed (known_of t).own.passed (length nodes) b.1.many
+  some : (ghost_of t).own.passed ≢ []
+  some = some_passed (ghost_of t).own.passed (length nodes) b.1.many
 
   -- the line is away, and as many are passed as before
-  module _ (e : Ended (known_of t) (known_of u) (known_of s).own.line) (same : (known_of u).own.passed ≡ (known_of t).own.passed) (left : PortState) (at : (known_of u).own.seat.point ≡ after_release left (known_of t).own.passed) (is : (known_of u).view.state ≡ left_by (known_of s).own.line.closed)
-      (unmarked : (r : Request) → turn_of (known_of u).view.order (known_of u).view.ends ≡ Some r → Lacks (known_of u).view.marked r) where
-    out_walked : Walked (known_of s) (nodes ++ node ∷ []) (known_of u)
-    out_walked = walked_on (known_of s) (known_of t) (known_of u) nodes node (known_of s).own.line k b.1 e went.extends (is ∙ sym state) (grows_none (known_of s) (known_of t) (known_of u) nodes k went.extends node b.1 same)
+  module _ (e : Ended (ghost_of t) (ghost_of u) (ghost_of s).own.line) (same : (ghost_of u).own.passed ≡ (ghost_of t).own.passed) (left : PortState) (at : (ghost_of u).own.seat.point ≡ after_release left (ghost_of t).own.passed) (is : (ghost_of u).view.state ≡ state_after (ghost_of s).own.line.closed)
+      (unmarked : (r : Request) → turn_of (ghost_of u).view.order (ghost_of u).view.ends ≡ Some r → Lacks (ghost_of u).view.marked r) where
+    out_walked : Walked (ghost_of s) (nodes ++ node ∷ []) (ghost_of u)
+    out_walked = walked_on (ghost_of s) (ghost_of t) (ghost_of u) nodes node (ghost_of s).own.line k b.1 e advances.extends (is ∙ sym state) (grows_none (ghost_of s) (ghost_of t) (ghost_of u) nodes k advances.extends node b.1 same)
 
-    out_away : IsAway (nodes ++ node ∷ []) (known_of u)
+    out_away : IsAway (nodes ++ node ∷ []) (ghost_of u)
     out_away = record {
-      point = at ∙ frees_after left (known_of t).own.passed some;
+      point = at ∙ frees_after left (ghost_of t).own.passed some;
       many = omega (arith, ap length same, b.1.many, longer);
       some = λ none. some (sym same ∙ none);
       known = e.known;
       unmarked = unmarked;
     }
 
-  steps_out : n ≤ 3 → IsOneLeft (known_of t) → taken + n + length (nodes ++ node ∷ []) + 6 ≤ 4 * (known_of s).view.terms.nodes
-  steps_out most one = omega (arith, most, one, b.3, b.1.many, longer, ap (λ (z : Terms). z.nodes) k.terms)
+  steps_out : n ≤ 3 → IsOneLeft (ghost_of t) → taken + n + length (nodes ++ node ∷ []) + 6 ≤ 4 * (ghost_of s).view.config.nodes
+  steps_out max_steps one = omega (arith, max_steps, one, b.3, b.1.many, longer, ap (λ (z : LineConfig). z.nodes) k.config)
 
-  walks_out : HandsOn t (known_of s).own.line u n handed.On → Walked (known_of s) (nodes ++ node ∷ []) (known_of u) × StandsBy s (nodes ++ node ∷ []) u (taken + n) handed.On
+  walks_out : HandsOff t (ghost_of s).own.line u n handoff.On → Walked (ghost_of s) (nodes ++ node ∷ []) (ghost_of u) × StandsBy s (nodes ++ node ∷ []) u (taken + n) handoff.On
   walks_out h = (
-    out_walked h.1 h.2.passed (left_by (known_of s).own.line.closed) h.2.point h.2.state h.2.unmarked,
+    out_walked h.1 h.2.passed (state_after (ghost_of s).own.line.closed) h.2.point h.2.state h.2.unmarked,
     (
       h.0,
-      out_away h.1 h.2.passed (left_by (known_of s).own.line.closed) h.2.point h.2.state h.2.unmarked,
+      out_away h.1 h.2.passed (state_after (ghost_of s).own.line.closed) h.2.point h.2.state h.2.unmarked,
       ⊎_elim (λ one. omega (arith, one, k.few, b.3, b.1.many, longer)) (λ more. steps_out (omega (arith, more.0)) more.1) h.3,
       ⊎_elim (λ one. omega (arith, one, b.3, longer)) (λ more. omega (arith, more.0, b.3, longer)) h.3,
       ⊎_elim (λ one. omega (arith, one, b.3, longer)) (λ more. omega (arith, more.0, b.3, longer)) h.3,
     ),
   )
 
-  walks_left : HandsOn t (known_of s).own.line u n handed.Left → Walked (known_of s) (nodes ++ node ∷ []) (known_of u) × StandsBy s (nodes ++ node ∷ []) u (taken + n) handed.Left
-  walks_left h = let closed = h.2.state ∙ out_state (known_of t).own.passed (known_of s).own.line.closed some in (
-    out_walked h.1 h.2.passed (left_in (known_of t).own.passed (known_of s).own.line.closed) h.2.point closed h.2.unmarked,
-    (h.0, out_away h.1 h.2.passed (left_in (known_of t).own.passed (known_of s).own.line.closed) h.2.point closed h.2.unmarked, steps_out (omega (arith, h.3)) h.4, omega (arith, h.3, b.3, longer), omega (arith, h.3, b.3, longer)),
+  walks_left : HandsOff t (ghost_of s).own.line u n handoff.Left → Walked (ghost_of s) (nodes ++ node ∷ []) (ghost_of u) × StandsBy s (nodes ++ node ∷ []) u (taken + n) handoff.Left
+  walks_left h = let closed = h.2.state ∙ out_state (ghost_of t).own.passed (ghost_of s).own.line.closed some in (
+    out_walked h.1 h.2.passed (left_in (ghost_of t).own.passed (ghost_of s).own.line.closed) h.2.point closed h.2.unmarked,
+    (h.0, out_away h.1 h.2.passed (left_in (ghost_of t).own.passed (ghost_of s).own.line.closed) h.2.point closed h.2.unmarked, steps_out (omega (arith, h.3)) h.4, omega (arith, h.3, b.3, longer), omega (arith, h.3, b.3, longer)),
   )
 
-  walks_passed : (to : ℕ) → HandsOn t (known_of s).own.line u n (handed.Passed to) → Walked (known_of s) (nodes ++ node ∷ []) (known_of u) × StandsBy s (nodes ++ node ∷ []) u (taken + n) (handed.Passed to)
+  walks_passed : (to : ℕ) → HandsOff t (ghost_of s).own.line u n (handoff.Passed to) → Walked (ghost_of s) (nodes ++ node ∷ []) (ghost_of u) × StandsBy s (nodes ++ node ∷ []) u (taken + n) (handoff.Passed to)
   walks_passed to h = (
-    walked_on (known_of s) (known_of t) (known_of u) nodes node (known_of s).own.line k b.1 h.1 went.extends (h.2.state ∙ sym state)
-        (grows_more (known_of s) (known_of t) (known_of u) nodes k went.extends to (known_of s).own.line b.1.many (ends_long (known_of s) (known_of t) (known_of u) nodes node (known_of s).own.line k b.1 h.1 went.extends) (ap (λ (z : Terms). z.nodes) (went.extends.terms ∙ k.terms)) h.2),
+    walked_on (ghost_of s) (ghost_of t) (ghost_of u) nodes node (ghost_of s).own.line k b.1 h.1 advances.extends (h.2.state ∙ sym state)
+        (grows_more (ghost_of s) (ghost_of t) (ghost_of u) nodes k advances.extends to (ghost_of s).own.line b.1.many (ends_long (ghost_of s) (ghost_of t) (ghost_of u) nodes node (ghost_of s).own.line k b.1 h.1 advances.extends) (ap (λ (z : LineConfig). z.nodes) (advances.extends.config ∙ k.config)) h.2),
     (
       h.0 ∙ sym slot,
       record {
         point = h.2.point;
-        many = omega (arith, ap length h.2.passed, length-append (known_of t).own.passed (length (known_of u).view.ends ∷ []), b.1.many, longer);
+        many = omega (arith, ap length h.2.passed, length-append (ghost_of t).own.passed (length (ghost_of u).view.ends ∷ []), b.1.many, longer);
         request = h.2.request;
         at = h.2.at;
         made_by = h.2.node;
@@ -269,37 +268,37 @@ module _ (allows : List ℕ → List ℕ → Type 0) (s t u : LinkSeat) (nodes :
     ),
   )
 
-  pub walks : (result : Handed) → HandsOn t (known_of s).own.line u n result → Walked (known_of s) (nodes ++ node ∷ []) (known_of u) × StandsBy s (nodes ++ node ∷ []) u (taken + n) result
-  walks handed.On h = walks_out h
-  walks handed.Left h = walks_left h
-  walks (handed.Passed to) h = walks_passed to h
+  pub walks : (result : Handoff) → HandsOff t (ghost_of s).own.line u n result → Walked (ghost_of s) (nodes ++ node ∷ []) (ghost_of u) × StandsBy s (nodes ++ node ∷ []) u (taken + n) result
+  walks handoff.On h = walks_out h
+  walks handoff.Left h = walks_left h
+  walks (handoff.Passed to) h = walks_passed to h
 
 -- so one more turn of the loop keeps it
-pub walking_on : (allows : List ℕ → List ℕ → Type 0) (s t u : LinkSeat) (before : ℕ) (nodes : List ℕ) (node steps later n : ℕ) (result : Handed) → IsWalking allows s before nodes (handed.Passed node) t steps → HasSlot s (known_of s).own.line → (known_of s).view.state ≡ left_by (known_of s).own.line.closed
-    → SameSeat t u → later ≡ steps + n → GoesOn allows t.me u.me n → ((y : Parcel) → HasSlot t y → HandsOn t y u n result) → IsWalking allows s before (nodes ++ node ∷ []) result u later
-walking_on allows s t u before nodes node steps later n result k slot state same is went hands =
-    let on = walks allows s t u nodes k.taken node n k.walked k.stands slot state went result (hands (known_of s).own.line (k.stands.0 ∙ slot)) in
+pub walking_on : (allows : List ℕ → List ℕ → Type 0) (s t u : LinkSeat) (before : ℕ) (nodes : List ℕ) (node steps later n : ℕ) (result : Handoff) → IsWalking allows s before nodes (handoff.Passed node) t steps → HasSlot s (ghost_of s).own.line → (ghost_of s).view.state ≡ state_after (ghost_of s).own.line.closed
+    → IsSameSeat t u → later ≡ steps + n → Advances allows t.me u.me n → ((y : Payload) → HasSlot t y → HandsOff t y u n result) → IsWalking allows s before (nodes ++ node ∷ []) result u later
+walking_on allows s t u before nodes node steps later n result k slot state same is advances hands =
+    let on = walks allows s t u nodes k.taken node n k.walked k.stands slot state advances result (hands (ghost_of s).own.line (k.stands.0 ∙ slot)) in
     record {
-      same = (same.0 ∙ k.same.0, same.1 ∙ k.same.1);
+      seat = (same.0 ∙ k.seat.0, same.1 ∙ k.seat.1);
       taken = k.taken + n;
-      counted = omega (arith, is, k.counted);
-      goes_on = goes_trans allows s.me t.me u.me k.taken n k.goes_on went;
+      steps_are = omega (arith, is, k.steps_are);
+      advances = goes_trans allows s.me t.me u.me k.taken n k.advances advances;
       walked = on.0;
       stands = on.1;
     }
 
 -- the line is away, and the word of the turn was named
-pub names_away : (w : Known) (word : ℕ) (result : Handed) → ((node : ℕ) → result ≢ handed.Passed node) → NamesTurn w word result → word ≡ turn_word w.view
-names_away w word handed.On none names = names
-names_away w word handed.Left none names = names
-names_away w word (handed.Passed node) none names = absurd (none node refl)
+pub names_away : (w : LinkGhost) (word : ℕ) (result : Handoff) → ((node : ℕ) → result ≢ handoff.Passed node) → NamesTurn w word result → word ≡ turn_word w.view
+names_away w word handoff.On none names = names
+names_away w word handoff.Left none names = names
+names_away w word (handoff.Passed node) none names = absurd (none node refl)
 
 -- it stays that while the passed nodes are freed
-pub turn_stays : (w x : Known) → FreesAll w x → turn_word x.view ≡ turn_word w.view
+pub turn_stays : (w x : LinkGhost) → FreesAll w x → turn_word x.view ≡ turn_word w.view
 turn_stays w x f = λ i. word_of (f.joined i) (turn_of (f.order i) (f.ends i))
 
 -- when the walk is over, the line is away
-pub away_by : (allows : List ℕ → List ℕ → Type 0) (s t : LinkSeat) (before : ℕ) (nodes : List ℕ) (result : Handed) (steps : ℕ) → ((node : ℕ) → result ≢ handed.Passed node) → (k : IsWalking allows s before nodes result t steps) → HasNoSlot t × IsAway nodes (known_of t) × (k.taken + length nodes + 6 ≤ 4 * (known_of s).view.terms.nodes) × (3 * length nodes ≤ k.taken + 2) × (k.taken ≤ 3 * length nodes)
-away_by allows s t from nodes handed.On steps none k = k.stands
-away_by allows s t from nodes handed.Left steps none k = k.stands
-away_by allows s t from nodes (handed.Passed node) steps none k = absurd (none node refl)
+pub away_by : (allows : List ℕ → List ℕ → Type 0) (s t : LinkSeat) (before : ℕ) (nodes : List ℕ) (result : Handoff) (steps : ℕ) → ((node : ℕ) → result ≢ handoff.Passed node) → (k : IsWalking allows s before nodes result t steps) → HasNoSlot t × IsAway nodes (ghost_of t) × (k.taken + length nodes + 6 ≤ 4 * (ghost_of s).view.config.nodes) × (3 * length nodes ≤ k.taken + 2) × (k.taken ≤ 3 * length nodes)
+away_by allows s t from nodes handoff.On steps none k = k.stands
+away_by allows s t from nodes handoff.Left steps none k = k.stands
+away_by allows s t from nodes (handoff.Passed node) steps none k = absurd (none node refl)

@@ -1,5 +1,5 @@
--- What a queue owes of its rule, for the list.
-pub mod Standing
+-- The laws that a discipline owes, for the list.
+pub mod PortModel
 pub mod Histories
 pub mod Nodes
 pub mod Seats

@@ -1,6 +1,6 @@
-pub mod Words
-pub mod Known
-pub mod Stances
+pub mod Layout
+pub mod Ghost
+pub mod BetweenCalls
 pub mod Links
 pub mod Steps
 pub mod Releases

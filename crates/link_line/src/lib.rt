@@ -1,16 +1,16 @@
-//! A queued line over atomic words: nodes stand in a list, and the younger of two neighbours makes the link.
+//! A queue lock over atomic words that hands over a line: nodes are in a list, and the younger of two neighbours makes the link.
 #![tactic(auto)]
 
-mod asking;
-mod own;
+mod discipline;
+mod enqueue;
+mod invariant;
+mod layout;
+mod local;
 mod plays;
-mod queue;
 mod release;
-mod rule;
 mod steps;
-mod words;
 
-pub use own::LinkOwn;
+pub use invariant::{LinkLine, LinkQueue, Port};
+pub use layout::word_count;
+pub use local::LinkLocal;
 pub use qolb_model::Prep;
-pub use rule::{LinkLine, Links, Port};
-pub use words::word_count;

@@ -1,98 +1,98 @@
-//! What each step tells.
+//! The ghost updates of the word steps.
 ghost use Rattle.link_line.specs.Steps.{readied, prepended, linked, loaded, looked, homed, marked, granted, rolled, freed};
 
-use crate::rule::Entries;
+use crate::invariant::Entries;
 use atomic_table::Play;
+use line_generic::Payload;
 use qolb_model::Keep;
-use shared_line::Parcel;
 use std::marker::PhantomData;
 
-/// The own entry is cleared.
+/// Clears the node's own entry.
 pub(crate) struct Reset<K> {
     law: PhantomData<K>,
 }
 
-impl<K: Keep> Play<Parcel, Entries> for Reset<K> {
+impl<K: Keep> Play<Payload, Entries> for Reset<K> {
     ghost then = { readied K.allows };
 }
 
-/// The own number is put into the home word.
+/// Puts the node's number into the home word.
 pub(crate) struct Prepend<K> {
     law: PhantomData<K>,
 }
 
-impl<K: Keep> Play<Parcel, Entries> for Prepend<K> {
+impl<K: Keep> Play<Payload, Entries> for Prepend<K> {
     ghost then = { prepended K.allows };
 }
 
-/// The own number is added to the entry of the node before.
+/// Adds the node's number to its predecessor's entry.
 pub(crate) struct Link<K> {
     law: PhantomData<K>,
 }
 
-impl<K: Keep> Play<Parcel, Entries> for Link<K> {
+impl<K: Keep> Play<Payload, Entries> for Link<K> {
     ghost then = { linked K.allows };
 }
 
-/// The own entry is read while the request waits.
+/// Loads the node's own entry while its request waits.
 pub(crate) struct Load<K> {
     law: PhantomData<K>,
 }
 
-impl<K: Keep> Play<Parcel, Entries> for Load<K> {
+impl<K: Keep> Play<Payload, Entries> for Load<K> {
     ghost then = { loaded K.allows };
 }
 
-/// The own entry is read after the request has ended or was withdrawn.
+/// Loads the node's own entry after its request has ended or was withdrawn.
 pub(crate) struct Look<K> {
     law: PhantomData<K>,
 }
 
-impl<K: Keep> Play<Parcel, Entries> for Look<K> {
+impl<K: Keep> Play<Payload, Entries> for Look<K> {
     ghost then = { looked K.allows };
 }
 
-/// A release tries to send the line home.
+/// Tries to return the line to the home slot, in a release.
 pub(crate) struct Home<K> {
     law: PhantomData<K>,
 }
 
-impl<K: Keep> Play<Parcel, Entries> for Home<K> {
+impl<K: Keep> Play<Payload, Entries> for Home<K> {
     ghost then = { homed K.allows };
 }
 
-/// The entry that a release has come to is done.
+/// Marks the entry that a release has reached as done.
 pub(crate) struct Done<K> {
     law: PhantomData<K>,
 }
 
-impl<K: Keep> Play<Parcel, Entries> for Done<K> {
+impl<K: Keep> Play<Payload, Entries> for Done<K> {
     ghost then = { marked K.allows };
 }
 
-/// The next entry is granted.
+/// Grants the next entry.
 pub(crate) struct Grant<K> {
     law: PhantomData<K>,
 }
 
-impl<K: Keep> Play<Parcel, Entries> for Grant<K> {
+impl<K: Keep> Play<Payload, Entries> for Grant<K> {
     ghost then = { granted K.allows };
 }
 
-/// The request of the own entry is withdrawn.
+/// Withdraws the request of the node's own entry.
 pub(crate) struct Roll<K> {
     law: PhantomData<K>,
 }
 
-impl<K: Keep> Play<Parcel, Entries> for Roll<K> {
+impl<K: Keep> Play<Payload, Entries> for Roll<K> {
     ghost then = { rolled K.allows };
 }
 
-/// A passed node is freed.
-pub(crate) struct Free<K> {
+/// Frees a passed node.
+pub(crate) struct FreeNode<K> {
     law: PhantomData<K>,
 }
 
-impl<K: Keep> Play<Parcel, Entries> for Free<K> {
+impl<K: Keep> Play<Payload, Entries> for FreeNode<K> {
     ghost then = { freed K.allows };
 }

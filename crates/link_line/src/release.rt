@@ -1,196 +1,208 @@
-//! How a line is let go.
+//! The release of the line: one handoff, or a walk past withdrawn successors.
+//!
+//! The releasing node's request ends at the step that hands the line on or passes a successor: a `home` that finds no successor, a `done`
+//! that finds no link, or the first `grant`.
 ghost use Rattle.std.specs.Prelude.{◌≡◌, ◌≢◌, ℕ, ◌+◌, ◌*◌, ◌<◌, ◌≤◌, [], ◌∷◌, length};
 ghost use Rattle.qolb_model.specs.declared.request.Request.{Request};
 ghost use Rattle.qolb_model.specs.Requests.{AreOfOthers};
-ghost use Rattle.qolb_model.specs.declared.terms.TheConstants.{MOST_NODES};
+ghost use Rattle.qolb_model.specs.declared.config.TheConstants.{MAX_NODES};
 ghost use Rattle.qolb_model.specs.PortStates as states;
 ghost use Rattle.link_core.specs.declared.point.Point.TheVariants.{Leaving, Freeing};
-ghost use Rattle.shared_line.specs.declared.rule.Parcel.{Parcel};
-ghost use Rattle.shared_line.specs.Steps.{SameSeat, HasSlot, HasNoSlot};
+ghost use Rattle.line_generic.specs.declared.table.Payload.{Payload};
+ghost use Rattle.line_generic.specs.Steps.{IsSameSeat, HasSlot, HasNoSlot};
 ghost use Rattle.link_line.specs.Links.{At};
-ghost use Rattle.link_line.specs.Stances.{lets_go_in, turn_word};
-ghost use Rattle.link_line.specs.Words as layout;
-ghost use Rattle.link_line.specs.Steps.{IsSeatOf, IsAt, IsSeatOfNode, IsSized, Alone, known_of, GoesOn, Went, MayLetGo};
-ghost use Rattle.link_line.specs.Releases.{AreFew, HandsOn, NamesTurn, LetsLineGo, WalksOn, AreNodesAt, FreesAll};
+ghost use Rattle.link_line.specs.BetweenCalls.{release_steps, turn_word};
+ghost use Rattle.link_line.specs.Layout as layout;
+ghost use Rattle.link_line.specs.Steps.{IsSeatOf, IsAt, IsSeatOfNode, IsSized, IsSingle, ghost_of, Advances, SeatAdvances, MayHandOff};
+ghost use Rattle.link_line.specs.Releases.{AreFew, HandsOff, NamesTurn, ReleasesLine, FinishesWalk, AreNodesAt, FreesAll};
 
-use crate::rule::{Ground, LinkSeat};
+use crate::invariant::{LinkSeat, SharedTable};
+use crate::layout::{HOME, entry_word, linked_word};
 use crate::steps::{done, free, grant, home};
-use crate::words::{HOME, entry_word, linked_word};
 use arrayvec::ArrayVec;
-use qolb_model::{Keep, MOST_NODES, PortState};
-use shared_line::{Released, ToWake};
+use line_generic::{Released, UnparkHandle};
+use qolb_model::{Keep, MAX_NODES, PortState};
 
-/// The most requests that a release passes: those of all nodes but its own.
-const MOST_PASSED: usize = MOST_NODES as usize - 1;
+/// The maximum number of requests that a release passes: those of all nodes but its own.
+const MAX_PASSED: usize = MAX_NODES as usize - 1;
 
-/// What became of a line that was let go at an entry.
+/// The result of a handoff at an entry.
 #[derive(Clone, Copy)]
-pub(crate) enum Handed {
-    /// It is away: at home, or the next request's.
+pub(crate) enum Handoff {
+    /// The line is handed on: it is at home, or granted to the successor.
     On,
-    /// It is left there, for a late linker.
+    /// The line is left in the entry, for a late linker.
     Left,
-    /// It is still in hand: the request of this node, the next, is withdrawn, and so passed.
+    /// The successor, this node, has withdrawn. Its request is passed, and the releasing node still has the line.
     Passed(u64),
 }
 
-/// Lets the line go that lies in the slot, closed or not.
+/// Releases the line that this seat has; `closed` is the line's own mark. Never waits for a link.
+///
+/// At most `4 * nodes - 3` word steps: one to three for each handoff, and one to free each passed node. The line is handed on before the
+/// first node is freed. Returns the port's state, the word steps, and the words whose waiters are to be unparked.
 #[inline]
 pub(crate) fn release<K: Keep>(
-    ground: &Ground<K>,
+    table: &SharedTable<K>,
     seat: &mut LinkSeat,
     node: u64,
     closed: bool,
 ) -> Released
-    requires seat { IsSeatOfNode ground.now.key.terms.nodes ground.now.table_id node seat.old }
-    requires alone { Alone seat.old.me }
-    requires none_passed { (known_of seat.old).own.passed ≡ [] }
-    requires nodes { (1 ≤ (known_of seat.old).view.terms.nodes) × ((known_of seat.old).view.terms.nodes ≤ MOST_NODES) }
-    requires parcel { (y : Parcel) × HasSlot seat.old y × MayLetGo K.allows (known_of seat.old) y node × (y.closed ≡ closed) }
+    requires seat { IsSeatOfNode table.now.key.config.nodes table.now.table_id node seat.old }
+    requires is_single { IsSingle seat.old.me }
+    requires none_passed { (ghost_of seat.old).own.passed ≡ [] }
+    requires nodes { (1 ≤ (ghost_of seat.old).view.config.nodes) × ((ghost_of seat.old).view.config.nodes ≤ MAX_NODES) }
+    requires payload { (y : Payload) × HasSlot seat.old y × MayHandOff K.allows (ghost_of seat.old) y node × (y.closed ≡ closed) }
     ensures slot { HasNoSlot seat.new }
-    ensures went { Went K.allows seat.old seat.new result.steps }
-    ensures lets_go { (y : Parcel) → HasSlot seat.old y → LetsLineGo (known_of seat.old) y result.state (known_of seat.new) }
-    ensures counted { lets_go_in (length (known_of seat.old).view.ends) (length (known_of seat.new).view.ends) result.steps }
-    ensures to_wake { result.to_wake.word < layout.word_count ground.now.key.terms.nodes }
-    ensures wakes { result.to_wake.word ≡ turn_word (known_of seat.new).view }
-    ensures bound { result.steps + 3 ≤ 4 * (known_of seat.old).view.terms.nodes }
+    ensures advances { SeatAdvances K.allows seat.old seat.new result.steps }
+    ensures releases { (y : Payload) → HasSlot seat.old y → ReleasesLine (ghost_of seat.old) y result.state (ghost_of seat.new) }
+    ensures steps { release_steps (length (ghost_of seat.old).view.ends) (length (ghost_of seat.new).view.ends) result.steps }
+    ensures unpark { result.unpark.word < layout.word_count table.now.key.config.nodes }
+    ensures wakes { result.unpark.word ≡ turn_word (ghost_of seat.new).view }
+    ensures bound { result.steps + 3 ≤ 4 * (ghost_of seat.old).view.config.nodes }
 {
     let mut steps = 0;
     let mut granted = HOME;
     let mut behind = 0;
-    match hand_on(ground, seat, &mut steps, &mut granted, &mut behind, node) {
-        Handed::On => Released {
-            state: left_by(closed),
+    match try_handoff(table, seat, &mut steps, &mut granted, &mut behind, node) {
+        Handoff::On => Released {
+            state: state_after(closed),
             steps,
-            to_wake: ToWake::at(granted, linked_word(behind)),
+            unpark: UnparkHandle::at(granted, linked_word(behind)),
         },
-        Handed::Left => Released {
+        Handoff::Left => Released {
             state: PortState::Left,
             steps,
-            to_wake: ToWake::at(granted, HOME),
+            unpark: UnparkHandle::at(granted, HOME),
         },
-        Handed::Passed(first) => {
+        // Never `Left`: a walk can leave the line in the entry of a passed node alone.
+        Handoff::Passed(first) => {
             let mut last = HOME;
-            let steps = walk(ground, seat, steps, &mut last, &mut behind, first);
+            let steps = walk(table, seat, steps, &mut last, &mut behind, first);
             Released {
-                state: left_by(closed),
+                state: state_after(closed),
                 steps,
-                to_wake: ToWake::at(last, linked_word(behind)),
+                unpark: UnparkHandle::at(last, linked_word(behind)),
             }
         }
     }
 }
 
-/// Lets the line go at the entry of the node `at`: home where nobody is behind it, else to the next request. `granted` is then the word that
-/// was granted, or the home word where none was; and `behind` the node that is linked to it, or 0.
+/// Tries to hand the line to the successor of node `at`.
+///
+/// If there is none, the line returns to the home slot. If the successor has not linked yet, the line is left in `at`'s entry. A withdrawn
+/// successor is passed, and the caller goes on from it. One to three word steps, added to `steps`. Sets `granted` to the word of the entry
+/// that was granted or passed, or to `HOME`. Sets `behind` only with a grant.
 #[inline]
-fn hand_on<K: Keep>(
-    ground: &Ground<K>,
+fn try_handoff<K: Keep>(
+    table: &SharedTable<K>,
     seat: &mut LinkSeat,
     steps: &mut u64,
     granted: &mut usize,
     behind: &mut u64,
     at: u64,
-) -> Handed
-    requires table { IsSeatOf ground.now.key.terms.nodes ground.now.table_id seat.old }
-    requires alone { Alone seat.old.me }
-    requires high { layout.IsWithin ground.now.key.terms.nodes at }
-    requires size { IsSized ground.now.key.terms.nodes seat.old }
+) -> Handoff
+    requires table { IsSeatOf table.now.key.config.nodes table.now.table_id seat.old }
+    requires is_single { IsSingle seat.old.me }
+    requires high { layout.IsWithin table.now.key.config.nodes at }
+    requires size { IsSized table.now.key.config.nodes seat.old }
     requires few { AreFew steps.old }
-    requires parcel { (y : Parcel) × HasSlot seat.old y × MayLetGo K.allows (known_of seat.old) y at }
-    ensures same { SameSeat seat.old seat.new }
-    ensures handed { (n : ℕ) × (steps.new ≡ steps.old + n) × GoesOn K.allows seat.old.me seat.new.me n × ((y : Parcel) → HasSlot seat.old y → HandsOn seat.old y seat.new n result) }
-    ensures within { granted.new < layout.word_count ground.now.key.terms.nodes }
-    ensures names { NamesTurn (known_of seat.new) granted.new result }
+    requires payload { (y : Payload) × HasSlot seat.old y × MayHandOff K.allows (ghost_of seat.old) y at }
+    ensures seat { IsSameSeat seat.old seat.new }
+    ensures handed { (n : ℕ) × (steps.new ≡ steps.old + n) × Advances K.allows seat.old.me seat.new.me n × ((y : Payload) → HasSlot seat.old y → HandsOff seat.old y seat.new n result) }
+    ensures within { granted.new < layout.word_count table.now.key.config.nodes }
+    ensures names { NamesTurn (ghost_of seat.new) granted.new result }
 {
     *granted = HOME;
-    // Home first: only where home names another node does a link come, so that a done entry without one is left for somebody.
+    // `home` first: if it fails there is a successor, so a missing link is a late linker's, which takes the line as it links.
     *steps += 1;
-    if home(ground, seat, at) {
-        return Handed::On;
+    if home(table, seat, at) {
+        return Handoff::On;
     }
     *steps += 1;
-    let next = done(ground, seat, at);
+    let next = done(table, seat, at);
     if next == 0 {
-        return Handed::Left;
+        return Handoff::Left;
     }
     *steps += 1;
     *granted = entry_word(next);
-    if grant(ground, seat, behind, next) {
-        Handed::Passed(next)
+    if grant(table, seat, behind, next) {
+        Handoff::Passed(next)
     } else {
-        Handed::On
+        Handoff::On
     }
 }
 
-/// Passes withdrawn requests, from that of the node `first` on up to one that is not, and frees their nodes. So many steps were taken before;
-/// returns how many there are now. `granted` is then the word that was granted last, or the home word where the line is at home or left.
+/// Hands the line on from the passed node `first`, past each withdrawn request, and then frees all passed nodes.
 ///
-/// It is apart, and cold: room for the passed nodes is cleared at its entry, which a release that meets no withdrawn request need not pay.
+/// Returns `steps` plus the word steps taken. Sets `granted` to the word that was granted last, or to `HOME` if the line is at home or
+/// left.
+///
+/// Cold and not inlined: it has an array of the passed nodes, which a release without withdrawn successors should not set up.
 #[cold]
 #[inline(never)]
 fn walk<K: Keep>(
-    ground: &Ground<K>,
+    table: &SharedTable<K>,
     seat: &mut LinkSeat,
     steps: u64,
     granted: &mut usize,
     behind: &mut u64,
     first: u64,
 ) -> u64
-    requires table { IsSeatOf ground.now.key.terms.nodes ground.now.table_id seat.old }
-    requires ready { IsAt (Leaving first) seat.old }
-    requires high { layout.IsWithin ground.now.key.terms.nodes first }
-    requires passed { (known_of seat.old).own.passed ≡ length (known_of seat.old).view.ends ∷ [] }
-    requires others { AreOfOthers (known_of seat.old).view.node (known_of seat.old).view.order (known_of seat.old).own.passed }
-    requires first { (r : Request) × At (known_of seat.old).view.order (length (known_of seat.old).view.ends) r × (r.node ≡ first) }
-    requires nodes { (2 ≤ (known_of seat.old).view.terms.nodes) × ((known_of seat.old).view.terms.nodes ≤ MOST_NODES) }
-    requires size { IsSized ground.now.key.terms.nodes seat.old }
+    requires table { IsSeatOf table.now.key.config.nodes table.now.table_id seat.old }
+    requires phase { IsAt (Leaving first) seat.old }
+    requires high { layout.IsWithin table.now.key.config.nodes first }
+    requires passed { (ghost_of seat.old).own.passed ≡ length (ghost_of seat.old).view.ends ∷ [] }
+    requires others { AreOfOthers (ghost_of seat.old).view.node (ghost_of seat.old).view.order (ghost_of seat.old).own.passed }
+    requires first { (r : Request) × At (ghost_of seat.old).view.order (length (ghost_of seat.old).view.ends) r × (r.node ≡ first) }
+    requires nodes { (2 ≤ (ghost_of seat.old).view.config.nodes) × ((ghost_of seat.old).view.config.nodes ≤ MAX_NODES) }
+    requires size { IsSized table.now.key.config.nodes seat.old }
     requires few { steps ≤ 6 }
-    requires within { granted.old < layout.word_count ground.now.key.terms.nodes }
-    requires parcel { HasSlot seat.old (known_of seat.old).own.line }
-    requires state { (known_of seat.old).view.state ≡ states.left_by (known_of seat.old).own.line.closed }
-    ensures same { SameSeat seat.old seat.new }
+    requires within { granted.old < layout.word_count table.now.key.config.nodes }
+    requires payload { HasSlot seat.old (ghost_of seat.old).own.line }
+    requires state { (ghost_of seat.old).view.state ≡ states.state_after (ghost_of seat.old).own.line.closed }
+    ensures seat { IsSameSeat seat.old seat.new }
     ensures slot { HasNoSlot seat.new }
-    ensures goes_on { (n : ℕ) × (result ≡ steps + n) × GoesOn K.allows seat.old.me seat.new.me n }
-    ensures walks_on { WalksOn (known_of seat.old) (known_of seat.new) }
-    ensures counted { (n : ℕ) × (result ≡ steps + n) × (4 * length (known_of seat.new).view.ends ≤ 4 * length (known_of seat.old).view.ends + n + 2) × (n + 4 * length (known_of seat.old).view.ends ≤ 4 * length (known_of seat.new).view.ends) }
-    ensures within { granted.new < layout.word_count ground.now.key.terms.nodes }
-    ensures names { granted.new ≡ turn_word (known_of seat.new).view }
-    ensures bound { result + 6 ≤ steps + 4 * (known_of seat.old).view.terms.nodes }
+    ensures advances { (n : ℕ) × (result ≡ steps + n) × Advances K.allows seat.old.me seat.new.me n }
+    ensures finishes_walk { FinishesWalk (ghost_of seat.old) (ghost_of seat.new) }
+    ensures steps { (n : ℕ) × (result ≡ steps + n) × (4 * length (ghost_of seat.new).view.ends ≤ 4 * length (ghost_of seat.old).view.ends + n + 2) × (n + 4 * length (ghost_of seat.old).view.ends ≤ 4 * length (ghost_of seat.new).view.ends) }
+    ensures within { granted.new < layout.word_count table.now.key.config.nodes }
+    ensures names { granted.new ≡ turn_word (ghost_of seat.new).view }
+    ensures bound { result + 6 ≤ steps + 4 * (ghost_of seat.old).view.config.nodes }
 {
     let mut steps = steps;
-    let mut passed = ArrayVec::<u64, MOST_PASSED>::new();
-    let mut handed = Handed::Passed(first);
-    while let Handed::Passed(node) = handed {
+    let mut passed = ArrayVec::<u64, MAX_PASSED>::new();
+    let mut handed = Handoff::Passed(first);
+    while let Handoff::Passed(node) = handed {
         passed.push(node);
-        handed = hand_on(ground, seat, &mut steps, granted, behind, node);
+        handed = try_handoff(table, seat, &mut steps, granted, behind, node);
     }
-    // Freed only now: a node that is freed may ask, and its new request must not be passed by this walk.
-    free_passed(ground, seat, &passed);
+    // Freed only now: a freed node may make a request, which this walk must not pass.
+    free_passed(table, seat, &passed);
     steps + passed.len() as u64
 }
 
-/// Frees the nodes of all requests that were passed, in their order.
-fn free_passed<K: Keep>(ground: &Ground<K>, seat: &mut LinkSeat, nodes: &[u64])
-    requires table { IsSeatOf ground.now.key.terms.nodes ground.now.table_id seat.old }
-    requires ready { IsAt Freeing seat.old }
-    requires size { IsSized ground.now.key.terms.nodes seat.old }
-    requires some { (known_of seat.old).own.passed ≢ [] }
-    requires many { length nodes.now ≡ length (known_of seat.old).own.passed }
-    requires nodes { AreNodesAt (known_of seat.old).view (known_of seat.old).own.passed nodes.now }
+/// Frees the nodes of all passed requests, in their order.
+fn free_passed<K: Keep>(table: &SharedTable<K>, seat: &mut LinkSeat, nodes: &[u64])
+    requires table { IsSeatOf table.now.key.config.nodes table.now.table_id seat.old }
+    requires phase { IsAt Freeing seat.old }
+    requires size { IsSized table.now.key.config.nodes seat.old }
+    requires some { (ghost_of seat.old).own.passed ≢ [] }
+    requires many { length nodes.now ≡ length (ghost_of seat.old).own.passed }
+    requires nodes { AreNodesAt (ghost_of seat.old).view (ghost_of seat.old).own.passed nodes.now }
     ensures slot { seat.new.me.1 ≡ seat.old.me.1 }
-    ensures went { Went K.allows seat.old seat.new (length nodes.now) }
-    ensures frees { FreesAll (known_of seat.old) (known_of seat.new) }
+    ensures advances { SeatAdvances K.allows seat.old seat.new (length nodes.now) }
+    ensures frees { FreesAll (ghost_of seat.old) (ghost_of seat.new) }
 {
     for node in nodes {
-        free(ground, seat, *node);
+        free(table, seat, *node);
     }
 }
 
-/// The state that a turn leaves which closed the line or did not.
+/// The state of a port after its turn: `Shut` if the line is closed, by this turn or an earlier one, else `Idle`.
 #[inline]
-fn left_by(closed: bool) -> PortState
-    ensures { result ≡ states.left_by closed }
+fn state_after(closed: bool) -> PortState
+    ensures { result ≡ states.state_after closed }
 {
     if closed {
         PortState::Shut

@@ -1,4 +1,4 @@
--- What a refused command line says of its words.
+-- The meaning of a refused command line for its words.
 use Rattle.std.proofs.Common.{◌≡◌, ◌≢◌, Bool, true, false, not, ◌&&◌, List, ap, refl, ◌∙◌, IfErr, IsErrAnd, Result, Ok, Err}
 use Rattle.clap.specs.Words.{App, Text, kind_of, takes}
 use Rattle.clap.specs.declared.error.Error.{Error}
@@ -9,7 +9,7 @@ not_taken : (names : KindNames) (words : List Text) → (t : Bool) → takes (th
 not_taken names words true e ne = absurd (ne refl)
 not_taken names words false e ne = record { names = names; refused = e }
 
--- an error that is not for want of memory comes where the command does not take the words
+-- if the error is not want of memory, the command does not take the words
 pub refused_words : {T : Type 0} (names : KindNames) (app : App) → app ≡ the_command names → (words : List Text) (e : Error) → (takes app words ≡ true → kind_of e ≡ OutOfMemory)
     → (r : Result T Error) → IsErrAnd r (λ x. x ≡ e) → IfErr r (λ x. kind_of x ≢ OutOfMemory → IsNotTaken words)
 refused_words names app is words e passes (Ok x) h = tt

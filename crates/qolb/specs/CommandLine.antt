@@ -8,16 +8,16 @@ use Rattle.clap.specs.declared.builder.value_parser.ValueParser.TheVariants as p
 use Rattle.qolb_script.specs.declared.job.WorkKind.TheVariants.{Board, Bank}
 use Rattle.qolb_run.specs.declared.replay.Kind.{Kind}
 use Rattle.qolb_run.specs.declared.replay.Kind.TheVariants as kind
-use Rattle.locks.specs.declared.Lines.{Lines}
-use Rattle.locks.specs.declared.Lines.TheVariants as lines
+use Rattle.line_kinds.specs.declared.Lines.{Lines}
+use Rattle.line_kinds.specs.declared.Lines.TheVariants as lines
 use Rattle.qolb_draw.specs.declared.draw.Form.{Form}
 use Rattle.qolb_draw.specs.declared.draw.Form.TheVariants as form
-use Rattle.qolb.specs.declared.command_line.Wish.{Wish}
-use Rattle.qolb.specs.declared.command_line.Wish.TheVariants.{Answer, Draw, DrawSteps}
-use Rattle.qolb_run.specs.declared.task.Detail.{Detail}
-use Rattle.qolb_run.specs.declared.task.Detail.TheVariants as detail
-use Rattle.qolb_run.specs.declared.task.Waits.{Waits}
-use Rattle.qolb_run.specs.declared.task.Waits.TheVariants as waits
+use Rattle.qolb.specs.declared.command_line.Subcommand.{Subcommand}
+use Rattle.qolb.specs.declared.command_line.Subcommand.TheVariants.{Answer, Draw, DrawSteps}
+use Rattle.qolb_replay.specs.declared.steps.Detail.{Detail}
+use Rattle.qolb_replay.specs.declared.steps.Detail.TheVariants as detail
+use Rattle.qolb_work.specs.declared.work.WaitMode.{WaitMode}
+use Rattle.qolb_work.specs.declared.work.WaitMode.TheVariants as waits
 use Rattle.qolb_run.specs.declared.task.Task.{Task}
 use Rattle.qolb_run.specs.declared.task.Task.TheVariants as task
 
@@ -28,7 +28,7 @@ Names = Bor (List (Bor Text))
 abbrev pub AreNames : Names → List Text → Type 0
 AreNames names texts = map (λ (name : Bor Text). name.now) names.now ≡ texts
 
--- the names of the kinds that a replay takes, and of those that workers share
+-- the names of the kinds of lines for a replay, and for workers
 pub record KindNames : Type 0 where
   pub replayed : Names
   pub shared : Names
@@ -52,7 +52,7 @@ flag_rule name = record (new_rule name) { long = Some name; action = Some SetTru
 abbrev pub explaining : App → App
 explaining app = with_rule app (flag_rule (codes "explain"))
 
--- `replay --kind KIND [--explain]`, where the kind must be given
+-- `replay --kind KIND [--explain]`, which needs the kind
 abbrev pub replay_command : Names → App
 replay_command names = explaining (with_rule (new_app (codes "replay")) (record (kind_rule names) { required = true }))
 
@@ -60,7 +60,7 @@ replay_command names = explaining (with_rule (new_app (codes "replay")) (record 
 abbrev pub steps_command : App
 steps_command = explaining (with_rule (new_app (codes "steps")) (flag_rule (codes "rank")))
 
--- work by this name, over lists where no kind is given
+-- work by this name, over lists if no kind is given
 abbrev pub work_over : Text → Names → App
 work_over name names = with_rule (new_app name) (record (kind_rule names) { defaults = codes "link" ∷ [] })
 
@@ -101,17 +101,17 @@ abbrev pub lines_of_name : Option Text → Lines
 lines_of_name None = lines.Link
 lines_of_name (Some name) = if bytes_eq name (codes "ring") then lines.Ring else if bytes_eq name (codes "ticket") then lines.Ticket else lines.Link
 
--- what is written of each event, by what `--rank` is set to
+-- what is written of each event, by the value of `--rank`
 abbrev pub detail_of : Option Text → Detail
 detail_of None = detail.Words
 detail_of (Some value) = if bytes_eq value (codes "true") then detail.Ranks else detail.Words
 
--- how workers wait, by what `--sleep` is set to
-abbrev pub waits_of : Option Text → Waits
+-- how workers wait, by the value of `--sleep`
+abbrev pub waits_of : Option Text → WaitMode
 waits_of None = waits.Awake
 waits_of (Some value) = if bytes_eq value (codes "true") then waits.Asleep else waits.Awake
 
--- whether a flag is given, by its value
+-- a flag is given, by its value
 abbrev pub is_given : Option Text → Bool
 is_given None = false
 is_given (Some value) = bytes_eq value (codes "true")
@@ -120,7 +120,7 @@ abbrev pub is_given_at : Text → List Row → Bool
 is_given_at flag rows = is_given (first_of flag rows)
 
 -- the task of a subcommand with these arguments
-abbrev pub task_by : Text → Option Text → Detail → Waits → Task
+abbrev pub task_by : Text → Option Text → Detail → WaitMode → Task
 task_by name kind detail waits =
     if bytes_eq name (codes "steps") then task.Steps detail
     else if bytes_eq name (codes "board") then task.Work Board (lines_of_name kind) waits
@@ -130,7 +130,7 @@ task_by name kind detail waits =
 abbrev pub task_at : Text × List Row → Task
 task_at entered = task_by entered.0 (first_of (codes "kind") entered.1) (detail_of (first_of (codes "rank") entered.1)) (waits_of (first_of (codes "sleep") entered.1))
 
--- the form of a picture, by what `--svg` is set to
+-- the form of a picture, by the value of `--svg`
 abbrev pub form_of : Option Text → Form
 form_of None = form.Text
 form_of (Some value) = if bytes_eq value (codes "true") then form.Svg else form.Text
@@ -138,19 +138,19 @@ form_of (Some value) = if bytes_eq value (codes "true") then form.Svg else form.
 abbrev pub form_at : List Row → Form
 form_at rows = form_of (first_of (codes "svg") rows)
 
--- what is drawn: a schedule, or with `--steps` a step script
-abbrev pub drawing_of : Bool → Form → Wish
+-- the drawing: of a schedule, or with `--steps` of a step script
+abbrev pub drawing_of : Bool → Form → Subcommand
 drawing_of steps form = if steps then DrawSteps form else Draw form
 
-abbrev pub drawing_at : List Row → Wish
+abbrev pub drawing_at : List Row → Subcommand
 drawing_at rows = drawing_of (is_given_at (codes "steps") rows) (form_at rows)
 
--- what a subcommand asks for, with these arguments
-abbrev pub wish_at : Text × List Row → Wish
+-- the meaning of a subcommand with these arguments
+abbrev pub wish_at : Text × List Row → Subcommand
 wish_at entered = if bytes_eq entered.0 (codes "draw") then drawing_at entered.1 else Answer (task_at entered)
 
 -- the words ask for this
-pub record NamesWish (words : List Text) (wanted : Wish) : Type 0 where
+pub record NamesWish (words : List Text) (wanted : Subcommand) : Type 0 where
   pub names : KindNames
   pub named : option_map wish_at (subcommand_of (the_command names) words) ≡ Some wanted
 

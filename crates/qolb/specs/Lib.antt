@@ -1,3 +1,3 @@
 pub mod CommandLine
 pub mod Status
-pub mod Wishes
+pub mod Subcommands

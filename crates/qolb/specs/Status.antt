@@ -1,7 +1,7 @@
 -- The exit statuses of the program.
 use Rattle.std.specs.Prelude.{ℕ}
-use Rattle.qolb_run.specs.declared.replay.ReplayError.{ReplayError}
-use Rattle.qolb_run.specs.declared.replay.ReplayError.TheVariants as error
+use Rattle.qolb_replay.specs.declared.replay.ReplayError.{ReplayError}
+use Rattle.qolb_replay.specs.declared.replay.ReplayError.TheVariants as error
 use Rattle.qolb_run.specs.declared.report.TaskError.{TaskError}
 use Rattle.qolb_run.specs.declared.report.TaskError.TheVariants.{Replay, Stalled}
 

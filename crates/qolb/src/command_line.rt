@@ -7,14 +7,14 @@ ghost use Rattle.qolb.specs.CommandLine.{KindNames, NamesFlag, NamesWish, IsNotT
 use clap::error::ErrorKind;
 use clap::{Arg, ArgAction, ArgMatches, Command, Error};
 use qolb_draw::Form;
-use qolb_run::{Detail, Kind, Lines, Task, Waits};
+use qolb_run::{Detail, Kind, Lines, Task, WaitMode};
 use qolb_script::WorkKind;
 use std::alloc::{AllocError, Global};
 
 /// The names of the kinds of lines that replay a schedule.
 static REPLAYED: [&str; 4] = ["plain", "ring", "link", "ticket"];
 
-/// The names of those that workers share.
+/// The names of the kinds of lines that workers share.
 static SHARED: [&str; 3] = ["ring", "link", "ticket"];
 
 const REPLAYED_HELP: &str =
@@ -117,9 +117,9 @@ it prints, and then what the letters mean:
   node   1 HH>.
   node   2 .w<H";
 
-/// What the words ask for.
+/// What the program is asked to do.
 #[derive(Clone, Copy, Debug, PartialEq, Eq)]
-pub enum Wish {
+pub enum Subcommand {
     /// To answer a script.
     Answer(Task),
     /// To draw a schedule.
@@ -128,25 +128,25 @@ pub enum Wish {
     DrawSteps(Form),
 }
 
-/// What the words ask for, and whether standard error is to say how far it is, and what is wrong with a script that is refused.
+/// What the words of a command line ask for: the subcommand, and two flags.
 #[derive(Clone, Copy, Debug, PartialEq, Eq)]
-pub struct Request {
-    pub wish: Wish,
+pub struct Args {
+    pub subcommand: Subcommand,
     pub progress: bool,
     pub explain: bool,
 }
 
-/// What the words ask for, with the program's name first.
-pub fn parse_args(alloc: Global, words: &[String]) -> Result<Request, Error>
-    ensures wish { IfOk result (λ request. NamesWish (map string_bytes words.now) request.wish) }
+/// Parses the words of a command line, of which the first is the program's name.
+pub fn parse_args(alloc: Global, words: &[String]) -> Result<Args, Error>
+    ensures subcommand { IfOk result (λ request. NamesWish (map string_bytes words.now) request.subcommand) }
     ensures progress { IfOk result (λ request. NamesFlag (codes "progress") (map string_bytes words.now) request.progress) }
     ensures explain { IfOk result (λ request. NamesFlag (codes "explain") (map string_bytes words.now) request.explain) }
     ensures usage { IfErr result (λ error. kind_of error ≢ ErrorKind.OutOfMemory → IsNotTaken (map string_bytes words.now)) }
 {
     let matches = command(alloc)?.try_get_matches_from(words)?;
     match matches.subcommand() {
-        Some((name, arguments)) => Ok(Request {
-            wish: wish_at(name, arguments),
+        Some((name, arguments)) => Ok(Args {
+            subcommand: wish_at(name, arguments),
             progress: is_given_at("progress", arguments),
             explain: is_given_at("explain", arguments),
         }),
@@ -154,43 +154,43 @@ pub fn parse_args(alloc: Global, words: &[String]) -> Result<Request, Error>
     }
 }
 
-/// What a subcommand with these arguments asks for.
-fn wish_at(name: &str, arguments: &ArgMatches<'_>) -> Wish
+/// Returns the meaning of a subcommand with these arguments.
+fn wish_at(name: &str, arguments: &ArgMatches<'_>) -> Subcommand
     ensures { result ≡ spec.wish_at (name.now, rows_of (found_of arguments.now)) }
 {
     if name == "draw" {
         drawing_at(arguments)
     } else {
-        Wish::Answer(task_at(name, arguments))
+        Subcommand::Answer(task_at(name, arguments))
     }
 }
 
-/// What is drawn, by these arguments.
-fn drawing_at(arguments: &ArgMatches<'_>) -> Wish
+/// Returns the drawing that these arguments ask for.
+fn drawing_at(arguments: &ArgMatches<'_>) -> Subcommand
     ensures { result ≡ spec.drawing_at (rows_of (found_of arguments.now)) }
 {
     drawing_of(is_given_at("steps", arguments), form_at(arguments))
 }
 
-/// What is drawn in this form: a schedule, or a step script.
-fn drawing_of(steps: bool, form: Form) -> Wish
+/// Returns the drawing in this form, of a schedule or of a step script.
+fn drawing_of(steps: bool, form: Form) -> Subcommand
     ensures { result ≡ spec.drawing_of steps form }
 {
     if steps {
-        Wish::DrawSteps(form)
+        Subcommand::DrawSteps(form)
     } else {
-        Wish::Draw(form)
+        Subcommand::Draw(form)
     }
 }
 
-/// Whether a flag is given, by these arguments.
+/// Returns `true` if these arguments have the flag.
 fn is_given_at(flag: &str, arguments: &ArgMatches<'_>) -> bool
     ensures { result ≡ spec.is_given_at flag.now (rows_of (found_of arguments.now)) }
 {
     is_given(arguments.get_str(flag))
 }
 
-/// The same by its value.
+/// Returns `true` if a flag with this value is given.
 fn is_given(value: Option<&str>) -> bool
     ensures { result ≡ spec.is_given (option_map (λ n. n.now) value.entry) }
 {
@@ -200,14 +200,14 @@ fn is_given(value: Option<&str>) -> bool
     }
 }
 
-/// The form of a picture, by these arguments.
+/// Returns the form of a picture, by these arguments.
 fn form_at(arguments: &ArgMatches<'_>) -> Form
     ensures { result ≡ spec.form_at (rows_of (found_of arguments.now)) }
 {
     form_of(arguments.get_str("svg"))
 }
 
-/// The form of a picture, by the value of `--svg`.
+/// Returns the form of a picture, by the value of `--svg`.
 fn form_of(svg: Option<&str>) -> Form
     ensures { result ≡ spec.form_of (option_map (λ n. n.now) svg.entry) }
 {
@@ -217,7 +217,7 @@ fn form_of(svg: Option<&str>) -> Form
     }
 }
 
-/// The task of a subcommand with these arguments.
+/// Returns the task of a subcommand with these arguments.
 fn task_at(name: &str, arguments: &ArgMatches<'_>) -> Task
     ensures { result ≡ spec.task_at (name.now, rows_of (found_of arguments.now)) }
 {
@@ -229,7 +229,7 @@ fn task_at(name: &str, arguments: &ArgMatches<'_>) -> Task
     )
 }
 
-/// What is written of each event, by the value of `--rank`.
+/// Returns what is written of each event, by the value of `--rank`.
 fn detail_of(rank: Option<&str>) -> Detail
     ensures { result ≡ spec.detail_of (option_map (λ n. n.now) rank.entry) }
 {
@@ -239,18 +239,18 @@ fn detail_of(rank: Option<&str>) -> Detail
     }
 }
 
-/// How workers wait, by the value of `--sleep`.
-fn waits_of(sleep: Option<&str>) -> Waits
+/// Returns how workers wait, by the value of `--sleep`.
+fn waits_of(sleep: Option<&str>) -> WaitMode
     ensures { result ≡ spec.waits_of (option_map (λ n. n.now) sleep.entry) }
 {
     match sleep {
-        Some("true") => Waits::Asleep,
-        _ => Waits::Awake,
+        Some("true") => WaitMode::Asleep,
+        _ => WaitMode::Awake,
     }
 }
 
-/// The task of this name, on lines of the kind that is named, with this detail, or by workers that wait so.
-fn task_of(name: &str, kind: Option<&str>, detail: Detail, waits: Waits) -> Task
+/// Returns the task of this name, on lines of this kind, with this detail, or by workers that wait in this way.
+fn task_of(name: &str, kind: Option<&str>, detail: Detail, waits: WaitMode) -> Task
     ensures { result ≡ spec.task_by name.now (option_map (λ n. n.now) kind.entry) detail waits }
 {
     if name == "steps" {
@@ -264,7 +264,7 @@ fn task_of(name: &str, kind: Option<&str>, detail: Detail, waits: Waits) -> Task
     }
 }
 
-/// The kind of this name.
+/// Returns the kind of this name.
 fn kind_named(name: Option<&str>) -> Kind
     ensures { result ≡ spec.kind_of_name (option_map (λ n. n.now) name.entry) }
 {
@@ -276,7 +276,7 @@ fn kind_named(name: Option<&str>) -> Kind
     }
 }
 
-/// The lines of this name.
+/// Returns the lines of this name.
 fn lines_named(name: Option<&str>) -> Lines
     ensures { result ≡ spec.lines_of_name (option_map (λ n. n.now) name.entry) }
 {
@@ -287,7 +287,7 @@ fn lines_named(name: Option<&str>) -> Lines
     }
 }
 
-/// The program's command.
+/// Builds the program's command.
 fn command<'a>(alloc: Global) -> Result<Command<'a>, AllocError>
     ensures { IfOk result (λ r. (names : KindNames) × (app_of r ≡ the_command names)) }
 {
@@ -301,7 +301,7 @@ fn command<'a>(alloc: Global) -> Result<Command<'a>, AllocError>
         .subcommand(draw(alloc)?)
 }
 
-/// The program's command without its subcommands.
+/// Builds the program's command without its subcommands.
 fn program<'a>(alloc: Global) -> Command<'a>
     ensures { app_of result ≡ bare_command }
 {
@@ -312,7 +312,7 @@ fn program<'a>(alloc: Global) -> Command<'a>
         .subcommand_required(true)
 }
 
-/// To replay a schedule, on lines of one of these kinds.
+/// Builds the subcommand that replays a schedule, on lines of one of these kinds.
 fn replay<'a>(alloc: Global, kinds: &'a [&'a str]) -> Result<Command<'a>, AllocError>
     ensures { IfOk result (λ r. app_of r ≡ replay_command kinds.entry) }
 {
@@ -323,7 +323,7 @@ fn replay<'a>(alloc: Global, kinds: &'a [&'a str]) -> Result<Command<'a>, AllocE
         .arg(explain(alloc))
 }
 
-/// To run a step script.
+/// Builds the subcommand that runs a step script.
 fn steps<'a>(alloc: Global) -> Result<Command<'a>, AllocError>
     ensures { IfOk result (λ r. app_of r ≡ steps_command) }
 {
@@ -340,7 +340,7 @@ fn steps<'a>(alloc: Global) -> Result<Command<'a>, AllocError>
         .arg(explain(alloc))
 }
 
-/// Work of workers, by this name, over lines of these kinds.
+/// Builds the subcommand for work of this name, over lines of these kinds.
 fn work<'a>(
     alloc: Global,
     name: &'a str,
@@ -368,7 +368,7 @@ fn work<'a>(
         .arg(explain(alloc))
 }
 
-/// To draw a schedule or a step script.
+/// Builds the subcommand that draws a schedule or a step script.
 fn draw<'a>(alloc: Global) -> Result<Command<'a>, AllocError>
     ensures { IfOk result (λ r. app_of r ≡ draw_command) }
 {
@@ -386,7 +386,7 @@ fn draw<'a>(alloc: Global) -> Result<Command<'a>, AllocError>
         .arg(explain(alloc))
 }
 
-/// An argument without a value: `--name`.
+/// Builds an argument without a value: `--name`.
 fn flag<'a>(alloc: Global, name: &'a str, help: &'a str) -> Arg<'a>
     ensures rule { rule_of result ≡ spec.flag_rule name.entry.now }
     ensures local { result.global ≡ false }
@@ -397,7 +397,7 @@ fn flag<'a>(alloc: Global, name: &'a str, help: &'a str) -> Arg<'a>
         .action(ArgAction::SetTrue)
 }
 
-/// `--explain`.
+/// Builds `--explain`.
 fn explain<'a>(alloc: Global) -> Arg<'a>
     ensures rule { rule_of result ≡ spec.flag_rule (codes "explain") }
     ensures local { result.global ≡ false }
@@ -409,7 +409,7 @@ fn explain<'a>(alloc: Global) -> Arg<'a>
     )
 }
 
-/// `--kind`, with one of these names.
+/// Builds `--kind`, with one of these names.
 fn kind_argument<'a>(alloc: Global, kinds: &'a [&'a str], help: &'a str) -> Arg<'a>
     ensures rule { rule_of result ≡ kind_rule kinds.entry }
     ensures local { result.global ≡ false }

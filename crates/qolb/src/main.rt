@@ -10,7 +10,7 @@ use std::env;
 use std::io::{self, ErrorKind};
 use std::process::ExitCode;
 
-/// The words of the command line, the program's name first.
+/// Returns the words of the command line, of which the first is the program's name.
 fn words(rt: &HostRuntime) -> io::Result<Vec<String>> {
     let mut words = Vec::new(rt.alloc());
     for word in env::args(rt)? {

@@ -1,7 +1,7 @@
 -- An opened line, and the handles that have its nodes.
 use Rattle.std.proofs.Common.{◌≡◌, ℕ, zero, suc, ◌<◌, List, [], ◌∷◌, ◌++◌, map, length, drop, get_or, Option, Some, None, slice_get, refl, sym, ap, ◌∙◌, subst, arith}
 use Rattle.std.specs.Prelude.{Result, Ok, Err, IfOk}
-use Rattle.qolb_model.specs.declared.terms.Terms.{Terms}
+use Rattle.qolb_model.specs.declared.config.LineConfig.{LineConfig}
 use Rattle.qolb_model.specs.declared.view.View.{View}
 use Rattle.qolb_model.specs.Opening.{AreNew}
 use Rattle.qolb_c.specs.declared.any_node.AnyNode.{AnyNode}
@@ -47,13 +47,13 @@ module _ {Line Port : Type 0} (view : Port → View) (make : NodeOf Line Port �
       subst (λ (n : AnyNode). AreOfOneLine n b) (sym x.1) (subst (λ (n : AnyNode). AreOfOneLine (make (node_at line x.0)) n) (sym y.1) (each x.0 y.0))
 
 -- the new nodes of one line, as nodes of any kind
-pub new_nodes_of : {Line Port : Type 0} (view : Port → View) (make : NodeOf Line Port → AnyNode) (kind label : ℕ) (terms : Terms) (nodes : List (NodeOf Line Port)) (anys : List AnyNode)
+pub new_nodes_of : {Line Port : Type 0} (view : Port → View) (make : NodeOf Line Port → AnyNode) (kind label : ℕ) (config : LineConfig) (nodes : List (NodeOf Line Port)) (anys : List AnyNode)
     → ((n : NodeOf Line Port) → view_of (make n) ≡ view n.port) → ((n : NodeOf Line Port) → kind_of (make n) ≡ kind)
     → ((line : Line) (p q : Port) → AreOfOneLine (make (node_at line p)) (make (node_at line q)))
-    → AreOfLine view label terms nodes → anys ≡ map make nodes → AreNewNodes kind label terms anys
-new_nodes_of {Line} {Port} view make kind label terms nodes anys views kinds lines of_line is =
-    subst (λ (ns : List AnyNode). AreNewNodes kind label terms ns) (sym (is ∙ ap (λ (ns : List (NodeOf Line Port)). map make ns) of_line.of_line)) (record {
-      new = subst (λ (vs : List View). AreNew label terms vs) (sym (views_are view make of_line.line views of_line.ports)) of_line.new;
+    → AreOfLine view label config nodes → anys ≡ map make nodes → AreNewNodes kind label config anys
+new_nodes_of {Line} {Port} view make kind label config nodes anys views kinds lines of_line is =
+    subst (λ (ns : List AnyNode). AreNewNodes kind label config ns) (sym (is ∙ ap (λ (ns : List (NodeOf Line Port)). map make ns) of_line.of_line)) (record {
+      new = subst (λ (vs : List View). AreNew label config vs) (sym (views_are view make of_line.line views of_line.ports)) of_line.new;
       of_kind = kinds_are view make of_line.line kind kinds of_line.ports;
       one_line = one_line_is view make of_line.line (lines of_line.line) of_line.ports;
     })
@@ -67,10 +67,10 @@ held_are [] = refl
 held_are (b ∷ bs) = ap (λ (os : List (Option AnyNode)). Some b.value ∷ os) (held_are bs)
 
 -- the handles, once they are filled
-pub opened : (kind label : ℕ) (terms : Terms) (old mid new : List Handle) (bs : Boxes)
-    → AreNewNodes kind label terms (values bs) → AreEmpty terms.nodes old → held_by mid ≡ held_by old
-    → held_by new ≡ held_values bs ++ drop (length bs) (held_by mid) → AreOpened kind label terms old new
-opened kind label terms old mid new bs are empty same filled = record {
+pub opened : (kind label : ℕ) (config : LineConfig) (old mid new : List Handle) (bs : Boxes)
+    → AreNewNodes kind label config (values bs) → AreEmpty config.nodes old → held_by mid ≡ held_by old
+    → held_by new ≡ held_values bs ++ drop (length bs) (held_by mid) → AreOpened kind label config old new
+opened kind label config old mid new bs are empty same filled = record {
   nodes = values bs;
   are_new = are;
   were_empty = empty;

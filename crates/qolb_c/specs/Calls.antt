@@ -1,4 +1,4 @@
--- What each call from C promises of the handle's node. `was` and `now` are the node before and after. (Of this project.)
+-- The promise of each call from C for the handle's node. `was` and `now` are the node before and after. (Of this project.)
 use Rattle.std.specs.Prelude.{◌≡◌, ◌≢◌, ℕ, ◌+◌, ◌*◌, ◌<◌, ◌≤◌, List, Bool, true, false, Option, Some, None}
 use Rattle.line_lanes.specs.Lane.{lane_of, with_lane_of}
 use Rattle.line_lanes.specs.Mask.{placed_mask}
@@ -18,28 +18,28 @@ use Rattle.qolb_model.specs.Calls as line
 use Rattle.qolb_model.specs.Leases.{turns_left}
 use Rattle.qolb_model.specs.OneOwner.{turn_after}
 use Rattle.qolb_model.specs.PortStates.{may_ask}
-use Rattle.shared_line.specs.Turns.{Names, SeesTurn}
+use Rattle.line_generic.specs.AtTurn.{Names, SeesTurn}
 use Rattle.qolb_c.specs.declared.answer.Answer.{Answer}
 use Rattle.qolb_c.specs.declared.answer.Answer.TheVariants as answer
 use Rattle.qolb_c.specs.declared.any_node.AnyNode.{AnyNode}
 use Rattle.qolb_c.specs.declared.any_node.AnyNode.TheVariants as kind
 use Rattle.qolb_c.specs.Nodes.{anything, PollsWithin}
 use Rattle.qolb_c.specs.Numbers.{number_of, state_number, turns_number}
-use Rattle.qolb_c.specs.Waits.{nowhere, waits_at_of, turn_word_of, went_to_of}
+use Rattle.qolb_c.specs.Waits.{nowhere, wait_word_of, turn_word_of, went_to_of}
 
--- what the node's port knows of its line
+-- the view of the node's port
 abbrev pub view_of : AnyNode → View
 view_of (kind.Ring node) = node.port.view
 view_of (kind.List node) = node.port.view
 view_of (kind.Ticket node) = node.port.view
 
--- what the node has written, where it holds the line
+-- the write of the node, if it holds the line
 abbrev pub turn_of : AnyNode → Write
 turn_of (kind.Ring node) = node.port.turn
 turn_of (kind.List node) = node.port.turn
 turn_of (kind.Ticket node) = node.port.turn
 
--- how often the node has polled
+-- the number of the node's polls
 abbrev pub poll_count_of : AnyNode → ℕ
 poll_count_of (kind.Ring node) = node.port.counters.poll_count
 poll_count_of (kind.List node) = node.port.counters.poll_count
@@ -48,7 +48,7 @@ poll_count_of (kind.Ticket node) = node.port.counters.poll_count
 abbrev pub state_of : AnyNode → PortState
 state_of node = (view_of node).state
 
--- the node has noted the word of the one whose turn it is, as it knows: it let the line go to that one
+-- the node has released, and has noted the word of the node at its turn, as its view has it
 abbrev pub NamesNext : AnyNode → Type 0
 NamesNext node = Names (turn_word_of node (view_of node)) (went_to_of node)
 
@@ -88,59 +88,60 @@ prep_told prep.Linking = answer.Linking
 prep_told prep.Closed = answer.Closed
 prep_told prep.Busy = answer.Busy
 
--- whether a node is clear
+-- the answers of `clear`
 abbrev pub clear_told : Bool → Answer
 clear_told true = answer.Done
 clear_told false = answer.Busy
 
--- a call that the node's state may forbid. Forbidden, it is misuse, and nothing changes; allowed, the line's call is made, which promises this of
--- its own answer. The node stays of its line
+-- A call that the node's state may forbid. If it is forbidden, it is misuse, and nothing changes; if it is allowed, the line's call is
+-- made, with this promise for its own answer. The node is of the same line.
 pub record IsCall {A : Type 0} (Allowed : Type 0) (told : A → Answer) (Promise : A → Type 0) (was now : AnyNode) (a : Answer) : Type 0 where
   pub misuse : ¬ Allowed → (a ≡ answer.Misuse) × (now ≡ was)
   pub does : Allowed → (made : A) × (a ≡ told made) × Promise made
   pub line : AreOfOneLine was now
 
--- a call that is done where it is allowed
+-- a call that is done if it is allowed
 abbrev pub IsDone : Type 0 → Type 0 → AnyNode → AnyNode → Answer → Type 0
 IsDone Allowed Promise was now a = IsCall Allowed (λ (made : Unit {0}). answer.Done) (λ _. Promise) was now a
 
--- `enqolb`: where the node neither waits nor holds. It does not poll. Told that the line is closed, the node has passed it on, and names to whom
+-- `enqolb`: allowed if the node neither waits nor holds. It does not poll. If the line is closed, the node has forwarded it, and has noted
+-- the next word.
 abbrev pub Enqolbs : AnyNode → AnyNode → Answer → Type 0
 Enqolbs was now a = IsCall (may_ask (state_of was) ≡ true) enq_told (λ made. line.Enqueues anything (view_of was) (view_of now) (turn_of now) made × (poll_count_of now ≡ poll_count_of was) × (made ≡ enq.Closed → NamesNext now)) was now a
 
--- `poll`: where it waits. It polls once
+-- `poll`: allowed if the node waits. It polls once.
 abbrev pub Polls : AnyNode → AnyNode → Answer → Type 0
 Polls was now a = IsCall (state_of was ≡ Queued) poll_told (λ made. line.Polls anything (view_of was) (view_of now) (turn_of now) made × (poll_count_of now ≡ poll_count_of was + 1) × (made ≡ poll.Closed → NamesNext now)) was now a
 
--- `wait`: where it waits, and may poll at least once; it promises what `poll` does, and how often it polls
+-- `wait`: allowed if the node waits, and `polls` is at least 1. It promises what `poll` does, and the number of its polls.
 abbrev pub Waits : ℕ → AnyNode → AnyNode → Answer → Type 0
 Waits polls was now a =
     IsCall ((state_of was ≡ Queued) × (0 < polls)) poll_told (λ made. line.Polls anything (view_of was) (view_of now) (turn_of now) made × PollsWithin polls (poll_count_of was) (poll_count_of now) made × (made ≡ poll.Closed → NamesNext now)) was now a
 
--- `prepend` and `link`, of a list: where the node neither waits nor holds, and where it is linking. Neither polls
+-- `prepend` and `link`, of a list: allowed if the node neither waits nor holds; and if it is linking. Neither polls.
 abbrev pub Prepends : AnyNode → AnyNode → Answer → Type 0
 Prepends was now a = IsCall ((kind_of was ≡ 1) × (may_ask (state_of was) ≡ true)) prep_told (λ made. line.Prepends anything (view_of was) (view_of now) (turn_of now) made × (poll_count_of now ≡ poll_count_of was) × (made ≡ prep.Closed → NamesNext now)) was now a
 
 abbrev pub LinksUp : AnyNode → AnyNode → Answer → Type 0
 LinksUp was now a = IsCall ((kind_of was ≡ 1) × (state_of was ≡ Linking)) enq_told (λ made. line.LinksUp anything (view_of was) (view_of now) (turn_of now) made × (poll_count_of now ≡ poll_count_of was) × (made ≡ enq.Closed → NamesNext now)) was now a
 
--- `withdraw`: where it waits. It does not poll
+-- `withdraw`: allowed if the node waits. It does not poll.
 abbrev pub Withdraws : AnyNode → AnyNode → Answer → Type 0
 Withdraws was now a = IsCall (state_of was ≡ Queued) out_told (λ made. line.Withdraws anything (view_of was) (view_of now) (turn_of now) made × (poll_count_of now ≡ poll_count_of was) × (made ≡ out.Closed → NamesNext now)) was now a
 
--- `clear`: where it neither waits nor holds. It asks nothing, and does not poll
+-- `clear`: allowed if the node neither waits nor holds. It makes no request, and does not poll.
 abbrev pub LooksIfClear : AnyNode → AnyNode → Answer → Type 0
 LooksIfClear was now a = IsCall (may_ask (state_of was) ≡ true) clear_told (λ clear. line.LooksIfClear anything (view_of was) (view_of now) clear × (poll_count_of now ≡ poll_count_of was)) was now a
 
--- `read`: where it holds, its bytes are written to `out`, and nothing else changes
+-- `read`: if the node holds, its bytes are written to `out`, and nothing else changes
 abbrev pub Reads : List ℕ → List ℕ → AnyNode → AnyNode → Answer → Type 0
 Reads out_was out_now was now a = IsDone (state_of was ≡ Holding) (out_now ≡ (turn_of was).bytes.bytes) was now a × (now ≡ was) × (state_of was ≢ Holding → out_now ≡ out_was)
 
--- `write`: where it holds, the bytes of the mask are written
+-- `write`: if the node holds, the bytes of the mask are written
 abbrev pub Writes : ℕ → List ℕ → AnyNode → AnyNode → Answer → Type 0
 Writes mask bytes was now a = IsDone (state_of was ≡ Holding) ((view_of now ≡ view_of was) × (turn_of now ≡ turn_after (turn_of was) mask bytes)) was now a
 
--- `read_lane` and `write_lane`: the same for one lane of the eight. A lane is written by a write of its bytes
+-- `read_lane` and `write_lane`: as `read` and `write`, for one lane of the eight. A lane is written by a write of its bytes.
 abbrev pub ReadsLane : ℕ → ℕ → ℕ → AnyNode → AnyNode → Answer → Type 0
 ReadsLane k out_was out_now was now a =
     IsDone ((state_of was ≡ Holding) × (k < 8)) (out_now ≡ lane_of (turn_of was).bytes.bytes k) was now a × (now ≡ was) × (((state_of was ≡ Holding) × (k < 8) → ⊥) → out_now ≡ out_was)
@@ -149,16 +150,16 @@ abbrev pub WritesLane : ℕ → ℕ → AnyNode → AnyNode → Answer → Type 
 WritesLane k value was now a =
     IsDone ((state_of was ≡ Holding) × (k < 8)) ((view_of now ≡ view_of was) × (turn_of now ≡ turn_after (turn_of was) (placed_mask (8 * k) 8) (with_lane_of (turn_of was).bytes.bytes k value))) was now a
 
--- `deqolb`, and with true `shut`: where it holds. The node names to whom the line went
+-- `deqolb`, and `shut` with true: allowed if the node holds. The node has noted the next holder's word.
 abbrev pub Releases : Bool → AnyNode → AnyNode → Answer → Type 0
 Releases shut was now a = IsDone (state_of was ≡ Holding) (line.Releases anything shut (view_of was) (view_of now) (turn_of was) × NamesNext now) was now a
 
--- a call of an empty handle is misuse, and the handle stays empty; else its node is called, and the answer's number is told
+-- a call of an empty handle is misuse, and the handle stays empty; else its node is called, and the number of the answer is returned
 abbrev pub Calls : (AnyNode → AnyNode → Answer → Type 0) → Option AnyNode → Option AnyNode → ℕ → Type 0
 Calls Does None now n = (now ≡ None) × (n ≡ number_of answer.Misuse)
 Calls Does (Some was) now n = (node : AnyNode) × (a : Answer) × (now ≡ Some node) × (n ≡ number_of a) × Does was node a
 
--- `close`: a node that neither waits nor holds is let go of; any other stays
+-- `close`: a node that neither waits nor holds is freed; any other stays
 abbrev pub Closes : Option AnyNode → Option AnyNode → ℕ → Type 0
 Closes None now n = (now ≡ None) × (n ≡ number_of answer.Misuse)
 Closes (Some was) now n = (may_ask (state_of was) ≡ true → (now ≡ None) × (n ≡ number_of answer.Done)) × (may_ask (state_of was) ≡ false → (now ≡ Some was) × (n ≡ number_of answer.Misuse))
@@ -176,9 +177,9 @@ abbrev pub state_told : Option AnyNode → ℕ
 state_told None = 0
 state_told (Some node) = state_number (state_of node)
 
--- the turns of the lease that are left, with the holder's own, where the node holds the line, and so at least 1; else 0
+-- the number of turns left, with the holder's own, if the node holds the line, and so at least 1; else 0
 pub record TellsTurns (node : AnyNode) (n : ℕ) : Type 0 where
-  pub holds : state_of node ≡ Holding → n ≡ turns_number (turns_left (view_of node).terms.lease (view_of node).ends)
+  pub holds : state_of node ≡ Holding → n ≡ turns_number (turns_left (view_of node).config.lease (view_of node).ends)
   pub some : state_of node ≡ Holding → 1 ≤ n
   pub none : state_of node ≢ Holding → n ≡ 0
 
@@ -187,12 +188,12 @@ abbrev pub TurnsLeft : Option AnyNode → ℕ → Type 0
 TurnsLeft None n = n ≡ 0
 TurnsLeft (Some node) n = TellsTurns node n
 
--- the word at which the node waits; where it holds, that is the word of its turn, as any port sees it that sees whose turn it is
+-- the word on which the node waits; if it holds, the word of its turn, as any port has it that sees the turn
 pub record TellsWord (node : AnyNode) (n : ℕ) : Type 0 where
-  pub word : n ≡ waits_at_of node
+  pub word : n ≡ wait_word_of node
   pub turn : state_of node ≡ Holding → (u : View) → SeesTurn u (view_of node) → n ≡ turn_word_of node u
 
--- `waits_at`: of an empty handle no word; nothing changes
+-- `wait_word`: of an empty handle no word; nothing changes
 abbrev pub WaitsAt : Option AnyNode → ℕ → Type 0
 WaitsAt None n = n ≡ nowhere
 WaitsAt (Some node) n = TellsWord node n

@@ -1,4 +1,4 @@
--- What a handle owns: nothing where it is null, and else what a box of its node owns. (Of this project.)
+-- The memory that a handle owns: none if it is null, else that of a box of its node. (Of this project.)
 use base.Fml.{Fml, ftrue, ffalse}
 use base.Stored.{Coded}
 use denote.RawPtr.{Ptr, block_ptr, null_ptr}

@@ -1,11 +1,11 @@
--- How much memory C is told that a line takes. (Of this project.)
+-- The memory of a line, as C is told. (Of this project.)
 use Rattle.std.specs.Prelude.{◌≡◌, ℕ}
 use Rattle.qolb_model.specs.Opening.{AreNodes}
-use Rattle.locks.specs.Bytes.{bytes_of}
-use Rattle.locks.specs.declared.Lines.TheVariants as lines
+use Rattle.line_kinds.specs.Bytes.{bytes_of}
+use Rattle.line_kinds.specs.declared.Lines.TheVariants as lines
 use Rattle.qolb_c.specs.Opens.{IsKind}
 
--- the bytes of the table of a line of this kind, for so many nodes; 0 where no line is opened
+-- the number of bytes of the table of a line of this kind, for n nodes; 0 if no such line is opened
 pub record TellsMemory (kind nodes bytes : ℕ) : Type 0 where
   pub ring : kind ≡ 0 → AreNodes nodes → bytes ≡ bytes_of lines.Ring nodes
   pub list : kind ≡ 1 → AreNodes nodes → bytes ≡ bytes_of lines.Link nodes

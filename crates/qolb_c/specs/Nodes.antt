@@ -3,7 +3,7 @@ use Rattle.std.specs.Prelude.{◌≡◌, ℕ, ◌+◌, ◌<◌, ◌≤◌, List}
 use Rattle.qolb_model.specs.declared.answer.Poll.{Poll}
 use Rattle.qolb_model.specs.declared.answer.Poll.TheVariants.{Waiting}
 
--- the line that the node is of, and its port of that line
+-- the node's line, and its port of that line
 pub record NodeOf (Line Port : Type 0) : Type 0 where
   pub line : Line
   pub port : Port
@@ -15,8 +15,8 @@ any_bytes bytes = Unit {0}
 abbrev pub anything : List ℕ → List ℕ → Type 0
 anything old new = Unit {0}
 
--- a call that may poll so often: by its port's counts before and after it polled at least once and at most so often, and just so often where its
--- request waits still
+-- a call that may poll `polls` times: by its port's counts before and after, it polled at least once and at most that often, and exactly
+-- that often if its request still waits
 pub record PollsWithin (polls was now : ℕ) (answer : Poll) : Type 0 where
   pub some : was < now
   pub at_most : now ≤ was + polls

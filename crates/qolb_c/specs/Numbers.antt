@@ -33,7 +33,7 @@ state_number state.Left = 5
 state_number state.Rolled = 6
 state_number state.Shut = 7
 
--- the number of the turns that are left of a lease; of none it is 2^64 - 1
+-- the number of the turns left of a lease; 2^64 - 1 for no lease
 abbrev pub turns_number : Option ℕ → ℕ
 turns_number None = 0xffff_ffff_ffff_ffff
 turns_number (Some turns) = turns

@@ -1,4 +1,4 @@
-//! What a call answers, and C's numbers for it.
+//! The answers of calls, and C's numbers for them.
 ghost use Rattle.std.specs.Prelude.{◌≡◌, MatchResult};
 ghost use Rattle.qolb_c.specs.Numbers.{number_of, state_number, turns_number};
 ghost use Rattle.qolb_c.specs.Calls.{enq_told, prep_told, poll_told, out_told, clear_told};
@@ -9,7 +9,7 @@ use qolb_model::{Enq, Out, Poll, PortState, Prep};
 #[derive(Clone, Copy, Debug, PartialEq, Eq)]
 pub struct Misuse;
 
-/// What a call answers.
+/// The answer of a call.
 #[derive(Clone, Copy, Debug, PartialEq, Eq)]
 pub enum Answer {
     /// The call is done.
@@ -18,23 +18,23 @@ pub enum Answer {
     Granted = 1,
     /// The request waits behind another.
     Queued = 2,
-    /// The request waits still.
+    /// The request still waits.
     Waiting = 3,
-    /// The request stands behind another, and is not yet linked to it.
+    /// The request is behind another, and not yet linked to its predecessor's.
     Linking = 4,
     /// The request is withdrawn.
     Withdrawn = 5,
     /// The line is closed, and the request has ended.
     Closed = 6,
-    /// The node's last request is not clear yet, so it may not ask.
+    /// No request was made: the node's last one is not clear yet.
     Busy = 7,
     /// The handle or its node does not allow the call. Nothing changed.
     Misuse = 8,
-    /// No line was opened: memory was refused.
+    /// No line was opened: the allocator returned no memory.
     NoMemory = 9,
     /// No line was opened: the number of nodes is not 1 to 200.
     BadNodes = 10,
-    /// No line was opened: a lease is of at least one turn.
+    /// No line was opened: the lease is 0 turns.
     BadLease = 11,
     /// No line was opened: there is no such kind.
     BadKind = 12,
@@ -45,7 +45,7 @@ pub enum Answer {
 }
 
 impl Answer {
-    /// What is told of asking.
+    /// Returns the answer of `enqolb`.
     pub fn of_enq(made: Result<Enq, Misuse>) -> Answer
         ensures { MatchResult made (λ answer. result ≡ enq_told answer) (λ _. result ≡ Answer.Misuse) }
     {
@@ -58,7 +58,7 @@ impl Answer {
         }
     }
 
-    /// What is told of the first half of asking.
+    /// Returns the answer of `prepend`.
     pub fn of_prep(made: Result<Prep, Misuse>) -> Answer
         ensures { MatchResult made (λ answer. result ≡ prep_told answer) (λ _. result ≡ Answer.Misuse) }
     {
@@ -71,7 +71,7 @@ impl Answer {
         }
     }
 
-    /// What is told of looking.
+    /// Returns the answer of `poll`.
     pub fn of_poll(made: Result<Poll, Misuse>) -> Answer
         ensures { MatchResult made (λ answer. result ≡ poll_told answer) (λ _. result ≡ Answer.Misuse) }
     {
@@ -83,7 +83,7 @@ impl Answer {
         }
     }
 
-    /// What is told of giving a request up.
+    /// Returns the answer of `withdraw`.
     pub fn of_out(made: Result<Out, Misuse>) -> Answer
         ensures { MatchResult made (λ answer. result ≡ out_told answer) (λ _. result ≡ Answer.Misuse) }
     {
@@ -95,7 +95,7 @@ impl Answer {
         }
     }
 
-    /// What is told of looking whether a node is clear.
+    /// Returns the answer of `is_clear`.
     pub fn of_clear(made: Result<bool, Misuse>) -> Answer
         ensures { MatchResult made (λ clear. result ≡ clear_told clear) (λ _. result ≡ Answer.Misuse) }
     {
@@ -106,7 +106,7 @@ impl Answer {
         }
     }
 
-    /// What is told of a call that has no answer of its own.
+    /// Returns the answer of a call without a result.
     pub fn of_done(made: Result<(), Misuse>) -> Answer
         ensures { MatchResult made (λ _. result ≡ Answer.Done) (λ _. result ≡ Answer.Misuse) }
     {
@@ -116,7 +116,7 @@ impl Answer {
         }
     }
 
-    /// C's number for the answer.
+    /// Returns C's number of the answer.
     pub fn number(self) -> u32
         ensures { result ≡ number_of self }
     {
@@ -124,7 +124,7 @@ impl Answer {
     }
 }
 
-/// C's number for a node's state. A handle without a node has 0.
+/// Returns C's number of a node's state. A handle without a node has 0.
 pub fn state_number(state: PortState) -> u32
     ensures { result ≡ state_number state }
 {
@@ -142,7 +142,7 @@ pub fn state_number(state: PortState) -> u32
 /// C's number for no lease.
 pub const NO_LEASE: u64 = u64::MAX;
 
-/// C's number for the turns that are left of a lease. A node that does not hold the line has 0.
+/// Returns C's number of the turns left of a lease. A node that does not hold the line has 0.
 pub fn turns_number(left: Result<Option<u64>, Misuse>) -> u64
     ensures { MatchResult left (λ turns. result ≡ turns_number turns) (λ _. result ≡ 0) }
 {

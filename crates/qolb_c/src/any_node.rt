@@ -11,21 +11,21 @@ use crate::node::{Node, Shown};
 use line_lanes::{Line64, Mask, lane};
 use qolb_model::{Free, PortState};
 
-/// How many lanes a line has.
+/// The number of lanes of a line.
 const LANES: u64 = 8;
 
 /// A node of a line of any kind.
 #[derive(Drop)]
 pub enum AnyNode {
-    /// Of a ring.
+    /// A node of a ring.
     Ring(Node<Ring>),
-    /// Of a list.
+    /// A node of a list.
     List(Node<List>),
-    /// Of a ticket line.
+    /// A node of a ticket line.
     Ticket(Node<Ticket>),
 }
 
-/// Does this with the node, of whichever kind it is.
+/// Makes a call of the node, for each kind.
 macro_rules! of_any {
     ($any:expr, $node:ident => $done:expr) => {
         match $any {
@@ -37,7 +37,7 @@ macro_rules! of_any {
 }
 
 impl AnyNode {
-    /// What the node shows.
+    /// Returns the node's number, label, state and turns left.
     #[inline(always)]
     fn shown(&self) -> Shown
         ensures number { result.number ≡ (view_of self.now).node }
@@ -48,28 +48,28 @@ impl AnyNode {
         of_any!(self, node => node.shown())
     }
 
-    /// The node's number.
+    /// Returns the node's number.
     pub fn number(&self) -> u64
         ensures { result ≡ (view_of self.now).node }
     {
         self.shown().number
     }
 
-    /// The label of the node's line.
+    /// Returns the label of the node's line.
     pub fn label(&self) -> u64
         ensures { result ≡ (view_of self.now).label }
     {
         self.shown().label
     }
 
-    /// What the node's last call left.
+    /// Returns the state after the node's last call.
     pub fn state(&self) -> PortState
         ensures { result ≡ state_of self.now }
     {
         self.shown().state
     }
 
-    /// Asks for the line.
+    /// Requests the line, and answers at once.
     pub fn enqolb(&mut self) -> Answer
         ensures { Enqolbs self.old self.new result }
     {
@@ -80,14 +80,14 @@ impl AnyNode {
         }
     }
 
-    /// Looks whether the request has come to its turn.
+    /// Polls whether the request is at its turn.
     pub fn poll(&mut self) -> Answer
         ensures { Polls self.old self.new result }
     {
         self.wait(1)
     }
 
-    /// Looks at most so many times, with a pause between two.
+    /// Polls at most `polls` times, with a pause between two.
     #[inline(always)]
     pub fn wait(&mut self, polls: u64) -> Answer
         ensures { Waits polls self.old self.new result }
@@ -95,7 +95,7 @@ impl AnyNode {
         of_any!(self, node => Answer::of_poll(node.wait(polls)))
     }
 
-    /// The first half of asking, of a list alone.
+    /// Makes a request without its link; only of a list.
     pub fn prepend(&mut self) -> Answer
         ensures { Prepends self.old self.new result }
     {
@@ -105,7 +105,7 @@ impl AnyNode {
         }
     }
 
-    /// The second half of asking, of a list alone.
+    /// Links the request to its predecessor's; only of a list.
     pub fn link(&mut self) -> Answer
         ensures { LinksUp self.old self.new result }
     {
@@ -115,54 +115,54 @@ impl AnyNode {
         }
     }
 
-    /// Gives the request up, unless it has come to its turn.
+    /// Withdraws the request, unless it is at its turn.
     pub fn withdraw(&mut self) -> Answer
         ensures { Withdraws self.old self.new result }
     {
         of_any!(self, node => Answer::of_out(node.withdraw()))
     }
 
-    /// Whether the node's last request is clear. It asks nothing.
+    /// Returns `Done` if the node's last request is clear, else `Busy`. Makes no request.
     pub fn is_clear(&mut self) -> Answer
         ensures { LooksIfClear self.old self.new result }
     {
         of_any!(self, node => Answer::of_clear(node.is_clear()))
     }
 
-    /// The line's bytes, where the node holds the line.
+    /// Returns the line's bytes, if the node holds the line.
     fn bytes(&self) -> Option<&Line64>
         ensures { MatchOption result (state_of self.now ≢ PortState.Holding) (λ line. (state_of self.now ≡ PortState.Holding) × (line.now ≡ (turn_of self.now).bytes)) }
     {
         of_any!(self, node => node.bytes().ok())
     }
 
-    /// How many turns are left of the line's lease, by C's number; 0 where the node does not hold the line.
+    /// Returns C's number of the turns left; 0 if the node does not hold the line.
     pub fn turns_left(&self) -> u64
         ensures { TellsTurns self.now result }
     {
         self.shown().turns_left
     }
 
-    /// The word at which the node waits, if it does.
-    pub fn waits_at(&self) -> u64
+    /// Returns the word on which the node waits, if it does.
+    pub fn wait_word(&self) -> u64
         ensures { TellsWord self.now result }
     {
-        of_any!(self, node => node.waits_at())
+        of_any!(self, node => node.wait_word())
     }
 
-    /// The word at which the one waits to whom the node last let the line go.
+    /// Returns the word of the next holder, as the node noted it at its last release.
     pub fn went_to(&self) -> u64
         ensures { went_to_of self.now ≡ Some result }
     {
         of_any!(self, node => node.went_to())
     }
 
-    /// The word of the waiter behind that one.
+    /// Returns the word of the waiter behind the next holder, as the node noted it.
     pub fn went_ahead(&self) -> u64 {
         of_any!(self, node => node.went_ahead())
     }
 
-    /// The holder reads the line.
+    /// Copies the holder's line to `out`.
     pub fn read(&self, out: &mut [u8; 64]) -> Answer
         ensures { Reads out.old out.new self.now self.now result }
     {
@@ -175,7 +175,7 @@ impl AnyNode {
         }
     }
 
-    /// The holder reads lane `k` of the eight.
+    /// Reads lane `k` of the eight, for the holder.
     pub fn read_lane(&self, k: u64, out: &mut u64) -> Answer
         ensures { ReadsLane k out.old out.new self.now self.now result }
     {
@@ -191,7 +191,7 @@ impl AnyNode {
         }
     }
 
-    /// The holder writes lane `k` of the eight.
+    /// Writes lane `k` of the eight, for the holder.
     pub fn write_lane(&mut self, k: u64, value: u64) -> Answer
         ensures { WritesLane k value self.old self.new result }
     {
@@ -201,7 +201,7 @@ impl AnyNode {
         of_any!(self, node => Answer::of_done(node.write_lane(k as usize, value)))
     }
 
-    /// The holder writes the bytes of the mask.
+    /// Writes the bytes of the mask, for the holder.
     #[inline(always)]
     pub fn write(&mut self, mask: Mask, bytes: &Line64) -> Answer
         ensures { Writes mask.0 bytes.now.bytes self.old self.new result }
@@ -232,9 +232,9 @@ impl AnyNode {
     }
 }
 
-/// Asks for a list.
+/// Requests a list's line.
 ///
-/// It is apart, so that the calls for other lines save no registers for it.
+/// Not inlined, so that the calls of other lines save no registers for it.
 #[inline(never)]
 fn ask_list(node: &mut Node<List>) -> Answer
     ensures { Enqolbs (AnyNode.List node.old) (AnyNode.List node.new) result }
@@ -242,12 +242,12 @@ fn ask_list(node: &mut Node<List>) -> Answer
     Answer::of_enq(node.enqolb())
 }
 
-/// A node of some kind of line.
+/// A node of some kind of line, which can become an `AnyNode`.
 pub trait IntoAny: Drop {
-    /// The node among those of any kind.
+    /// The node as an `AnyNode`.
     ghost as_any: { Self → AnyNode };
 
-    /// The node as one of any kind.
+    /// Converts the node to an `AnyNode`.
     fn into_any(self) -> AnyNode
         ensures { result ≡ as_any self };
 }

@@ -1,4 +1,4 @@
-//! What C holds of a node: a pointer, which is null where there is no node.
+//! The handle of a node for C: a pointer, null if there is no node.
 ghost use Rattle.std.specs.Prelude.{◌≡◌, true, false};
 ghost use Rattle.std.specs.Option.{MatchOption};
 ghost use Rattle.std.specs.declared.option.Option.{Option};
@@ -28,21 +28,21 @@ impl Model for Handle {
 }
 
 impl Handle {
-    /// A handle without a node.
+    /// Returns a handle without a node.
     fn empty() -> Handle
         ensures { result.held ≡ None }
     {
         Handle { at: null_mut() }
     }
 
-    /// The handle of a node.
+    /// Returns the handle of a node.
     fn of(node: Box<AnyNode>) -> Handle
         ensures { result.held ≡ Some node.value }
     {
         Handle::of_parts(Parts::of(node))
     }
 
-    /// Takes the node out, if there is one.
+    /// Takes the node out of the handle, if it has one.
     pub fn take(&mut self, alloc: Global) -> Option<Box<AnyNode>>
         ensures node { MatchOption result (self.old.held ≡ None) (λ node. self.old.held ≡ Some node.value) }
         ensures empty { self.new.held ≡ None }
@@ -61,7 +61,7 @@ impl Handle {
         *self = Handle::of(node);
     }
 
-    /// Whether there is no node.
+    /// Returns `true` if the handle has no node.
     pub fn is_empty(&mut self, alloc: Global) -> bool
         ensures same { self.new.held ≡ self.old.held }
         ensures empty { result ≡ true → self.old.held ≡ None }

@@ -1,13 +1,13 @@
 //! The kinds of line.
 
+use line_generic::{Line, SleepersElsewhere};
 use link_line::LinkLine;
 use qolb_model::Free;
 use ring_line::RingLine;
-use shared_line::{Line, SleepersElsewhere};
 use ticket_line::TicketLine;
 
-// No release of these wakes a thread: a static library has no call of the system that waits or wakes. C has waiters sleep at bells of its own, and is
-// told at which words they wait.
+// The wake policy of these lines: no release wakes a thread, as a static library has no system call that waits or wakes. In C, waiters
+// sleep at bells, and these calls return the words on which they wait.
 
 /// A line by the discipline `Q`.
 pub type LineFor<Q> = Line<Free, Q, SleepersElsewhere>;

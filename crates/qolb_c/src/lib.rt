@@ -1,14 +1,14 @@
-//! The lock for C: a static library. The header `qolb.h` has these calls.
+//! The lock for C: a static library. The header `qolb.h` declares these calls.
 //!
-//! C holds a node by a handle, a struct of one pointer that is null where there is no node. Each call takes the node out of its handle, calls
-//! it, and puts it back; a call that the node's state does not allow is answered `Misuse` and changes nothing.
+//! C has a node by a handle, a struct of one pointer that is null if there is no node. Each call takes the node out of its handle, calls
+//! it, and puts it back. If the node's state does not allow a call, the answer is `Misuse` and nothing changes.
 #![tactic(auto)]
 
 ghost use Rattle.std.specs.Prelude.{◌≡◌, true, false, None};
 ghost use Rattle.qolb_c.specs.declared.answer.Answer.{Answer};
 ghost use Rattle.qolb_c.specs.Numbers.{number_of};
 ghost use Rattle.qolb_c.specs.Memory.{TellsMemory};
-ghost use Rattle.qolb_c.specs.Opens.{Opens, terms_by};
+ghost use Rattle.qolb_c.specs.Opens.{Opens, config_by};
 ghost use Rattle.qolb_c.specs.Calls.{Calls, Enqolbs, Polls, Waits, Prepends, LinksUp, Withdraws, LooksIfClear, Reads, ReadsLane, Writes, WritesLane, Releases, Closes, TurnsLeft, WaitsAt, WentTo, node_number, label_told, state_told};
 ghost use Rattle.qolb_c.specs.Waits.{nowhere};
 
@@ -22,7 +22,7 @@ mod opening;
 use answer::{Answer, NO_LEASE, state_number};
 use handle::Handle;
 use line_lanes::{Line64, Mask};
-use qolb_model::Terms;
+use qolb_model::LineConfig;
 use std::alloc::Global;
 
 /// 64 bytes, as C passes them.
@@ -32,13 +32,13 @@ pub struct Bytes {
     pub bytes: [u8; 64],
 }
 
-/// The version of the library: 10,000 for each major version, 100 for each minor one. The header has it too, as `QOLB_VERSION`.
+/// The version of the library: 10,000 for each major version, 100 for each minor one. The header has it, too, as `QOLB_VERSION`.
 const VERSION: u32 = 10_200;
 
-/// A number that no word of a line has, so that nobody waits there.
+/// A number that is no word of any line: no node waits there.
 const NO_WORD: u64 = u64::MAX;
 
-/// Takes the node out of its handle, calls it, puts it back, and gives the answer's number. An empty handle is misuse.
+/// Takes the node out of its handle, calls it, puts it back, and returns the answer's number; `Misuse` for an empty handle.
 macro_rules! told {
     ($node:ident, $alloc:ident, $taken:ident => $call:expr) => {
         match $node.take($alloc) {
@@ -52,8 +52,10 @@ macro_rules! told {
     };
 }
 
-/// Opens a line of this kind (0 a ring, 1 a list, 2 a ticket line) with the bytes of `opening`, and puts its nodes into the first of these
-/// handles. The line closes at the turn that is the lease's last; with a lease of 2^64 - 1 it has none.
+/// Opens a line, and puts its nodes into the first of the handles.
+///
+/// Its first holder finds the bytes of `opening`. `kind` is 0 for a ring, 1 for a list, 2 for a ticket line. The line closes at the lease's
+/// last turn; a lease of 2^64 - 1 is none.
 #[unsafe(no_mangle)]
 pub extern "C" fn qolb_open(
     alloc: Global,
@@ -64,19 +66,21 @@ pub extern "C" fn qolb_open(
     opening: &Bytes,
     out: &mut [Handle],
 ) -> u32
-    ensures { (answer : Answer) × (result ≡ number_of answer) × Opens kind label (terms_by nodes lease opening.now.bytes) out.old out.new answer }
+    ensures { (answer : Answer) × (result ≡ number_of answer) × Opens kind label (config_by nodes lease opening.now.bytes) out.old out.new answer }
 {
-    let terms = Terms {
+    let config = LineConfig {
         nodes,
         opening: Line64 {
             bytes: opening.bytes,
         },
         lease: if lease == NO_LEASE { None } else { Some(lease) },
     };
-    opening::open(alloc, kind, label, terms, out).number()
+    opening::open(alloc, kind, label, config, out).number()
 }
 
-/// How many bytes the table of an open line of this kind takes, for so many nodes; 0 where `qolb_open` would refuse. It takes none itself.
+/// Returns the number of bytes of the table of such a line. Does not allocate.
+///
+/// 0 if `qolb_open` would refuse this kind or number of nodes.
 #[unsafe(no_mangle)]
 pub extern "C" fn qolb_memory(kind: u32, nodes: u64) -> u64
     ensures { TellsMemory kind nodes result }
@@ -84,7 +88,7 @@ pub extern "C" fn qolb_memory(kind: u32, nodes: u64) -> u64
     opening::memory(kind, nodes)
 }
 
-/// Asks for the line.
+/// Requests the line, and answers at once. Does not block.
 #[unsafe(no_mangle)]
 pub extern "C" fn qolb_enqolb(alloc: Global, node: &mut Handle) -> u32
     ensures { Calls Enqolbs node.old.held node.new.held result }
@@ -92,7 +96,7 @@ pub extern "C" fn qolb_enqolb(alloc: Global, node: &mut Handle) -> u32
     told!(node, alloc, taken => taken.enqolb())
 }
 
-/// Looks whether the request has come to its turn.
+/// Polls whether the request is at its turn. Does not block.
 #[unsafe(no_mangle)]
 pub extern "C" fn qolb_poll(alloc: Global, node: &mut Handle) -> u32
     ensures { Calls Polls node.old.held node.new.held result }
@@ -100,7 +104,7 @@ pub extern "C" fn qolb_poll(alloc: Global, node: &mut Handle) -> u32
     told!(node, alloc, taken => taken.poll())
 }
 
-/// Looks at most so many times whether the request has come to its turn, with a pause between two.
+/// Polls at most `polls` times whether the request is at its turn, with a pause between two.
 #[unsafe(no_mangle)]
 pub extern "C" fn qolb_wait(alloc: Global, node: &mut Handle, polls: u64) -> u32
     ensures { Calls (Waits polls) node.old.held node.new.held result }
@@ -108,7 +112,7 @@ pub extern "C" fn qolb_wait(alloc: Global, node: &mut Handle, polls: u64) -> u32
     told!(node, alloc, taken => taken.wait(polls))
 }
 
-/// The first half of asking, of a list alone: makes a request, and leaves it to be linked to the one before.
+/// Makes a request and leaves it to be linked to its predecessor's; only of a list.
 #[unsafe(no_mangle)]
 pub extern "C" fn qolb_prepend(alloc: Global, node: &mut Handle) -> u32
     ensures { Calls Prepends node.old.held node.new.held result }
@@ -116,7 +120,7 @@ pub extern "C" fn qolb_prepend(alloc: Global, node: &mut Handle) -> u32
     told!(node, alloc, taken => taken.prepend())
 }
 
-/// The second half of asking, of a list alone: links the request to the one before.
+/// Links the request to its predecessor's; only of a list.
 #[unsafe(no_mangle)]
 pub extern "C" fn qolb_link(alloc: Global, node: &mut Handle) -> u32
     ensures { Calls LinksUp node.old.held node.new.held result }
@@ -124,7 +128,7 @@ pub extern "C" fn qolb_link(alloc: Global, node: &mut Handle) -> u32
     told!(node, alloc, taken => taken.link())
 }
 
-/// Gives the request up, unless it has come to its turn.
+/// Withdraws the request, unless it is at its turn.
 #[unsafe(no_mangle)]
 pub extern "C" fn qolb_withdraw(alloc: Global, node: &mut Handle) -> u32
     ensures { Calls Withdraws node.old.held node.new.held result }
@@ -132,7 +136,7 @@ pub extern "C" fn qolb_withdraw(alloc: Global, node: &mut Handle) -> u32
     told!(node, alloc, taken => taken.withdraw())
 }
 
-/// Looks whether the node may ask and would not be busy. It asks nothing.
+/// Polls whether the node may ask and would not be busy. Makes no request.
 #[unsafe(no_mangle)]
 pub extern "C" fn qolb_clear(alloc: Global, node: &mut Handle) -> u32
     ensures { Calls LooksIfClear node.old.held node.new.held result }
@@ -140,7 +144,7 @@ pub extern "C" fn qolb_clear(alloc: Global, node: &mut Handle) -> u32
     told!(node, alloc, taken => taken.is_clear())
 }
 
-/// The holder reads the line.
+/// Copies the holder's line to `out`.
 #[unsafe(no_mangle)]
 pub extern "C" fn qolb_read(alloc: Global, node: &mut Handle, out: &mut Bytes) -> u32
     ensures calls { Calls (Reads out.old.bytes out.new.bytes) node.old.held node.new.held result }
@@ -156,7 +160,7 @@ pub extern "C" fn qolb_read(alloc: Global, node: &mut Handle, out: &mut Bytes) -
     }
 }
 
-/// The holder writes the bytes of the mask: byte k where bit k is set.
+/// Writes the bytes of the mask for the holder: byte k if bit k is set.
 #[unsafe(no_mangle)]
 pub extern "C" fn qolb_write(alloc: Global, node: &mut Handle, mask: u64, bytes: &Bytes) -> u32
     ensures { Calls (Writes mask bytes.now.bytes) node.old.held node.new.held result }
@@ -165,7 +169,7 @@ pub extern "C" fn qolb_write(alloc: Global, node: &mut Handle, mask: u64, bytes:
     told!(node, alloc, taken => taken.write(Mask(mask), &line))
 }
 
-/// The holder reads one of the eight lanes.
+/// Reads one of the eight lanes, for the holder.
 #[unsafe(no_mangle)]
 pub extern "C" fn qolb_read_lane(alloc: Global, node: &mut Handle, lane: u64, out: &mut u64) -> u32
     ensures calls { Calls (ReadsLane lane out.old out.new) node.old.held node.new.held result }
@@ -181,7 +185,7 @@ pub extern "C" fn qolb_read_lane(alloc: Global, node: &mut Handle, lane: u64, ou
     }
 }
 
-/// The holder writes one of the eight lanes.
+/// Writes one of the eight lanes, for the holder.
 #[unsafe(no_mangle)]
 pub extern "C" fn qolb_write_lane(alloc: Global, node: &mut Handle, lane: u64, value: u64) -> u32
     ensures { Calls (WritesLane lane value) node.old.held node.new.held result }
@@ -189,7 +193,7 @@ pub extern "C" fn qolb_write_lane(alloc: Global, node: &mut Handle, lane: u64, v
     told!(node, alloc, taken => taken.write_lane(lane, value))
 }
 
-/// How many turns are left of the line's lease, with the holder's own: 2^64 - 1 without a lease; 0 where the node does not hold the line.
+/// Returns the number of turns left, with the holder's own: 2^64 - 1 without a lease; 0 if the node does not hold the line.
 #[unsafe(no_mangle)]
 pub extern "C" fn qolb_turns_left(alloc: Global, node: &mut Handle) -> u64
     ensures held { node.new.held ≡ node.old.held }
@@ -221,7 +225,9 @@ pub extern "C" fn qolb_shut(alloc: Global, node: &mut Handle) -> u32
     told!(node, alloc, taken => taken.shut())
 }
 
-/// The word at which the node waits, if it does; 2^64 - 1, which no word is, where there is no node.
+/// Returns the word on which the node waits, if it does.
+///
+/// 2^64 - 1, which is no word, if there is no node.
 #[unsafe(no_mangle)]
 pub extern "C" fn qolb_waits_at(alloc: Global, node: &mut Handle) -> u64
     ensures held { node.new.held ≡ node.old.held }
@@ -230,14 +236,16 @@ pub extern "C" fn qolb_waits_at(alloc: Global, node: &mut Handle) -> u64
     match node.take(alloc) {
         None => NO_WORD,
         Some(taken) => {
-            let word = taken.waits_at();
+            let word = taken.wait_word();
             node.put(taken);
             word
         }
     }
 }
 
-/// The word at which the one waits to whom the node last let the line go, to be asked after a call that did; 2^64 - 1 where there is none.
+/// Returns the word of the next holder after the node's last release.
+///
+/// 2^64 - 1 if there is none.
 #[unsafe(no_mangle)]
 pub extern "C" fn qolb_went_to(alloc: Global, node: &mut Handle) -> u64
     ensures held { node.new.held ≡ node.old.held }
@@ -253,7 +261,9 @@ pub extern "C" fn qolb_went_to(alloc: Global, node: &mut Handle) -> u64
     }
 }
 
-/// The word of the waiter behind that one, who may be woken a turn ahead; a number at which nobody waits where there is none.
+/// Returns the word of the waiter behind the next holder, to be woken one turn ahead.
+///
+/// If there is none, a number on which no node waits.
 #[unsafe(no_mangle)]
 pub extern "C" fn qolb_went_ahead(alloc: Global, node: &mut Handle) -> u64
     ensures held { node.new.held ≡ node.old.held }
@@ -269,7 +279,7 @@ pub extern "C" fn qolb_went_ahead(alloc: Global, node: &mut Handle) -> u64
     }
 }
 
-/// Lets go of a node that neither waits nor holds. The last one of a line frees the line.
+/// Frees a node that neither waits nor holds. The last node of a line frees the line.
 #[unsafe(no_mangle)]
 pub extern "C" fn qolb_close(alloc: Global, node: &mut Handle) -> u32
     ensures { Closes node.old.held node.new.held result }
@@ -288,7 +298,7 @@ pub extern "C" fn qolb_close(alloc: Global, node: &mut Handle) -> u32
     }
 }
 
-/// The node's number, from 1; 0 where there is no node.
+/// Returns the node's number, from 1; 0 if there is no node.
 #[unsafe(no_mangle)]
 pub extern "C" fn qolb_number(alloc: Global, node: &mut Handle) -> u64
     ensures held { node.new.held ≡ node.old.held }
@@ -304,7 +314,7 @@ pub extern "C" fn qolb_number(alloc: Global, node: &mut Handle) -> u64
     }
 }
 
-/// The label of the node's line; 0 where there is no node.
+/// Returns the label of the node's line; 0 if there is no node.
 #[unsafe(no_mangle)]
 pub extern "C" fn qolb_label(alloc: Global, node: &mut Handle) -> u64
     ensures held { node.new.held ≡ node.old.held }
@@ -320,7 +330,7 @@ pub extern "C" fn qolb_label(alloc: Global, node: &mut Handle) -> u64
     }
 }
 
-/// The number of the node's state, from 1; 0 where there is no node.
+/// Returns the number of the node's state, from 1; 0 if there is no node.
 #[unsafe(no_mangle)]
 pub extern "C" fn qolb_state(alloc: Global, node: &mut Handle) -> u32
     ensures held { node.new.held ≡ node.old.held }
@@ -336,7 +346,7 @@ pub extern "C" fn qolb_state(alloc: Global, node: &mut Handle) -> u32
     }
 }
 
-/// The library's version.
+/// Returns the library's version.
 #[unsafe(no_mangle)]
 pub extern "C" fn qolb_version() -> u32
     ensures { result ≡ 10200 }

@@ -1,42 +1,42 @@
-//! A node of a line that several share, for any kind of line.
+//! A node of a shared line, for any kind of line.
 ghost use Rattle.std.specs.Prelude.{◌≡◌, ◌≢◌, ℕ, ◌+◌, ◌*◌, ◌<◌, ◌≤◌, true, false, Some, MatchResult};
 ghost use Rattle.std.specs.Arc.{arc_value};
 ghost use Rattle.line_lanes.specs.Lane.{with_lane_of};
 ghost use Rattle.line_lanes.specs.Mask.{placed_mask};
-ghost use Rattle.qolb_model.specs.Calls.{Enqueues, Prepends, LinksUp, Polls, Withdraws, LooksIfClear, Releases, TellEachOther};
+ghost use Rattle.qolb_model.specs.Calls.{Enqueues, Prepends, LinksUp, Polls, Withdraws, LooksIfClear, Releases, MergesViews};
 ghost use Rattle.qolb_model.specs.Leases.{turns_left};
 ghost use Rattle.qolb_model.specs.OneOwner.{turn_after};
 ghost use Rattle.qolb_model.specs.PortStates.{may_ask};
 ghost use Rattle.qolb_model.specs.declared.view.View.{View};
-ghost use Rattle.shared_line.specs.Turns.{Names, SeesTurn};
-ghost use Rattle.link_line.specs.Stances as list;
+ghost use Rattle.line_generic.specs.AtTurn.{Names, SeesTurn};
+ghost use Rattle.link_line.specs.BetweenCalls as list;
 ghost use Rattle.qolb_c.specs.Nodes.{anything, PollsWithin};
 ghost use Rattle.qolb_c.specs.Numbers.{turns_number};
 
 use crate::answer::{Misuse, turns_number};
 use crate::kinds::{LineFor, List};
+use line_generic::{Discipline, Port, SleepersElsewhere};
 use line_lanes::{Line64, Mask};
 use qolb_model::{Enq, Free, LineSync, Out, Poll, PortState, Prep};
-use shared_line::{Discipline, Port, SleepersElsewhere};
 use std::alloc::Global;
 use std::hint::spin_loop;
 use std::marker::Model;
 use std::sync::Arc;
 
-/// What a node shows.
+/// The number, label, state and turns left of a node.
 #[derive(Clone, Copy)]
 pub struct Shown {
     /// The node's number.
     pub number: u64,
     /// The label of its line.
     pub label: u64,
-    /// What its last call left.
+    /// The state after the node's last call.
     pub state: PortState,
-    /// How many turns are left of the line's lease, by C's number; 0 where the node does not hold the line.
+    /// C's number of the turns left; 0 if the node does not hold the line.
     pub turns_left: u64,
 }
 
-/// A share of a line, and a port of it.
+/// A node: a share of a line, and a port of it.
 #[derive(Drop)]
 pub struct Node<L: LineSync<Free>> {
     line: Arc<L, Global>,
@@ -55,7 +55,7 @@ impl<L: LineSync<Free>> Model for Node<L> {
 }
 
 impl<L: LineSync<Free>> Node<L> {
-    /// The node of this port.
+    /// Returns the node of this port.
     pub fn new(line: Arc<L, Global>, port: L::Port) -> Node<L>
         requires { L.belongs (arc_value line) port }
         ensures { result ≡ record { line = arc_value line; port = port } }
@@ -63,13 +63,13 @@ impl<L: LineSync<Free>> Node<L> {
         Node { line, port }
     }
 
-    /// What the node shows.
+    /// Returns the node's number, label, state and turns left.
     #[inline(always)]
     pub fn shown(&self) -> Shown
         ensures number { result.number ≡ (L.view self.now.port).node }
         ensures label { result.label ≡ (L.view self.now.port).label }
         ensures state { result.state ≡ (L.view self.now.port).state }
-        ensures turns { (L.view self.now.port).state ≡ PortState.Holding → result.turns_left ≡ turns_number (turns_left (L.view self.now.port).terms.lease (L.view self.now.port).ends) }
+        ensures turns { (L.view self.now.port).state ≡ PortState.Holding → result.turns_left ≡ turns_number (turns_left (L.view self.now.port).config.lease (L.view self.now.port).ends) }
         ensures some { (L.view self.now.port).state ≡ PortState.Holding → 1 ≤ result.turns_left }
         ensures none { (L.view self.now.port).state ≢ PortState.Holding → result.turns_left ≡ 0 }
     {
@@ -81,21 +81,21 @@ impl<L: LineSync<Free>> Node<L> {
         }
     }
 
-    /// What the node's last call left.
+    /// Returns the state after the node's last call.
     fn state(&self) -> PortState
         ensures { result ≡ (L.view self.now.port).state }
     {
         L::state(&self.port)
     }
 
-    /// Whether the node's last request is clear, so that asking next is not answered busy.
+    /// Returns `true` if the node's last request is clear, so that the next is not answered `Busy`.
     ///
     /// # Errors
     ///
-    /// `Misuse` where the node waits or holds.
+    /// `Misuse` if the node waits or holds.
     pub fn is_clear(&mut self) -> Result<bool, Misuse>
         ensures line { self.new.line ≡ self.old.line }
-        ensures looks { MatchResult result (λ clear. (may_ask (L.view self.old.port).state ≡ true) × LooksIfClear anything (L.view self.old.port) (L.view self.new.port) clear × ((L.counters self.new.port).poll_count ≡ (L.counters self.old.port).poll_count)) (λ _. (may_ask (L.view self.old.port).state ≢ true) × (self.new ≡ self.old)) }
+        ensures poll_count { MatchResult result (λ clear. (may_ask (L.view self.old.port).state ≡ true) × LooksIfClear anything (L.view self.old.port) (L.view self.new.port) clear × ((L.counters self.new.port).poll_count ≡ (L.counters self.old.port).poll_count)) (λ _. (may_ask (L.view self.old.port).state ≢ true) × (self.new ≡ self.old)) }
     {
         if !self.state().may_ask() {
             return Err(Misuse);
@@ -103,11 +103,11 @@ impl<L: LineSync<Free>> Node<L> {
         Ok(self.line.is_clear(&mut self.port))
     }
 
-    /// The line's bytes as the holder sees them.
+    /// Returns the line's bytes as the holder sees them.
     ///
     /// # Errors
     ///
-    /// `Misuse` where the node does not hold the line.
+    /// `Misuse` if the node does not hold the line.
     pub fn bytes(&self) -> Result<&Line64, Misuse>
         ensures { MatchResult result (λ line. ((L.view self.now.port).state ≡ PortState.Holding) × (line.now ≡ (L.turn self.now.port).bytes)) (λ _. (L.view self.now.port).state ≢ PortState.Holding) }
     {
@@ -118,13 +118,13 @@ impl<L: LineSync<Free>> Node<L> {
         }
     }
 
-    /// How many turns are left of the line's lease, with the holder's own: at least 1. `None` without a lease.
+    /// Returns the number of turns left, with the holder's own: at least 1. `None` without a lease.
     ///
     /// # Errors
     ///
-    /// `Misuse` where the node does not hold the line.
+    /// `Misuse` if the node does not hold the line.
     fn turns_left(&self) -> Result<Option<u64>, Misuse>
-        ensures { MatchResult result (λ left. ((L.view self.now.port).state ≡ PortState.Holding) × (left ≡ turns_left (L.view self.now.port).terms.lease (L.view self.now.port).ends) × (left ≢ Some 0)) (λ _. (L.view self.now.port).state ≢ PortState.Holding) }
+        ensures { MatchResult result (λ left. ((L.view self.now.port).state ≡ PortState.Holding) × (left ≡ turns_left (L.view self.now.port).config.lease (L.view self.now.port).ends) × (left ≢ Some 0)) (λ _. (L.view self.now.port).state ≢ PortState.Holding) }
     {
         if self.state() != PortState::Holding {
             return Err(Misuse);
@@ -132,11 +132,11 @@ impl<L: LineSync<Free>> Node<L> {
         Ok(self.line.turns_left(&self.port))
     }
 
-    /// The holder writes the bytes of the mask.
+    /// Writes the bytes of the mask, for the holder.
     ///
     /// # Errors
     ///
-    /// `Misuse` where the node does not hold the line.
+    /// `Misuse` if the node does not hold the line.
     #[inline(always)]
     pub fn write(&mut self, mask: Mask, bytes: &Line64) -> Result<(), Misuse>
         ensures line { self.new.line ≡ self.old.line }
@@ -150,23 +150,24 @@ impl<L: LineSync<Free>> Node<L> {
         Ok(())
     }
 
-    /// Two nodes of one line tell each other what they know, which is of one history. C has no call for it: it says what it means that the
-    /// nodes of an opened line are of one line.
+    /// Merges the views of two nodes of one line, which are of one history.
+    ///
+    /// C has no call for it: it defines that the nodes of an opened line are of one line.
     pub fn meet(&mut self, other: &mut Node<L>)
         requires one_line { other.old.line ≡ self.old.line }
         ensures lines { (self.new.line ≡ self.old.line) × (other.new.line ≡ other.old.line) }
-        ensures tell { TellEachOther anything (L.view self.old.port) (L.view other.old.port) (L.view self.new.port) (L.view other.new.port) }
+        ensures tell { MergesViews anything (L.view self.old.port) (L.view other.old.port) (L.view self.new.port) (L.view other.new.port) }
     {
         self.line.meet(&mut self.port, &mut other.port);
     }
 }
 
 impl<Q: Discipline<Free>> Node<LineFor<Q>> {
-    /// Asks for the line.
+    /// Requests the line, and answers at once.
     ///
     /// # Errors
     ///
-    /// `Misuse` where the node waits or holds.
+    /// `Misuse` if the node waits or holds.
     pub fn enqolb(&mut self) -> Result<Enq, Misuse>
         ensures line { self.new.line ≡ self.old.line }
         ensures enqueues { MatchResult result (λ answer. (may_ask self.old.port.view.state ≡ true) × Enqueues anything self.old.port.view self.new.port.view self.new.port.turn answer × (self.new.port.counters.poll_count ≡ self.old.port.counters.poll_count) × (answer ≡ Enq.Closed → Names (Q.turn_word self.new.port.view) self.new.port.went_to)) (λ _. (may_ask self.old.port.view.state ≢ true) × (self.new ≡ self.old)) }
@@ -178,11 +179,11 @@ impl<Q: Discipline<Free>> Node<LineFor<Q>> {
         }
     }
 
-    /// Looks at most so many times whether the request has come to its turn, with a pause between two.
+    /// Polls at most `polls` times whether the request is at its turn, with a pause between two.
     ///
     /// # Errors
     ///
-    /// `Misuse` where the node does not wait, or may not look even once.
+    /// `Misuse` if the node does not wait, or `polls` is 0.
     #[inline(always)]
     pub fn wait(&mut self, polls: u64) -> Result<Poll, Misuse>
         ensures line { self.new.line ≡ self.old.line }
@@ -194,11 +195,11 @@ impl<Q: Discipline<Free>> Node<LineFor<Q>> {
         Ok(poll_on(&*self.line, &mut self.port, polls))
     }
 
-    /// Gives the request up, unless it has come to its turn.
+    /// Withdraws the request, unless it is at its turn.
     ///
     /// # Errors
     ///
-    /// `Misuse` where the node does not wait.
+    /// `Misuse` if the node does not wait.
     pub fn withdraw(&mut self) -> Result<Out, Misuse>
         ensures line { self.new.line ≡ self.old.line }
         ensures withdraws { MatchResult result (λ answer. (self.old.port.view.state ≡ PortState.Queued) × Withdraws anything self.old.port.view self.new.port.view self.new.port.turn answer × (self.new.port.counters.poll_count ≡ self.old.port.counters.poll_count) × (answer ≡ Out.Closed → Names (Q.turn_word self.new.port.view) self.new.port.went_to)) (λ _. (self.old.port.view.state ≢ PortState.Queued) × (self.new ≡ self.old)) }
@@ -209,11 +210,11 @@ impl<Q: Discipline<Free>> Node<LineFor<Q>> {
         Ok(self.line.withdraw(&mut self.port))
     }
 
-    /// The holder writes lane `k`.
+    /// Writes lane `k`, for the holder.
     ///
     /// # Errors
     ///
-    /// `Misuse` where the node does not hold the line.
+    /// `Misuse` if the node does not hold the line.
     pub fn write_lane(&mut self, k: usize, value: u64) -> Result<(), Misuse>
         requires { k < 8 }
         ensures line { self.new.line ≡ self.old.line }
@@ -231,7 +232,7 @@ impl<Q: Discipline<Free>> Node<LineFor<Q>> {
     ///
     /// # Errors
     ///
-    /// `Misuse` where the node does not hold it.
+    /// `Misuse` if the node does not hold the line.
     #[inline(always)]
     pub fn release(&mut self, shut: bool) -> Result<(), Misuse>
         ensures line { self.new.line ≡ self.old.line }
@@ -248,33 +249,35 @@ impl<Q: Discipline<Free>> Node<LineFor<Q>> {
         Ok(())
     }
 
-    /// The word at which the node waits, if it does. Where it holds, the line came to it there.
-    pub fn waits_at(&self) -> u64
-        ensures word { result ≡ Q.waits_at self.now.port.view.terms.nodes self.now.port.view.node self.now.port.mark }
+    /// Returns the word on which the node waits.
+    ///
+    /// If the node holds, this is the word on which it was granted.
+    pub fn wait_word(&self) -> u64
+        ensures word { result ≡ Q.wait_word self.now.port.view.config.nodes self.now.port.view.node self.now.port.token }
         ensures turn { self.now.port.view.state ≡ PortState.Holding → (u : View) → SeesTurn u self.now.port.view → result ≡ Q.turn_word u }
     {
-        self.line.waits_at(&self.port) as u64
+        self.line.wait_word(&self.port) as u64
     }
 
-    /// The word at which the one waits to whom the node last let the line go.
+    /// Returns the word of the next holder, as the node noted it at its last release.
     pub fn went_to(&self) -> u64
         ensures { self.now.port.went_to ≡ Some result }
     {
         self.line.went_to(&self.port) as u64
     }
 
-    /// The word of the waiter behind that one.
+    /// Returns the word of the waiter behind the next holder, as the node noted it.
     pub fn went_ahead(&self) -> u64 {
         self.line.went_ahead(&self.port) as u64
     }
 }
 
 impl Node<List> {
-    /// The first half of asking: makes a request, and leaves it to be linked to the one before.
+    /// Makes a request and leaves it to be linked to its predecessor's.
     ///
     /// # Errors
     ///
-    /// `Misuse` where the node waits or holds.
+    /// `Misuse` if the node waits or holds.
     pub fn prepend(&mut self) -> Result<Prep, Misuse>
         ensures line { self.new.line ≡ self.old.line }
         ensures prepends { MatchResult result (λ answer. (may_ask self.old.port.view.state ≡ true) × Prepends anything self.old.port.view self.new.port.view self.new.port.turn answer × (self.new.port.counters.poll_count ≡ self.old.port.counters.poll_count) × (answer ≡ Prep.Closed → Names (list.turn_word self.new.port.view) self.new.port.went_to)) (λ _. (may_ask self.old.port.view.state ≢ true) × (self.new ≡ self.old)) }
@@ -285,11 +288,11 @@ impl Node<List> {
         Ok(self.line.prepend(&mut self.port))
     }
 
-    /// The second half of asking: links the request to the one before.
+    /// Links the request to its predecessor's.
     ///
     /// # Errors
     ///
-    /// `Misuse` where the node has no request to link.
+    /// `Misuse` if the node has no request to link.
     pub fn link(&mut self) -> Result<Enq, Misuse>
         ensures line { self.new.line ≡ self.old.line }
         ensures links { MatchResult result (λ answer. (self.old.port.view.state ≡ PortState.Linking) × LinksUp anything self.old.port.view self.new.port.view self.new.port.turn answer × (self.new.port.counters.poll_count ≡ self.old.port.counters.poll_count) × (answer ≡ Enq.Closed → Names (list.turn_word self.new.port.view) self.new.port.went_to)) (λ _. (self.old.port.view.state ≢ PortState.Linking) × (self.new ≡ self.old)) }
@@ -301,7 +304,7 @@ impl Node<List> {
     }
 }
 
-/// Polls at most so many times, with a pause between two: just so many times where the request waits still.
+/// Polls at most `polls` times, with a pause between two: exactly `polls` times if the request still waits.
 fn poll_on<Q: Discipline<Free>>(
     line: &LineFor<Q>,
     port: &mut Port<Q, SleepersElsewhere>,

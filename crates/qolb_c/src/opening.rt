@@ -1,4 +1,4 @@
-//! How a line is opened for C.
+//! Opening a line for C.
 ghost use Rattle.std.specs.Prelude.{◌≡◌, ◌≢◌, ◌≤◌, ◌++◌, ℕ, true, false, length, map, drop, Some, None, IsTrue, IfOk, IfErr};
 ghost use Rattle.qolb_model.specs.Opening.{MayOpen, MayNotOpen};
 ghost use Rattle.qolb_c.specs.Opens.{AreOfLine, AreNewNodes, held_by, AreEmpty, HasNode, AreOpened, WhyRefused, refused_by, IsKind};
@@ -9,8 +9,8 @@ use crate::any_node::{AnyNode, IntoAny};
 use crate::handle::Handle;
 use crate::kinds::{List, Ring, Ticket};
 use crate::node::Node;
-use locks::Lines;
-use qolb_model::{Free, MOST_NODES, OpenError, OpenLine, Terms};
+use line_kinds::Lines;
+use qolb_model::{Free, LineConfig, MAX_NODES, OpenError, OpenLine};
 use std::alloc::Global;
 use std::sync::Arc;
 
@@ -23,25 +23,25 @@ const LIST: u32 = 1;
 /// C's number for a ticket line.
 const TICKET: u32 = 2;
 
-/// Opens a line of this kind, and puts its nodes into the first of these handles.
-pub fn open(alloc: Global, kind: u32, label: u64, terms: Terms, out: &mut [Handle]) -> Answer
-    ensures opened { result ≡ Answer.Done → AreOpened kind label terms out.old out.new }
+/// Opens a line of this kind, and puts its nodes into the first of the handles.
+pub fn open(alloc: Global, kind: u32, label: u64, config: LineConfig, out: &mut [Handle]) -> Answer
+    ensures opened { result ≡ Answer.Done → AreOpened kind label config out.old out.new }
     ensures unchanged { result ≢ Answer.Done → held_by out.new ≡ held_by out.old }
-    ensures why { result ≢ Answer.Done → WhyRefused kind terms out.old result }
+    ensures why { result ≢ Answer.Done → WhyRefused kind config out.old result }
 {
     if kind != RING && kind != LIST && kind != TICKET {
         return Answer::BadKind;
     }
-    if let Err(error) = terms.check() {
+    if let Err(error) = config.check() {
         return refusal(error);
     }
-    if (out.len() as u64) < terms.nodes {
+    if (out.len() as u64) < config.nodes {
         return Answer::TooFew;
     }
-    if !are_empty(alloc, out, terms.nodes as usize) {
+    if !are_empty(alloc, out, config.nodes as usize) {
         return Answer::Occupied;
     }
-    match nodes_of_kind(alloc, kind, label, terms) {
+    match nodes_of_kind(alloc, kind, label, config) {
         Ok(nodes) => {
             fill(out, nodes);
             Answer::Done
@@ -50,11 +50,11 @@ pub fn open(alloc: Global, kind: u32, label: u64, terms: Terms, out: &mut [Handl
     }
 }
 
-/// How many bytes the table of a line of this kind takes, for so many nodes; 0 where it would not be opened.
+/// Returns the number of bytes of the table of such a line; 0 if it would not be opened.
 pub fn memory(kind: u32, nodes: u64) -> u64
     ensures { TellsMemory kind nodes result }
 {
-    if nodes < 1 || nodes > MOST_NODES {
+    if nodes < 1 || nodes > MAX_NODES {
         return 0;
     }
     match kind {
@@ -65,7 +65,7 @@ pub fn memory(kind: u32, nodes: u64) -> u64
     }
 }
 
-/// What is told of a line that was not opened.
+/// Returns the answer for a line that was not opened.
 fn refusal(error: OpenError) -> Answer
     ensures { result ≡ refused_by error }
 {
@@ -76,7 +76,7 @@ fn refusal(error: OpenError) -> Answer
     }
 }
 
-/// Whether the first `many` of these handles are empty.
+/// Returns `true` if the first `many` of the handles are empty.
 fn are_empty(alloc: Global, handles: &mut [Handle], many: usize) -> bool
     requires { many ≤ length handles.old }
     ensures same { held_by handles.new ≡ held_by handles.old }
@@ -91,47 +91,47 @@ fn are_empty(alloc: Global, handles: &mut [Handle], many: usize) -> bool
     true
 }
 
-/// The nodes of a new line of this kind, each in a box of its own.
+/// Opens a line of this kind, and returns its nodes, each in its own box.
 ///
 /// # Errors
 ///
-/// As `OpenLine::open_with`.
+/// Those of `OpenLine::open_with`.
 fn nodes_of_kind(
     alloc: Global,
     kind: u32,
     label: u64,
-    terms: Terms,
+    config: LineConfig,
 ) -> Result<Vec<Box<AnyNode>>, OpenError>
     requires { IsKind kind }
-    ensures nodes { IfOk result (λ boxes. AreNewNodes kind label terms (map (λ node. node.value) boxes.items)) }
-    ensures why { IfErr result (λ error. MayNotOpen terms error) }
+    ensures nodes { IfOk result (λ boxes. AreNewNodes kind label config (map (λ node. node.value) boxes.items)) }
+    ensures why { IfErr result (λ error. MayNotOpen config error) }
 {
     if kind == RING {
-        boxed(alloc, new_nodes::<Ring>(alloc, label, terms)?)
+        boxed(alloc, new_nodes::<Ring>(alloc, label, config)?)
     } else if kind == LIST {
-        boxed(alloc, new_nodes::<List>(alloc, label, terms)?)
+        boxed(alloc, new_nodes::<List>(alloc, label, config)?)
     } else {
-        boxed(alloc, new_nodes::<Ticket>(alloc, label, terms)?)
+        boxed(alloc, new_nodes::<Ticket>(alloc, label, config)?)
     }
 }
 
-/// The nodes of a new line.
+/// Opens a line, and returns its nodes.
 ///
 /// # Errors
 ///
-/// As `OpenLine::open_with`.
+/// Those of `OpenLine::open_with`.
 fn new_nodes<L: OpenLine<Free> + Drop>(
     alloc: Global,
     label: u64,
-    terms: Terms,
+    config: LineConfig,
 ) -> Result<Vec<Node<L>>, OpenError>
 where
     L::Port: Drop,
-    ensures nodes { IfOk result (λ nodes. AreOfLine L.view label terms nodes.items) }
-    ensures may_open { IfOk result (λ _. MayOpen terms) }
-    ensures why { IfErr result (λ error. MayNotOpen terms error) }
+    ensures nodes { IfOk result (λ nodes. AreOfLine L.view label config nodes.items) }
+    ensures may_open { IfOk result (λ _. MayOpen config) }
+    ensures why { IfErr result (λ error. MayNotOpen config error) }
 {
-    let (line, ports) = L::open_with(alloc, label, terms)?;
+    let (line, ports) = L::open_with(alloc, label, config)?;
     let Ok(line) = Arc::new(alloc, line) else {
         return Err(OpenError::Memory);
     };
@@ -149,11 +149,11 @@ where
     Ok(nodes)
 }
 
-/// The nodes, each in a box of its own.
+/// Boxes the nodes.
 ///
 /// # Errors
 ///
-/// `Memory`.
+/// `Memory` if the allocator returns none.
 fn boxed<N: IntoAny>(alloc: Global, nodes: Vec<N>) -> Result<Vec<Box<AnyNode>>, OpenError>
     ensures nodes { IfOk result (λ boxes. map (λ node. node.value) boxes.items ≡ map N.as_any nodes.items) }
     ensures why { IfErr result (λ error. error ≡ OpenError.Memory) }
@@ -172,7 +172,7 @@ fn boxed<N: IntoAny>(alloc: Global, nodes: Vec<N>) -> Result<Vec<Box<AnyNode>>, 
     Ok(boxes)
 }
 
-/// Puts the nodes into the first of these handles, which are empty.
+/// Puts the nodes into the first of the handles, which are empty.
 fn fill(out: &mut [Handle], nodes: Vec<Box<AnyNode>>)
     requires room { length nodes.items ≤ length out.old }
     requires empty { AreEmpty (length nodes.items) out.old }

@@ -17,7 +17,7 @@ use Rattle.qolb_draw.specs.Laws.{BarsCoverMarks, kind_over, kinds_over, shown_as
 use Rattle.qolb_draw.specs.LineRuns.{Step, callers, event_of, mark_at, steps_on}
 use Rattle.qolb_draw.specs.Timelines.{Arrow, Call, Lane, Name, Number, Shape, arrow_of, bar_of, bars_from, bytes_of, column_shapes, columns_of, is_same, name_count, names_of, no_event, row_of, row_shapes, stand_of, stands_of}
 
--- whether a bar is over a column
+-- a bar is over a column, or not
 abbrev pub is_over : ℕ → ℕ → ℕ → Bool
 is_over start end column = nat_le start column && nat_lt column end
 
@@ -67,7 +67,7 @@ before row n column start now s (next ∷ rest) lt le =
           (before row n column now (now + 1) next rest (omega arith) (omega arith))
     ]
 
--- the first bar, over a column that it has reached
+-- the first bar, over a column up to which it reaches
 within : (row n column start now : ℕ) (s : Stand) (rest : List Stand) → start ≤ column → column < now → kinds_over n column (bars_from row n s start now rest) ≡ shown_as s
 within row n column start now s [] from to = bar_over row start now s n column ∙ ap (λ b. cond b (shown_as s) []) (over start now column from to)
 within row n column start now s (next ∷ rest) from to =
@@ -148,7 +148,7 @@ rows_kinds n column rows a its others (m ∷ ms) = two n column (rows m) (flat_m
     one true e = ap (λ k. kinds_over n column (rows k)) (eqb-true m n e) ∙ its
     one false e = others m e
 
--- a node stands once among those that pass a test
+-- a node is once among those that pass a test
 later : (p : ℕ → Bool) (n : ℕ) (a : List Stand) (k from : ℕ) → n < from → flat_map (λ m. cond (m == n) a []) (filter p (range_with_len from k)) ≡ []
 later p n a zero from lt = refl
 later p n a (suc k) from lt =
@@ -161,7 +161,7 @@ later p n a (suc k) from lt =
 behind : (from n : ℕ) → (from == n) ≡ false → from ≤ n → from + 1 ≤ n
 behind from n e le = grind (arith, nat_tests)
 
--- it is the first of them, or among the rest
+-- the node is the first of them, or among the rest
 first_of : (p : ℕ → Bool) (n : ℕ) (a : List Stand) (from : ℕ) (rest : List ℕ) (t : Bool) → (from == n) ≡ t → p n ≡ true → flat_map (λ m. cond (m == n) a []) rest ≡ cond t [] a
     → flat_map (λ m. cond (m == n) a []) (cond (p from) (from ∷ rest) rest) ≡ a
 first_of p n a from rest true e passes none =
@@ -185,7 +185,7 @@ once p n a (suc k) from passes le lt =
     ] in
     cases (from == n) refl
 
--- what is shown of a command is no bar
+-- the shapes of a command are no bars
 no_arrow : (n column k number : ℕ) (shown : List ℕ) (was is : Option ℕ) → kinds_over n column (arrow_of shown k number was is) ≡ []
 no_arrow n column k number shown None is = refl
 no_arrow n column k number shown (Some from) None = refl

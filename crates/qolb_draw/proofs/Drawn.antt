@@ -1,4 +1,4 @@
--- How far the drawing of a line has come.
+-- The progress of drawing a line.
 use Rattle.std.proofs.Common.{◌≡◌, ◌≢◌, ℕ, ◌+◌, ◌<◌, ◌==◌, true, false, cond, List, [], ◌∷◌, ◌++◌, length, map, take, get_or, refl, sym, ap, ◌∙◌, subst, arith, append-nil, length-append, Option, ◌≤◌, ◌*◌}
 use Rattle.std.specs.List.{fold, range_with_len}
 use Rattle.std.proofs.lemmas.List.{length-map, take_all, map-append}
@@ -7,17 +7,17 @@ use Rattle.std.proofs.lemmas.Grind.{flat_map-append}
 use Rattle.std.proofs.lemmas.Bool.Decides.{nat_tests}
 use Rattle.line_lanes.specs.Line.{zeros}
 use Rattle.line_lanes.specs.declared.line.Line64.{Line64}
-use Rattle.qolb_model.specs.declared.terms.Terms.{Terms}
-use Rattle.qolb_model.specs.OneOwner.{LineState, opened, state_of}
+use Rattle.qolb_model.specs.declared.config.LineConfig.{LineConfig}
+use Rattle.qolb_model.specs.OneOwner.{OwnerState, opened, state_of}
 use Rattle.qolb_model.specs.Plain.{PlainView, node_state, Agrees}
 use Rattle.qolb_model.proofs.Agreed.{node_state-state_of}
 use Rattle.qolb_script.specs.declared.command.Command.{Command}
 use Rattle.qolb_script.specs.Commands.{node_of, line_of}
 use Rattle.qolb_script.specs.Script.{Script}
-use Rattle.qolb_script.specs.Reply.{terms_of, after_command}
+use Rattle.qolb_script.specs.Reply.{config_of, after_command}
 use Rattle.qolb_draw.specs.declared.event.Event.{Event}
-use Rattle.qolb_draw.specs.declared.mark.Change.{Change}
-use Rattle.qolb_draw.specs.declared.mark.Mark.{Mark}
+use Rattle.qolb_draw.specs.declared.symbol.Change.{Change}
+use Rattle.qolb_draw.specs.declared.symbol.Symbol.{Symbol}
 use Rattle.qolb_draw.specs.Marks.{change_of, mark_of}
 use Rattle.qolb_draw.specs.LineRuns.{Step, LineRun, run_start, run_step, steps_on, mark_at, event_of}
 use Rattle.qolb_draw.specs.Following.{Follows}
@@ -26,9 +26,9 @@ use Rattle.qolb_draw.specs.Grids.{IsGrid, marks_of, column_out_of}
 
 -- the run of a line after the first i commands of the script
 abbrev pub run_after : Script → ℕ → ℕ → LineRun
-run_after script number i = fold (run_step number) (run_start (terms_of script)) (take i script.commands)
+run_after script number i = fold (run_step number) (run_start (config_of script)) (take i script.commands)
 
-pub record Stands (script : Script) (number i done : ℕ) (line : PlainView) (waiting : List ℕ) (rows : ℕ) (numbers callers : List ℕ) (events : List Event) (marks : List Mark) : Type 0 where
+pub record Stands (script : Script) (number i done : ℕ) (line : PlainView) (waiting : List ℕ) (rows : ℕ) (numbers callers : List ℕ) (events : List Event) (marks : List Symbol) : Type 0 where
   pub done_are : done ≡ (run_after script number i).done
   pub counted : done ≡ i
   pub few : length numbers ≤ i
@@ -38,10 +38,10 @@ pub record Stands (script : Script) (number i done : ℕ) (line : PlainView) (wa
 
 -- one command more
 run_more : (script : Script) (number i : ℕ) (d : Command) → i < length script.commands → run_after script number (i + 1) ≡ run_step number (run_after script number i) (get_or script.commands i d)
-run_more script number i d lt = fold_more (run_step number) (run_start (terms_of script)) script.commands i d lt
+run_more script number i d lt = fold_more (run_step number) (run_start (config_of script)) script.commands i d lt
 
 -- the marks after one step more
-column_is : (line : PlainView) (s : LineState) (change : Change) (nodes : ℕ) → Agrees line s → column_out_of line change nodes ≡ map (λ n. mark_of change (state_of s n) n) (range_with_len 1 nodes)
+column_is : (line : PlainView) (s : OwnerState) (change : Change) (nodes : ℕ) → Agrees line s → column_out_of line change nodes ≡ map (λ n. mark_of change (state_of s n) n) (range_with_len 1 nodes)
 column_is line s change nodes a = all_same (range_with_len 1 nodes)
   where
     all_same : (xs : List ℕ) → map (λ n. mark_of change (node_state line n) n) xs ≡ map (λ n. mark_of change (state_of s n) n) xs
@@ -54,7 +54,7 @@ same_event event n c ch a b e =
     ∙ ap (λ (x : Command). let made : Event = record { number = n; command = x; change = event.change } in made) b
     ∙ ap (λ (x : Change). let made : Event = record { number = n; command = c; change = x } in made) e
 
-pub grid_more : (nodes : ℕ) (steps : List Step) (step : Step) (rows : ℕ) (numbers numbers' callers callers' : List ℕ) (events events' : List Event) (marks marks' column : List Mark) → IsGrid nodes steps rows numbers callers events marks
+pub grid_more : (nodes : ℕ) (steps : List Step) (step : Step) (rows : ℕ) (numbers numbers' callers callers' : List ℕ) (events events' : List Event) (marks marks' column : List Symbol) → IsGrid nodes steps rows numbers callers events marks
     → numbers' ≡ numbers ++ step.number ∷ [] → callers' ≡ callers ++ node_of step.command ∷ [] → events' ≡ events ++ event_of step ∷ [] → column ≡ map (mark_at step) (range_with_len 1 nodes) → marks' ≡ marks ++ column
     → IsGrid nodes (steps ++ step ∷ []) rows numbers' callers' events' marks'
 grid_more nodes steps step rows numbers numbers' callers callers' events events' marks marks' column g n c e is m = record {
@@ -67,7 +67,7 @@ grid_more nodes steps step rows numbers numbers' callers callers' events events'
 }
 
 -- a command on another line
-pub command_skipped : (script : Script) (number i done done' : ℕ) (line : PlainView) (waiting : List ℕ) (rows : ℕ) (numbers callers : List ℕ) (events : List Event) (marks : List Mark) (c d : Command)
+pub command_skipped : (script : Script) (number i done done' : ℕ) (line : PlainView) (waiting : List ℕ) (rows : ℕ) (numbers callers : List ℕ) (events : List Event) (marks : List Symbol) (c d : Command)
     → Stands script number i done line waiting rows numbers callers events marks → i < length script.commands → c ≡ get_or script.commands i d → line_of c ≢ number → done' ≡ done + 1
     → Stands script number (i + 1) done' line waiting rows numbers callers events marks
 command_skipped script number i done done' line waiting rows numbers callers events marks c d st lt is other next =
@@ -85,9 +85,9 @@ command_skipped script number i done done' line waiting rows numbers callers eve
     }
 
 -- a command on this line
-pub command_drawn : (script : Script) (number i done done' : ℕ) (line line' : PlainView) (waiting waiting' : List ℕ) (rows rows' : ℕ) (numbers numbers' callers callers' : List ℕ) (events events' : List Event) (marks marks' : List Mark) (event : Event) (c d : Command)
+pub command_drawn : (script : Script) (number i done done' : ℕ) (line line' : PlainView) (waiting waiting' : List ℕ) (rows rows' : ℕ) (numbers numbers' callers callers' : List ℕ) (events events' : List Event) (marks marks' : List Symbol) (event : Event) (c d : Command)
     → Stands script number i done line waiting rows numbers callers events marks → i < length script.commands → c ≡ get_or script.commands i d → line_of c ≡ number → done' ≡ done + 1
-    → event.number ≡ done' → event.command ≡ c → ((s : LineState) → Follows line waiting s → event.change ≡ change_of s c) → ((s : LineState) → Follows line waiting s → Follows line' waiting' (after_command s c)) → line'.nodes ≡ line.nodes
+    → event.number ≡ done' → event.command ≡ c → ((s : OwnerState) → Follows line waiting s → event.change ≡ change_of s c) → ((s : OwnerState) → Follows line waiting s → Follows line' waiting' (after_command s c)) → line'.nodes ≡ line.nodes
     → rows' ≡ rows → numbers' ≡ numbers ++ event.number ∷ [] → callers' ≡ callers ++ event.change.node ∷ [] → events' ≡ events ++ event ∷ [] → marks' ≡ marks ++ column_out_of line' event.change rows
     → Stands script number (i + 1) done' line' waiting' rows' numbers' callers' events' marks'
 command_drawn script number i done done' line line' waiting waiting' rows rows' numbers numbers' callers callers' events events' marks marks' event c d st lt is its next same_number same_command changes follows' same_nodes same_rows n k ev m =
@@ -116,7 +116,7 @@ command_drawn script number i done done' line line' waiting waiting' rows rows' 
     }
 
 -- no command
-pub none_drawn : (script : Script) (number : ℕ) (line : PlainView) (waiting : List ℕ) (rows : ℕ) (numbers callers : List ℕ) (events : List Event) (marks : List Mark) → Agrees line (opened (terms_of script)) → waiting ≡ [] → rows ≡ script.nodes → numbers ≡ [] → callers ≡ [] → events ≡ [] → marks ≡ []
+pub none_drawn : (script : Script) (number : ℕ) (line : PlainView) (waiting : List ℕ) (rows : ℕ) (numbers callers : List ℕ) (events : List Event) (marks : List Symbol) → Agrees line (opened (config_of script)) → waiting ≡ [] → rows ≡ script.nodes → numbers ≡ [] → callers ≡ [] → events ≡ [] → marks ≡ []
     → Stands script number 0 0 line waiting rows numbers callers events marks
 none_drawn script number line waiting rows numbers callers events marks a w r n k e m = record {
   done_are = refl;
@@ -128,18 +128,18 @@ none_drawn script number line waiting rows numbers callers events marks a w r n 
 }
 
 -- all commands
-pub all_drawn : (script : Script) (number i done : ℕ) (line : PlainView) (waiting : List ℕ) (rows : ℕ) (numbers callers : List ℕ) (events : List Event) (marks : List Mark) → Stands script number i done line waiting rows numbers callers events marks
+pub all_drawn : (script : Script) (number i done : ℕ) (line : PlainView) (waiting : List ℕ) (rows : ℕ) (numbers callers : List ℕ) (events : List Event) (marks : List Symbol) → Stands script number i done line waiting rows numbers callers events marks
     → length script.commands ≤ i → IsGrid script.nodes (steps_on number script) rows numbers callers events marks
 all_drawn script number i done line waiting rows numbers callers events marks st end =
-    subst (λ (cs : List Command). IsGrid script.nodes (fold (run_step number) (run_start (terms_of script)) cs).steps rows numbers callers events marks) (take_all i script.commands end) st.grid
+    subst (λ (cs : List Command). IsGrid script.nodes (fold (run_step number) (run_start (config_of script)) cs).steps rows numbers callers events marks) (take_all i script.commands end) st.grid
 
-pub grid_size : (nodes : ℕ) (steps : List Step) (rows : ℕ) (numbers callers : List ℕ) (events : List Event) (marks : List Mark) → IsGrid nodes steps rows numbers callers events marks → length marks ≡ length numbers * rows
+pub grid_size : (nodes : ℕ) (steps : List Step) (rows : ℕ) (numbers callers : List ℕ) (events : List Event) (marks : List Symbol) → IsGrid nodes steps rows numbers callers events marks → length marks ≡ length numbers * rows
 grid_size nodes steps rows numbers callers events marks g =
     ap length g.marks_are ∙ length-marks_of nodes steps ∙ ap (λ n. n * nodes) (sym (ap length g.numbers_are ∙ length-map steps (λ (s : Step). s.number))) ∙ ap (λ n. length numbers * n) (sym g.rows_are)
 
--- the terms of a script's lines
-pub terms_are : (script : Script) (nodes : ℕ) (opening : Line64) (lease : Option ℕ) → nodes ≡ script.nodes → opening.bytes ≡ zeros → lease ≡ script.lease → let terms : Terms = record { nodes = nodes; opening = opening; lease = lease } in terms ≡ terms_of script
-terms_are script nodes opening lease n o l =
-    ap (λ (x : ℕ). let t : Terms = record { nodes = x; opening = opening; lease = lease } in t) n
-    ∙ ap (λ (b : List ℕ). let t : Terms = record { nodes = script.nodes; opening = record { bytes = b }; lease = lease } in t) o
-    ∙ ap (λ (x : Option ℕ). let t : Terms = record { nodes = script.nodes; opening = record { bytes = zeros }; lease = x } in t) l
+-- the configuration of a script's lines
+pub config_is : (script : Script) (nodes : ℕ) (opening : Line64) (lease : Option ℕ) → nodes ≡ script.nodes → opening.bytes ≡ zeros → lease ≡ script.lease → let config : LineConfig = record { nodes = nodes; opening = opening; lease = lease } in config ≡ config_of script
+config_is script nodes opening lease n o l =
+    ap (λ (x : ℕ). let t : LineConfig = record { nodes = x; opening = opening; lease = lease } in t) n
+    ∙ ap (λ (b : List ℕ). let t : LineConfig = record { nodes = script.nodes; opening = record { bytes = b }; lease = lease } in t) o
+    ∙ ap (λ (x : Option ℕ). let t : LineConfig = record { nodes = script.nodes; opening = record { bytes = zeros }; lease = x } in t) l

@@ -1,4 +1,4 @@
--- What comes out of the marks of a line is its picture.
+-- The texts made of a line's marks are its picture.
 use Rattle.std.proofs.Common.{◌≡◌, ℕ, zero, zero-add, max, suc, ◌+◌, ◌-◌, ◌*◌, ◌<◌, ◌≤◌, ◌==◌, ◌||◌, min, Bool, cond, List, [], ◌∷◌, ◌++◌, length, map, take, drop, get_or, refl, sym, ap, ◌∙◌, subst, arith, inl, inr, ◌⊎◌, length-append, length-drop}
 use Rattle.std.specs.Prelude.{codes}
 use Rattle.std.specs.List.{All, filter, flat_map, fold, list_any, range_with_len, sum_by}
@@ -13,8 +13,8 @@ use Rattle.qolb_script.specs.Commands.{node_of}
 use Rattle.qolb_script.specs.Script.{Script}
 use Rattle.qolb_script.specs.Reply.{no_line}
 use Rattle.qolb_draw.specs.declared.event.Event.{Event}
-use Rattle.qolb_draw.specs.declared.mark.Mark.{Mark}
-use Rattle.qolb_draw.specs.declared.mark.Mark.TheVariants as mark
+use Rattle.qolb_draw.specs.declared.symbol.Symbol.{Symbol}
+use Rattle.qolb_draw.specs.declared.symbol.Symbol.TheVariants as symbol
 use Rattle.qolb_draw.specs.declared.text.TheConstants.{COLUMNS}
 use Rattle.qolb_draw.specs.LineRuns.{Step, event_of, mark_at, steps_on, callers}
 use Rattle.qolb_draw.specs.Pictures.{letter_of, label_of, label_room, heads_text, row_text, block_text, block_at, block_count, blocks_text, line_text}
@@ -23,7 +23,7 @@ use Rattle.qolb_draw.specs.Svg.{columns_on, height_of, line_begin, rows_on, text
 use Rattle.qolb_draw.specs.Timelines.{columns_of, row_shapes, stand_of, stands_of, timeline_of}
 use Rattle.qolb_draw.proofs.Rows.{range_more}
 
--- a step, where none is asked for
+-- a step for places that have none
 abbrev pub no_step : Step
 no_step = record { number = 0; command = Enq 0 0; before = no_line }
 
@@ -42,12 +42,12 @@ mark_found nodes n k steps lt first last =
     let before : length (marks_of nodes (take k steps)) ≡ k * nodes = length-marks_of nodes (take k steps) ∙ ap (λ m. m * nodes) (length-take-le k steps (omega arith)) in
     let below : n - 1 < nodes = omega arith in
     let in_row : n - 1 < length (map (mark_at (get_or steps k no_step)) (range_with_len 1 nodes)) = subst (λ (m : ℕ). n - 1 < m) (sym (length-map-range_with_len (mark_at (get_or steps k no_step)) 1 nodes)) below in
-    ap (λ m. get_or (marks_of nodes steps) (m + (n - 1)) mark.Idle) (sym before)
-    ∙ get_or-flat_map (λ (step : Step). map (mark_at step) (range_with_len 1 nodes)) steps k (n - 1) no_step mark.Idle lt in_row
-    ∙ get_or-map-range_with_len (mark_at (get_or steps k no_step)) 1 nodes (n - 1) n mark.Idle below (omega arith)
+    ap (λ m. get_or (marks_of nodes steps) (m + (n - 1)) symbol.Idle) (sym before)
+    ∙ get_or-flat_map (λ (step : Step). map (mark_at step) (range_with_len 1 nodes)) steps k (n - 1) no_step symbol.Idle lt in_row
+    ∙ get_or-map-range_with_len (mark_at (get_or steps k no_step)) 1 nodes (n - 1) n symbol.Idle below (omega arith)
 
--- a row, of what is made of each mark
-row_found : {X : Type 0} (h : Mark → X) (nodes n start count : ℕ) (steps : List Step) → 1 ≤ n → n ≤ nodes → count ≤ length steps - start
+-- a row, by the text of each mark
+row_found : {X : Type 0} (h : Symbol → X) (nodes n start count : ℕ) (steps : List Step) → 1 ≤ n → n ≤ nodes → count ≤ length steps - start
     → map (λ k. h (mark_out_of nodes (marks_of nodes steps) n k)) (range_with_len start count) ≡ map (λ step. h (mark_at step n)) (take count (drop start steps))
 row_found h nodes n start zero steps first last fits = refl
 row_found {X} h nodes n start (suc count) steps first last fits =
@@ -70,7 +70,7 @@ rows_text_found nodes start count steps (n ∷ shown) all fits =
     ap (λ row. (label_of n ++ row ++ 10 ∷ []) ++ flat_map (row_out_of nodes (marks_of nodes steps) start count) shown) (row_found letter_of nodes n start count steps here.0 here.1 fits)
     ∙ ap (λ t. row_text (take count (drop start steps)) n ++ t) (rows_text_found nodes start count steps shown rest fits)
 
--- as many as there are, at most
+-- at most as many as there are
 take_within : (n : ℕ) (xs : List Step) → take (min n (length xs)) xs ≡ take n xs
 take_within n xs = by (cases_lt n (length xs))
   where
@@ -116,7 +116,7 @@ blocks_found nodes steps shown all =
     ∙ ap (λ m. flat_map (λ k. block_text shown (block_at steps k)) (range_with_len 0 (block_count m))) (length-map steps (λ (step : Step). step.number))
 
 -- the picture of a line
-pub line_found : (script : Script) (line rows : ℕ) (numbers called : List ℕ) (events : List Event) (marks : List Mark) → IsGrid script.nodes (steps_on line script) rows numbers called events marks → line_out_of line rows numbers called marks ≡ line_text script line
+pub line_found : (script : Script) (line rows : ℕ) (numbers called : List ℕ) (events : List Event) (marks : List Symbol) → IsGrid script.nodes (steps_on line script) rows numbers called events marks → line_out_of line rows numbers called marks ≡ line_text script line
 line_found script line rows numbers called events marks g =
     let steps : List Step = steps_on line script in
     ap (λ h. line_out_of line h numbers called marks) g.rows_are ∙ ap (λ xs. line_out_of line script.nodes xs called marks) g.numbers_are
@@ -124,7 +124,7 @@ line_found script line rows numbers called events marks g =
     ∙ ap (λ shown. codes "line " ++ (48 + line) ∷ 10 ∷ [] ++ blocks_out_of script.nodes (marks_of script.nodes steps) (numbers_of steps) shown ++ 10 ∷ []) (shown_found script.nodes steps)
     ∙ ap (λ t. codes "line " ++ (48 + line) ∷ 10 ∷ [] ++ t ++ 10 ∷ []) (blocks_found script.nodes steps (callers script.nodes steps) (subst (All (λ n. (1 ≤ n) × (n ≤ script.nodes))) (shown_found script.nodes steps) (shown_within script.nodes (nodes_of steps))))
 
--- how a node stands after all steps
+-- the states of a node after all steps
 stands_found : (nodes n : ℕ) (steps : List Step) → 1 ≤ n → n ≤ nodes → stands_out_of nodes (marks_of nodes steps) n 0 (length steps) ≡ stands_of steps n
 stands_found nodes n steps first last =
     row_found stand_of nodes n 0 (length steps) steps first last (omega arith) ∙ ap (map (λ step. stand_of (mark_at step n))) (take_all (length steps) steps (omega arith))
@@ -140,7 +140,7 @@ row_shapes_found nodes steps all (n ∷ shown) within =
     ∙ ap (λ t. row_shapes all (length steps) (stands_of steps n) n ++ t) (row_shapes_found nodes steps all shown rest)
 
 -- the timeline of a line
-pub timeline_found : (script : Script) (line top rows : ℕ) (numbers called : List ℕ) (events : List Event) (marks : List Mark) → IsGrid script.nodes (steps_on line script) rows numbers called events marks
+pub timeline_found : (script : Script) (line top rows : ℕ) (numbers called : List ℕ) (events : List Event) (marks : List Symbol) → IsGrid script.nodes (steps_on line script) rows numbers called events marks
     → line_svg_out_of top line rows (length numbers) called events marks ≡ line_begin top line ++ texts (timeline_of script line) ++ codes "</g>\n"
 timeline_found script line top rows numbers called events marks g =
     let steps : List Step = steps_on line script in
@@ -154,18 +154,18 @@ timeline_found script line top rows numbers called events marks g =
     ∙ ap (λ t. line_begin top line ++ texts (t ++ columns_of shown (map event_of steps)) ++ codes "</g>\n")
     (row_shapes_found script.nodes steps shown shown (subst (All (λ n. (1 ≤ n) × (n ≤ script.nodes))) (shown_found script.nodes steps) (shown_within script.nodes (nodes_of steps))))
 
--- as many rows as nodes call, at most
-pub rows_found : (script : Script) (line rows : ℕ) (numbers called : List ℕ) (events : List Event) (marks : List Mark) → IsGrid script.nodes (steps_on line script) rows numbers called events marks
+-- the number of rows is that of the nodes that call
+pub rows_found : (script : Script) (line rows : ℕ) (numbers called : List ℕ) (events : List Event) (marks : List Symbol) → IsGrid script.nodes (steps_on line script) rows numbers called events marks
     → length (shown_out_of rows called) ≡ rows_on script line
 rows_found script line rows numbers called events marks g =
     ap (λ h. length (shown_out_of h called)) g.rows_are ∙ ap (λ xs. length (shown_out_of script.nodes xs)) g.callers_are ∙ ap length (shown_found script.nodes (steps_on line script))
 
-pub columns_found : (script : Script) (line rows : ℕ) (numbers called : List ℕ) (events : List Event) (marks : List Mark) → IsGrid script.nodes (steps_on line script) rows numbers called events marks
+pub columns_found : (script : Script) (line rows : ℕ) (numbers called : List ℕ) (events : List Event) (marks : List Symbol) → IsGrid script.nodes (steps_on line script) rows numbers called events marks
     → length numbers ≡ columns_on script line
 columns_found script line rows numbers called events marks g = ap length g.numbers_are ∙ length-map (steps_on line script) (λ (step : Step). step.number)
 
 -- an event for each number
-pub event_count : (nodes : ℕ) (steps : List Step) (rows : ℕ) (numbers called : List ℕ) (events : List Event) (marks : List Mark) → IsGrid nodes steps rows numbers called events marks → length events ≡ length numbers
+pub event_count : (nodes : ℕ) (steps : List Step) (rows : ℕ) (numbers called : List ℕ) (events : List Event) (marks : List Symbol) → IsGrid nodes steps rows numbers called events marks → length events ≡ length numbers
 event_count nodes steps rows numbers called events marks g =
     ap length g.events_are ∙ length-map steps event_of ∙ sym (ap length g.numbers_are ∙ length-map steps (λ (step : Step). step.number))
 

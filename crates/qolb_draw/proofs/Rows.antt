@@ -1,4 +1,4 @@
--- Lemmas on rows and blocks that come out of marks.
+-- Lemmas on rows and blocks that are made of marks.
 use Rattle.std.proofs.Common.{◌≡◌, ℕ, ◌+◌, ◌-◌, ◌*◌, ◌<◌, ◌≤◌, ◌==◌, cond, List, [], ◌∷◌, ◌++◌, length, map, take, get_or, map-id, refl, sym, ap, ◌∙◌, arith, append_assoc, append-nil, zero-add, nat_le, Bool, true, false}
 use Rattle.std.specs.List.{filter, flat_map, list_any, range_with_len}
 use Rattle.std.proofs.lemmas.List.Elements.{filter-append, filter_more}
@@ -29,7 +29,7 @@ pub node_left_out : (n : ℕ) (called shown after : List ℕ) (b : Bool) → sho
 node_left_out n called shown after b was is missed same =
     same ∙ was ∙ sym (shown_more n called ∙ ap (λ t. shown_out_of n called ++ cond t ((n + 1) ∷ []) []) (sym is ∙ missed) ∙ append-nil (shown_out_of n called))
 
--- a row of digits more, where the last number has that place, and none where it has not
+-- a row of digits more, if the last number has that place; else no row
 heads_cond : (margin numbers : List ℕ) (b : Bool) (v : ℕ) → flat_map (head_text margin numbers) (cond b (v ∷ []) []) ≡ cond b (head_text margin numbers v) []
 heads_cond margin numbers true v = append-nil (head_text margin numbers v)
 heads_cond margin numbers false v = refl
@@ -86,7 +86,7 @@ element_pushed f before head xs i d text after lt was pushed =
     pushed ∙ ap (λ t. t ++ f (get_or xs i d)) was ∙ append_assoc before (head ++ flat_map f (take i xs)) (f (get_or xs i d))
     ∙ ap (λ t. before ++ t) (flat_map_more f head (take i xs) (get_or xs i d) ∙ ap (λ ys. head ++ flat_map f ys) (sym (take_more xs i d lt)))
 
--- the same, where each element becomes one number
+-- the same, if each element becomes one number
 pub number_pushed : {X : Type 0} (f : X → ℕ) (before head : List ℕ) (xs : List X) (i : ℕ) (d : X) (x : ℕ) (text after : List ℕ) → i < length xs
     → text ≡ before ++ (head ++ map f (take i xs)) → x ≡ f (get_or xs i d) → after ≡ text ++ x ∷ [] → after ≡ before ++ (head ++ map f (take (i + 1) xs))
 number_pushed f before head xs i d x text after lt was is pushed =

@@ -1,20 +1,20 @@
--- A line that is drawn, and the same line in the replay of the script.
+-- A line that is drawn is the same line in the replay of the script.
 use Rattle.std.proofs.Common.{◌≡◌, ℕ, zero, suc, ◌+◌, ◌<◌, ◌==◌, Bool, true, false, cond, List, [], ◌∷◌, ◌++◌, length, replicate, refl, sym, ap, ◌∙◌, subst, arith}
 use Rattle.std.specs.List.{fold}
 use Rattle.std.proofs.lemmas.Bool.Decides.{nat_tests}
 use Rattle.std.proofs.lemmas.List.{length-replicate, length-set, get_or-set_same, get_or-set_other}
 use Rattle.qolb_model.specs.OneOwner.{opened}
-use Rattle.qolb_model.specs.declared.terms.Terms.{Terms}
+use Rattle.qolb_model.specs.declared.config.LineConfig.{LineConfig}
 use Rattle.qolb_script.specs.declared.command.Command.{Command}
 use Rattle.qolb_script.specs.Commands.{line_of}
-use Rattle.qolb_script.specs.Reply.{Replay, terms_of, no_line, line_at, after_command, replay_start, replay_step}
+use Rattle.qolb_script.specs.Reply.{Replay, config_of, no_line, line_at, after_command, replay_start, replay_step}
 use Rattle.qolb_draw.specs.LineRuns.{LineRun, run_start, run_step}
 use Rattle.qolb_draw.specs.Laws.{DrawnAsReplayed}
 
-opened_at : (terms : Terms) (n k : ℕ) → k < n → opened terms ≡ line_at (replicate n (opened terms)) k
-opened_at terms zero k lt = absurd (omega arith)
-opened_at terms (suc n) zero lt = refl
-opened_at terms (suc n) (suc k) lt = opened_at terms n k (omega (arith, lt))
+opened_at : (config : LineConfig) (n k : ℕ) → k < n → opened config ≡ line_at (replicate n (opened config)) k
+opened_at config zero k lt = absurd (omega arith)
+opened_at config (suc n) zero lt = refl
+opened_at config (suc n) (suc k) lt = opened_at config n k (omega (arith, lt))
 
 -- a run after a command that is on the line, or is not
 abbrev pub run_by : LineRun → Command → Bool → LineRun
@@ -48,5 +48,5 @@ all_same line (c ∷ cs) run r lt same =
 
 pub drawn_as_replayed : DrawnAsReplayed
 drawn_as_replayed script line lt =
-    all_same line script.commands (run_start (terms_of script)) (replay_start (terms_of script) script.lines)
-    (subst (λ (n : ℕ). line < n) (sym (length-replicate script.lines (opened (terms_of script)))) lt) (opened_at (terms_of script) script.lines line lt)
+    all_same line script.commands (run_start (config_of script)) (replay_start (config_of script) script.lines)
+    (subst (λ (n : ℕ). line < n) (sym (length-replicate script.lines (opened (config_of script)))) lt) (opened_at (config_of script) script.lines line lt)

@@ -1,4 +1,4 @@
--- Lemmas on the shapes of a timeline, and on the texts that they become.
+-- Lemmas on the shapes of a timeline, and on their texts.
 use Rattle.std.proofs.Common.{◌≡◌, ℕ, suc, ◌+◌, ◌-◌, ◌<◌, ◌≤◌, cond, Bool, true, false, List, [], ◌∷◌, ◌++◌, length, map, not, take, get_or, refl, sym, ap, ◌∙◌, subst, arith, append_assoc, append-nil, ne_eqb, ◌==◌, Option, Some}
 use Rattle.std.specs.Prelude.{codes}
 use Rattle.std.specs.List.{flat_map, range_with_len}
@@ -13,13 +13,13 @@ use Rattle.qolb_script.specs.declared.reply_text.Said.{Said}
 use Rattle.qolb_script.specs.declared.reply_text.Said.TheVariants as said
 use Rattle.qolb_draw.specs.declared.bar.Stand.{Stand}
 use Rattle.qolb_draw.specs.declared.bar.Stand.TheVariants as stand
-use Rattle.qolb_draw.specs.declared.mark.Mark.{Mark}
+use Rattle.qolb_draw.specs.declared.symbol.Symbol.{Symbol}
 use Rattle.qolb_draw.specs.Grids.{mark_out_of, stands_out_of}
 use Rattle.qolb_draw.specs.Svg.{arrow_text, bytes_text, field, hex_of, shape_text, texts, written_words}
 use Rattle.qolb_draw.specs.Timelines.{Arrow, Bytes, Shape, arrow_of, bar_of, bars_from, bytes_of, is_same, place_if, places_in, row_of, stand_of}
 use Rattle.qolb_draw.proofs.Rows.{piece_pushed}
 
--- the texts of shapes one behind another, and of those of many things
+-- the texts of shapes one behind another
 pub texts-append : (xs ys : List Shape) → texts (xs ++ ys) ≡ texts xs ++ texts ys
 texts-append xs ys = flat_map-append shape_text xs ys
 
@@ -34,17 +34,17 @@ pub texts-flat_map : (f : ℕ → List Shape) (xs : List ℕ) → texts (flat_ma
 texts-flat_map f [] = refl
 texts-flat_map f (x ∷ xs) = texts-append (f x) (flat_map f xs) ∙ ap (λ t. texts (f x) ++ t) (texts-flat_map f xs)
 
--- how a node stands from a column on, and from the next
-pub stands_next : (nodes : ℕ) (marks : List Mark) (n column end : ℕ) → column < end
+-- the states of a node from a column on, and from the next
+pub stands_next : (nodes : ℕ) (marks : List Symbol) (n column end : ℕ) → column < end
     → stands_out_of nodes marks n column (end - column) ≡ stand_of (mark_out_of nodes marks n column) ∷ stands_out_of nodes marks n (column + 1) (end - (column + 1))
 stands_next nodes marks n column end lt =
     let more : end - column ≡ suc (end - (column + 1)) = omega arith in
     ap (stands_out_of nodes marks n column) more
 
-pub stands_ended : (nodes : ℕ) (marks : List Mark) (n column end : ℕ) → end ≤ column → stands_out_of nodes marks n column (end - column) ≡ []
+pub stands_ended : (nodes : ℕ) (marks : List Symbol) (n column end : ℕ) → end ≤ column → stands_out_of nodes marks n column (end - column) ≡ []
 stands_ended nodes marks n column end le = let none : end - column ≡ 0 = omega arith in ap (stands_out_of nodes marks n column) none
 
--- with the bars that are still to come, the text is that of all bars
+-- the text so far with the bars that are not yet written is the text of all bars
 pub record HasBars (row node : ℕ) (s : Stand) (start column : ℕ) (rest all : List Stand) (before text : List ℕ) : Type 0 where
   pub ordered : start ≤ column
   pub text_is : text ++ texts (bars_from row node s start column rest) ≡ before ++ texts (bars_from row node stand.Away 0 0 all)
@@ -60,7 +60,7 @@ not_false : (b : Bool) → not b ≡ false → b ≡ true
 not_false true h = refl
 not_false false h = sym h
 
--- the node stands the same
+-- the node is in the same state
 pub bar_goes_on : (row node : ℕ) (s next : Stand) (start column : ℕ) (now rest all : List Stand) (before text after : List ℕ) → HasBars row node s start column now all before text
     → now ≡ next ∷ rest → not (is_same next s) ≡ false → after ≡ text → HasBars row node s start (column + 1) rest all before after
 bar_goes_on row node s next start column now rest all before text after had now_is stays kept =
@@ -73,7 +73,7 @@ bar_goes_on row node s next start column now rest all before text after had now_
           ∙ ap (λ ss. text ++ texts (bars_from row node s start column ss)) (sym now_is) ∙ had.text_is;
     }
 
--- it does not
+-- the node is in another state
 pub bar_ends : (row node : ℕ) (s next : Stand) (start column : ℕ) (now rest all : List Stand) (before text after : List ℕ) → HasBars row node s start column now all before text
     → now ≡ next ∷ rest → not (is_same next s) ≡ true → after ≡ text ++ texts (bar_of row start column s node) → HasBars row node next column (column + 1) rest all before after
 bar_ends row node s next start column now rest all before text after had now_is changes pushed =
@@ -87,7 +87,7 @@ bar_ends row node s next start column now rest all before text after had now_is 
           ∙ ap (λ ss. text ++ texts (bars_from row node s start column ss)) (sym now_is) ∙ had.text_is;
     }
 
--- the same, of what the variables are then
+-- the same, with the new values of the variables
 pub bars_are : (row node : ℕ) (s s' : Stand) (start start' column : ℕ) (rest all : List Stand) (before after : List ℕ) → HasBars row node s start column rest all before after → s' ≡ s → start' ≡ start
     → HasBars row node s' start' column rest all before after
 bars_are row node s s' start start' column rest all before after had e f =
@@ -117,7 +117,7 @@ pub last_taken : (text words pushed after : List ℕ) (n : ℕ) → pushed ≡ t
 last_taken text words pushed after n is count taken =
     taken ∙ ap (take n) (is ∙ sym (append_assoc text words (10 ∷ []))) ∙ ap (λ k. take k ((text ++ words) ++ 10 ∷ [])) count ∙ take-append_seam (text ++ words) (10 ∷ [])
 
--- a row, out of its line, bars and names
+-- a row, made of its line, bars and names
 pub row_whole : (before : List ℕ) (lane : Shape) (bars names : List Shape) (a b after : List ℕ) → a ≡ before ++ shape_text lane → b ≡ a ++ texts bars → after ≡ b ++ texts names
     → after ≡ before ++ texts (lane ∷ bars ++ names)
 row_whole before lane bars names a b after is then last =
@@ -125,7 +125,7 @@ row_whole before lane bars names a b after is then last =
     ∙ append_assoc (before ++ shape_text lane) (texts bars) (texts names) ∙ append_assoc before (shape_text lane) (texts bars ++ texts names)
     ∙ ap (λ t. before ++ (shape_text lane ++ t)) (sym (texts-append bars names))
 
--- a column, out of its number, arrow, bytes and call
+-- a column, made of its number, arrow, bytes and call
 pub column_whole : (before : List ℕ) (number : Shape) (arrow bytes : List Shape) (call : Shape) (a b c after : List ℕ) → a ≡ before ++ shape_text number → b ≡ a ++ texts arrow → c ≡ b ++ texts bytes → after ≡ c ++ shape_text call
     → after ≡ before ++ texts (number ∷ arrow ++ bytes ++ call ∷ [])
 column_whole before number arrow bytes call a b c after is then next last =
@@ -134,7 +134,7 @@ column_whole before number arrow bytes call a b c after is then next last =
     ∙ ap (λ t. before ++ t) (append_assoc (shape_text number) (texts arrow) (texts bytes ++ shape_text call))
     ∙ ap (λ t. before ++ (shape_text number ++ t)) (sym (texts-append (arrow ++ bytes) (call ∷ []) ∙ ap (λ t. t ++ texts (call ∷ [])) (texts-append arrow bytes) ∙ ap (λ t. (texts arrow ++ texts bytes) ++ t) (texts-one call) ∙ append_assoc (texts arrow) (texts bytes) (shape_text call)))
 
--- a line, out of its beginning, rows and columns
+-- a line, made of its beginning, rows and columns
 five : (p a r q t : List ℕ) → (((p ++ a) ++ r) ++ q) ++ t ≡ p ++ (a ++ (r ++ q) ++ t)
 five p a r q t = simp append_assoc
 
@@ -166,7 +166,7 @@ bytes_pushed shown column node line mask bytes c what svg pushed is answered las
     last ∙ ap (λ t. svg ++ t) (sym (texts-one (Bytes (row_of shown node) column bytes.bytes (places_in mask.0))))
     ∙ ap (λ (a : Said). svg ++ texts (bytes_of shown column (Write node line mask bytes) a)) (sym answered) ∙ ap (λ (b : Command). svg ++ texts (bytes_of shown column b what)) (sym is)
 
--- what a write has behind its line
+-- the words of a write behind its line
 pub written_pushed : (node line : ℕ) (mask : Mask) (bytes : Line64) (c : Command) (places text a b after : List ℕ) (first : ℕ) → c ≡ Write node line mask bytes → places ≡ places_in mask.0 → first ≡ get_or places 0 0
     → a ≡ text ++ field (codes " ") first → b ≡ a ++ codes " " → after ≡ b ++ hex_of bytes.bytes places → after ≡ text ++ written_words c
 written_pushed node line mask bytes c places text a b after first is all at begins then last =

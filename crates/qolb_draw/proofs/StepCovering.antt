@@ -7,13 +7,13 @@ use Rattle.std.proofs.lemmas.Option.{slice_get_within, same_Some}
 use Rattle.link_core.specs.declared.entry.Entry.{Entry}
 use Rattle.link_core.specs.declared.event.Event.{Event}
 use Rattle.link_core.specs.declared.point.Point.{Point}
-use Rattle.link_core.specs.declared.seat.Seat.{Seat}
+use Rattle.link_core.specs.declared.seat.NodeCall.{NodeCall}
 use Rattle.link_core.specs.declared.state.State.{State}
 use Rattle.link_core.specs.declared.told.Told.{Told}
 use Rattle.link_core.specs.State.{empty, entry, first, point, unused}
 use Rattle.link_core.specs.Steps.{Step, closed_by, node_of}
 use Rattle.link_core.specs.Steps as row
-use Rattle.qolb_run.specs.StepRuns.{line_of}
+use Rattle.qolb_replay.specs.StepRuns.{line_of}
 use Rattle.qolb_script.specs.StepScript.{StepScript}
 use Rattle.qolb_draw.specs.declared.timeline.TheConstants.{NAMED_EVERY}
 use Rattle.qolb_draw.specs.StepLaws.{BarsCoverPoints, has_acted, point_over, points_over}
@@ -28,9 +28,9 @@ points_kept : (c : State) {e : Event} {t : Told} {d : State} → Step c e t d �
 points_kept c (row.load_waiting n a at un) m other = refl
 points_kept c (row.load_busy n a at un) m other = refl
 points_kept c (row.write n mask bytes a at) m other = refl
-points_kept c (row.home_last n a at l e) m other = ap (λ (s : Seat). s.point) (get_or-set_other (closed_by n c).seats _ m _ unused other ∙ get_or-set_other c.seats _ m _ unused other)
-points_kept c (row.home_last_failed n a at l ne) m other = ap (λ (s : Seat). s.point) (get_or-set_other (closed_by n c).seats _ m _ unused other ∙ get_or-set_other c.seats _ m _ unused other)
-points_kept c _ m other = ap (λ (s : Seat). s.point) (get_or-set_other c.seats _ m _ unused other)
+points_kept c (row.home_last n a at l e) m other = ap (λ (s : NodeCall). s.point) (get_or-set_other (closed_by n c).seats _ m _ unused other ∙ get_or-set_other c.seats _ m _ unused other)
+points_kept c (row.home_last_failed n a at l ne) m other = ap (λ (s : NodeCall). s.point) (get_or-set_other (closed_by n c).seats _ m _ unused other ∙ get_or-set_other c.seats _ m _ unused other)
+points_kept c _ m other = ap (λ (s : NodeCall). s.point) (get_or-set_other c.seats _ m _ unused other)
 
 -- these were seen of these events from this core on: each leaves the points of all nodes but its own
 abbrev pub Chained : State → List Event → List Seen → Type 0
@@ -90,7 +90,7 @@ rests_so_long n k (e ∷ events) h lt = by (node_of e == n) k h (omega (arith, l
 apart : (m n : ℕ) → (m == n) ≡ false → n ≢ m
 apart m n h same = let yes' : (m == n) ≡ true = eq-eqb m n (sym same) in let both : true ≡ false = sym yes' ∙ h in cc both
 
--- a node that makes no event stays where it is
+-- a node that makes no event stays at its point
 stays : (n k : ℕ) (from : State) (events : List Event) (all : List Seen) (seen : Seen) → Chained from events all → slice_get all k ≡ Some seen → has_acted n (suc k) events ≡ false → point seen.after n ≡ point from n
 stays n k from events [] seen h is none = let lt : k < 0 = slice_get_within [] k seen is in absurd (omega arith)
 stays n k from [] (s ∷ all) seen h is none = absurd h

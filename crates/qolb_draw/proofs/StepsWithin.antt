@@ -7,15 +7,15 @@ use Rattle.link_core.specs.declared.entry.Entry.{Entry}
 use Rattle.link_core.specs.declared.event.Event.{Event}
 use Rattle.link_core.specs.declared.place.Place.{Place}
 use Rattle.link_core.specs.declared.state.State.{State}
-use Rattle.link_core.specs.Places.{asker}
+use Rattle.link_core.specs.Places.{requester_at}
 use Rattle.link_core.specs.Promise.{IsSound}
 use Rattle.link_core.specs.Shown.{Lies, at_home, in_hand, granted, left}
 use Rattle.link_core.specs.State.{IsNode, empty, entry, first, point}
 use Rattle.link_core.specs.Steps.{Names, node_of}
 use Rattle.link_core.proofs.Sound.{names, step_sizes}
 use Rattle.link_core.proofs.Steady.{first_sound, step_sound}
-use Rattle.qolb_model.specs.declared.terms.TheConstants.{MOST_NODES}
-use Rattle.qolb_run.specs.StepRuns.{line_of}
+use Rattle.qolb_model.specs.declared.config.TheConstants.{MAX_NODES}
+use Rattle.qolb_replay.specs.StepRuns.{line_of}
 use Rattle.qolb_script.specs.StepScript.{IsOfItsNodes, StepScript}
 use Rattle.qolb_draw.specs.declared.timeline.TheConstants.{NAMED_EVERY}
 use Rattle.qolb_draw.specs.StepLaws.{IsWithinSteps, StepShapesLieWithin, step_foot_of, step_right_of}
@@ -26,14 +26,14 @@ use Rattle.qolb_draw.specs.Timelines.{name_count}
 use Rattle.qolb_draw.proofs.StepCovering.{Chained, chained}
 use Rattle.qolb_draw.proofs.Watching.{seen_by}
 
--- the line lies at home or with a node that there is
+-- the line lies at home or with one of the nodes
 place_row : (c : State) → IsSound c → row_of_place c.place ≤ c.nodes
 place_row c w = by w.shows.matches.lies
   where
     at : (p : Place) → c.place ≡ p → row_of_place p ≤ c.nodes → row_of_place c.place ≤ c.nodes
     at p is le = subst (λ q. row_of_place q ≤ c.nodes) (sym is) le
 
-    by : Lies w.terms c w.queue.order w.queue.ends → row_of_place c.place ≤ c.nodes
+    by : Lies w.config c w.queue.order w.queue.ends → row_of_place c.place ≤ c.nodes
     by (at_home all is whole) = at _ is (omega arith)
     by (in_hand n some node is has turn carried) = at _ is (let few = node.1 in omega arith)
     by (granted t some turn is flag waits whole) =
@@ -64,7 +64,7 @@ all_placed {from = from} (refused {all = all} {before = before} event why runs r
     let seen : Seen = seen_by event None before before in
     (All-push (Placed from.nodes) all seen so_far.0 (placed from.nodes seen so_far.1 so_far.2), so_far.1, so_far.2)
 
--- a shape fits in so many rows and columns
+-- a shape fits in this number of rows and columns
 abbrev Fits : ℕ → ℕ → StepShape → Type 0
 Fits nodes columns shape = (step_right_of shape ≤ step_x columns + 32) × (step_foot_of shape ≤ step_y nodes + 36)
 
@@ -96,7 +96,7 @@ rows_fit nodes columns =
     let few : row ≤ nodes = omega (arith, within, length-range_with_len 0 (nodes + 1)) in
     All-cons (Fits nodes columns) (Lane row columns) (map (λ j. Name row (NAMED_EVERY * j)) (range_with_len 0 (name_count columns))) (omega arith, omega arith) (names_fit nodes columns row few))
 
--- what is shown of an event
+-- the shapes of an event
 until_few : (n : ℕ) (events : List Event) → until n events ≤ length events
 until_few n [] = omega arith
 until_few n (e ∷ events) = elim (node_of e == n) as (λ b. cond b 0 (until n events + 1) ≤ length (e ∷ events)) [ true ↦ omega arith | false ↦ omega (arith, until_few n events) ]

@@ -1,4 +1,4 @@
--- Whose turn it is: how a command changes the nodes whose requests are open, and how they are found by their states.
+-- How a command changes the list of nodes with open requests and the node at its turn, and how these follow from the nodes' states.
 use Rattle.std.proofs.Common.{◌≡◌, ℕ, zero, suc, ◌+◌, ◌≤◌, ◌==◌, ◌&&◌, ◌||◌, Bool, true, false, cond, is_some, take_while, List, [], ◌∷◌, ◌++◌, length, map, drop, Option, Some, None, slice_get, refl, sym, ap, ◌∙◌, subst, arith, append-nil, length-append}
 use Rattle.std.specs.List.{list_any, find}
 use Rattle.std.proofs.lemmas.List.{drop-append-le, drop-drop, drop-map, map-append}
@@ -19,7 +19,7 @@ use Rattle.qolb_model.specs.Histories.{open_of}
 use Rattle.qolb_model.specs.Queue.{Queue, finish, moved}
 use Rattle.qolb_model.specs.Leases.{closes}
 use Rattle.qolb_model.specs.PortStates.{may_ask}
-use Rattle.qolb_model.specs.OneOwner.{LineState, state_of, is_open, is_rolled, is_first, moved_by, ends_with, shown, after_ask, after_poll, after_moves, after_release, after_write, mark_last, poll_answer, out_answer, as_enq}
+use Rattle.qolb_model.specs.OneOwner.{OwnerState, state_of, is_open, is_rolled, is_first, moved_by, ends_with, shown, after_ask, after_poll, after_moves, after_release, after_write, mark_last, poll_answer, out_answer, as_enq}
 use Rattle.qolb_model.specs.Plain as plain
 use Rattle.qolb_model.specs.Plain.{PlainView, is_at, node_state, waiter_state, waiter_of, Agrees, IsReached}
 use Rattle.qolb_model.proofs.Waiting.{entry_says}
@@ -32,7 +32,7 @@ use Rattle.qolb_script.specs.declared.reply_text.Said.{Said}
 use Rattle.qolb_script.specs.declared.reply_text.Said.TheVariants as said
 use Rattle.qolb_script.specs.Commands.{node_of}
 use Rattle.qolb_script.specs.Reply.{is_queued, is_holding, said_of, after_command}
-use Rattle.qolb_draw.specs.declared.mark.Change.{Change}
+use Rattle.qolb_draw.specs.declared.symbol.Change.{Change}
 use Rattle.qolb_draw.specs.Marks.{waiting_nodes}
 use Rattle.qolb_draw.specs.Following as following
 use Rattle.qolb_draw.specs.Following.{has_asked, after_ended, Follows}
@@ -61,22 +61,22 @@ ends q e =
 then_ends : (q now new : Queue) (asked : List Request) → Grew q now asked → length now.ends ≡ length q.ends → Grew now new [] → Grew q new asked
 then_ends q now new asked g same h = record { order_is = h.order_is ∙ append-nil now.order ∙ g.order_is; more = h.more; ends_are = h.ends_are ∙ ap (λ n. n + h.more) same }
 
-polled : (s : LineState) (p : Poll) → Grew s.queue (after_poll p s).queue []
+polled : (s : OwnerState) (p : Poll) → Grew s.queue (after_poll p s).queue []
 polled s poll.Granted = same_queue s.queue
 polled s poll.Waiting = same_queue s.queue
 polled s poll.Closed = ends s.queue Told
 
--- the request that a node has made, if it was answered so
-abbrev pub asked_if : Bool → ℕ → LineState → List Request
+-- the request that a node with this answer has made
+abbrev pub asked_if : Bool → ℕ → OwnerState → List Request
 asked_if b n s = cond b (next_of n s.queue.order ∷ []) []
 
-asks : (s : LineState) (n : ℕ) (p : Poll) → Grew s.queue (after_poll p (after_ask s n)).queue (asked_if (has_asked (said.Enq (as_enq p))) n s)
+asks : (s : OwnerState) (n : ℕ) (p : Poll) → Grew s.queue (after_poll p (after_ask s n)).queue (asked_if (has_asked (said.Enq (as_enq p))) n s)
 asks s n poll.Granted = record { order_is = refl; more = 0; ends_are = omega arith }
 asks s n poll.Waiting = record { order_is = refl; more = 0; ends_are = omega arith }
 asks s n poll.Closed = then_ends s.queue (after_ask s n).queue _ (next_of n s.queue.order ∷ []) (record { order_is = refl; more = 0; ends_are = omega arith }) refl (ends (after_ask s n).queue Told)
 
 -- what each command does
-pub grew : (s : LineState) (c : Command) → Grew s.queue (after_command s c).queue (asked_if (has_asked (said_of s c)) (node_of c) s)
+pub grew : (s : OwnerState) (c : Command) → Grew s.queue (after_command s c).queue (asked_if (has_asked (said_of s c)) (node_of c) s)
 grew s (command.Enq n l) = by (may_ask (state_of s n)) (is_rolled s.queue n)
   where
     by : (may rolled : Bool) → Grew s.queue (cond may (cond rolled s (after_poll (poll_answer (after_ask s n) n) (after_ask s n))) s).queue
@@ -97,7 +97,7 @@ grew s (command.Show n l) = by (is_holding (state_of s n))
 grew s (command.Deq n l) = by (is_holding (state_of s n))
   where
     by : (b : Bool) → Grew s.queue (cond b (after_release s false) s).queue (asked_if (has_asked (cond b said.Released said.Misuse)) n s)
-    by true = ends s.queue (Served s.turn (closes s.terms.lease s.queue.ends false))
+    by true = ends s.queue (Served s.turn (closes s.config.lease s.queue.ends false))
     by false = same_queue s.queue
 grew s (command.Out n l) = by (is_queued (state_of s n)) (is_first s.queue n)
   where
@@ -108,7 +108,7 @@ grew s (command.Out n l) = by (is_queued (state_of s n)) (is_first s.queue n)
 grew s (command.Shut n l) = by (is_holding (state_of s n))
   where
     by : (b : Bool) → Grew s.queue (cond b (after_release s true) s).queue (asked_if (has_asked (cond b said.Shut said.Misuse)) n s)
-    by true = ends s.queue (Served s.turn (closes s.terms.lease s.queue.ends true))
+    by true = ends s.queue (Served s.turn (closes s.config.lease s.queue.ends true))
     by false = same_queue s.queue
 grew s (command.Write n l mask bytes) = by (is_holding (state_of s n))
   where
@@ -116,8 +116,8 @@ grew s (command.Write n l mask bytes) = by (is_holding (state_of s n))
     by true = same_queue s.queue
     by false = same_queue s.queue
 
--- the open requests after that, by their nodes
-nodes_after : (s t : LineState) (asked : List Request) (g : Grew s.queue t.queue asked) → length s.queue.ends ≤ length s.queue.order
+-- the nodes of the open requests after a command
+nodes_after : (s t : OwnerState) (asked : List Request) (g : Grew s.queue t.queue asked) → length s.queue.ends ≤ length s.queue.order
     → waiting_nodes t ≡ drop g.more (waiting_nodes s ++ map (λ r. r.node) asked)
 nodes_after s t asked g le =
     ap (map (λ (r : Request). r.node))
@@ -126,11 +126,11 @@ nodes_after s t asked g le =
     ∙ sym (drop-map (λ (r : Request). r.node) g.more (open_of s.queue.order s.queue.ends ++ asked))
     ∙ ap (drop g.more) (map-append (λ (r : Request). r.node) (open_of s.queue.order s.queue.ends) asked)
 
-asked_nodes : (b : Bool) (n : ℕ) (s : LineState) → map (λ r. r.node) (asked_if b n s) ≡ cond b (n ∷ []) []
+asked_nodes : (b : Bool) (n : ℕ) (s : OwnerState) → map (λ r. r.node) (asked_if b n s) ≡ cond b (n ∷ []) []
 asked_nodes true n s = refl
 asked_nodes false n s = refl
 
--- numbers none of which stands twice
+-- numbers of which none occurs twice
 abbrev pub AreDistinct : List ℕ → Type 0
 AreDistinct [] = Unit {0}
 AreDistinct (n ∷ rest) = (list_any (λ m. m == n) rest ≡ false) × AreDistinct rest
@@ -170,12 +170,12 @@ distinct_requests (r ∷ rs) once =
         let found = place_of (λ t. t.node == r.node) rs e in
         let same : 0 ≡ suc found.0 = once 0 (suc found.0) r found.1 refl found.2 (sym (same_number found.1.node r.node found.3)) in absurd (omega arith)
 
-one_each : (s : LineState) → IsReached s → OneEach (open_of s.queue.order s.queue.ends)
+one_each : (s : OwnerState) → IsReached s → OneEach (open_of s.queue.order s.queue.ends)
 one_each s reached i j r t at_i at_j same =
     let here = at_drop (length s.queue.ends) s.queue.order i r at_i in
     let there = at_drop (length s.queue.ends) s.queue.order j t at_j in
     let is : t ≡ r = reached.last_open (length s.queue.ends + j) t (omega arith) there ∙ ap (λ n. last_of n s.queue.order) (sym same) ∙ sym (reached.last_open (length s.queue.ends + i) r (omega arith) here) in
-    let one : length s.queue.ends + i ≡ length s.queue.ends + j = same_place_legal s.terms.lease s.queue.order s.queue.ends reached.legal (length s.queue.ends + i) (length s.queue.ends + j) r here (there ∙ ap Some is) in
+    let one : length s.queue.ends + i ≡ length s.queue.ends + j = same_place_legal s.config.lease s.queue.order s.queue.ends reached.legal (length s.queue.ends + i) (length s.queue.ends + j) r here (there ∙ ap Some is) in
     omega arith
 
 turned : (m n : ℕ) → (m == n) ≡ false → (n == m) ≡ false
@@ -190,7 +190,7 @@ distinct_push (x ∷ xs) n d h =
 itself : (n : ℕ) → (n == n) ≡ true
 itself n = grind (arith, nat_tests)
 
--- a node has an open request where an entry stands for it
+-- a node has an open request if it has an entry
 open_entry : (line : PlainView) (n : ℕ) (o : Option Waiter) → following.is_open (waiter_state line n o) ≡ is_some o
 open_entry line n None = by line.closed
   where
@@ -210,7 +210,7 @@ waits_so line n =
     ∙ sym (entry_says n line.waiting (find (is_at n) line.waiting) (is_some (find (is_at n) line.waiting)) (is_some (find (is_at n) line.waiting)) refl refl refl)
     ∙ sym (any_map (λ m. m == n) line.waiting)
 
--- those that stand before the entries are left out
+-- the nodes before the entries are removed
 pub passed : (line : PlainView) (xs : List ℕ) (j : ℕ) → AreDistinct xs → drop j xs ≡ map (λ w. w.node) line.waiting → after_ended line xs ≡ drop j xs
 passed line [] zero d e = refl
 passed line [] (suc j) d e = refl
@@ -222,7 +222,7 @@ passed line (x ∷ xs) (suc j) d e =
     ap (λ b. cond b (x ∷ xs) (after_ended line xs)) gone ∙ passed line xs j d.1 e
 
 -- a line that agrees has an entry for each open request
-entries : (line : PlainView) (s : LineState) → Agrees line s → waiting_nodes s ≡ map (λ w. w.node) line.waiting
+entries : (line : PlainView) (s : OwnerState) → Agrees line s → waiting_nodes s ≡ map (λ w. w.node) line.waiting
 entries line s a = sym (ap (map (λ (w : Waiter). w.node)) a.waiting ∙ map-map (λ (w : Waiter). w.node) (waiter_of s.queue.marked) (open_of s.queue.order s.queue.ends))
 
 -- a node that has asked had no open request
@@ -236,7 +236,7 @@ never : (b : Bool) (what : Said) → has_asked what ≡ false → has_asked (con
 never true what e h = let not_so : false ≡ true = sym e ∙ h in cc not_so
 never false what e h = let not_so : false ≡ true = h in cc not_so
 
-stood_apart : (line : PlainView) (s : LineState) (c : Command) → Agrees line s → has_asked (said_of s c) ≡ true → is_open s.queue (node_of c) ≡ false
+stood_apart : (line : PlainView) (s : OwnerState) (c : Command) → Agrees line s → has_asked (said_of s c) ≡ true → is_open s.queue (node_of c) ≡ false
 stood_apart line s (command.Enq n l) a h =
     asks_by (may_ask (state_of s n)) (is_open s.queue n) (has s.queue.marked (last_of n s.queue.order)) (as_enq (poll_answer (after_ask s n) n))
     (λ may stands. when_rolled line s a n (ap may_ask (node_state-state_of line s a n) ∙ may) stands) h
@@ -247,8 +247,8 @@ stood_apart line s (command.Out n l) a h = absurd (never (is_queued (state_of s 
 stood_apart line s (command.Shut n l) a h = absurd (never (is_holding (state_of s n)) said.Shut refl h)
 stood_apart line s (command.Write n l mask bytes) a h = absurd (never (is_holding (state_of s n)) said.Written refl h)
 
--- the nodes with open requests, and the one that has asked
-all_distinct : (line : PlainView) (s : LineState) (c : Command) (b : Bool) → Agrees line s → has_asked (said_of s c) ≡ b → AreDistinct (waiting_nodes s ++ cond b (node_of c ∷ []) [])
+-- the nodes with open requests, and then the node that has asked
+all_distinct : (line : PlainView) (s : OwnerState) (c : Command) (b : Bool) → Agrees line s → has_asked (said_of s c) ≡ b → AreDistinct (waiting_nodes s ++ cond b (node_of c ∷ []) [])
 all_distinct line s c false a e =
     subst AreDistinct (sym (append-nil (waiting_nodes s))) (distinct_requests (open_of s.queue.order s.queue.ends) (one_each s a.reached))
 all_distinct line s c true a e =
@@ -256,7 +256,7 @@ all_distinct line s c true a e =
     (ap (list_any (λ m. m == node_of c)) (entries line s a) ∙ any_map (λ m. m == node_of c) line.waiting ∙ waits-is_open line s a (node_of c) ∙ stood_apart line s c a e)
 
 -- a command, and what is kept of it
-pub command_followed : (old new : PlainView) (s : LineState) (c : Command) (waiting pushed after : List ℕ) → Follows old waiting s → Agrees new (after_command s c)
+pub command_followed : (old new : PlainView) (s : OwnerState) (c : Command) (waiting pushed after : List ℕ) → Follows old waiting s → Agrees new (after_command s c)
     → pushed ≡ waiting ++ cond (has_asked (said_of s c)) (node_of c ∷ []) [] → after ≡ after_ended new pushed → Follows new after (after_command s c)
 command_followed old new s c waiting pushed after f a push pass = record {
   agrees = a;
@@ -269,7 +269,7 @@ command_followed old new s c waiting pushed after f a push pass = record {
       pass ∙ ap (after_ended new) known ∙ passed new all g.more (all_distinct old s c (has_asked (said_of s c)) f.agrees refl) (sym left ∙ entries new (after_command s c) a) ∙ sym left;
 }
 
--- the node that has asked stands behind the others
+-- the node that has asked is behind the others
 pub asked_behind : (b : Bool) (xs ys : List ℕ) (n m : ℕ) → b ≡ true → n ≡ m → ys ≡ xs ++ n ∷ [] → ys ≡ xs ++ cond b (m ∷ []) []
 asked_behind b xs ys n m e same push = push ∙ ap (λ k. xs ++ k ∷ []) same ∙ ap (λ v. xs ++ cond v (m ∷ []) []) (sym e)
 

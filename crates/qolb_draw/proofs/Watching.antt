@@ -1,4 +1,4 @@
--- How far the drawing of a step script has come.
+-- The progress of drawing a step script.
 use Rattle.std.proofs.Common.{◌≡◌, ℕ, ◌+◌, ◌<◌, ◌≤◌, List, [], ◌∷◌, ◌++◌, length, take, drop, get_or, refl, sym, ap, ◌∙◌, subst, arith, append_assoc, append-nil, drop-drop, Option, Some, None, Result, Ok, Err, IfOk, IfErr, OnErr, All, IfSome, length-append}
 use Rattle.std.specs.Result.{result_ok}
 use Rattle.std.proofs.lemmas.List.{take_all, take_more}
@@ -12,20 +12,19 @@ use Rattle.link_core.specs.Progress.{rank}
 use Rattle.link_core.specs.State.{IsNode, entry, first}
 use Rattle.link_core.specs.Steps.{Step, IsRefused, node_of}
 use Rattle.link_core.proofs.Sound.{step_sizes}
-use Rattle.qolb_run.specs.declared.input.TheConstants.{MOST_BYTES}
-use Rattle.qolb_run.specs.declared.replay.ReplayError.TheVariants as error
-use Rattle.qolb_run.specs.declared.task.Detail.TheVariants as detail
-use Rattle.qolb_run.specs.declared.task.Task.TheVariants as task
-use Rattle.qolb_run.specs.Outcome.{MayFail}
-use Rattle.qolb_run.specs.StepRuns.{Heard, Tells, line_of, step_text}
-use Rattle.qolb_run.specs.StepRuns as run
+use Rattle.qolb_replay.specs.declared.input.TheConstants.{MAX_BYTES}
+use Rattle.qolb_replay.specs.declared.replay.ReplayError.TheVariants as error
+use Rattle.qolb_replay.specs.declared.steps.Detail.TheVariants as detail
+use Rattle.qolb_replay.specs.Outcome.{StepsMayFail}
+use Rattle.qolb_replay.specs.StepRuns.{Heard, Tells, line_of, step_text}
+use Rattle.qolb_replay.specs.StepRuns as run
 use Rattle.qolb_script.specs.StepScript.{IsOfItsNodes, StepScript, steps_of}
 use Rattle.qolb_draw.specs.StepPictures.{event_line, event_lines}
 use Rattle.qolb_draw.specs.StepShapes.{Seen, StepShape, Watches, nothing, made, refused, entries_of, event_shapes, seen_shapes}
 use Rattle.qolb_draw.specs.StepSvg.{step_texts}
 use Rattle.qolb_draw.proofs.StepTexts.{step_texts-append}
 
--- what is drawn of one event more
+-- the text or the shapes of one event more
 lines_more : (column : ℕ) (all : List Seen) (s : Seen) → event_lines column (all ++ s ∷ []) ≡ event_lines column all ++ event_line (column + length all) s
 lines_more column [] s = let same : column ≡ column + 0 = omega arith in append-nil (event_line column s) ∙ ap (λ k. event_line k s) same
 lines_more column (x ∷ all) s =
@@ -169,20 +168,20 @@ pub shapes_end : (script : StepScript) (i : ℕ) (core : State) (home : ℕ) (en
     → (all : List Seen) × (last : State) × Watches (first (line_of script)) script.events all last × (svg ≡ before ++ step_texts (seen_shapes 0 script.events all))
 shapes_end script i core home entries before svg was end = (was.all, core, sees_all script i core was.all was.sees end, was.svg_is)
 
--- a run that is drawn is one that has a reply, so that a picture may fail to be written where a reply may
+-- a run that is drawn has a reply, so writing its picture may fail as writing its reply may
 tells_so : {from last : State} {events : List Event} {all : List Seen} → Watches from events all last → (heard : List Heard) × Tells from events heard last
 tells_so nothing = ([], run.nothing)
 tells_so (made {after = after} event what runs step) = let before = tells_so runs in (before.0 ++ record { told = Some what; rank = rank after } ∷ [], run.told event what before.1 step)
 tells_so (refused {before = before} event why runs refusal) = let so_far = tells_so runs in (so_far.0 ++ record { told = None; rank = rank before } ∷ [], run.refused event why so_far.1 refusal)
 
-pub may_fail_to_write : (remaining : Option (List ℕ)) (input : List ℕ) (script : StepScript) (all : List Seen) (last : State) → IfSome remaining (λ rest. input ≡ rest) → length input ≤ MOST_BYTES → steps_of input ≡ Ok script
-    → Watches (first (line_of script)) script.events all last → IfSome remaining (λ rest. MayFail (task.Steps detail.Words) rest error.Write)
+pub may_fail_to_write : (remaining : Option (List ℕ)) (input : List ℕ) (script : StepScript) (all : List Seen) (last : State) → IfSome remaining (λ rest. input ≡ rest) → length input ≤ MAX_BYTES → steps_of input ≡ Ok script
+    → Watches (first (line_of script)) script.events all last → IfSome remaining (λ rest. StepsMayFail detail.Words rest error.Write)
 may_fail_to_write None input script all last is fits read runs = tt
 may_fail_to_write (Some rest) input script all last is fits read runs =
     let heard = tells_so runs in (
       step_text detail.Words heard.0 last,
       record {
-        fits = subst (λ (i : List ℕ). length i ≤ MOST_BYTES) is fits;
+        fits = subst (λ (i : List ℕ). length i ≤ MAX_BYTES) is fits;
         script = script;
         read = ap steps_of (sym is) ∙ read;
         reply = record { all = heard.0; last = last; runs = heard.1; text_is = refl };

@@ -11,14 +11,14 @@ use Rattle.std.proofs.lemmas.List.Sums.{count_by-le-length, sum_by-cons}
 use Rattle.std.proofs.lemmas.Option.{same_Some}
 use Rattle.qolb_model.specs.declared.request.Request.{Request}
 use Rattle.qolb_model.specs.Histories.{open_of}
-use Rattle.qolb_model.specs.OneOwner.{LineState}
+use Rattle.qolb_model.specs.OneOwner.{OwnerState}
 use Rattle.qolb_model.specs.Requests.{next_of}
 use Rattle.qolb_script.specs.declared.command.Command.{Command}
 use Rattle.qolb_script.specs.declared.command.Command.TheVariants.{Enq, Write}
 use Rattle.qolb_script.specs.declared.reply_text.Said.{Said}
 use Rattle.qolb_script.specs.declared.reply_text.Said.TheVariants as said
 use Rattle.qolb_script.specs.Commands.{line_of, node_of}
-use Rattle.qolb_script.specs.Reply.{after_command, no_line, said_of, terms_of}
+use Rattle.qolb_script.specs.Reply.{after_command, no_line, said_of, config_of}
 use Rattle.qolb_script.specs.Script.{IsInRange, Script}
 use Rattle.qolb_draw.specs.declared.bar.Stand.{Stand}
 use Rattle.qolb_draw.specs.declared.bar.Stand.TheVariants as stand
@@ -49,7 +49,7 @@ called_last steps step =
     list_any-append (λ (s : Step). node_of s.command == node_of step.command) steps (step ∷ [])
     ∙ or_right (called steps (node_of step.command)) (called (step ∷ []) (node_of step.command)) (ap (λ b. b || false) (eq-eqb (node_of step.command) (node_of step.command) refl))
 
--- whose turn it is before the step and after it has called
+-- the node at its turn before the step has called, and so has the node at its turn after it
 record Known (steps : List Step) (step : Step) : Type 0 where
   its : Called steps (node_of step.command)
   before : (n : ℕ) → turn_node step.before ≡ Some n → Called steps n
@@ -63,23 +63,23 @@ known_more steps step last k = record {
 }
 
 -- all requests are of nodes that have called
-abbrev AreCalled : List Step → LineState → Type 0
+abbrev AreCalled : List Step → OwnerState → Type 0
 AreCalled steps s = All (λ (r : Request). Called steps r.node) s.queue.order
 
 first_of : (P : ℕ → Type 0) (xs : List ℕ) (n : ℕ) → All P xs → slice_get xs 0 ≡ Some n → P n
 first_of P [] n all e = absurd (let none : None ≡ Some n = e in cc none)
 first_of P (x ∷ xs) n all e = subst P (same_Some x n e) (All-head P x xs all)
 
-turn_called : (steps : List Step) (s : LineState) (n : ℕ) → AreCalled steps s → turn_node s ≡ Some n → Called steps n
+turn_called : (steps : List Step) (s : OwnerState) (n : ℕ) → AreCalled steps s → turn_node s ≡ Some n → Called steps n
 turn_called steps s n all e =
     first_of (Called steps) (waiting_nodes s) n
     (All-map (Called steps) (λ (r : Request). r.node) (open_of s.queue.order s.queue.ends) (All-drop (λ (r : Request). Called steps r.node) (length s.queue.ends) s.queue.order all)) e
 
-asked_called : (steps : List Step) (s : LineState) (n : ℕ) (b : Bool) → Called steps n → All (λ (r : Request). Called steps r.node) (asked_if b n s)
+asked_called : (steps : List Step) (s : OwnerState) (n : ℕ) (b : Bool) → Called steps n → All (λ (r : Request). Called steps r.node) (asked_if b n s)
 asked_called steps s n true h = All-cons (λ (r : Request). Called steps r.node) (next_of n s.queue.order) [] h (All-nil (λ (r : Request). Called steps r.node))
 asked_called steps s n false h = All-nil (λ (r : Request). Called steps r.node)
 
-after_called : (steps : List Step) (s : LineState) (c : Command) → AreCalled steps s → Called steps (node_of c) → AreCalled steps (after_command s c)
+after_called : (steps : List Step) (s : OwnerState) (c : Command) → AreCalled steps s → Called steps (node_of c) → AreCalled steps (after_command s c)
 after_called steps s c all its =
     subst (All (λ (r : Request). Called steps r.node)) (sym (grew s c).order_is)
     (All-append (λ (r : Request). Called steps r.node) s.queue.order (asked_if (has_asked (said_of s c)) (node_of c) s) all (asked_called steps s (node_of c) (has_asked (said_of s c)) its))
@@ -116,7 +116,7 @@ knows_all nodes line (c ∷ cs) run ours k =
 
 knows : (script : Script) (line : ℕ) → IsInRange script → Knows script.nodes (run_of line script)
 knows script line range =
-    knows_all script.nodes line script.commands (run_start (terms_of script))
+    knows_all script.nodes line script.commands (run_start (config_of script))
     (All-weaker (λ c. (1 ≤ node_of c) × (node_of c ≤ script.nodes) × (line_of c < script.lines)) (IsOurs script.nodes) (λ c h. (h.0, h.1)) script.commands range)
     (record { now = All-nil (λ (r : Request). Called [] r.node); steps = All-nil (Known []); ours = All-nil (λ (s : Step). IsOurs script.nodes s.command) })
 
@@ -169,7 +169,7 @@ has_row nodes n steps ours h =
     let range = called_ours nodes n steps ours h in
     fewer_before n (callers nodes steps) (shown_once (called steps) n nodes 1 h range.0 (let last = range.1 in omega arith))
 
--- a shape fits on a line of so many rows and columns
+-- a shape fits on a line of this number of rows and columns
 abbrev Fits : ℕ → ℕ → Shape → Type 0
 Fits rows columns shape = (right_of shape ≤ width_of columns) × (foot_of shape ≤ height_of rows)
 
@@ -223,7 +223,7 @@ all_flat : {X : Type 0} (P : Shape → Type 0) (f : X → List Shape) (xs : List
 all_flat P f [] all = All-nil P
 all_flat P f (x ∷ xs) all = All-append P (f x) (flat_map f xs) (All-head (λ y. All P (f y)) x xs all) (all_flat P f xs (All-tail (λ y. All P (f y)) x xs all))
 
--- what is shown of a command
+-- the shapes of a command
 arrow_fits : (shown : List ℕ) (columns column number : ℕ) (was is : Option ℕ) → column < columns → ((n : ℕ) → was ≡ Some n → row_of shown n < length shown) → ((n : ℕ) → is ≡ Some n → row_of shown n < length shown)
     → All (Fits (length shown) columns) (arrow_of shown column number was is)
 arrow_fits shown columns column number None is lt from_row to_row = All-nil (Fits (length shown) columns)
@@ -278,7 +278,7 @@ rows_fit nodes steps ours =
     all_flat (Fits (length shown) (length steps)) (λ n. row_shapes shown (length steps) (stands_of steps n) n) shown
     (λ k d lt. row_fits shown (length steps) (stands_of steps (get_or shown k d)) (get_or shown k d) (has_row nodes (get_or shown k d) steps ours (filter_passes (called steps) (range_with_len 1 nodes) k d lt)) (length-map steps _))
 
--- the widest line, and those above one another
+-- the widest line, and the lines above one another
 wider_lines : (script : Script) (line k : ℕ) → widest script line ≤ widest script (line + k)
 wider_lines script line zero = let same : line + 0 ≡ line = omega arith in omega (arith, ap (widest script) same)
 wider_lines script line (suc k) =

@@ -1,15 +1,15 @@
--- Worked pictures: what the definition of a picture says of small scripts, by computation.
+-- Worked pictures: the pictures of small scripts by definition, by computation.
 use Rattle.std.specs.Prelude.{◌≡◌, ◌++◌, codes, refl, Ok, Err}
 use Rattle.qolb_script.specs.declared.error.ScriptError.TheVariants.{BadLine}
 use Rattle.qolb_draw.specs.declared.draw.Form.TheVariants.{Text}
 use Rattle.qolb_draw.specs.Pictures.{picture_to, legend}
 
--- three nodes, each handing the line on to the next
+-- three nodes, of which each hands the line over to the next
 handed_over : picture_to Text (codes "nodes 3 lines 1\nenq 1 0\nenq 2 0\nenq 3 0\nshow 1 0\ndeq 1 0\npoll 3 0\npoll 2 0\nshow 2 0\ndeq 2 0\npoll 3 0\nshow 3 0\ndeq 3 0\n")
     ≡ Ok (codes "line 0\n\n                  111\n         123456789012\nnode   1 HHHH>.......\nnode   2 .www<tHH>...\nnode   3 ..wwwwww<HH.\n\n" ++ legend)
 handed_over = refl
 
--- a withdrawn node is passed when the line is closed, and those that wait are told in turn
+-- a withdrawn node is passed when the line is closed, and the waiting nodes are told in turn
 closed : picture_to Text (codes "nodes 3 lines 1\nenq 1 0\nenq 2 0\nenq 3 0\nout 2 0\nenq 2 0\nshut 1 0\nenq 2 0\npoll 3 0\nenq 1 0\n")
     ≡ Ok (codes "line 0\n\n         123456789\nnode   1 HHHHH>--w\nnode   2 .wwxx-w<t\nnode   3 ..www<tc-\n\n" ++ legend)
 closed = refl

@@ -1,15 +1,15 @@
--- A plain line whose calls are followed. (Of this project.)
+-- A plain line whose commands are recorded. (Of this project.)
 use Rattle.std.specs.Prelude.{◌≡◌, ℕ, Bool, true, false, not, if◌then◌else◌, List, [], ◌∷◌, Option, Some, None}
 use Rattle.qolb_model.specs.declared.answer.PortState.{PortState}
 use Rattle.qolb_model.specs.declared.answer.PortState.TheVariants as port
 use Rattle.qolb_model.specs.declared.answer.Enq.TheVariants as enq
 use Rattle.qolb_model.specs.Plain.{PlainView, node_state, Agrees}
-use Rattle.qolb_model.specs.OneOwner.{LineState}
+use Rattle.qolb_model.specs.OneOwner.{OwnerState}
 use Rattle.qolb_script.specs.declared.reply_text.Said.{Said}
 use Rattle.qolb_script.specs.declared.reply_text.Said.TheVariants as said
 use Rattle.qolb_draw.specs.Marks.{waiting_nodes}
 
--- it answers a node that has made a request
+-- answers to a node that has made a request
 abbrev pub has_asked : Said → Bool
 has_asked (said.Enq enq.Granted) = true
 has_asked (said.Enq enq.Queued) = true
@@ -31,12 +31,12 @@ abbrev pub after_ended : PlainView → List ℕ → List ℕ
 after_ended line [] = []
 after_ended line (n ∷ rest) = if is_open (node_state line n) then n ∷ rest else after_ended line rest
 
--- there is such a node, and it has none
+-- there is such a node, and it has no open request
 abbrev pub has_ended : PlainView → Option ℕ → Bool
 has_ended line None = false
 has_ended line (Some n) = not (is_open (node_state line n))
 
--- the line agrees with a state of one owner, and these are the nodes whose requests are open there
-pub record Follows (line : PlainView) (waiting : List ℕ) (s : LineState) : Type 0 where
+-- the line agrees with a state of one owner; `waiting` are its nodes with open requests
+pub record Follows (line : PlainView) (waiting : List ℕ) (s : OwnerState) : Type 0 where
   pub agrees : Agrees line s
   pub waiting_are : waiting ≡ waiting_nodes s

@@ -1,11 +1,11 @@
--- Marks that lie command by command, and the texts that come out of them. (Of this project.)
+-- The marks of a line, command by command, and the texts of its picture. (Of this project.)
 use Rattle.std.specs.Prelude.{◌≡◌, ℕ, ◌+◌, ◌-◌, ◌*◌, ◌==◌, min, List, [], ◌∷◌, ◌++◌, length, map, filter, flat_map, take, drop, codes}
 use Rattle.std.specs.List.{list_any, range_with_len, slice_index_or}
 use Rattle.qolb_model.specs.Plain.{PlainView, node_state}
 use Rattle.qolb_script.specs.Commands.{node_of}
-use Rattle.qolb_draw.specs.declared.mark.Mark.{Mark}
-use Rattle.qolb_draw.specs.declared.mark.Mark.TheVariants as mark
-use Rattle.qolb_draw.specs.declared.mark.Change.{Change}
+use Rattle.qolb_draw.specs.declared.symbol.Symbol.{Symbol}
+use Rattle.qolb_draw.specs.declared.symbol.Symbol.TheVariants as symbol
+use Rattle.qolb_draw.specs.declared.symbol.Change.{Change}
 use Rattle.qolb_draw.specs.Marks.{mark_of}
 use Rattle.qolb_draw.specs.declared.text.TheConstants.{COLUMNS}
 use Rattle.qolb_draw.specs.LineRuns.{Step, mark_at, event_of}
@@ -16,8 +16,8 @@ use Rattle.qolb_draw.specs.Svg.{line_begin, texts}
 use Rattle.qolb_draw.specs.Timelines.{Shape, bars_from, columns_of, row_shapes, stand_of}
 use Rattle.qolb_draw.specs.Pictures.{letter_of, label_of, label_room, heads_text, block_count}
 
--- the marks of nodes 1 to `nodes` after each step, and the step's number and node
-abbrev pub marks_of : ℕ → List Step → List Mark
+-- the marks of the nodes after each step, and the steps' numbers and nodes
+abbrev pub marks_of : ℕ → List Step → List Symbol
 marks_of nodes steps = flat_map (λ step. map (mark_at step) (range_with_len 1 nodes)) steps
 
 abbrev pub numbers_of : List Step → List ℕ
@@ -26,30 +26,30 @@ numbers_of steps = map (λ step. step.number) steps
 abbrev pub nodes_of : List Step → List ℕ
 nodes_of steps = map (λ step. node_of step.command) steps
 
--- what is kept of some steps
-pub record IsGrid (nodes : ℕ) (steps : List Step) (rows : ℕ) (numbers callers : List ℕ) (events : List Event) (marks : List Mark) : Type 0 where
+-- the numbers, nodes, events and marks that are kept of some steps
+pub record IsGrid (nodes : ℕ) (steps : List Step) (rows : ℕ) (numbers callers : List ℕ) (events : List Event) (marks : List Symbol) : Type 0 where
   pub rows_are : rows ≡ nodes
   pub numbers_are : numbers ≡ numbers_of steps
   pub callers_are : callers ≡ nodes_of steps
   pub events_are : events ≡ map event_of steps
   pub marks_are : marks ≡ marks_of nodes steps
 
--- the marks of all nodes after a command that made this change and left the line so
-abbrev pub column_out_of : PlainView → Change → ℕ → List Mark
+-- the marks of all nodes after a command with this change and this line
+abbrev pub column_out_of : PlainView → Change → ℕ → List Symbol
 column_out_of line change nodes = map (λ n. mark_of change (node_state line n) n) (range_with_len 1 nodes)
 
 -- the mark of a node after command k of these
-abbrev pub mark_out_of : ℕ → List Mark → ℕ → ℕ → Mark
-mark_out_of nodes marks n k = slice_index_or marks (k * nodes + (n - 1)) mark.Idle
+abbrev pub mark_out_of : ℕ → List Symbol → ℕ → ℕ → Symbol
+mark_out_of nodes marks n k = slice_index_or marks (k * nodes + (n - 1)) symbol.Idle
 
--- the row of a node over some commands, the block of some nodes over them, and all blocks
-abbrev pub row_out_of : ℕ → List Mark → ℕ → ℕ → ℕ → List ℕ
+-- the row of a node over some commands; the block of some nodes; all blocks
+abbrev pub row_out_of : ℕ → List Symbol → ℕ → ℕ → ℕ → List ℕ
 row_out_of nodes marks start count n = label_of n ++ map (λ k. letter_of (mark_out_of nodes marks n k)) (range_with_len start count) ++ 10 ∷ []
 
-abbrev pub block_out_of : ℕ → List Mark → List ℕ → List ℕ → ℕ → ℕ → List ℕ
+abbrev pub block_out_of : ℕ → List Symbol → List ℕ → List ℕ → ℕ → ℕ → List ℕ
 block_out_of nodes marks numbers shown start count = 10 ∷ [] ++ heads_text label_room (take count (drop start numbers)) ++ flat_map (row_out_of nodes marks start count) shown
 
-abbrev pub blocks_out_of : ℕ → List Mark → List ℕ → List ℕ → List ℕ
+abbrev pub blocks_out_of : ℕ → List Symbol → List ℕ → List ℕ → List ℕ
 blocks_out_of nodes marks numbers shown =
     flat_map (λ k. block_out_of nodes marks numbers shown (COLUMNS * k) (min COLUMNS (length numbers - COLUMNS * k))) (range_with_len 0 (block_count (length numbers)))
 
@@ -58,24 +58,24 @@ abbrev pub shown_out_of : ℕ → List ℕ → List ℕ
 shown_out_of nodes called = filter (λ n. list_any (λ m. m == n) called) (range_with_len 1 nodes)
 
 -- the picture of a line
-abbrev pub line_out_of : ℕ → ℕ → List ℕ → List ℕ → List Mark → List ℕ
+abbrev pub line_out_of : ℕ → ℕ → List ℕ → List ℕ → List Symbol → List ℕ
 line_out_of line nodes numbers callers marks = codes "line " ++ (48 + line) ∷ 10 ∷ [] ++ blocks_out_of nodes marks numbers (shown_out_of nodes callers) ++ 10 ∷ []
 
--- how a node stands after each of some commands, from one on
-abbrev pub stands_out_of : ℕ → List Mark → ℕ → ℕ → ℕ → List Stand
+-- the states of a node after each of some commands, from one on
+abbrev pub stands_out_of : ℕ → List Symbol → ℕ → ℕ → ℕ → List Stand
 stands_out_of nodes marks n start count = map (λ k. stand_of (mark_out_of nodes marks n k)) (range_with_len start count)
 
--- its bars, and its row
-abbrev pub bars_out_of : ℕ → List Mark → ℕ → ℕ → ℕ → List Shape
+-- the node's bars, and its row
+abbrev pub bars_out_of : ℕ → List Symbol → ℕ → ℕ → ℕ → List Shape
 bars_out_of nodes marks columns row n = bars_from row n stand.Away 0 0 (stands_out_of nodes marks n 0 columns)
 
-abbrev pub row_shapes_out_of : List ℕ → ℕ → List Mark → ℕ → ℕ → List Shape
+abbrev pub row_shapes_out_of : List ℕ → ℕ → List Symbol → ℕ → ℕ → List Shape
 row_shapes_out_of shown nodes marks columns n = row_shapes shown columns (stands_out_of nodes marks n 0 columns) n
 
 -- the timeline of a line
-abbrev pub shapes_out_of : List ℕ → ℕ → List Mark → ℕ → List Event → List Shape
+abbrev pub shapes_out_of : List ℕ → ℕ → List Symbol → ℕ → List Event → List Shape
 shapes_out_of shown nodes marks columns events = flat_map (row_shapes_out_of shown nodes marks columns) shown ++ columns_of shown events
 
-abbrev pub line_svg_out_of : ℕ → ℕ → ℕ → ℕ → List ℕ → List Event → List Mark → List ℕ
+abbrev pub line_svg_out_of : ℕ → ℕ → ℕ → ℕ → List ℕ → List Event → List Symbol → List ℕ
 line_svg_out_of top line nodes columns callers events marks =
     line_begin top line ++ texts (shapes_out_of (shown_out_of nodes callers) nodes marks columns events) ++ codes "</g>\n"

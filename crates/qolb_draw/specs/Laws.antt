@@ -1,4 +1,4 @@
--- What pictures have to do with replays, and that nothing of them lies outside. (Of this project.)
+-- Laws of pictures: what they show is the replay's, and no shape lies outside. (Of this project.)
 use Rattle.std.specs.Prelude.{◌≡◌, ℕ, ◌+◌, ◌-◌, ◌*◌, max, ◌<◌, ◌≤◌, ◌==◌, ◌&&◌, nat_le, nat_lt, true, if◌then◌else◌, List, [], ◌∷◌, flat_map, Some, slice_get}
 use Rattle.std.specs.List.{All, list_any}
 use Rattle.qolb_script.specs.Commands.{node_of}
@@ -10,12 +10,11 @@ use Rattle.qolb_draw.specs.LineRuns.{Step, mark_at, run_of, steps_on}
 use Rattle.qolb_draw.specs.Svg.{name_y, top_of, widest, x_of, y_of}
 use Rattle.qolb_draw.specs.Timelines.{Shape, Lane, Bar, Name, Number, Arrow, Bytes, Call, stand_of, timeline_of}
 
--- the commands on a line leave it as all commands of the script do, so after each command of a script it is drawn in the state that it has
--- in the replay
+-- the commands on a line leave it as all commands of the script do; so after each command the line is drawn in its state in the replay
 abbrev pub DrawnAsReplayed : Type 0
 DrawnAsReplayed = (script : Script) (line : ℕ) → line < script.lines → (run_of line script).now ≡ line_at (replay_of script).lines line
 
--- the kinds of the bars of a node that are over a column
+-- the kinds of a node's bars over a column
 abbrev pub kind_over : ℕ → ℕ → Shape → List Stand
 kind_over node column (Bar row start end s n) = if (n == node) && (nat_le start column && nat_lt column end) then s ∷ [] else []
 kind_over node column shape = []
@@ -23,18 +22,18 @@ kind_over node column shape = []
 abbrev pub kinds_over : ℕ → ℕ → List Shape → List Stand
 kinds_over node column shapes = flat_map (kind_over node column) shapes
 
--- a node that stands so has one bar, or none where it is away
+-- the bars of a node in this state: one, or none if the node is away
 abbrev pub shown_as : Stand → List Stand
 shown_as stand.Away = []
 shown_as s = s ∷ []
 
--- over each command on a line a node that calls on it has just one bar, of the kind of its mark after the command, and none where that mark
--- has none
+-- Over each command a node that calls has one bar, of its mark's kind. The mark is the one after that command; if it has no bar, the
+-- node has none.
 abbrev pub BarsCoverMarks : Type 0
 BarsCoverMarks = (script : Script) (line n column : ℕ) (step : Step) → 1 ≤ n → n ≤ script.nodes → list_any (λ (s : Step). node_of s.command == n) (steps_on line script) ≡ true → slice_get (steps_on line script) column ≡ Some step → kinds_over n column (timeline_of script line) ≡ shown_as (stand_of (mark_at step n))
 
--- where a shape ends, from the left and from the top of its line: a sign is 8 pixels wide on each side of its middle and 12 high, half a word
--- above a row 24 wide, and letters go 3 below their line
+-- the end of a shape, from the left and from the top of its line: a sign is 8 pixels wide on each side of its middle and 12 high, half
+-- a word above a row 24 wide, and letters go 3 below their line
 abbrev pub right_of : Shape → ℕ
 right_of (Lane row columns) = x_of columns
 right_of (Bar row start end s node) = x_of start + 32 * (end - start)

@@ -1,40 +1,40 @@
--- The commands of a script on one line, one after another. (Of this project.)
+-- The commands of a script on one line, in order. (Of this project.)
 use Rattle.std.specs.Prelude.{ℕ, ◌+◌, ◌==◌, if◌then◌else◌, List, [], ◌∷◌, ◌++◌, filter, fold}
 use Rattle.std.specs.List.{list_any, range_with_len}
-use Rattle.qolb_model.specs.declared.terms.Terms.{Terms}
-use Rattle.qolb_model.specs.OneOwner.{LineState, opened, state_of}
+use Rattle.qolb_model.specs.declared.config.LineConfig.{LineConfig}
+use Rattle.qolb_model.specs.OneOwner.{OwnerState, opened, state_of}
 use Rattle.qolb_script.specs.declared.command.Command.{Command}
 use Rattle.qolb_script.specs.Commands.{node_of, line_of}
 use Rattle.qolb_script.specs.Script.{Script}
-use Rattle.qolb_script.specs.Reply.{terms_of, after_command}
+use Rattle.qolb_script.specs.Reply.{config_of, after_command}
 use Rattle.qolb_draw.specs.declared.event.Event.{Event}
-use Rattle.qolb_draw.specs.declared.mark.Mark.{Mark}
+use Rattle.qolb_draw.specs.declared.symbol.Symbol.{Symbol}
 use Rattle.qolb_draw.specs.Marks.{change_of, mark_of}
 
--- a command on the line, with its number in the script, counted from 1, and the state in which it finds the line
+-- a command on the line, with its number and the line's state before it. Numbers count from 1 in the script
 pub record Step : Type 0 where
   pub number : ℕ
   pub command : Command
-  pub before : LineState
+  pub before : OwnerState
 
 -- the mark of a node after the command
-abbrev pub mark_at : Step → ℕ → Mark
+abbrev pub mark_at : Step → ℕ → Symbol
 mark_at step n = mark_of (change_of step.before step.command) (state_of (after_command step.before step.command) n) n
 
--- the command, with what it changes
+-- the command, with its change
 abbrev pub event_of : Step → Event
 event_of step = record { number = step.number; command = step.command; change = change_of step.before step.command }
 
--- how many commands of the script were done, the state of the line, and what was done on it
+-- the number of commands done, the state of the line, and the commands on it
 pub record LineRun : Type 0 where
   pub done : ℕ
-  pub now : LineState
+  pub now : OwnerState
   pub steps : List Step
 
-abbrev pub run_start : Terms → LineRun
-run_start terms = record { done = 0; now = opened terms; steps = [] }
+abbrev pub run_start : LineConfig → LineRun
+run_start config = record { done = 0; now = opened config; steps = [] }
 
--- a command on the line is done; one on another line counts
+-- a command on the line is done; a command on another line only counts
 abbrev pub run_step : ℕ → LineRun → Command → LineRun
 run_step line run c =
     if line_of c == line
@@ -42,7 +42,7 @@ run_step line run c =
     else record run { done = run.done + 1 }
 
 abbrev pub run_of : ℕ → Script → LineRun
-run_of line script = fold (run_step line) (run_start (terms_of script)) script.commands
+run_of line script = fold (run_step line) (run_start (config_of script)) script.commands
 
 abbrev pub steps_on : ℕ → Script → List Step
 steps_on line script = (run_of line script).steps

@@ -1,31 +1,31 @@
--- The picture of a schedule as plain text, for each line, in blocks of commands, a row of marks for each node that calls on it; and in either form.
--- (Of this project.)
+-- The picture of a schedule as plain text: for each line, blocks of commands with a row of marks for each node that calls; and in
+-- either form. (Of this project.)
 use Rattle.std.specs.Prelude.{◌≡◌, ℕ, ◌+◌, ◌-◌, ◌≤◌, ◌*◌, ◌/◌, ◌%◌, nat_lt, nat_le, if◌then◌else◌, List, [], ◌∷◌, ◌++◌, length, map, filter, flat_map, take, drop, replicate, codes, Result, Ok, Err}
 use Rattle.std.specs.List.{range_with_len, slice_index_or}
-use Rattle.qolb_run.specs.declared.input.TheConstants.{MOST_BYTES}
+use Rattle.qolb_replay.specs.declared.input.TheConstants.{MAX_BYTES}
 use Rattle.qolb_script.specs.declared.error.ScriptError.{ScriptError}
 use Rattle.qolb_script.specs.Script.{Script, script_of}
 use Rattle.qolb_draw.specs.declared.draw.Form.{Form}
 use Rattle.qolb_draw.specs.declared.draw.Form.TheVariants as form
-use Rattle.qolb_draw.specs.declared.mark.Mark.{Mark}
-use Rattle.qolb_draw.specs.declared.mark.Mark.TheVariants as mark
+use Rattle.qolb_draw.specs.declared.symbol.Symbol.{Symbol}
+use Rattle.qolb_draw.specs.declared.symbol.Symbol.TheVariants as symbol
 use Rattle.qolb_draw.specs.declared.text.TheConstants.{COLUMNS}
 use Rattle.qolb_draw.specs.Svg.{svg_of}
 use Rattle.qolb_draw.specs.LineRuns.{Step, mark_at, steps_on, callers}
 
 -- the letter of each mark
-abbrev pub letter_of : Mark → ℕ
-letter_of mark.Idle = 46
-letter_of mark.Waits = 119
-letter_of mark.AtTurn = 116
-letter_of mark.Holds = 72
-letter_of mark.Withdrawn = 120
-letter_of mark.Shut = 45
-letter_of mark.Told = 99
-letter_of mark.Gives = 62
-letter_of mark.Takes = 60
+abbrev pub letter_of : Symbol → ℕ
+letter_of symbol.Idle = 46
+letter_of symbol.Waits = 119
+letter_of symbol.AtTurn = 116
+letter_of symbol.Holds = 72
+letter_of symbol.Withdrawn = 120
+letter_of symbol.Shut = 45
+letter_of symbol.Told = 99
+letter_of symbol.Gives = 62
+letter_of symbol.Takes = 60
 
--- the digit of a number at a place of this value, and a space where the number has none there
+-- the digit of a number at a place of this value; a space if the number has none there
 abbrev pub digit_at : ℕ → ℕ → ℕ
 digit_at value n = if nat_lt n value then 32 else 48 + n / value % 10
 
@@ -45,7 +45,7 @@ heads_text margin numbers = flat_map (head_text margin numbers) (places_of (slic
 abbrev pub label_of : ℕ → List ℕ
 label_of n = codes "node " ++ map (λ value. digit_at value n) (100 ∷ 10 ∷ 1 ∷ []) ++ 32 ∷ []
 
--- as many spaces as that has characters
+-- as many spaces as the label has characters
 abbrev pub label_room : List ℕ
 label_room = replicate 9 32
 
@@ -56,7 +56,7 @@ row_text steps n = label_of n ++ map (λ step. letter_of (mark_at step n)) steps
 abbrev pub block_text : List ℕ → List Step → List ℕ
 block_text nodes steps = 10 ∷ [] ++ heads_text label_room (map (λ step. step.number) steps) ++ flat_map (row_text steps) nodes
 
--- the steps of block k, and how many blocks there are
+-- the steps of block k; the number of blocks
 abbrev pub block_at : List Step → ℕ → List Step
 block_at steps k = take COLUMNS (drop (COLUMNS * k) steps)
 
@@ -70,15 +70,15 @@ blocks_text nodes steps = flat_map (λ k. block_text nodes (block_at steps k)) (
 abbrev pub line_text : Script → ℕ → List ℕ
 line_text script line = codes "line " ++ (48 + line) ∷ 10 ∷ [] ++ blocks_text (callers script.nodes (steps_on line script)) (steps_on line script) ++ 10 ∷ []
 
--- what the letters mean
+-- the legend of the letters
 abbrev pub legend : List ℕ
 legend = codes ". idle   w waits   t its turn has come   H holds   > hands over to <\nx withdrawn   c told that the line is closed   - closed\n"
 
--- the picture of a schedule: that of each line, and what the letters mean
+-- the picture of a schedule: that of each line, and the legend
 abbrev pub picture_of : Script → List ℕ
 picture_of script = flat_map (line_text script) (range_with_len 0 script.lines) ++ legend
 
--- a schedule in a form
+-- the picture of a schedule in a form
 abbrev pub in_form : Form → Script → List ℕ
 in_form form.Text script = picture_of script
 in_form form.Svg script = svg_of script
@@ -93,5 +93,5 @@ picture_to form text = drawn form (script_of text)
 
 -- the bytes are a schedule, and this is its picture
 pub record IsPicture (form : Form) (input text : List ℕ) : Type 0 where
-  pub fits : length input ≤ MOST_BYTES
+  pub fits : length input ≤ MAX_BYTES
   pub picture : picture_to form input ≡ Ok text

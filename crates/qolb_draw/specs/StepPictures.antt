@@ -5,8 +5,8 @@ use Rattle.link_core.specs.declared.point.Point.{Point}
 use Rattle.link_core.specs.declared.point.Point.TheVariants as at
 use Rattle.link_core.specs.declared.state.State.{State}
 use Rattle.link_core.specs.State.{first, point}
-use Rattle.qolb_run.specs.declared.input.TheConstants.{MOST_BYTES}
-use Rattle.qolb_run.specs.StepRuns.{line_of}
+use Rattle.qolb_replay.specs.declared.input.TheConstants.{MAX_BYTES}
+use Rattle.qolb_replay.specs.StepRuns.{line_of}
 use Rattle.qolb_script.specs.StepScript.{StepScript, steps_of}
 use Rattle.qolb_draw.specs.declared.draw.Form.{Form}
 use Rattle.qolb_draw.specs.declared.draw.Form.TheVariants as form
@@ -33,15 +33,15 @@ letter_at at.Left = 76
 letter_at at.Rolled = 120
 letter_at at.Shut = 45
 
--- the letters of all nodes, that of node 1 first
+-- the letters of all nodes, in order
 abbrev pub letters_of : State → List ℕ
 letters_of c = map (λ k. letter_at (point c (k + 1))) (range_with_len 0 c.nodes)
 
--- as plain text: how each node stands after the event, the event and what it told, and where the line lies
+-- a line of plain text: the letter of each node after the event, the event and what it told, and the place of the line
 abbrev pub event_line : ℕ → Seen → List ℕ
 event_line column seen = letters_of seen.after ++ codes "  " ++ told_words column seen.event seen.told ++ codes "; " ++ place_words seen.after.place ++ codes "\n"
 
--- those of what was seen of some events, from a column on
+-- the lines of some events, from a column on
 abbrev pub event_lines : ℕ → List Seen → List ℕ
 event_lines column [] = []
 event_lines column (seen ∷ all) = event_line column seen ++ event_lines (column + 1) all
@@ -50,14 +50,14 @@ event_lines column (seen ∷ all) = event_line column seen ++ event_lines (colum
 abbrev pub node_heads : ℕ → List ℕ
 node_heads nodes = heads_text [] (range_with_len 1 nodes)
 
--- how wide and high an SVG is
+-- the width and the height of an SVG
 abbrev pub step_width : ℕ → ℕ
 step_width columns = max 800 (step_x columns + 32)
 
 abbrev pub step_height : ℕ → ℕ
 step_height nodes = 64 + step_y nodes + 36
 
--- the picture of a script of which this was seen
+-- the picture of a script by what was seen of its run
 abbrev pub steps_in : Form → StepScript → List Seen → List ℕ
 steps_in form.Text script all = node_heads script.nodes ++ event_lines 0 all ++ LETTERS.now
 steps_in form.Svg script all =
@@ -72,7 +72,7 @@ pub record IsDrawn (form : Form) (script : StepScript) (text : List ℕ) : Type 
 
 -- the bytes are a step script, and this is its picture
 pub record IsStepPicture (form : Form) (input text : List ℕ) : Type 0 where
-  pub fits : length input ≤ MOST_BYTES
+  pub fits : length input ≤ MAX_BYTES
   pub script : StepScript
   pub read : steps_of input ≡ Ok script
   pub drawn : IsDrawn form script text

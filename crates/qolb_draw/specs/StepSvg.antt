@@ -10,33 +10,33 @@ use Rattle.link_core.specs.declared.point.Point.TheVariants as point
 use Rattle.link_core.specs.declared.told.Told.{Told}
 use Rattle.link_core.specs.declared.told.Told.TheVariants as told
 use Rattle.link_core.specs.Steps.{node_of}
-use Rattle.qolb_model.specs.declared.terms.TheConstants.{MOST_NODES}
+use Rattle.qolb_model.specs.declared.config.TheConstants.{MAX_NODES}
 use Rattle.qolb_script.specs.declared.command.Command.TheVariants.{Write}
 use Rattle.qolb_script.specs.Said.{said_words}
 use Rattle.qolb_script.specs.StepReply.{step_said}
 use Rattle.qolb_draw.specs.Svg.{field, written_words}
 use Rattle.qolb_draw.specs.StepShapes.{StepShape, Lane, Name, Number, At, Lies, Home, Word, Act}
 
--- where an event is done, from the left, and the middle of a row, from the top
+-- the place of an event, from the left; the middle of a row, from the top
 abbrev pub step_x : ℕ → ℕ
 step_x column = 96 + 72 * column
 
 abbrev pub step_y : ℕ → ℕ
 step_y row = 68 + 48 * row
 
--- a row's name stands beside it, and below its bars further on
+-- the height of a row's name: beside the row at its beginning, and below its bars further on
 abbrev pub row_name_y : ℕ → ℕ → ℕ
 row_name_y row column = if column == 0 then step_y row + 4 else step_y row + 26
 
 abbrev pub row_name : ℕ → List ℕ
 row_name row = if row == 0 then codes "home" else field (codes "node ") row
 
--- some words, and a node behind them, if there is one
+-- some words, and a node behind them if there is one
 abbrev pub named : List ℕ → Option ℕ → List ℕ
 named words None = words
 named words (Some n) = field words n
 
--- a point, in words; and the node that it names
+-- the words of a point; the node that it names
 abbrev pub point_name : Point → List ℕ
 point_name point.Idle = codes "Idle"
 point_name point.Ready = codes "Ready"
@@ -61,7 +61,7 @@ named_by p = None
 abbrev pub point_words : Point → List ℕ
 point_words p = named (point_name p) (named_by p)
 
--- the class of its bar: it asks or waits, holds, releases, has withdrawn, or is in no call
+-- the class of a point's bar: the node asks or waits, holds, releases, has withdrawn, or is in no call
 abbrev pub class_at : Point → List ℕ
 class_at point.Idle = codes "rests"
 class_at point.Ready = codes "waits"
@@ -76,7 +76,7 @@ class_at point.Left = codes "rests"
 class_at point.Rolled = codes "withdrawn"
 class_at point.Shut = codes "rests"
 
--- a place, in words; the node whose place it is; and the row where it is shown, as no node has a number above the most
+-- the words of a place; its node; and the row that shows it
 abbrev pub place_name : Place → List ℕ
 place_name place.Home = codes "the line lies at home"
 place_name (place.Mailbox n) = codes "the line lies in the mailbox of node "
@@ -92,8 +92,8 @@ place_words p = named (place_name p) (whose p)
 
 abbrev pub row_of_place : Place → ℕ
 row_of_place place.Home = 0
-row_of_place (place.Mailbox n) = min n MOST_NODES
-row_of_place (place.Hand n) = min n MOST_NODES
+row_of_place (place.Mailbox n) = min n MAX_NODES
+row_of_place (place.Hand n) = min n MAX_NODES
 
 abbrev pub class_of_place : Place → List ℕ
 class_of_place place.Home = codes "home"
@@ -107,7 +107,7 @@ letter_if flag letter = if flag then letter else []
 abbrev pub entry_words : Entry → List ℕ
 entry_words e = letter_if e.granted (codes "g") ++ letter_if e.rolled (codes "r") ++ letter_if e.done (codes "d") ++ field (letter_if e.freed (codes "f")) e.link
 
--- the first word of an event, what a write has behind its node, and the whole as a script has it
+-- the first word of an event; the words of a write behind its node; the whole event as a script has it
 abbrev pub step_verb : Event → List ℕ
 step_verb (event.Reset n) = codes "reset"
 step_verb (event.Prepend n) = codes "prepend"
@@ -128,7 +128,7 @@ placed_words e = []
 abbrev pub event_words : Event → List ℕ
 event_words e = step_verb e ++ field (codes " ") (node_of e) ++ placed_words e
 
--- an event that was done in this column, and what it told
+-- the words of an event of this column, and of what it told
 abbrev pub told_words : ℕ → Event → Option Told → List ℕ
 told_words column e what = field [] (column + 1) ++ codes ": " ++ event_words e ++ codes ": " ++ said_words (step_said what)
 
@@ -139,7 +139,7 @@ sign_at (Some told.Closed) = codes "told"
 sign_at None = codes "misuse"
 sign_at what = codes "call"
 
--- each shape
+-- the text of each shape
 abbrev pub step_lane_text : ℕ → ℕ → List ℕ
 step_lane_text row columns = field (codes "<path class='lane' d='M96 ") (step_y row) ++ field (codes "H") (step_x columns) ++ codes "'/>\n"
 

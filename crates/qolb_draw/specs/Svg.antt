@@ -17,14 +17,14 @@ use Rattle.qolb_draw.specs.declared.svg.TheConstants.{LEGEND, STYLE, TAIL}
 use Rattle.qolb_draw.specs.LineRuns.{steps_on, callers}
 use Rattle.qolb_draw.specs.Timelines.{Shape, Lane, Bar, Name, Number, Arrow, Bytes, Call, places_in, timeline_of}
 
--- where the command of a column is done, from the left, and the middle of a row, from the top of its line
+-- the place of a column's command, from the left; the middle of a row, from the top of its line
 abbrev pub x_of : ℕ → ℕ
 x_of column = 96 + 32 * column
 
 abbrev pub y_of : ℕ → ℕ
 y_of row = 68 + 40 * row
 
--- a node's name stands beside its row, and below its bars further on
+-- the height of a node's name: beside its row at the beginning, and below its bars further on
 abbrev pub name_y : ℕ → ℕ → ℕ
 name_y row column = if column == 0 then y_of row + 4 else y_of row + 19
 
@@ -32,7 +32,7 @@ name_y row column = if column == 0 then y_of row + 4 else y_of row + 19
 abbrev pub field : List ℕ → ℕ → List ℕ
 field words n = words ++ decimal n
 
--- the colours of bars have these names
+-- the class of a bar, by which it has its colour
 abbrev pub class_of : Stand → List ℕ
 class_of stand.Away = codes "away"
 class_of stand.Waits = codes "waits"
@@ -40,7 +40,7 @@ class_of stand.AtTurn = codes "turn"
 class_of stand.Holds = codes "holds"
 class_of stand.Withdrawn = codes "withdrawn"
 
--- what a bar says
+-- the words that a bar shows
 abbrev pub words_of : Stand → List ℕ
 words_of stand.Away = codes " is away"
 words_of stand.Waits = codes " waits"
@@ -48,7 +48,7 @@ words_of stand.AtTurn = codes " may take its turn"
 words_of stand.Holds = codes " holds the line"
 words_of stand.Withdrawn = codes " has withdrawn"
 
--- the sign of a command that was answered so
+-- the sign of a command with this answer
 abbrev pub sign_of : Said → List ℕ
 sign_of (said.Out out.Withdrawn) = codes "out"
 sign_of said.Misuse = codes "misuse"
@@ -64,7 +64,7 @@ verb_of (Out node line) = codes "out"
 verb_of (Shut node line) = codes "shut"
 verb_of (Write node line mask bytes) = codes "write"
 
--- a byte in two hex digits, and those of some places of a line
+-- a byte in two hex digits; the bytes of some places of a line
 abbrev pub digit_of : ℕ → ℕ
 digit_of n = slice_index (codes "0123456789abcdef") n
 
@@ -75,7 +75,7 @@ hex_of bytes places = flat_map (λ k. digit_of (slice_index bytes k / 16) ∷ di
 abbrev pub shortened : List ℕ → List ℕ → List ℕ
 shortened bytes places = hex_of bytes (take 2 places) ++ (if nat_lt 2 (length places) then codes "&#8230;" else [])
 
--- what a write has behind its line
+-- the words of a write behind its line
 abbrev pub written_words : Command → List ℕ
 written_words (Write node line mask bytes) = field (codes " ") (slice_index (places_in mask.0) 0) ++ codes " " ++ hex_of bytes.bytes (places_in mask.0)
 written_words c = []
@@ -84,7 +84,7 @@ written_words c = []
 abbrev pub command_words : Command → List ℕ
 command_words c = verb_of c ++ field (codes " ") (node_of c) ++ field (codes " ") (line_of c) ++ written_words c
 
--- each shape
+-- the text of each shape
 abbrev pub lane_text : ℕ → ℕ → List ℕ
 lane_text row columns = field (codes "<path class='lane' d='M96 ") (y_of row) ++ field (codes "H") (x_of columns) ++ codes "'/>\n"
 
@@ -126,25 +126,25 @@ shape_text (Call row column event) = call_text row column event
 abbrev pub texts : List Shape → List ℕ
 texts shapes = flat_map shape_text shapes
 
--- the height of a line with so many rows, and the width of one with so many columns
+-- the height of a line with `rows` rows; the width of a line with `columns` columns
 abbrev pub height_of : ℕ → ℕ
 height_of rows = 60 + 40 * rows
 
 abbrev pub width_of : ℕ → ℕ
 width_of columns = x_of columns + 32
 
--- how many nodes call on a line, and how many commands are on it
+-- how many nodes call on a line; how many commands are on it
 abbrev pub rows_on : Script → ℕ → ℕ
 rows_on script line = length (callers script.nodes (steps_on line script))
 
 abbrev pub columns_on : Script → ℕ → ℕ
 columns_on script line = length (steps_on line script)
 
--- the lines stand one below another, under the legend
+-- the top of a line: the lines are one below another, under the legend
 abbrev pub top_of : Script → ℕ → ℕ
 top_of script line = 64 + sum_by (λ k. height_of (rows_on script k)) (range_with_len 0 line)
 
--- as wide as the widest of these lines, and as the legend
+-- the width of the widest of these lines, or of the legend
 abbrev pub widest : Script → ℕ → ℕ
 widest script lines = fold (λ width k. max width (width_of (columns_on script k))) 640 (range_with_len 0 lines)
 
@@ -155,7 +155,7 @@ line_begin top line = field (codes "<g transform='translate(0,") top ++ field (c
 abbrev pub line_svg : Script → ℕ → List ℕ
 line_svg script line = line_begin (top_of script line) line ++ texts (timeline_of script line) ++ codes "</g>\n"
 
--- the whole: its size and colours, the legend, and the lines
+-- the whole picture: its size and colours, the legend, and the lines
 abbrev pub svg_head : ℕ → ℕ → List ℕ
 svg_head width height = field (codes "<svg xmlns='http://www.w3.org/2000/svg' width='") width ++ field (codes "' height='") height ++ STYLE.now
 

@@ -1,5 +1,6 @@
--- The timeline of a line: which shapes it has, and where. A column is a command on the line, and a row a node that calls on it; both are counted
--- from 0. A shape of a column begins where the command is done, and a bar ends where the command of its last column is. (Of this project.)
+-- The shapes of a line's timeline, and their places. A column is a command on the line, and a row a node that calls on it; both are
+-- counted from 0. A shape of a column begins at the place of the command, and a bar ends at that of its last column's command. (Of this
+-- project.)
 use Rattle.std.specs.Prelude.{ℕ, ◌+◌, ◌-◌, ◌*◌, ◌/◌, ◌==◌, nat_lt, Bool, true, false, if◌then◌else◌, List, [], ◌∷◌, ◌++◌, length, map, flat_map, count_by, Option, Some, None}
 use Rattle.std.specs.List.{range_with_len, slice_index_or}
 use Rattle.line_lanes.specs.Mask.{is_masked}
@@ -11,38 +12,38 @@ use Rattle.qolb_script.specs.Script.{Script}
 use Rattle.qolb_draw.specs.declared.bar.Stand.{Stand}
 use Rattle.qolb_draw.specs.declared.bar.Stand.TheVariants as stand
 use Rattle.qolb_draw.specs.declared.event.Event.{Event}
-use Rattle.qolb_draw.specs.declared.mark.Mark.{Mark}
-use Rattle.qolb_draw.specs.declared.mark.Mark.TheVariants as mark
+use Rattle.qolb_draw.specs.declared.symbol.Symbol.{Symbol}
+use Rattle.qolb_draw.specs.declared.symbol.Symbol.TheVariants as symbol
 use Rattle.qolb_draw.specs.LineRuns.{Step, event_of, mark_at, steps_on, callers}
 use Rattle.qolb_draw.specs.declared.timeline.TheConstants.{NAMED_EVERY}
 
 pub data Shape : Type 0 where
-  -- the thin line of a row, through so many columns
+  -- the thin line of a row, through `columns` columns
   Lane : (row columns : ℕ) → Shape
-  -- a node stands so, from one column to another
+  -- the bar of a node in this state, from one column to another
   Bar : (row start end : ℕ) → Stand → (node : ℕ) → Shape
   -- the name of a node
   Name : (row column node : ℕ) → Shape
   -- the number of a command
   Number : (column number : ℕ) → Shape
-  -- the command of this number hands the line over, from a row and its node to others
+  -- a command passes the line on, from a row and its node to others
   Arrow : (column number giver from taker to : ℕ) → Shape
-  -- bytes were written, those of these places of a line
+  -- the bytes of these places of a line that were written
   Bytes : (row column : ℕ) → List ℕ → (places : List ℕ) → Shape
-  -- a command, with what it was answered
+  -- a command, with its answer
   Call : (row column : ℕ) → Event → Shape
 
--- how a bar shows a node that has this mark
-abbrev pub stand_of : Mark → Stand
-stand_of mark.Idle = stand.Away
-stand_of mark.Waits = stand.Waits
-stand_of mark.AtTurn = stand.AtTurn
-stand_of mark.Holds = stand.Holds
-stand_of mark.Withdrawn = stand.Withdrawn
-stand_of mark.Shut = stand.Away
-stand_of mark.Told = stand.Away
-stand_of mark.Gives = stand.Away
-stand_of mark.Takes = stand.AtTurn
+-- the kind of bar for a mark
+abbrev pub stand_of : Symbol → Stand
+stand_of symbol.Idle = stand.Away
+stand_of symbol.Waits = stand.Waits
+stand_of symbol.AtTurn = stand.AtTurn
+stand_of symbol.Holds = stand.Holds
+stand_of symbol.Withdrawn = stand.Withdrawn
+stand_of symbol.Shut = stand.Away
+stand_of symbol.Told = stand.Away
+stand_of symbol.Gives = stand.Away
+stand_of symbol.Takes = stand.AtTurn
 
 abbrev pub is_same : Stand → Stand → Bool
 is_same stand.Away stand.Away = true
@@ -52,7 +53,7 @@ is_same stand.Holds stand.Holds = true
 is_same stand.Withdrawn stand.Withdrawn = true
 is_same a b = false
 
--- the row of a node: as many of those that are shown are before it
+-- the row of a node: the number of shown nodes before it
 abbrev pub row_of : List ℕ → ℕ → ℕ
 row_of shown n = count_by (λ m. nat_lt m n) shown
 
@@ -61,7 +62,7 @@ abbrev pub bar_of : ℕ → ℕ → ℕ → Stand → ℕ → List Shape
 bar_of row start end stand.Away node = []
 bar_of row start end s node = Bar row start end s node ∷ []
 
--- the bars of a row whose node stands so since a column, from another column on: each as long as the node stands the same
+-- the bars of a row from a column on: one for each run of equal states. Its node has been in a state since another column
 abbrev pub bars_from : ℕ → ℕ → Stand → ℕ → ℕ → List Stand → List Shape
 bars_from row node s start column [] = bar_of row start column s node
 bars_from row node s start column (next ∷ rest) =
@@ -69,19 +70,19 @@ bars_from row node s start column (next ∷ rest) =
     then bars_from row node s start (column + 1) rest
     else bar_of row start column s node ++ bars_from row node next column (column + 1) rest
 
--- a node's name, again and again
+-- a node's name, repeated
 abbrev pub name_count : ℕ → ℕ
 name_count columns = (columns + (NAMED_EVERY - 1)) / NAMED_EVERY
 
 abbrev pub names_of : ℕ → ℕ → ℕ → List Shape
 names_of row columns node = map (λ k. Name row (NAMED_EVERY * k) node) (range_with_len 0 (name_count columns))
 
--- the row of a node that stood so after each command
+-- the row of a node, by its state after each command
 abbrev pub row_shapes : List ℕ → ℕ → List Stand → ℕ → List Shape
 row_shapes shown columns stands node =
     Lane (row_of shown node) columns ∷ bars_from (row_of shown node) node stand.Away 0 0 stands ++ names_of (row_of shown node) columns node
 
--- the turn goes from one node to another
+-- the arrow, if the turn passed from one node to another
 abbrev pub arrow_of : List ℕ → ℕ → ℕ → Option ℕ → Option ℕ → List Shape
 arrow_of shown column number None after = []
 arrow_of shown column number (Some from) None = []
@@ -95,35 +96,35 @@ place_if mask k = if is_masked mask k then k ∷ [] else []
 unfoldable pub places_in : ℕ → List ℕ
 places_in mask = flat_map (place_if mask) (range_with_len 0 64)
 
--- what a command wrote, if that is what it was answered
+-- the bytes that a command wrote, if this is its answer
 abbrev pub bytes_of : List ℕ → ℕ → Command → Said → List Shape
 bytes_of shown column (Write node line mask bytes) said.Written = Bytes (row_of shown node) column bytes.bytes (places_in mask.0) ∷ []
 bytes_of shown column c what = []
 
--- what is shown of a command
+-- the shapes of a command
 abbrev pub column_shapes : List ℕ → ℕ → Event → List Shape
 column_shapes shown column event =
     Number column event.number ∷ arrow_of shown column event.number event.change.before event.change.after
     ++ bytes_of shown column event.command event.change.said ++ Call (row_of shown event.change.node) column event ∷ []
 
--- where there is none
+-- an event for places that have none
 abbrev pub no_event : Event
 no_event = record { number = 0; command = Enq 0 0; change = record { node = 0; said = said.Misuse; told = false; before = None; after = None } }
 
--- what is shown of some commands
+-- the shapes of some commands
 abbrev pub columns_of : List ℕ → List Event → List Shape
 columns_of shown events = flat_map (λ k. column_shapes shown k (slice_index_or events k no_event)) (range_with_len 0 (length events))
 
--- how a node stands after each step
+-- the state of a node after each step
 abbrev pub stands_of : List Step → ℕ → List Stand
 stands_of steps n = map (λ step. stand_of (mark_at step n)) steps
 
--- the shapes of the steps on a line of so many nodes
+-- the shapes of the steps on a line of `nodes` nodes
 abbrev pub shapes_of : ℕ → List Step → List Shape
 shapes_of nodes steps =
     flat_map (λ n. row_shapes (callers nodes steps) (length steps) (stands_of steps n) n) (callers nodes steps)
     ++ columns_of (callers nodes steps) (map event_of steps)
 
--- those of a line of a schedule
+-- the shapes of a line of a schedule
 abbrev pub timeline_of : Script → ℕ → List Shape
 timeline_of script line = shapes_of script.nodes (steps_on line script)

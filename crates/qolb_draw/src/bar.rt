@@ -1,54 +1,54 @@
-//! How a node stands at a line for some time, as a bar of a timeline shows it.
+//! The state of a node at a line for some time, as a bar of a timeline.
 ghost use Rattle.std.specs.Prelude.{◌≡◌, not};
 ghost use Rattle.qolb_draw.specs.Svg as svg;
 ghost use Rattle.qolb_draw.specs.Timelines as spec;
 
-use crate::mark::Mark;
+use crate::symbol::Symbol;
 
-/// How a node stands.
+/// The state of a node at a line, as the kind of its bar.
 #[derive(Clone, Copy, Debug, PartialEq, Eq)]
 pub enum Stand {
-    /// It has no open request.
+    /// The node has no open request.
     Away,
-    /// Its request waits behind another.
+    /// The node's request waits behind another.
     Waits,
-    /// Its turn has come, and it has not looked yet.
+    /// The node is at its turn, and has not looked yet.
     AtTurn,
-    /// It holds the line.
+    /// The node holds the line.
     Holds,
-    /// It has withdrawn its request, which was not passed yet.
+    /// The node has withdrawn its request, which was not passed yet.
     Withdrawn,
 }
 
 impl Stand {
-    /// How a node stands that has this mark.
-    pub fn of(mark: Mark) -> Stand
+    /// Returns the state of a node that has this mark.
+    pub fn of(mark: Symbol) -> Stand
         ensures { result ≡ spec.stand_of mark }
     {
         match mark {
-            Mark::Idle | Mark::Shut | Mark::Told | Mark::Gives => Stand::Away,
-            Mark::Waits => Stand::Waits,
-            Mark::AtTurn | Mark::Takes => Stand::AtTurn,
-            Mark::Holds => Stand::Holds,
-            Mark::Withdrawn => Stand::Withdrawn,
+            Symbol::Idle | Symbol::Shut | Symbol::Told | Symbol::Gives => Stand::Away,
+            Symbol::Waits => Stand::Waits,
+            Symbol::AtTurn | Symbol::Takes => Stand::AtTurn,
+            Symbol::Holds => Stand::Holds,
+            Symbol::Withdrawn => Stand::Withdrawn,
         }
     }
 
-    /// It is the same.
+    /// Returns `true` if both states are the same.
     fn is_same(self, other: Stand) -> bool
         ensures { result ≡ spec.is_same self other }
     {
         self == other
     }
 
-    /// It is another.
+    /// Returns `true` if the states differ.
     pub fn differs(self, other: Stand) -> bool
         ensures { result ≡ not (spec.is_same self other) }
     {
         !self.is_same(other)
     }
 
-    /// The class of its bar.
+    /// Returns the class of the state's bar.
     pub fn class(self) -> &'static [u8]
         ensures { result.now ≡ svg.class_of self }
     {
@@ -61,7 +61,7 @@ impl Stand {
         }
     }
 
-    /// What its bar says of the node.
+    /// Returns the words that the bar shows.
     pub fn words(self) -> &'static [u8]
         ensures { result.now ≡ svg.words_of self }
     {

@@ -15,7 +15,7 @@ use std::alloc::{AllocError, Allocator};
 /// The digits of hex numbers.
 const DIGITS: &[u8] = b"0123456789abcdef";
 
-/// The sign of a command that was answered so.
+/// Returns the sign of a command with this answer.
 pub fn sign(said: &Said) -> &'static [u8]
     ensures { result.now ≡ spec.sign_of said.now }
 {
@@ -30,7 +30,7 @@ pub fn sign(said: &Said) -> &'static [u8]
     }
 }
 
-/// The first word of a command.
+/// Returns the first word of a command.
 fn verb(command: &Command) -> &'static [u8]
     ensures { result.now ≡ spec.verb_of command.now }
 {
@@ -45,7 +45,7 @@ fn verb(command: &Command) -> &'static [u8]
     }
 }
 
-/// The places of a line that a mask has.
+/// Returns the places of a line that a mask has.
 pub fn places<A: Allocator>(alloc: A, mask: Mask) -> Result<Vec<u8, A>, AllocError>
     ensures { IfOk result (λ places. places.items ≡ places_in mask.0) }
 {
@@ -58,21 +58,21 @@ pub fn places<A: Allocator>(alloc: A, mask: Mask) -> Result<Vec<u8, A>, AllocErr
     Ok(places)
 }
 
-/// The first of some places, or 0.
+/// Returns the first of these places, or 0 if there is none.
 fn first_of(places: &[u8]) -> u8
     ensures { result ≡ slice_index places.now 0 }
 {
     places.first().copied().unwrap_or(0)
 }
 
-/// The byte at a place of a line.
+/// Returns the byte at a place of a line.
 fn byte_at(bytes: &[u8; 64], place: u8) -> u8
     ensures { result ≡ slice_index bytes.now place }
 {
     if place < 64 { bytes[place as usize] } else { 0 }
 }
 
-/// The hex digit of a number.
+/// Returns the hex digit of a number.
 fn digit(number: u8) -> u8
     requires { number < 16 }
     ensures { result ≡ spec.digit_of number }
@@ -125,7 +125,7 @@ pub fn push_command<A: Allocator>(
     Ok(())
 }
 
-/// Appends what a write has behind its line.
+/// Appends the words of a write behind its line.
 pub fn push_written<A: Allocator>(
     alloc: A,
     text: &mut Vec<u8, A>,

@@ -1,10 +1,8 @@
-//! Pictures of schedules: what a reader gives is drawn, and the picture written.
+//! Pictures of schedules: draws the schedule of a reader, and writes the picture.
 ghost use Rattle.std.specs.Prelude.{◌≡◌, ◌≢◌, ◌↔◌, ℕ, List, true, false, Ok, Err, OnOk, IfOk, IfErr, IfSome, max};
 ghost use Rattle.std.specs.Io.KnownBytes.{Appends};
 ghost use Rattle.qolb_script.specs.Watched.{inner_of, has_failed};
-ghost use Rattle.qolb_run.specs.Outcome.{MayFail};
-ghost use Rattle.qolb_run.specs.declared.task.Task.TheVariants as task;
-ghost use Rattle.qolb_run.specs.declared.replay.Kind.TheVariants as kind;
+ghost use Rattle.qolb_replay.specs.Outcome.{ReplayMayFail};
 ghost use Rattle.qolb_draw.specs.Pictures.{picture_of, in_form, IsPicture};
 ghost use Rattle.qolb_draw.specs.Svg.{svg_of};
 
@@ -12,12 +10,12 @@ use crate::grid::draw_line;
 use crate::svg;
 use crate::text::{LEGEND, push_line};
 use crate::timeline::push_timeline;
-use qolb_run::{ReplayError, read_input};
+use qolb_replay::{ReplayError, read_input};
 use qolb_script::{Schedule, ScriptError, Watched, read_schedule};
 use std::alloc::{AllocError, Allocator};
 use std::io::{Read, Write};
 
-/// What a picture is written as.
+/// The form of a picture.
 #[derive(Clone, Copy, Debug, PartialEq, Eq)]
 pub enum Form {
     /// Plain text.
@@ -26,10 +24,10 @@ pub enum Form {
     Svg,
 }
 
-/// Draws the schedule that the reader gives, and writes its picture in this form, by the answers of plain lines.
+/// Draws the schedule that the reader gives, and writes its picture in this form. The states are those of a replay by plain lines.
 ///
-/// The whole input is read first, and the picture is built whole before its first byte is written: with every error but `Write`
-/// nothing was written. An error comes only where a replay of plain lines may have it.
+/// Reads the whole input first, and builds the whole picture before it writes the first byte. So with every error but `Write` no byte was
+/// written. An error is one that a replay by plain lines may have, too.
 pub fn draw_schedule<A: Allocator, R: Read, W: Write>(
     alloc: A,
     reader: &mut Watched<R>,
@@ -37,7 +35,7 @@ pub fn draw_schedule<A: Allocator, R: Read, W: Write>(
     form: Form,
 ) -> Result<(), ReplayError>
     ensures ok { OnOk result (IfSome (R.remaining (inner_of reader.old)) (λ input. (text : List ℕ) × IsPicture form input text × Appends (W.contents (inner_of writer.old)) (W.contents (inner_of writer.new)) text)) }
-    ensures refused { IfErr result (λ error. IfSome (R.remaining (inner_of reader.old)) (λ input. MayFail (task.Replay kind.Plain) input error)) }
+    ensures refused { IfErr result (λ error. IfSome (R.remaining (inner_of reader.old)) (λ input. ReplayMayFail input error)) }
     ensures unwritten { IfErr result (λ error. error ≢ ReplayError.Write → writer.new ≡ writer.old) }
     ensures read_fault { (result ≡ Err ReplayError.Read) ↔ (has_failed reader.new ≡ true) }
     ensures write_fault { result ≡ Err ReplayError.Write → has_failed writer.new ≡ true }
@@ -51,7 +49,7 @@ pub fn draw_schedule<A: Allocator, R: Read, W: Write>(
     Ok(())
 }
 
-/// The picture of a schedule in this form.
+/// Returns the picture of a schedule in this form.
 fn picture_in<A: Allocator + Copy>(
     alloc: A,
     schedule: &Schedule<A>,
@@ -65,7 +63,7 @@ fn picture_in<A: Allocator + Copy>(
     }
 }
 
-/// The picture of a schedule, as plain text.
+/// Returns the picture of a schedule as plain text.
 fn picture<A: Allocator + Copy>(alloc: A, schedule: &Schedule<A>) -> Result<Vec<u8, A>, AllocError>
     ensures { IfOk result (λ text. text.items ≡ picture_of schedule.now) }
 {
@@ -78,7 +76,7 @@ fn picture<A: Allocator + Copy>(alloc: A, schedule: &Schedule<A>) -> Result<Vec<
     Ok(text)
 }
 
-/// The timeline of a schedule, as an SVG.
+/// Returns the timeline of a schedule as an SVG.
 fn timeline<A: Allocator + Copy>(alloc: A, schedule: &Schedule<A>) -> Result<Vec<u8, A>, AllocError>
     ensures { IfOk result (λ svg. svg.items ≡ svg_of schedule.now) }
 {
@@ -95,7 +93,7 @@ fn timeline<A: Allocator + Copy>(alloc: A, schedule: &Schedule<A>) -> Result<Vec
     Ok(svg)
 }
 
-/// The larger of two widths.
+/// Returns the larger of two widths.
 fn wider(one: u64, other: u64) -> u64
     ensures { result ≡ max one other }
 {

@@ -1,8 +1,8 @@
 //! A command that was done, as a timeline shows it.
-use crate::mark::Change;
+use crate::symbol::Change;
 use qolb_script::Command;
 
-/// A command, with its number in the script, counted from 1, and what it changed.
+/// A command, with its number in the script, counted from 1, and its change.
 #[derive(Clone, Copy)]
 pub struct Event {
     pub number: u64,

@@ -1,48 +1,48 @@
-//! A plain line whose calls are followed: what each command changes.
+//! A plain line that also records what each command changes.
 ghost use Rattle.std.specs.Prelude.{◌≡◌, ◌≤◌, [], ℕ, List, IfOk, option_copied};
-ghost use Rattle.qolb_model.specs.OneOwner.{LineState};
+ghost use Rattle.qolb_model.specs.OneOwner.{OwnerState};
 ghost use Rattle.qolb_script.specs.Commands.{node_of};
 ghost use Rattle.qolb_script.specs.Reply as reply;
 ghost use Rattle.qolb_draw.specs.Following as spec;
 
-use crate::mark::Change;
+use crate::symbol::Change;
 use link_core::Told;
 use qolb_model::{Enq, Out, PlainLine, Poll, PortState};
-use qolb_run::ReplayLine;
+use qolb_replay::ReplayLine;
 use qolb_script::{Command, Said};
 use std::alloc::{AllocError, Allocator};
 
-/// A plain line, and the nodes whose requests there have no end yet, the oldest first.
+/// A plain line, with the nodes whose requests have no end yet, oldest first.
 #[derive(Drop)]
-pub struct FollowedLine<A: Allocator> {
+pub struct TracedLine<A: Allocator> {
     pub line: PlainLine,
     pub waiting: Vec<u64, A>,
 }
 
-impl<A: Allocator> FollowedLine<A> {
-    ghost use Rattle.qolb_model.specs.OneOwner.{LineState};
+impl<A: Allocator> TracedLine<A> {
+    ghost use Rattle.qolb_model.specs.OneOwner.{OwnerState};
     ghost use Rattle.qolb_script.specs.Commands.{node_of};
     ghost use Rattle.qolb_script.specs.Reply.{after_command};
     ghost use Rattle.qolb_draw.specs.Marks.{change_of};
     ghost use Rattle.qolb_draw.specs.Following.{Follows};
 
-    /// A line that was just opened.
-    pub fn new(alloc: A, line: PlainLine) -> FollowedLine<A>
+    /// Wraps a line that was just opened.
+    pub fn new(alloc: A, line: PlainLine) -> TracedLine<A>
         ensures line { result.line ≡ line }
         ensures waiting { result.waiting.items ≡ [] }
     {
-        FollowedLine {
+        TracedLine {
             line,
             waiting: Vec::new(alloc),
         }
     }
 
-    /// Does a command, and says what it changed.
+    /// Does a command, and returns what it changed.
     pub fn take(&mut self, command: &Command) -> Result<Change, AllocError>
         requires first { 1 ≤ node_of command.now }
         requires last { node_of command.now ≤ self.old.line.nodes }
-        ensures change { IfOk result (λ change. (s : LineState) → Follows self.old.line self.old.waiting.items s → change ≡ change_of s command.now) }
-        ensures follows { IfOk result (λ change. (s : LineState) → Follows self.old.line self.old.waiting.items s → Follows self.new.line self.new.waiting.items (after_command s command.now)) }
+        ensures change { IfOk result (λ change. (s : OwnerState) → Follows self.old.line self.old.waiting.items s → change ≡ change_of s command.now) }
+        ensures follows { IfOk result (λ change. (s : OwnerState) → Follows self.old.line self.old.waiting.items s → Follows self.new.line self.new.waiting.items (after_command s command.now)) }
         ensures nodes { self.new.line.nodes ≡ self.old.line.nodes }
     {
         let before = self.waiting.first().copied();
@@ -61,7 +61,7 @@ impl<A: Allocator> FollowedLine<A> {
     }
 }
 
-/// It answers a node that has made a request.
+/// Returns `true` if this answer is one to a node that has made a request.
 fn has_asked(said: &Said) -> bool
     ensures { result ≡ spec.has_asked said.now }
 {
@@ -71,7 +71,7 @@ fn has_asked(said: &Said) -> bool
     }
 }
 
-/// It says that the line is closed.
+/// Returns `true` if this answer says that the line is closed.
 fn is_told(said: &Said) -> bool
     ensures { result ≡ reply.is_told said.now }
 {
@@ -84,7 +84,7 @@ fn is_told(said: &Said) -> bool
     )
 }
 
-/// Leaves out those at the front whose requests have ended.
+/// Removes the nodes at the front whose requests have ended.
 fn pass<A: Allocator>(waiting: &mut Vec<u64, A>, line: &PlainLine)
     ensures { waiting.new.items ≡ spec.after_ended line.now waiting.old.items }
 {
@@ -93,7 +93,7 @@ fn pass<A: Allocator>(waiting: &mut Vec<u64, A>, line: &PlainLine)
     }
 }
 
-/// There is such a node, and it has no open request.
+/// Returns `true` if there is such a node, and it has no open request.
 fn has_ended(node: Option<&u64>, line: &PlainLine) -> bool
     ensures { result ≡ spec.has_ended line.now (option_copied node.entry) }
 {
@@ -103,7 +103,7 @@ fn has_ended(node: Option<&u64>, line: &PlainLine) -> bool
     }
 }
 
-/// A node in this state has a request without an end.
+/// Returns `true` if a node in this state has a request without an end.
 fn is_open(state: PortState) -> bool
     ensures { result ≡ spec.is_open state }
 {

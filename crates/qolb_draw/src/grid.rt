@@ -1,19 +1,19 @@
 //! The marks of a line, command by command.
 ghost use Rattle.std.specs.Prelude.{◌≡◌, ◌<◌, ◌≤◌, ◌*◌, ◌∷◌, [], ◌++◌, length, IfOk, OnOk};
-ghost use Rattle.qolb_model.specs.declared.terms.TheConstants.{MOST_NODES};
-ghost use Rattle.qolb_script.specs.declared.schedule.TheConstants.{MOST_COMMANDS};
+ghost use Rattle.qolb_model.specs.declared.config.TheConstants.{MAX_NODES};
+ghost use Rattle.qolb_script.specs.declared.schedule.TheConstants.{MAX_COMMANDS};
 ghost use Rattle.qolb_draw.specs.LineRuns.{steps_on};
 ghost use Rattle.qolb_draw.specs.Grids.{IsGrid, column_out_of};
 
 use crate::event::Event;
-use crate::follow::FollowedLine;
-use crate::mark::{Change, Mark};
+use crate::follow::TracedLine;
+use crate::symbol::{Change, Symbol};
 use line_lanes::Line64;
-use qolb_model::{PlainLine, Terms};
+use qolb_model::{LineConfig, PlainLine};
 use qolb_script::Schedule;
 use std::alloc::{AllocError, Allocator};
 
-/// How the nodes of a line stand after each command on it.
+/// The marks of a line's nodes after each command on it.
 #[derive(Drop)]
 pub struct Grid<A: Allocator> {
     pub nodes: u64,
@@ -21,14 +21,14 @@ pub struct Grid<A: Allocator> {
     pub numbers: Vec<u64, A>,
     /// The node of each command.
     pub callers: Vec<u64, A>,
-    /// Each command, with what it changed.
+    /// Each command, with its change.
     pub events: Vec<Event, A>,
-    /// The marks of all nodes after each command, one command behind another.
-    pub marks: Vec<Mark, A>,
+    /// The marks of all nodes after each command, one command after another.
+    pub marks: Vec<Symbol, A>,
 }
 
 impl<A: Allocator + Copy> Grid<A> {
-    /// No command yet.
+    /// Returns the grid of a line without a command.
     fn new(alloc: A, nodes: u64) -> Grid<A>
         ensures nodes { result.nodes ≡ nodes }
         ensures numbers { result.numbers.items ≡ [] }
@@ -45,9 +45,9 @@ impl<A: Allocator + Copy> Grid<A> {
         }
     }
 
-    /// Adds the command of this event, which left the line so.
+    /// Adds the command of this event, after which the line is in this state.
     fn push(&mut self, event: &Event, line: &PlainLine) -> Result<(), AllocError>
-        requires { self.old.nodes ≤ MOST_NODES }
+        requires { self.old.nodes ≤ MAX_NODES }
         ensures nodes { self.new.nodes ≡ self.old.nodes }
         ensures numbers { OnOk result (self.new.numbers.items ≡ self.old.numbers.items ++ event.now.number ∷ []) }
         ensures callers { OnOk result (self.new.callers.items ≡ self.old.callers.items ++ event.now.change.node ∷ []) }
@@ -64,12 +64,12 @@ impl<A: Allocator + Copy> Grid<A> {
 
 /// Appends the marks of all nodes after a command.
 fn push_column<A: Allocator>(
-    marks: &mut Vec<Mark, A>,
+    marks: &mut Vec<Symbol, A>,
     change: &Change,
     line: &PlainLine,
     nodes: u64,
 ) -> Result<(), AllocError>
-    requires { nodes ≤ MOST_NODES }
+    requires { nodes ≤ MAX_NODES }
     ensures { OnOk result (marks.new.items ≡ marks.old.items ++ column_out_of line.now change.now nodes) }
 {
     for before in 0..nodes {
@@ -79,7 +79,7 @@ fn push_column<A: Allocator>(
     Ok(())
 }
 
-/// Does the commands that are on this line, and keeps how the nodes stand after each.
+/// Does the commands on this line, and keeps the marks of its nodes after each.
 pub fn draw_line<A: Allocator + Copy>(
     alloc: A,
     schedule: &Schedule<A>,
@@ -87,18 +87,18 @@ pub fn draw_line<A: Allocator + Copy>(
 ) -> Result<Grid<A>, AllocError>
     requires { number < schedule.now.lines }
     ensures grid { IfOk result (λ grid. IsGrid schedule.now.nodes (steps_on number schedule.now) grid.nodes grid.numbers.items grid.callers.items grid.events.items grid.marks.items) }
-    ensures nodes { IfOk result (λ grid. grid.nodes ≤ MOST_NODES) }
+    ensures nodes { IfOk result (λ grid. grid.nodes ≤ MAX_NODES) }
     ensures size { IfOk result (λ grid. length grid.marks.items ≡ length grid.numbers.items * grid.nodes) }
-    ensures few { IfOk result (λ grid. length grid.numbers.items ≤ MOST_COMMANDS) }
+    ensures few { IfOk result (λ grid. length grid.numbers.items ≤ MAX_COMMANDS) }
 {
-    let Ok(line) = PlainLine::with_terms(Terms {
+    let Ok(line) = PlainLine::with_config(LineConfig {
         nodes: schedule.nodes(),
         opening: Line64::zero(),
         lease: schedule.lease(),
     }) else {
         unreachable!();
     };
-    let mut line = FollowedLine::new(alloc, line);
+    let mut line = TracedLine::new(alloc, line);
     let mut grid = Grid::new(alloc, schedule.nodes());
     let mut done = 0;
     for command in schedule.commands() {

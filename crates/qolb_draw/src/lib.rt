@@ -1,4 +1,4 @@
-//! Pictures of replays: for each line, how each node stands after each command; and of step scripts, how each event leaves the list.
+//! Pictures of replays: the state of each node after each command on a line; and of step scripts: the state of the list after each event.
 #![tactic(auto)]
 
 mod bar;
@@ -8,13 +8,13 @@ mod event;
 mod follow;
 mod grid;
 pub mod laws;
-mod mark;
 mod step_event;
 mod step_svg;
 mod step_text;
 mod step_words;
 mod steps;
 mod svg;
+mod symbol;
 mod text;
 mod timeline;
 

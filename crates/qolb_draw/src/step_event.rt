@@ -1,7 +1,7 @@
-//! What a picture of a step script shows of an event.
+//! The shapes of an event in the picture of a step script.
 ghost use Rattle.std.specs.Prelude.{◌≡◌, ◌++◌, ◌+◌, ◌≤◌, ◌<◌, length, OnOk, IfOk};
-ghost use Rattle.qolb_model.specs.declared.terms.TheConstants.{MOST_NODES};
-ghost use Rattle.qolb_script.specs.declared.schedule.TheConstants.{MOST_COMMANDS};
+ghost use Rattle.qolb_model.specs.declared.config.TheConstants.{MAX_NODES};
+ghost use Rattle.qolb_script.specs.declared.schedule.TheConstants.{MAX_COMMANDS};
 ghost use Rattle.link_core.specs.declared.state.State.{State};
 ghost use Rattle.link_core.specs.State.{IsNode};
 ghost use Rattle.link_core.specs.Steps.{node_of};
@@ -13,14 +13,14 @@ use crate::step_svg::{push_act, push_at, push_home, push_lies, push_step_number,
 use link_core::{Core, Entry, Event, Told};
 use std::alloc::{AllocError, Allocator};
 
-/// The words of a line: the home word, and the entries of all nodes, that of node 1 first.
+/// The words of a line: the home word, and the entries of all nodes, in order.
 #[derive(Drop)]
 pub struct Words<A: Allocator> {
     pub home: u64,
     pub entries: Vec<Entry, A>,
 }
 
-/// The words as they are.
+/// Returns the words of this core.
 pub fn words_of<A: Allocator>(alloc: A, core: &Core) -> Result<Words<A>, AllocError>
     ensures home { IfOk result (λ words. words.home ≡ core.now.home) }
     ensures entries { IfOk result (λ words. words.entries.items ≡ spec.entries_of core.now) }
@@ -32,7 +32,7 @@ pub fn words_of<A: Allocator>(alloc: A, core: &Core) -> Result<Words<A>, AllocEr
     })
 }
 
-/// The entries of all nodes, that of node 1 first.
+/// Returns the entries of all nodes, in order.
 fn entries_of<A: Allocator>(alloc: A, core: &Core) -> Result<Vec<Entry, A>, AllocError>
     ensures { IfOk result (λ entries. entries.items ≡ spec.entries_of core.now) }
 {
@@ -43,9 +43,9 @@ fn entries_of<A: Allocator>(alloc: A, core: &Core) -> Result<Vec<Entry, A>, Allo
     Ok(entries)
 }
 
-/// How many of these events come before the next one of a node.
+/// Returns how many of these events precede the next one of the node.
 fn until(node: u64, rest: &[Event]) -> u32
-    requires { length rest.now ≤ MOST_COMMANDS }
+    requires { length rest.now ≤ MAX_COMMANDS }
     ensures is { result ≡ spec.until node rest.now }
     ensures few { result ≤ length rest.now }
 {
@@ -57,7 +57,7 @@ fn until(node: u64, rest: &[Event]) -> u32
     rest.len() as u32
 }
 
-/// Appends what the home word has become, if it is another.
+/// Appends the new home word, if it has changed.
 fn push_other_home<A: Allocator>(
     svg: &mut Vec<u8, A>,
     column: u32,
@@ -72,7 +72,7 @@ fn push_other_home<A: Allocator>(
     Ok(())
 }
 
-/// Appends what the entry of a node has become, if it is another.
+/// Appends the new entry of a node, if it has changed.
 fn push_other_word<A: Allocator>(
     svg: &mut Vec<u8, A>,
     column: u32,
@@ -80,7 +80,7 @@ fn push_other_word<A: Allocator>(
     was: &Entry,
     is: &Entry,
 ) -> Result<(), AllocError>
-    requires { node ≤ MOST_NODES }
+    requires { node ≤ MAX_NODES }
     ensures { OnOk result (svg.new.items ≡ svg.old.items ++ step_texts (spec.word_shapes column node was.now is.now)) }
 {
     if is != was {
@@ -89,14 +89,14 @@ fn push_other_word<A: Allocator>(
     Ok(())
 }
 
-/// Appends what the entries have become that are others than these.
+/// Appends the new entries that have changed.
 fn push_other_words<A: Allocator>(
     svg: &mut Vec<u8, A>,
     column: u32,
     were: &[Entry],
     core: &Core,
 ) -> Result<(), AllocError>
-    requires nodes { core.now.nodes ≤ MOST_NODES }
+    requires nodes { core.now.nodes ≤ MAX_NODES }
     requires size { length were.now ≡ core.now.nodes }
     ensures { OnOk result (svg.new.items ≡ svg.old.items ++ step_texts (spec.words_shapes column were.now core.now)) }
 {
@@ -107,7 +107,7 @@ fn push_other_words<A: Allocator>(
     Ok(())
 }
 
-/// Appends the shapes of an event, made in this column at these words, that left the core so and that these follow.
+/// Appends the shapes of an event: made in this column at these words, it left this core, and `rest` follows it.
 pub fn push_event_shapes<A: Allocator>(
     alloc: A,
     svg: &mut Vec<u8, A>,
@@ -119,10 +119,10 @@ pub fn push_event_shapes<A: Allocator>(
     rest: &[Event],
 ) -> Result<(), AllocError>
     requires node { IsNode core.now (node_of event.now) }
-    requires nodes { core.now.nodes ≤ MOST_NODES }
+    requires nodes { core.now.nodes ≤ MAX_NODES }
     requires size { length words.now.entries.items ≡ core.now.nodes }
-    requires column { column ≤ MOST_COMMANDS }
-    requires rest { length rest.now ≤ MOST_COMMANDS }
+    requires column { column ≤ MAX_COMMANDS }
+    requires rest { length rest.now ≤ MAX_COMMANDS }
     ensures { OnOk result ((s : State) → words.now.home ≡ s.home → words.now.entries.items ≡ spec.entries_of s → let seen : Seen = record { event = event.now; told = told; before = s; after = core.now } in svg.new.items ≡ svg.old.items ++ step_texts (spec.event_shapes column seen rest.now)) }
 {
     let node = event.node();

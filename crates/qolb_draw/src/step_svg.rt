@@ -1,7 +1,7 @@
 //! The shapes of a step script's picture as an SVG. A column is 72 pixels wide and a row 48 high.
 ghost use Rattle.std.specs.Prelude.{◌≡◌, ◌++◌, ◌≤◌, OnOk};
-ghost use Rattle.qolb_model.specs.declared.terms.TheConstants.{MOST_NODES};
-ghost use Rattle.qolb_script.specs.declared.schedule.TheConstants.{MOST_COMMANDS};
+ghost use Rattle.qolb_model.specs.declared.config.TheConstants.{MAX_NODES};
+ghost use Rattle.qolb_script.specs.declared.schedule.TheConstants.{MAX_COMMANDS};
 ghost use Rattle.link_core.specs.Steps.{node_of};
 ghost use Rattle.qolb_draw.specs.StepPictures as pictures;
 ghost use Rattle.qolb_draw.specs.StepShapes.{lane_shapes, rows_shapes};
@@ -15,7 +15,7 @@ use crate::timeline::NAMED_EVERY;
 use link_core::{Entry, Event, Place, Point, Told};
 use std::alloc::{AllocError, Allocator};
 
-/// What stands before the shapes: the colours that a timeline has not, and the legend.
+/// The text before the shapes: the colours that a timeline does not have, and the legend.
 pub const STEPS_LEGEND: &[u8] = b"<style>
 .at{font-size:9px;pointer-events:none}
 .rests{fill:none;stroke:#d0d7de;pointer-events:all}
@@ -45,22 +45,22 @@ pub const STEPS_LEGEND: &[u8] = b"<style>
 <g transform='translate(0,64)'><text x='8' y='16'>Above a row: what its word has become: g granted, r rolled, d done, f freed, and the link</text>
 ";
 
-/// Where the event of a column is done, from the left.
+/// Returns the place of a column's event, from the left.
 fn step_x(column: u32) -> u64
     ensures { result ≡ spec.step_x column }
 {
     96 + 72 * u64::from(column)
 }
 
-/// The middle of a row, from the top.
+/// Returns the middle of a row, from the top.
 fn step_y(row: u64) -> u64
-    requires { row ≤ MOST_NODES }
+    requires { row ≤ MAX_NODES }
     ensures { result ≡ spec.step_y row }
 {
     68 + 48 * row
 }
 
-/// How wide a picture of so many events is.
+/// Returns the width of a picture of `columns` events.
 pub fn step_width(columns: u32) -> u64
     ensures { result ≡ pictures.step_width columns }
 {
@@ -68,17 +68,17 @@ pub fn step_width(columns: u32) -> u64
     if width < 800 { 800 } else { width }
 }
 
-/// How high a picture of so many nodes is.
+/// Returns the height of a picture of `nodes` nodes.
 pub fn step_height(nodes: u64) -> u64
-    requires { nodes ≤ MOST_NODES }
+    requires { nodes ≤ MAX_NODES }
     ensures { result ≡ pictures.step_height nodes }
 {
     64 + step_y(nodes) + 36
 }
 
-/// Where the name of a row stands: beside it, and below its bars further on.
+/// Returns the height of a row's name: beside the row at its beginning, and below its bars further on.
 fn row_name_y(row: u64, column: u32) -> u64
-    requires { row ≤ MOST_NODES }
+    requires { row ≤ MAX_NODES }
     ensures { result ≡ spec.row_name_y row column }
 {
     if column == 0 {
@@ -88,7 +88,7 @@ fn row_name_y(row: u64, column: u32) -> u64
     }
 }
 
-/// Appends whose row it is.
+/// Appends the words of a row's name.
 fn push_row_words<A: Allocator>(svg: &mut Vec<u8, A>, row: u64) -> Result<(), AllocError>
     ensures { OnOk result (svg.new.items ≡ svg.old.items ++ spec.row_name row) }
 {
@@ -100,13 +100,13 @@ fn push_row_words<A: Allocator>(svg: &mut Vec<u8, A>, row: u64) -> Result<(), Al
     Ok(())
 }
 
-/// Appends the thin line of a row, through so many columns.
+/// Appends the thin line of a row, through `columns` columns.
 fn push_step_lane<A: Allocator>(
     svg: &mut Vec<u8, A>,
     row: u64,
     columns: u32,
 ) -> Result<(), AllocError>
-    requires { row ≤ MOST_NODES }
+    requires { row ≤ MAX_NODES }
     ensures { OnOk result (svg.new.items ≡ svg.old.items ++ spec.step_lane_text row columns) }
 {
     push_field(svg, b"<path class='lane' d='M96 ", step_y(row))?;
@@ -121,7 +121,7 @@ fn push_row_name<A: Allocator>(
     row: u64,
     column: u32,
 ) -> Result<(), AllocError>
-    requires { row ≤ MOST_NODES }
+    requires { row ≤ MAX_NODES }
     ensures { OnOk result (svg.new.items ≡ svg.old.items ++ spec.row_name_text row column) }
 {
     push_field(svg, b"<text class='name' x='", step_x(column) - 88)?;
@@ -132,10 +132,10 @@ fn push_row_name<A: Allocator>(
     Ok(())
 }
 
-/// Appends a row through so many columns, with its name again and again.
+/// Appends a row through `columns` columns, with its name repeated.
 fn push_row<A: Allocator>(svg: &mut Vec<u8, A>, row: u64, columns: usize) -> Result<(), AllocError>
-    requires row { row ≤ MOST_NODES }
-    requires columns { columns ≤ MOST_COMMANDS }
+    requires row { row ≤ MAX_NODES }
+    requires columns { columns ≤ MAX_COMMANDS }
     ensures { OnOk result (svg.new.items ≡ svg.old.items ++ spec.step_texts (lane_shapes columns row)) }
 {
     push_step_lane(svg, row, columns as u32)?;
@@ -151,8 +151,8 @@ pub fn push_lanes<A: Allocator>(
     nodes: u64,
     columns: usize,
 ) -> Result<(), AllocError>
-    requires nodes { nodes ≤ MOST_NODES }
-    requires columns { columns ≤ MOST_COMMANDS }
+    requires nodes { nodes ≤ MAX_NODES }
+    requires columns { columns ≤ MAX_COMMANDS }
     ensures { OnOk result (svg.new.items ≡ svg.old.items ++ spec.step_texts (rows_shapes nodes columns)) }
 {
     for row in 0..nodes + 1 {
@@ -179,7 +179,7 @@ fn push_at_bar<A: Allocator>(
     end: u32,
     point: Point,
 ) -> Result<(), AllocError>
-    requires node { node ≤ MOST_NODES }
+    requires node { node ≤ MAX_NODES }
     requires ordered { start ≤ end }
     ensures { OnOk result (svg.new.items ≡ svg.old.items ++ spec.at_bar_text node start end point) }
 {
@@ -202,7 +202,7 @@ fn push_at_name<A: Allocator>(
     start: u32,
     point: Point,
 ) -> Result<(), AllocError>
-    requires { node ≤ MOST_NODES }
+    requires { node ≤ MAX_NODES }
     ensures { OnOk result (svg.new.items ≡ svg.old.items ++ spec.at_name_text node start point) }
 {
     push_field(svg, b"<text class='at' x='", step_x(start) + 8)?;
@@ -221,7 +221,7 @@ pub fn push_at<A: Allocator>(
     end: u32,
     point: Point,
 ) -> Result<(), AllocError>
-    requires node { node ≤ MOST_NODES }
+    requires node { node ≤ MAX_NODES }
     requires ordered { start ≤ end }
     ensures { OnOk result (svg.new.items ≡ svg.old.items ++ spec.at_text node start end point) }
 {
@@ -230,7 +230,7 @@ pub fn push_at<A: Allocator>(
     Ok(())
 }
 
-/// Appends where the line lies, for a column.
+/// Appends the place of the line, for a column.
 pub fn push_lies<A: Allocator>(
     svg: &mut Vec<u8, A>,
     column: u32,
@@ -248,7 +248,7 @@ pub fn push_lies<A: Allocator>(
     Ok(())
 }
 
-/// Appends what the home word has become.
+/// Appends the new home word.
 pub fn push_home<A: Allocator>(
     svg: &mut Vec<u8, A>,
     column: u32,
@@ -263,14 +263,14 @@ pub fn push_home<A: Allocator>(
     Ok(())
 }
 
-/// Appends what the entry of a node has become.
+/// Appends the new entry of a node.
 pub fn push_word<A: Allocator>(
     svg: &mut Vec<u8, A>,
     column: u32,
     node: u64,
     entry: &Entry,
 ) -> Result<(), AllocError>
-    requires { node ≤ MOST_NODES }
+    requires { node ≤ MAX_NODES }
     ensures { OnOk result (svg.new.items ≡ svg.old.items ++ spec.word_text column node entry.now) }
 {
     push_field(svg, b"<text class='small' x='", step_x(column))?;
@@ -292,7 +292,7 @@ pub fn push_act<A: Allocator>(
     event: &Event,
     told: Option<Told>,
 ) -> Result<(), AllocError>
-    requires { node_of event.now ≤ MOST_NODES }
+    requires { node_of event.now ≤ MAX_NODES }
     ensures { OnOk result (svg.new.items ≡ svg.old.items ++ spec.act_text column event.now told) }
 {
     svg.extend_from_slice(b"<use href='#")?;

@@ -1,7 +1,7 @@
 //! The picture of a step script as plain text: the numbers of nodes, and a line for each event.
 ghost use Rattle.std.specs.Prelude.{◌≡◌, ◌≤◌, ◌++◌, IfOk, OnOk};
 ghost use Rattle.std.specs.List.{range_with_len};
-ghost use Rattle.qolb_model.specs.declared.terms.TheConstants.{MOST_NODES};
+ghost use Rattle.qolb_model.specs.declared.config.TheConstants.{MAX_NODES};
 ghost use Rattle.link_core.specs.declared.state.State.{State};
 ghost use Rattle.qolb_draw.specs.StepPictures as spec;
 ghost use Rattle.qolb_draw.specs.StepShapes.{Seen};
@@ -11,11 +11,11 @@ use crate::text::push_heads;
 use link_core::{Core, Event, Point, Told};
 use std::alloc::{AllocError, Allocator};
 
-/// What the letters mean.
+/// The legend of the letters.
 pub const LETTERS: &[u8] =
     b"\n. Idle   r Ready   l Linking   w Queued   H Holding   h Leaving   m Marking\ng Granting   f Freeing   L Left   x Rolled   - Shut\n";
 
-/// The letter of a point.
+/// Returns the letter of a point.
 fn letter_at(point: Point) -> u8
     ensures { result ≡ spec.letter_at point }
 {
@@ -41,7 +41,7 @@ pub fn push_node_heads<A: Allocator>(
     text: &mut Vec<u8, A>,
     nodes: u64,
 ) -> Result<(), AllocError>
-    requires { nodes ≤ MOST_NODES }
+    requires { nodes ≤ MAX_NODES }
     ensures { OnOk result (text.new.items ≡ text.old.items ++ spec.node_heads nodes) }
 {
     let numbers = numbers_to(alloc, nodes)?;
@@ -49,9 +49,9 @@ pub fn push_node_heads<A: Allocator>(
     Ok(())
 }
 
-/// The numbers of so many nodes, in order.
+/// Returns the numbers of `nodes` nodes, in order.
 fn numbers_to<A: Allocator>(alloc: A, nodes: u64) -> Result<Vec<u64, A>, AllocError>
-    requires { nodes ≤ MOST_NODES }
+    requires { nodes ≤ MAX_NODES }
     ensures { IfOk result (λ numbers. numbers.items ≡ range_with_len 1 nodes) }
 {
     let mut numbers = Vec::new(alloc);
@@ -71,7 +71,7 @@ fn push_letters<A: Allocator>(text: &mut Vec<u8, A>, core: &Core) -> Result<(), 
     Ok(())
 }
 
-/// Appends the line of an event that told this and left the core so.
+/// Appends the line of an event that told this and left this core.
 pub fn push_event_line<A: Allocator>(
     alloc: A,
     text: &mut Vec<u8, A>,

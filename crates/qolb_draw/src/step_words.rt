@@ -1,4 +1,4 @@
-//! An event of a step script, a point, a place and an entry, in words.
+//! The words of an event of a step script, a point, a place and an entry.
 ghost use Rattle.std.specs.Prelude.{◌≡◌, ◌++◌, ◌≤◌, OnOk};
 ghost use Rattle.qolb_script.specs.StepReply.{step_said};
 ghost use Rattle.qolb_draw.specs.StepSvg as spec;
@@ -6,11 +6,11 @@ ghost use Rattle.qolb_draw.specs.StepSvg as spec;
 use crate::call::{push_answer, push_written};
 use crate::svg::push_field;
 use link_core::{Entry, Event, Place, Point, Told};
-use qolb_model::MOST_NODES;
+use qolb_model::MAX_NODES;
 use qolb_script::{Command, Said};
 use std::alloc::{AllocError, Allocator};
 
-/// Appends some words, and a node behind them, if there is one.
+/// Appends some words, and a node behind them if there is one.
 fn push_named<A: Allocator>(
     text: &mut Vec<u8, A>,
     words: &[u8],
@@ -25,7 +25,7 @@ fn push_named<A: Allocator>(
     Ok(())
 }
 
-/// A point, in words.
+/// Returns the words of a point.
 fn point_name(point: Point) -> &'static [u8]
     ensures { result.now ≡ spec.point_name point }
 {
@@ -45,7 +45,7 @@ fn point_name(point: Point) -> &'static [u8]
     }
 }
 
-/// The node that a point names.
+/// Returns the node that a point names, if it names one.
 fn named_by(point: Point) -> Option<u64>
     ensures { result ≡ spec.named_by point }
 {
@@ -66,7 +66,7 @@ pub fn push_point<A: Allocator>(text: &mut Vec<u8, A>, point: Point) -> Result<(
     Ok(())
 }
 
-/// The class of the bar of a node at this point.
+/// Returns the class of the bar of a node at this point.
 pub fn class_at(point: Point) -> &'static [u8]
     ensures { result.now ≡ spec.class_at point }
 {
@@ -79,7 +79,7 @@ pub fn class_at(point: Point) -> &'static [u8]
     }
 }
 
-/// A place, in words.
+/// Returns the words of a place.
 fn place_name(place: Place) -> &'static [u8]
     ensures { result.now ≡ spec.place_name place }
 {
@@ -90,7 +90,7 @@ fn place_name(place: Place) -> &'static [u8]
     }
 }
 
-/// The node whose place it is.
+/// Returns the node whose place it is, if it is a node's.
 fn whose(place: Place) -> Option<u64>
     ensures { result ≡ spec.whose place }
 {
@@ -101,7 +101,7 @@ fn whose(place: Place) -> Option<u64>
     }
 }
 
-/// Appends where the line lies.
+/// Appends the words of the line's place.
 pub fn push_place<A: Allocator>(text: &mut Vec<u8, A>, place: Place) -> Result<(), AllocError>
     ensures { OnOk result (text.new.items ≡ text.old.items ++ spec.place_words place) }
 {
@@ -109,19 +109,19 @@ pub fn push_place<A: Allocator>(text: &mut Vec<u8, A>, place: Place) -> Result<(
     Ok(())
 }
 
-/// The row where a place is shown: that of its node, or of the home word.
+/// Returns the row that shows a place: that of its node, or of the home word.
 pub fn row_of_place(place: Place) -> u64
     ensures is { result ≡ spec.row_of_place place }
-    ensures few { result ≤ MOST_NODES }
+    ensures few { result ≤ MAX_NODES }
 {
     match place {
         Place::Home => 0,
-        Place::Mailbox(node) => node.min(MOST_NODES),
-        Place::Hand(node) => node.min(MOST_NODES),
+        Place::Mailbox(node) => node.min(MAX_NODES),
+        Place::Hand(node) => node.min(MAX_NODES),
     }
 }
 
-/// The class of the bar of a line that lies there.
+/// Returns the class of the bar of a line at this place.
 pub fn class_of_place(place: Place) -> &'static [u8]
     ensures { result.now ≡ spec.class_of_place place }
 {
@@ -132,7 +132,7 @@ pub fn class_of_place(place: Place) -> &'static [u8]
     }
 }
 
-/// The letter, if the flag is set.
+/// Returns the letter if the flag is set, and else nothing.
 fn letter_if(flag: bool, letter: &'static [u8]) -> &'static [u8]
     ensures { result.now ≡ spec.letter_if flag letter.now }
 {
@@ -150,7 +150,7 @@ pub fn push_entry<A: Allocator>(text: &mut Vec<u8, A>, entry: &Entry) -> Result<
     Ok(())
 }
 
-/// The first word of an event.
+/// Returns the first word of an event.
 fn step_verb(event: &Event) -> &'static [u8]
     ensures { result.now ≡ spec.step_verb event.now }
 {
@@ -169,7 +169,7 @@ fn step_verb(event: &Event) -> &'static [u8]
     }
 }
 
-/// Appends what a write has behind its node.
+/// Appends the words of a write behind its node.
 fn push_placed<A: Allocator>(
     alloc: A,
     text: &mut Vec<u8, A>,
@@ -203,7 +203,7 @@ fn push_event_words<A: Allocator>(
     Ok(())
 }
 
-/// What is said of an event that told this, or was refused.
+/// Returns the answer of an event: what it told, or that it was refused.
 fn said_of(told: Option<Told>) -> Said
     ensures { result ≡ step_said told }
 {
@@ -213,7 +213,7 @@ fn said_of(told: Option<Told>) -> Said
     }
 }
 
-/// Appends the event that was done in this column, with its number and what it told.
+/// Appends the event of this column, with its number and what it told.
 pub fn push_told<A: Allocator>(
     alloc: A,
     text: &mut Vec<u8, A>,
@@ -231,7 +231,7 @@ pub fn push_told<A: Allocator>(
     Ok(())
 }
 
-/// The sign of an event that told this.
+/// Returns the sign of an event that told this.
 pub fn sign_at(told: Option<Told>) -> &'static [u8]
     ensures { result.now ≡ spec.sign_at told }
 {

@@ -1,14 +1,13 @@
-//! Pictures of step scripts: what a reader gives is drawn, and the picture written.
+//! Pictures of step scripts: draws the step script of a reader, and writes the picture.
 ghost use Rattle.std.specs.Prelude.{◌≡◌, ◌≢◌, ◌≤◌, ◌↔◌, ◌++◌, ℕ, List, true, Ok, Err, OnOk, IfOk, IfErr, IfSome, false};
 ghost use Rattle.std.specs.Io.KnownBytes.{Appends};
-ghost use Rattle.qolb_model.specs.declared.terms.TheConstants.{MOST_NODES};
+ghost use Rattle.qolb_model.specs.declared.config.TheConstants.{MAX_NODES};
 ghost use Rattle.link_core.specs.declared.state.State.{State};
 ghost use Rattle.link_core.specs.State.{first};
 ghost use Rattle.qolb_script.specs.Watched.{inner_of, has_failed};
-ghost use Rattle.qolb_run.specs.Outcome.{MayFail};
-ghost use Rattle.qolb_run.specs.StepRuns.{line_of};
-ghost use Rattle.qolb_run.specs.declared.task.Task.TheVariants as task;
-ghost use Rattle.qolb_run.specs.declared.task.Detail.TheVariants as detail;
+ghost use Rattle.qolb_replay.specs.Outcome.{StepsMayFail};
+ghost use Rattle.qolb_replay.specs.StepRuns.{line_of};
+ghost use Rattle.qolb_replay.specs.declared.steps.Detail.TheVariants as detail;
 ghost use Rattle.qolb_draw.specs.StepPictures.{IsDrawn, IsStepPicture, event_lines};
 ghost use Rattle.qolb_draw.specs.StepShapes.{Seen, Watches, seen_shapes};
 ghost use Rattle.qolb_draw.specs.StepSvg.{step_texts};
@@ -21,17 +20,17 @@ use crate::step_text::{LETTERS, push_event_line, push_node_heads};
 use crate::svg::svg_of;
 use line_lanes::Line64;
 use link_core::Core;
-use qolb_model::Terms;
-use qolb_run::{ReplayError, read_input};
+use qolb_model::LineConfig;
+use qolb_replay::{ReplayError, read_input};
 use qolb_script::{ScriptError, Steps, Watched, read_steps};
 use std::alloc::{AllocError, Allocator};
 use std::io::{Read, Write};
 
-/// Draws the step script that the reader gives, and writes its picture in this form, by a core of reversed links: for each event at which
-/// point its node is then, which words it changed, and where the line lies.
+/// Draws the step script that the reader gives, and writes its picture in this form. The states are those of a run of the list's core. For
+/// each event the picture shows the point of its node, the words that changed, and the place of the line.
 ///
-/// The whole input is read first, and the picture is built whole before its first byte is written: with every error but `Write`
-/// nothing was written. An error comes only where a run of the script may have it.
+/// Reads the whole input first, and builds the whole picture before it writes the first byte. So with every error but `Write` no byte was
+/// written. An error is one that a run of the script may have, too.
 pub fn draw_steps<A: Allocator, R: Read, W: Write>(
     alloc: A,
     reader: &mut Watched<R>,
@@ -39,7 +38,7 @@ pub fn draw_steps<A: Allocator, R: Read, W: Write>(
     form: Form,
 ) -> Result<(), ReplayError>
     ensures ok { OnOk result (IfSome (R.remaining (inner_of reader.old)) (λ input. (text : List ℕ) × IsStepPicture form input text × Appends (W.contents (inner_of writer.old)) (W.contents (inner_of writer.new)) text)) }
-    ensures refused { IfErr result (λ error. IfSome (R.remaining (inner_of reader.old)) (λ input. MayFail (task.Steps detail.Words) input error)) }
+    ensures refused { IfErr result (λ error. IfSome (R.remaining (inner_of reader.old)) (λ input. StepsMayFail detail.Words input error)) }
     ensures unwritten { IfErr result (λ error. error ≢ ReplayError.Write → writer.new ≡ writer.old) }
     ensures read_fault { (result ≡ Err ReplayError.Read) ↔ (has_failed reader.new ≡ true) }
     ensures write_fault { result ≡ Err ReplayError.Write → has_failed writer.new ≡ true }
@@ -53,7 +52,7 @@ pub fn draw_steps<A: Allocator, R: Read, W: Write>(
     Ok(())
 }
 
-/// The picture of a step script in this form.
+/// Returns the picture of a step script in this form.
 fn picture_in<A: Allocator + Copy>(
     alloc: A,
     steps: &Steps<A>,
@@ -67,7 +66,7 @@ fn picture_in<A: Allocator + Copy>(
     }
 }
 
-/// The picture of a step script, as plain text.
+/// Returns the picture of a step script as plain text.
 fn lines<A: Allocator + Copy>(alloc: A, steps: &Steps<A>) -> Result<Vec<u8, A>, AllocError>
     ensures { IfOk result (λ text. IsDrawn form.Text steps.now text.items) }
 {
@@ -78,7 +77,7 @@ fn lines<A: Allocator + Copy>(alloc: A, steps: &Steps<A>) -> Result<Vec<u8, A>, 
     Ok(text)
 }
 
-/// The picture of a step script, as an SVG.
+/// Returns the picture of a step script as an SVG.
 fn timeline<A: Allocator + Copy>(alloc: A, steps: &Steps<A>) -> Result<Vec<u8, A>, AllocError>
     ensures { IfOk result (λ svg. IsDrawn form.Svg steps.now svg.items) }
 {
@@ -93,23 +92,23 @@ fn timeline<A: Allocator + Copy>(alloc: A, steps: &Steps<A>) -> Result<Vec<u8, A
     Ok(svg)
 }
 
-/// The core of a script before its first event.
+/// Returns the core of a script before its first event.
 fn opened<A: Allocator>(steps: &Steps<A>) -> Core
     ensures core { result ≡ first (line_of steps.now) }
-    ensures few { result.nodes ≤ MOST_NODES }
+    ensures few { result.nodes ≤ MAX_NODES }
 {
-    let terms = Terms {
+    let config = LineConfig {
         nodes: steps.nodes(),
         opening: Line64::zero(),
         lease: steps.lease(),
     };
-    let Some(core) = Core::with_terms(terms) else {
+    let Some(core) = Core::with_config(config) else {
         unreachable!();
     };
     core
 }
 
-/// Appends a line for each event, made on the core that those before it left.
+/// Appends a line for each event, made on the core that the events before it left.
 fn push_lines<A: Allocator + Copy>(
     alloc: A,
     text: &mut Vec<u8, A>,
@@ -127,7 +126,7 @@ fn push_lines<A: Allocator + Copy>(
     Ok(())
 }
 
-/// Appends the shapes of each event, made on the core that those before it left.
+/// Appends the shapes of each event, made on the core that the events before it left.
 fn push_shapes<A: Allocator + Copy>(
     alloc: A,
     svg: &mut Vec<u8, A>,

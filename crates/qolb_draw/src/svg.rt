@@ -1,6 +1,6 @@
 //! The shapes of a timeline as an SVG. A column is 32 pixels wide and a row 40 high.
 ghost use Rattle.std.specs.Prelude.{◌≡◌, ◌++◌, ◌<◌, ◌≤◌, ◌-◌, ◌*◌, decimal, OnOk, IfOk, length};
-ghost use Rattle.qolb_script.specs.declared.schedule.TheConstants.{MOST_COMMANDS};
+ghost use Rattle.qolb_script.specs.declared.schedule.TheConstants.{MAX_COMMANDS};
 ghost use Rattle.qolb_draw.specs.Svg as spec;
 
 use crate::bar::Stand;
@@ -9,7 +9,7 @@ use crate::event::Event;
 use itoa::Buffer;
 use std::alloc::{AllocError, Allocator};
 
-/// What stands between the picture's height and its legend: the colours, on a light page and what is other on a dark one, and the signs of
+/// The text between the picture's height and its legend: the colours on a light page, those that differ on a dark one, and the signs of
 /// commands.
 pub const STYLE: &[u8] = b"' font-family='monospace' font-size='12'>
 <style>
@@ -61,24 +61,24 @@ pub const LEGEND: &[u8] =
 <use href='#misuse' x='508' y='42'/><text x='520' y='46'>not allowed</text>
 ";
 
-/// What stands behind the last line.
+/// The text behind the last line.
 pub const TAIL: &[u8] = b"</svg>\n";
 
-/// Where the command of a column is done, from the left.
+/// Returns the place of a column's command, from the left.
 fn x_of(column: u32) -> u64
     ensures { result ≡ spec.x_of column }
 {
     96 + 32 * u64::from(column)
 }
 
-/// The middle of a row, from the top of its line.
+/// Returns the middle of a row, from the top of its line.
 fn y_of(row: u8) -> u64
     ensures { result ≡ spec.y_of row }
 {
     68 + 40 * u64::from(row)
 }
 
-/// Where a node's name stands: beside its row, and below its bars further on.
+/// Returns the height of a node's name: beside its row at the beginning, and below its bars further on.
 fn name_y(row: u8, column: u32) -> u64
     ensures { result ≡ spec.name_y row column }
 {
@@ -89,7 +89,7 @@ fn name_y(row: u8, column: u32) -> u64
     }
 }
 
-/// Appends some words, and a number.
+/// Appends some words and a number.
 pub fn push_field<A: Allocator>(
     svg: &mut Vec<u8, A>,
     words: &[u8],
@@ -104,7 +104,7 @@ pub fn push_field<A: Allocator>(
     Ok(())
 }
 
-/// Appends the thin line of a row, through so many columns.
+/// Appends the thin line of a row, through `columns` columns.
 pub fn push_lane<A: Allocator>(
     svg: &mut Vec<u8, A>,
     row: u8,
@@ -118,7 +118,7 @@ pub fn push_lane<A: Allocator>(
     Ok(())
 }
 
-/// Appends the bar of a node that stands so from one column to another.
+/// Appends the bar of a node in this state, from one column to another.
 pub fn push_bar<A: Allocator>(
     svg: &mut Vec<u8, A>,
     row: u8,
@@ -171,7 +171,7 @@ pub fn push_number<A: Allocator>(
     Ok(())
 }
 
-/// Appends the arrow of a handoff by the command of this number, from the row of one node to that of another.
+/// Appends the arrow of a handoff, from the row of one node to another's. The arrow bears the number of its command.
 pub fn push_arrow<A: Allocator>(
     svg: &mut Vec<u8, A>,
     column: u32,
@@ -193,7 +193,7 @@ pub fn push_arrow<A: Allocator>(
     Ok(())
 }
 
-/// Appends the bytes of these places of a line, shortened, above the row at a column.
+/// Appends these bytes of a line, shortened, above the row at a column.
 pub fn push_bytes<A: Allocator>(
     svg: &mut Vec<u8, A>,
     row: u8,
@@ -234,7 +234,7 @@ pub fn push_call<A: Allocator + Copy>(
     Ok(())
 }
 
-/// Appends what stands before the shapes of a line, which begins at this height.
+/// Appends the text before the shapes of a line, which begins at this height.
 pub fn push_line_begin<A: Allocator>(
     svg: &mut Vec<u8, A>,
     top: u64,
@@ -248,7 +248,7 @@ pub fn push_line_begin<A: Allocator>(
     Ok(())
 }
 
-/// The whole picture, of this size and with this legend, over the lines.
+/// Returns the whole picture, of this size and with this legend, of these lines.
 pub fn svg_of<A: Allocator>(
     alloc: A,
     width: u64,

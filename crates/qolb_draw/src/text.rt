@@ -1,15 +1,15 @@
 //! The picture as plain text.
 ghost use Rattle.std.specs.Prelude.{◌≡◌, ◌++◌, ◌<◌, ◌≤◌, ◌*◌, ◌-◌, length, All, OnOk, IfOk};
-ghost use Rattle.qolb_script.specs.declared.schedule.TheConstants.{MOST_COMMANDS, MOST_LINES};
+ghost use Rattle.qolb_script.specs.declared.schedule.TheConstants.{MAX_COMMANDS, MAX_LINES};
 ghost use Rattle.qolb_draw.specs.Pictures as spec;
 ghost use Rattle.qolb_draw.specs.Grids.{row_out_of, block_out_of, blocks_out_of, shown_out_of, line_out_of};
 
 use crate::grid::Grid;
-use crate::mark::Mark;
-use qolb_model::MOST_NODES;
+use crate::symbol::Symbol;
+use qolb_model::MAX_NODES;
 use std::alloc::{AllocError, Allocator};
 
-/// The most commands of a block.
+/// The largest number of commands of a block.
 pub const COLUMNS: usize = 70;
 
 /// As many spaces as the label of a row has characters.
@@ -18,28 +18,28 @@ const MARGIN: &[u8] = b"         ";
 /// The values of the places of a number.
 const PLACES: [u64; 6] = [100_000, 10_000, 1000, 100, 10, 1];
 
-/// What the letters mean.
+/// The legend of the letters.
 pub const LEGEND: &[u8] =
     b". idle   w waits   t its turn has come   H holds   > hands over to <\nx withdrawn   c told that the line is closed   - closed\n";
 
-/// The letter of a mark.
-fn letter(mark: Mark) -> u8
+/// Returns the letter of a mark.
+fn letter(mark: Symbol) -> u8
     ensures { result ≡ spec.letter_of mark }
 {
     match mark {
-        Mark::Idle => b'.',
-        Mark::Waits => b'w',
-        Mark::AtTurn => b't',
-        Mark::Holds => b'H',
-        Mark::Withdrawn => b'x',
-        Mark::Shut => b'-',
-        Mark::Told => b'c',
-        Mark::Gives => b'>',
-        Mark::Takes => b'<',
+        Symbol::Idle => b'.',
+        Symbol::Waits => b'w',
+        Symbol::AtTurn => b't',
+        Symbol::Holds => b'H',
+        Symbol::Withdrawn => b'x',
+        Symbol::Shut => b'-',
+        Symbol::Told => b'c',
+        Symbol::Gives => b'>',
+        Symbol::Takes => b'<',
     }
 }
 
-/// The digit of a number at a place of this value, or a space.
+/// Returns the digit of a number at a place of this value, or a space.
 fn digit_at(value: u64, number: u64) -> u8
     requires { 1 ≤ value }
     ensures { result ≡ spec.digit_at value number }
@@ -151,7 +151,7 @@ fn push_blocks<A: Allocator>(
 ) -> Result<(), AllocError>
     requires nodes { All (λ n. (1 ≤ n) × (n ≤ grid.now.nodes)) shown.now }
     requires size { length grid.now.marks.items ≡ length grid.now.numbers.items * grid.now.nodes }
-    requires few { length grid.now.numbers.items ≤ MOST_COMMANDS }
+    requires few { length grid.now.numbers.items ≤ MAX_COMMANDS }
     ensures { OnOk result (text.new.items ≡ text.old.items ++ blocks_out_of grid.now.nodes grid.now.marks.items grid.now.numbers.items shown.now) }
 {
     let count = grid.numbers.len();
@@ -162,9 +162,9 @@ fn push_blocks<A: Allocator>(
     Ok(())
 }
 
-/// The nodes that called, in order.
+/// Returns the nodes that called, in order.
 pub fn shown<A: Allocator + Copy>(alloc: A, grid: &Grid<A>) -> Result<Vec<u64, A>, AllocError>
-    requires { grid.now.nodes ≤ MOST_NODES }
+    requires { grid.now.nodes ≤ MAX_NODES }
     ensures { IfOk result (λ nodes. nodes.items ≡ shown_out_of grid.now.nodes grid.now.callers.items) }
 {
     let mut nodes = Vec::new(alloc);
@@ -184,10 +184,10 @@ pub fn push_line<A: Allocator + Copy>(
     grid: &Grid<A>,
     number: u64,
 ) -> Result<(), AllocError>
-    requires number { number < MOST_LINES }
-    requires nodes { grid.now.nodes ≤ MOST_NODES }
+    requires number { number < MAX_LINES }
+    requires nodes { grid.now.nodes ≤ MAX_NODES }
     requires size { length grid.now.marks.items ≡ length grid.now.numbers.items * grid.now.nodes }
-    requires few { length grid.now.numbers.items ≤ MOST_COMMANDS }
+    requires few { length grid.now.numbers.items ≤ MAX_COMMANDS }
     ensures { OnOk result (text.new.items ≡ text.old.items ++ line_out_of number grid.now.nodes grid.now.numbers.items grid.now.callers.items grid.now.marks.items) }
 {
     let nodes = shown(alloc, grid)?;

@@ -1,8 +1,8 @@
-//! The timeline of a line: its shapes out of the marks and events of its grid.
+//! The timeline of a line: its shapes, from the marks and events of its grid.
 ghost use Rattle.std.specs.Prelude.{◌≡◌, ◌++◌, ◌≤◌, ◌<◌, ◌*◌, length, flat_map, All, OnOk, IfOk};
 ghost use Rattle.std.specs.List.{range_with_len, slice_index_or};
-ghost use Rattle.qolb_model.specs.declared.terms.TheConstants.{MOST_NODES};
-ghost use Rattle.qolb_script.specs.declared.schedule.TheConstants.{MOST_COMMANDS, MOST_LINES};
+ghost use Rattle.qolb_model.specs.declared.config.TheConstants.{MAX_NODES};
+ghost use Rattle.qolb_script.specs.declared.schedule.TheConstants.{MAX_COMMANDS, MAX_LINES};
 ghost use Rattle.qolb_draw.specs.Svg.{texts};
 ghost use Rattle.qolb_draw.specs.Grids.{row_shapes_out_of, bars_out_of, shown_out_of, line_svg_out_of};
 ghost use Rattle.qolb_draw.specs.Timelines as spec;
@@ -18,18 +18,18 @@ use crate::text::shown;
 use qolb_script::{Command, Said};
 use std::alloc::{AllocError, Allocator};
 
-/// After how many columns the name of a node stands again.
+/// The number of columns after which the name of a node is repeated.
 pub const NAMED_EVERY: usize = 20;
 
-/// The row of a node: as many of those that are shown are before it.
+/// Returns the row of a node: the number of shown nodes before it.
 fn row_of(shown: &[u64], node: u64) -> u8
-    requires { length shown.now ≤ MOST_NODES }
+    requires { length shown.now ≤ MAX_NODES }
     ensures { result ≡ spec.row_of shown.now node }
 {
     shown.iter().filter(|other| **other < node).count() as u8
 }
 
-/// Appends the bar of a node that stands so, if it has one.
+/// Appends the bar of a node in this state, if the state has one.
 fn push_stand<A: Allocator>(
     svg: &mut Vec<u8, A>,
     row: u8,
@@ -57,7 +57,7 @@ fn push_bars<A: Allocator>(
     requires first { 1 ≤ node }
     requires last { node ≤ grid.now.nodes }
     requires size { length grid.now.marks.items ≡ length grid.now.numbers.items * grid.now.nodes }
-    requires few { length grid.now.numbers.items ≤ MOST_COMMANDS }
+    requires few { length grid.now.numbers.items ≤ MAX_COMMANDS }
     ensures { OnOk result (svg.new.items ≡ svg.old.items ++ texts (bars_out_of grid.now.nodes grid.now.marks.items (length grid.now.numbers.items) row node)) }
 {
     let nodes = grid.nodes as usize;
@@ -76,14 +76,14 @@ fn push_bars<A: Allocator>(
     Ok(())
 }
 
-/// Appends the name of a node, again and again.
+/// Appends the name of a node, repeated.
 fn push_names<A: Allocator>(
     svg: &mut Vec<u8, A>,
     row: u8,
     columns: usize,
     node: u64,
 ) -> Result<(), AllocError>
-    requires { columns ≤ MOST_COMMANDS }
+    requires { columns ≤ MAX_COMMANDS }
     ensures { OnOk result (svg.new.items ≡ svg.old.items ++ texts (spec.names_of row columns node)) }
 {
     for count in 0..(columns + (NAMED_EVERY - 1)) / NAMED_EVERY {
@@ -99,11 +99,11 @@ fn push_row<A: Allocator>(
     shown: &[u64],
     node: u64,
 ) -> Result<(), AllocError>
-    requires shown { length shown.now ≤ MOST_NODES }
+    requires shown { length shown.now ≤ MAX_NODES }
     requires first { 1 ≤ node }
     requires last { node ≤ grid.now.nodes }
     requires size { length grid.now.marks.items ≡ length grid.now.numbers.items * grid.now.nodes }
-    requires few { length grid.now.numbers.items ≤ MOST_COMMANDS }
+    requires few { length grid.now.numbers.items ≤ MAX_COMMANDS }
     ensures { OnOk result (svg.new.items ≡ svg.old.items ++ texts (row_shapes_out_of shown.now grid.now.nodes grid.now.marks.items (length grid.now.numbers.items) node)) }
 {
     let row = row_of(shown, node);
@@ -114,14 +114,14 @@ fn push_row<A: Allocator>(
     Ok(())
 }
 
-/// Appends the arrow of a command by which the turn goes from one node to another.
+/// Appends the arrow of a command by which the turn passed from one node to another.
 fn push_handoff<A: Allocator>(
     svg: &mut Vec<u8, A>,
     shown: &[u64],
     column: u32,
     event: &Event,
 ) -> Result<(), AllocError>
-    requires { length shown.now ≤ MOST_NODES }
+    requires { length shown.now ≤ MAX_NODES }
     ensures { OnOk result (svg.new.items ≡ svg.old.items ++ texts (spec.arrow_of shown.now column event.now.number event.now.change.before event.now.change.after)) }
 {
     if let (Some(from), Some(to)) = (event.change.before, event.change.after) {
@@ -142,7 +142,7 @@ fn push_written<A: Allocator + Copy>(
     column: u32,
     event: &Event,
 ) -> Result<(), AllocError>
-    requires { length shown.now ≤ MOST_NODES }
+    requires { length shown.now ≤ MAX_NODES }
     ensures { OnOk result (svg.new.items ≡ svg.old.items ++ texts (spec.bytes_of shown.now column event.now.command event.now.change.said)) }
 {
     if let (
@@ -161,7 +161,7 @@ fn push_written<A: Allocator + Copy>(
     Ok(())
 }
 
-/// Appends what is shown of a command.
+/// Appends the shapes of a command.
 fn push_column<A: Allocator + Copy>(
     alloc: A,
     svg: &mut Vec<u8, A>,
@@ -169,7 +169,7 @@ fn push_column<A: Allocator + Copy>(
     column: u32,
     event: &Event,
 ) -> Result<(), AllocError>
-    requires { length shown.now ≤ MOST_NODES }
+    requires { length shown.now ≤ MAX_NODES }
     ensures { OnOk result (svg.new.items ≡ svg.old.items ++ texts (spec.column_shapes shown.now column event.now)) }
 {
     push_number(svg, column, event.number)?;
@@ -185,10 +185,10 @@ fn push_rows<A: Allocator>(
     grid: &Grid<A>,
     shown: &[u64],
 ) -> Result<(), AllocError>
-    requires shown { length shown.now ≤ MOST_NODES }
+    requires shown { length shown.now ≤ MAX_NODES }
     requires nodes { All (λ n. (1 ≤ n) × (n ≤ grid.now.nodes)) shown.now }
     requires size { length grid.now.marks.items ≡ length grid.now.numbers.items * grid.now.nodes }
-    requires few { length grid.now.numbers.items ≤ MOST_COMMANDS }
+    requires few { length grid.now.numbers.items ≤ MAX_COMMANDS }
     ensures { OnOk result (svg.new.items ≡ svg.old.items ++ flat_map (λ n. texts (row_shapes_out_of shown.now grid.now.nodes grid.now.marks.items (length grid.now.numbers.items) n)) shown.now) }
 {
     for node in shown {
@@ -197,15 +197,15 @@ fn push_rows<A: Allocator>(
     Ok(())
 }
 
-/// Appends what is shown of these commands.
+/// Appends the shapes of these commands.
 fn push_columns<A: Allocator + Copy>(
     alloc: A,
     svg: &mut Vec<u8, A>,
     events: &[Event],
     shown: &[u64],
 ) -> Result<(), AllocError>
-    requires shown { length shown.now ≤ MOST_NODES }
-    requires few { length events.now ≤ MOST_COMMANDS }
+    requires shown { length shown.now ≤ MAX_NODES }
+    requires few { length events.now ≤ MAX_COMMANDS }
     ensures { OnOk result (svg.new.items ≡ svg.old.items ++ flat_map (λ k. texts (spec.column_shapes shown.now k (slice_index_or events.now k spec.no_event))) (range_with_len 0 (length events.now))) }
 {
     for column in 0..events.len() {
@@ -214,7 +214,7 @@ fn push_columns<A: Allocator + Copy>(
     Ok(())
 }
 
-/// Appends the timeline of a line that begins at this height, and says how many rows it has.
+/// Appends the timeline of a line that begins at this height. Returns how many rows it has.
 pub fn push_timeline<A: Allocator + Copy>(
     alloc: A,
     svg: &mut Vec<u8, A>,
@@ -222,13 +222,13 @@ pub fn push_timeline<A: Allocator + Copy>(
     number: u64,
     top: u64,
 ) -> Result<u64, AllocError>
-    requires nodes { grid.now.nodes ≤ MOST_NODES }
+    requires nodes { grid.now.nodes ≤ MAX_NODES }
     requires size { length grid.now.marks.items ≡ length grid.now.numbers.items * grid.now.nodes }
-    requires few { length grid.now.numbers.items ≤ MOST_COMMANDS }
-    requires events { length grid.now.events.items ≤ MOST_COMMANDS }
+    requires few { length grid.now.numbers.items ≤ MAX_COMMANDS }
+    requires events { length grid.now.events.items ≤ MAX_COMMANDS }
     ensures svg { OnOk result (svg.new.items ≡ svg.old.items ++ line_svg_out_of top number grid.now.nodes (length grid.now.numbers.items) grid.now.callers.items grid.now.events.items grid.now.marks.items) }
     ensures rows { IfOk result (λ rows. rows ≡ length (shown_out_of grid.now.nodes grid.now.callers.items)) }
-    ensures few { IfOk result (λ rows. rows ≤ MOST_NODES) }
+    ensures few { IfOk result (λ rows. rows ≤ MAX_NODES) }
 {
     let nodes = shown(alloc, grid)?;
     push_line_begin(svg, top, number)?;

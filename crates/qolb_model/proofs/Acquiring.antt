@@ -10,17 +10,17 @@ use Rattle.qolb_model.specs.declared.write.Write.{Write}
 use Rattle.qolb_model.specs.declared.answer.Poll.TheVariants as poll
 use Rattle.qolb_model.specs.Views.{Extends}
 use Rattle.qolb_model.specs.Calls.{Enqueues, Polls, Withdraws}
-use Rattle.qolb_model.specs.declared.patience.Asked.{Asked}
-use Rattle.qolb_model.specs.declared.patience.Asked.TheVariants as asked
-use Rattle.qolb_model.specs.Patience.{AcquiresPatiently}
+use Rattle.qolb_model.specs.declared.acquire.Acquired.{Acquired}
+use Rattle.qolb_model.specs.declared.acquire.Acquired.TheVariants as outcome
+use Rattle.qolb_model.specs.Acquiring.{AcquiresBounded}
 use Rattle.qolb_model.proofs.Going.{continues_on, asks_goes, joined_goes}
 
--- what came of asking, where the request was granted at once, or told, or the port was busy
+-- the outcome of a request that was granted at once, or told, or answered busy
 asked_once :
-    (allows : List ℕ → List ℕ → Type 0) (old new : View) (turn : Write) (answer : Asked) (now : Enq)
+    (allows : List ℕ → List ℕ → Type 0) (old new : View) (turn : Write) (answer : Acquired) (now : Enq)
     → Enqueues allows old new turn now
-    → (answer ≡ asked.Busy → now ≡ enq.Busy) → (answer ≢ asked.Busy → now ≢ enq.Busy) → (answer ≡ asked.Granted → now ≡ enq.Granted) → answer ≢ asked.Late → (answer ≡ asked.Closed → now ≡ enq.Closed)
-    → AcquiresPatiently allows old new turn answer
+    → (answer ≡ outcome.Busy → now ≡ enq.Busy) → (answer ≢ outcome.Busy → now ≢ enq.Busy) → (answer ≡ outcome.Granted → now ≡ enq.Granted) → answer ≢ outcome.Late → (answer ≡ outcome.Closed → now ≡ enq.Closed)
+    → AcquiresBounded allows old new turn answer
 asked_once allows old new turn answer now e busy some granted late told = record {
   continues = e.continues;
   busy = λ is. e.busy (busy is);
@@ -32,12 +32,12 @@ asked_once allows old new turn answer now e busy some granted late told = record
   unserved = unserved old new e.continues.history answer (λ is. e.busy (busy is)) (λ is. e.asks (some is)) (λ is. absurd (late is)) (λ is. e.told (told is));
 }
 
--- what came of asking, where the request waited and then was withdrawn, or granted, or told
+-- the outcome of a request that waited and then was withdrawn, or granted, or told
 acquired :
-    (allows : List ℕ → List ℕ → Type 0) (old mid new : View) (first turn : Write) (answer : Asked) (ended : Out)
+    (allows : List ℕ → List ℕ → Type 0) (old mid new : View) (first turn : Write) (answer : Acquired) (ended : Out)
     → Enqueues allows old mid first enq.Queued → Withdraws allows mid new turn ended
-    → answer ≢ asked.Busy → (answer ≡ asked.Granted → ended ≡ out.Granted) → (answer ≡ asked.Late → ended ≡ out.Withdrawn) → (answer ≡ asked.Closed → ended ≡ out.Closed)
-    → AcquiresPatiently allows old new turn answer
+    → answer ≢ outcome.Busy → (answer ≡ outcome.Granted → ended ≡ out.Granted) → (answer ≡ outcome.Late → ended ≡ out.Withdrawn) → (answer ≡ outcome.Closed → ended ≡ out.Closed)
+    → AcquiresBounded allows old new turn answer
 acquired allows old mid new first turn answer ended e w some granted late told = record {
   continues = continues_on allows old mid new e.continues.extends w.continues;
   busy = λ is. absurd (some is);
@@ -51,29 +51,29 @@ acquired allows old mid new first turn answer ended e w some granted late told =
       (λ is. w.withdrawn (late is)) (λ is. w.told (told is));
 }
 
--- what came of asking: an answer at once
+-- the outcome of a request: an answer at once
 module _ (allows : List ℕ → List ℕ → Type 0) (old new : View) (turn : Write) where
-  pub granted_at_once : Enqueues allows old new turn enq.Granted → AcquiresPatiently allows old new turn asked.Granted
-  granted_at_once e = asked_once allows old new turn asked.Granted enq.Granted e (λ is. cc is) (λ _ is. cc is) (λ _. refl) (λ is. cc is) (λ is. cc is)
+  pub granted_at_once : Enqueues allows old new turn enq.Granted → AcquiresBounded allows old new turn outcome.Granted
+  granted_at_once e = asked_once allows old new turn outcome.Granted enq.Granted e (λ is. cc is) (λ _ is. cc is) (λ _. refl) (λ is. cc is) (λ is. cc is)
 
-  pub told_at_once : Enqueues allows old new turn enq.Closed → AcquiresPatiently allows old new turn asked.Closed
-  told_at_once e = asked_once allows old new turn asked.Closed enq.Closed e (λ is. cc is) (λ _ is. cc is) (λ is. cc is) (λ is. cc is) (λ _. refl)
+  pub told_at_once : Enqueues allows old new turn enq.Closed → AcquiresBounded allows old new turn outcome.Closed
+  told_at_once e = asked_once allows old new turn outcome.Closed enq.Closed e (λ is. cc is) (λ _ is. cc is) (λ is. cc is) (λ is. cc is) (λ _. refl)
 
-  pub found_busy : Enqueues allows old new turn enq.Busy → AcquiresPatiently allows old new turn asked.Busy
-  found_busy e = asked_once allows old new turn asked.Busy enq.Busy e (λ _. refl) (λ other _. other refl) (λ is. cc is) (λ is. cc is) (λ is. cc is)
+  pub found_busy : Enqueues allows old new turn enq.Busy → AcquiresBounded allows old new turn outcome.Busy
+  found_busy e = asked_once allows old new turn outcome.Busy enq.Busy e (λ _. refl) (λ other _. other refl) (λ is. cc is) (λ is. cc is) (λ is. cc is)
 
--- what came of asking: an answer after a wait
+-- the outcome of a request: an answer after a wait
 module _ (allows : List ℕ → List ℕ → Type 0) (old mid new : View) (first turn : Write) (e : Enqueues allows old mid first enq.Queued) where
-  pub granted_later : Withdraws allows mid new turn out.Granted → AcquiresPatiently allows old new turn asked.Granted
-  granted_later w = acquired allows old mid new first turn asked.Granted out.Granted e w (λ is. cc is) (λ _. refl) (λ is. cc is) (λ is. cc is)
+  pub granted_later : Withdraws allows mid new turn out.Granted → AcquiresBounded allows old new turn outcome.Granted
+  granted_later w = acquired allows old mid new first turn outcome.Granted out.Granted e w (λ is. cc is) (λ _. refl) (λ is. cc is) (λ is. cc is)
 
-  pub told_later : Withdraws allows mid new turn out.Closed → AcquiresPatiently allows old new turn asked.Closed
-  told_later w = acquired allows old mid new first turn asked.Closed out.Closed e w (λ is. cc is) (λ is. cc is) (λ is. cc is) (λ _. refl)
+  pub told_later : Withdraws allows mid new turn out.Closed → AcquiresBounded allows old new turn outcome.Closed
+  told_later w = acquired allows old mid new first turn outcome.Closed out.Closed e w (λ is. cc is) (λ is. cc is) (λ is. cc is) (λ _. refl)
 
-  pub withdrawn_later : Withdraws allows mid new turn out.Withdrawn → AcquiresPatiently allows old new turn asked.Late
-  withdrawn_later w = acquired allows old mid new first turn asked.Late out.Withdrawn e w (λ is. cc is) (λ is. cc is) (λ _. refl) (λ is. cc is)
+  pub withdrawn_later : Withdraws allows mid new turn out.Withdrawn → AcquiresBounded allows old new turn outcome.Late
+  withdrawn_later w = acquired allows old mid new first turn outcome.Late out.Withdrawn e w (λ is. cc is) (λ is. cc is) (λ _. refl) (λ is. cc is)
 
--- what came of a wait: its looks changed nothing before the last call, which was a look or withdrew
+-- the outcome of a wait: its polls changed nothing before the last call, which was a poll or a withdrawal
 module _ (allows : List ℕ → List ℕ → Type 0) (old mid new : View) (turn : Write) (e : Extends old mid) (same : mid.count ≡ old.count) where
   pub granted_by_look : Polls allows mid new turn poll.Granted → Withdraws allows old new turn out.Granted
   granted_by_look p = record {

@@ -13,7 +13,7 @@ use Rattle.qolb_model.specs.Requests.{is_same, has, count_of, last_of}
 use Rattle.qolb_model.specs.Ends.{is_closed, written, bytes_after}
 use Rattle.qolb_model.specs.Histories.{turn_of, open_of}
 use Rattle.qolb_model.specs.Queue.{Queue}
-use Rattle.qolb_model.specs.OneOwner.{LineState, is_first, is_open, state_of}
+use Rattle.qolb_model.specs.OneOwner.{OwnerState, is_first, is_open, state_of}
 use Rattle.qolb_model.specs.PortStates.{may_ask}
 use Rattle.qolb_model.specs.Plain.{PlainView, is_at, is_oldest, waiter_state, node_state, waiter_of, Agrees}
 use Rattle.qolb_model.proofs.Lists.{never, slice_get-drop}
@@ -45,7 +45,7 @@ is_at-last order node r last = elim (cases_eq r.node node) [
   | inr ne ↦ ne_eqb r.node node ne ∙ sym (ap (λ b. b && (count_of node order == r.number)) (ne_eqb node r.node (λ e. ne (sym e))))
 ]
 
--- a node has an entry where its last request is open
+-- a node has an entry if its last request is open
 waits-open : (marked order xs : List Request) (node : ℕ) → AreLast order xs → list_any (is_at node) (map (waiter_of marked) xs) ≡ has xs (last_of node order)
 waits-open marked order [] node last = refl
 waits-open marked order (x ∷ xs) node last =
@@ -112,16 +112,16 @@ first_turn q node h = by (turn_of q.order q.ends) h
     by (Some r) h = ap Some (sym (is_same-true (last_of node q.order) r h))
 
 -- what agrees with a state
-module _ (line : PlainView) (s : LineState) (a : Agrees line s) where
+module _ (line : PlainView) (s : OwnerState) (a : Agrees line s) where
   -- each open request is its node's last
   pub last_each : AreLast s.queue.order (open_of s.queue.order s.queue.ends)
   last_each = are_last s.queue.order (open_of s.queue.order s.queue.ends) (λ p r e. a.reached.last_open (length s.queue.ends + p) r (omega arith) (sym (slice_get-drop (length s.queue.ends) s.queue.order p) ∙ e))
 
-  -- a node has an entry where its last request is open
+  -- a node has an entry if its last request is open
   pub waits-is_open : (node : ℕ) → list_any (is_at node) line.waiting ≡ is_open s.queue node
   waits-is_open node = ap (list_any (is_at node)) a.waiting ∙ waits-open s.queue.marked s.queue.order (open_of s.queue.order s.queue.ends) node last_each
 
-  -- the first that waits stands for the request at its turn
+  -- the first entry is that of the request at its turn
   pub first_waiter : slice_get line.waiting 0 ≡ option_map (waiter_of s.queue.marked) (turn_of s.queue.order s.queue.ends)
   first_waiter =
       let at : length s.queue.ends + 0 ≡ length s.queue.ends = omega arith in
@@ -137,7 +137,7 @@ module _ (line : PlainView) (s : LineState) (a : Agrees line s) where
       by None e = refl
       by (Some r) e = is_at-last s.queue.order node r (a.reached.last_open (length s.queue.ends) r (omega arith) e)
 
-  -- where a node stands by its entry is where it stands by its last request
+  -- the state of a node by its entry is that by its last request
   pub node_state-state_of : (node : ℕ) → node_state line node ≡ state_of s node
   node_state-state_of node =
       ap (waiter_state line node) (ap (find (is_at node)) a.waiting ∙ find-open s.queue.marked s.queue.order (open_of s.queue.order s.queue.ends) node last_each)
@@ -164,5 +164,5 @@ module _ (line : PlainView) (s : LineState) (a : Agrees line s) where
   when_rolled node e stands = asking_parts (is_open s.queue node) (has s.queue.marked (last_of node s.queue.order)) (s.granted && is_first s.queue node) (is_closed s.queue.ends) (sym (ap may_ask (node_state-state_of node)) ∙ e) stands
 
   -- all that has ended is clear
-  pub is_tidy : IsTidy s.terms.lease s.queue
+  pub is_tidy : IsTidy s.config.lease s.queue
   is_tidy = record { legal = a.reached.legal; ended = length s.queue.ends; within = omega arith; cleared = a.reached.cleared }

@@ -12,11 +12,11 @@ use Rattle.qolb_model.specs.declared.view.View.{View}
 use Rattle.qolb_model.specs.declared.write.Write.{Write}
 use Rattle.qolb_model.specs.Views.{Extends}
 use Rattle.qolb_model.specs.Sound.{Continues}
-use Rattle.qolb_model.specs.Asking.{IsBusy, Asks, IsJoined}
-use Rattle.qolb_model.specs.Turns.{IsGranted, IsQueued, IsWithdrawn}
-use Rattle.qolb_model.specs.LettingGo.{IsTold}
+use Rattle.qolb_model.specs.Enqueueing.{IsBusy, Asks, IsJoined}
+use Rattle.qolb_model.specs.AtTurn.{IsGranted, IsQueued, IsWithdrawn}
+use Rattle.qolb_model.specs.Releasing.{IsTold}
 use Rattle.qolb_model.specs.Linking.{IsLinking, Links}
-use Rattle.qolb_model.specs.Calls.{HasCome, Enqueues, Prepends, LinksUp, Polls, Withdraws}
+use Rattle.qolb_model.specs.Calls.{IsGrantedOrTold, Enqueues, Prepends, LinksUp, Polls, Withdraws}
 use Rattle.qolb_model.proofs.Going.{continues_on, asks_goes, joined_goes}
 
 module _ {allows : List ℕ → List ℕ → Type 0} {v w : View} {turn : Write} (c : Continues allows v w) where
@@ -32,7 +32,7 @@ module _ {allows : List ℕ → List ℕ → Type 0} {v w : View} {turn : Write}
   pub enqueues_told : Asks v w → IsJoined w → IsTold w → Enqueues allows v w turn enq.Closed
   enqueues_told asks joined told = record { continues = c; busy = λ e. absurd (cc e); asks = λ _. asks; joined = λ _. joined; granted = λ e. absurd (cc e); queued = λ e. absurd (cc e); told = λ _. told }
 
-  pub enqueues_came : {answer : Enq} → Asks v w → IsJoined w → HasCome enq.Granted enq.Closed answer w turn → Enqueues allows v w turn answer
+  pub enqueues_came : {answer : Enq} → Asks v w → IsJoined w → IsGrantedOrTold enq.Granted enq.Closed answer w turn → Enqueues allows v w turn answer
   enqueues_came asks joined came = record { continues = c; busy = λ e. elim came [ inl a ↦ absurd (cc (a.0, e)) | inr b ↦ absurd (cc (b.0, e)) ]; asks = λ _. asks; joined = λ _. joined; granted = λ e. elim came [ inl a ↦ a.1 | inr b ↦ absurd (cc (b.0, e)) ]; queued = λ e. elim came [ inl a ↦ absurd (cc (a.0, e)) | inr b ↦ absurd (cc (b.0, e)) ]; told = λ e. elim came [ inl a ↦ absurd (cc (a.0, e)) | inr b ↦ b.1 ] }
 
   pub prepends_busy : IsBusy v w → Prepends allows v w turn prep.Busy
@@ -41,10 +41,10 @@ module _ {allows : List ℕ → List ℕ → Type 0} {v w : View} {turn : Write}
   pub prepends_linking : Asks v w → IsLinking w → Prepends allows v w turn prep.Linking
   prepends_linking asks linking = record { continues = c; busy = λ e. absurd (cc e); asks = λ _. asks; joined = λ e. elim e [ inl a ↦ absurd (cc a) | inr b ↦ absurd (cc b) ]; granted = λ e. absurd (cc e); linking = λ _. linking; told = λ e. absurd (cc e) }
 
-  pub prepends_came : {answer : Prep} → Asks v w → IsJoined w → HasCome prep.Granted prep.Closed answer w turn → Prepends allows v w turn answer
+  pub prepends_came : {answer : Prep} → Asks v w → IsJoined w → IsGrantedOrTold prep.Granted prep.Closed answer w turn → Prepends allows v w turn answer
   prepends_came asks joined came = record { continues = c; busy = λ e. elim came [ inl a ↦ absurd (cc (a.0, e)) | inr b ↦ absurd (cc (b.0, e)) ]; asks = λ _. asks; joined = λ _. joined; granted = λ e. elim came [ inl a ↦ a.1 | inr b ↦ absurd (cc (b.0, e)) ]; linking = λ e. elim came [ inl a ↦ absurd (cc (a.0, e)) | inr b ↦ absurd (cc (b.0, e)) ]; told = λ e. elim came [ inl a ↦ absurd (cc (a.0, e)) | inr b ↦ b.1 ] }
 
-  pub links_came : {answer : Enq} → Links v w → HasCome enq.Granted enq.Closed answer w turn → LinksUp allows v w turn answer
+  pub links_came : {answer : Enq} → Links v w → IsGrantedOrTold enq.Granted enq.Closed answer w turn → LinksUp allows v w turn answer
   links_came links came = record { continues = c; never_busy = λ e. elim came [ inl a ↦ absurd (cc (a.0, e)) | inr b ↦ absurd (cc (b.0, e)) ]; links = links; granted = λ e. elim came [ inl a ↦ a.1 | inr b ↦ absurd (cc (b.0, e)) ]; queued = λ e. elim came [ inl a ↦ absurd (cc (a.0, e)) | inr b ↦ absurd (cc (b.0, e)) ]; told = λ e. elim came [ inl a ↦ absurd (cc (a.0, e)) | inr b ↦ b.1 ] }
 
   pub links_queued : Links v w → IsQueued w → LinksUp allows v w turn enq.Queued
@@ -54,16 +54,16 @@ module _ {allows : List ℕ → List ℕ → Type 0} {v w : View} {turn : Write}
     pub polls_waiting : IsQueued w → Polls allows v w turn poll.Waiting
     polls_waiting waits = record { continues = c; count = count; granted = λ e. absurd (cc e); waiting = λ _. waits; told = λ e. absurd (cc e) }
 
-    pub polls_came : {answer : Poll} → HasCome poll.Granted poll.Closed answer w turn → Polls allows v w turn answer
+    pub polls_came : {answer : Poll} → IsGrantedOrTold poll.Granted poll.Closed answer w turn → Polls allows v w turn answer
     polls_came came = record { continues = c; count = count; granted = λ e. elim came [ inl a ↦ a.1 | inr b ↦ absurd (cc (b.0, e)) ]; waiting = λ e. elim came [ inl a ↦ absurd (cc (a.0, e)) | inr b ↦ absurd (cc (b.0, e)) ]; told = λ e. elim came [ inl a ↦ absurd (cc (a.0, e)) | inr b ↦ b.1 ] }
 
-    pub withdraws_came : {answer : Out} → HasCome out.Granted out.Closed answer w turn → Withdraws allows v w turn answer
+    pub withdraws_came : {answer : Out} → IsGrantedOrTold out.Granted out.Closed answer w turn → Withdraws allows v w turn answer
     withdraws_came came = record { continues = c; count = count; withdrawn = λ e. elim came [ inl a ↦ absurd (cc (a.0, e)) | inr b ↦ absurd (cc (b.0, e)) ]; granted = λ e. elim came [ inl a ↦ a.1 | inr b ↦ absurd (cc (b.0, e)) ]; told = λ e. elim came [ inl a ↦ absurd (cc (a.0, e)) | inr b ↦ b.1 ] }
 
     pub withdraws_withdrawn : IsWithdrawn w → Withdraws allows v w turn out.Withdrawn
     withdraws_withdrawn withdrawn = record { continues = c; count = count; withdrawn = λ _. withdrawn; granted = λ e. absurd (cc e); told = λ e. absurd (cc e) }
 
--- a port that asked, and then looked whether its request had come to its turn
+-- a port that made a request, and then polled whether it was at its turn
 module _ {allows : List ℕ → List ℕ → Type 0} {u v w : View} {turn : Write} {looked : Poll} (e : Extends u v) (asks : Asks u v) (joined : IsJoined v) (p : Polls allows v w turn looked) where
   went_on : Continues allows u w
   went_on = continues_on allows u v w e p.continues

@@ -12,20 +12,20 @@ use Rattle.qolb_model.specs.Requests.{Has, count_of}
 use Rattle.qolb_model.specs.Histories.{turn_of, ended_of, open_of}
 use Rattle.qolb_model.specs.Views.{IsSubset}
 use Rattle.qolb_model.specs.OneHistory.{Knows, OneHistory}
-use Rattle.qolb_model.specs.OneOwner.{LineState}
+use Rattle.qolb_model.specs.OneOwner.{OwnerState}
 use Rattle.qolb_model.specs.Plain.{IsReached}
-use Rattle.qolb_model.specs.Whole.{Stance, KnowsWhole}
+use Rattle.qolb_model.specs.Whole.{ViewAndTurn, KnowsWhole}
 use Rattle.qolb_model.proofs.Lists.{never, element_at, slice_get-append_left, slice_get-take, slice_get-drop, take_with}
 use Rattle.qolb_model.proofs.Requests.{has_prefix, has_at, place_of_request, count_of-push_same, count_of-append}
 use Rattle.qolb_model.proofs.Clearing.{clears_ended}
 use Rattle.qolb_model.proofs.Prefixes.{prefix_length, prefix_get, prefix_trans}
 use Rattle.qolb_model.proofs.Agreeing.{among_first, among_second}
 
--- elements of the longer list, where the shorter one has the place
+-- elements of the longer list, if the shorter one has the place
 pub prefix_get_back : {X : Type 0} (xs ys : List X) (p : ℕ) (y : X) → IsPrefix xs ys → p < length xs → slice_get ys p ≡ Some y → slice_get xs p ≡ Some y
 prefix_get_back xs ys p y begins lt at = sym (slice_get-append_left xs begins.0 p lt) ∙ (ap (λ zs. slice_get zs p) begins.1 ∙ at)
 
--- a list that begins another has fewer requests of each node, and fewer yet where one stands behind it
+-- a prefix of a list has at most as many requests of each node, and fewer if one is behind the prefix
 pub count_of-prefix : (n : ℕ) (xs ys : List Request) → IsPrefix xs ys → count_of n xs ≤ count_of n ys
 count_of-prefix n xs ys begins = let e : count_of n (xs ++ begins.0) ≡ count_of n xs + count_of n begins.0 = count_of-append n xs begins.0 in
     subst (λ zs. count_of n xs ≤ count_of n zs) begins.1 (omega arith)
@@ -70,10 +70,10 @@ take_get (suc n) (y ∷ xs) (suc p) x at = let h = take_get n xs p x at in (omeg
 pub place_ended : (order : List Request) (ends : List End) (r : Request) → Has (ended_of order ends) r → (p : ℕ) × (p < length ends) × (slice_get order p ≡ Some r)
 place_ended order ends r h = let (p, at) = place_of_request (ended_of order ends) r h in let both = take_get (length ends) order p r at in (p, both.0, both.1)
 
--- what is known of a view by which a port of the node m, that knew the state's whole history, has been met: the view has no more
--- requests of that node; an end of an open one is that of a marked one that was passed; where one is at its turn, nothing has ended,
--- and only what had ended is clear; and it has no more marks
-pub record Bounds (s : LineState) (a : View) (m : ℕ) : Type 0 where
+-- what is known of a view by which a port of the node m, that knew the state's whole history, has been met: the view has no more requests
+-- of that node; an end of an open one is that of a marked one that was passed; if one is at its turn, nothing has ended, and only what had
+-- ended is clear; and it has no more marks
+pub record Bounds (s : OwnerState) (a : View) (m : ℕ) : Type 0 where
   pub counts : count_of m a.order ≤ count_of m s.queue.order
   pub passed : (p : ℕ) (r : Request) (e : End) → length s.queue.ends ≤ p → slice_get a.order p ≡ Some r → slice_get a.ends p ≡ Some e → r.node ≡ m → (is_gone e ≡ true) × Has s.queue.marked r
   pub stuck : (r : Request) → turn_of s.queue.order s.queue.ends ≡ Some r → r.node ≡ m
@@ -87,11 +87,11 @@ pub record IsAfter (a b : View) : Type 0 where
   pub clear : IsPrefix a.clear b.clear
   pub marked : IsSubset a.marked b.marked
 
-module _ (s : LineState) (reached : IsReached s) (a b : View) (w : Stance) (h : OneHistory (b ∷ w.view ∷ [])) (after : IsAfter a b) (knows : KnowsWhole s w) (begins : IsPrefix s.queue.order a.order) where
-  of_b : Knows h.terms h.order h.ends h.clear b
+module _ (s : OwnerState) (reached : IsReached s) (a b : View) (w : ViewAndTurn) (h : OneHistory (b ∷ w.view ∷ [])) (after : IsAfter a b) (knows : KnowsWhole s w) (begins : IsPrefix s.queue.order a.order) where
+  of_b : Knows h.config h.order h.ends h.clear b
   of_b = h.known b (among_first b (w.view ∷ []))
 
-  of_w : Knows h.terms h.order h.ends h.clear w.view
+  of_w : Knows h.config h.order h.ends h.clear w.view
   of_w = h.known w.view (among_second b w.view [])
 
   a_order : IsPrefix a.order h.order

@@ -65,7 +65,7 @@ count_none : (k : ℕ) (xs : List Request) → ((i : ℕ) (r : Request) → slic
 count_none k [] h = refl
 count_none k (x ∷ xs) h = count_of-cons_other k x xs (h 0 x refl) ∙ count_none k xs (λ i r e. h (suc i) r e)
 
--- a node that stands at one place at most
+-- a node that occurs at one place at most
 pub count_once : (k : ℕ) (xs : List Request) → ((i j : ℕ) (r s : Request) → slice_get xs i ≡ Some r → slice_get xs j ≡ Some s → r.node ≡ k → s.node ≡ k → i ≡ j) → count_of k xs ≤ 1
 count_once k [] h = let e : count_of k [] ≡ 0 = refl in omega arith
 count_once k (x ∷ xs) h = dite (ℕ_discrete x.node k)

@@ -17,9 +17,9 @@ use Rattle.qolb_model.specs.Requests.{is_same, Has, has, count_of, last_of}
 use Rattle.qolb_model.specs.Ends.{is_closed, bytes_after}
 use Rattle.qolb_model.specs.Histories.{turn_of, ended_of, open_of}
 use Rattle.qolb_model.specs.Views.{own}
-use Rattle.qolb_model.specs.Asking.{IsBusy}
-use Rattle.qolb_model.specs.Turns.{Waits, IsGranted, IsQueued, IsWithdrawn}
-use Rattle.qolb_model.specs.OneOwner.{LineState, new_turn, is_first, is_open, is_rolled, state_of, after_moves, after_grant, mark_last}
+use Rattle.qolb_model.specs.Enqueueing.{IsBusy}
+use Rattle.qolb_model.specs.AtTurn.{Waits, IsGranted, IsQueued, IsWithdrawn}
+use Rattle.qolb_model.specs.OneOwner.{OwnerState, new_turn, is_first, is_open, is_rolled, state_of, after_moves, after_grant, mark_last}
 use Rattle.qolb_model.specs.Plain.{IsReached}
 use Rattle.qolb_model.specs.PortStates.{may_ask}
 use Rattle.qolb_model.specs.Whole.{KnowsWhole, seen}
@@ -36,16 +36,16 @@ has_push_other xs x r ne =
     list_any-append (is_same r) xs (x ∷ []) ∙ (ap (λ b. has xs r || ((b && (r.number == x.number)) || false)) (ne_eqb r.node x.node ne) ∙ or-false (has xs r))
 
 -- the port of the node n made a call that put no request which the state does not have; it forgot nothing, and then met all others
-pub record Follows (s : LineState) (n : ℕ) (a : View) : Type 0 where
+pub record Follows (s : OwnerState) (n : ℕ) (a : View) : Type 0 where
   pub node : a.node ≡ n
-  pub terms : a.terms ≡ s.terms
+  pub config : a.config ≡ s.config
   pub order : a.order ≡ s.queue.order
   pub ends : IsPrefix s.queue.ends a.ends
   pub clear : (r : Request) → Has (ended_of s.queue.order s.queue.ends) r → Has a.clear r
   pub joined : (r : Request) → Has s.queue.order r → Has a.joined r
   pub marked : (r : Request) → Has (open_of s.queue.order s.queue.ends) r → Has s.queue.marked r → Has a.marked r
   pub count : a.count ≡ count_of n s.queue.order
-  pub others : (m : ℕ) → 1 ≤ m → m ≤ s.terms.nodes → m ≢ n → Bounds s a m
+  pub others : (m : ℕ) → 1 ≤ m → m ≤ s.config.nodes → m ≢ n → Bounds s a m
 
 -- a node without an open request is as an idle one
 pub quiet_seen : (closed : Bool) → port.Idle ≡ seen (if closed then port.Shut else port.Idle)
@@ -65,7 +65,7 @@ same_write : (a b : Write) → a.mask.0 ≡ b.mask.0 → a.bytes.bytes ≡ b.byt
 same_write a b m e = λ i. record { mask = record { 0 = m i }; bytes = record { bytes = e i } }
 
 -- an open request of a node that may ask was withdrawn, and waits behind another node's
-pub rolled_behind : (s : LineState) (n : ℕ) → IsReached s → is_open s.queue n ≡ true → may_ask (state_of s n) ≡ true → (has s.queue.marked (last_of n s.queue.order) ≡ true)
+pub rolled_behind : (s : OwnerState) (n : ℕ) → IsReached s → is_open s.queue n ≡ true → may_ask (state_of s n) ≡ true → (has s.queue.marked (last_of n s.queue.order) ≡ true)
     × (r : Request) × (turn_of s.queue.order s.queue.ends ≡ Some r) × (r.node ≢ n)
 rolled_behind s n reached stands may =
     let marked = asking_parts (is_open s.queue n) (has s.queue.marked (last_of n s.queue.order)) (s.granted && is_first s.queue n) (is_closed s.queue.ends) may stands in
@@ -80,12 +80,12 @@ rolled_behind s n reached stands may =
           never (subst (λ x. has s.queue.marked x ≡ true) (sym is) marked) (reached.passed r turn),
     )
 
-module _ (s : LineState) (n : ℕ) (a : View) (reached : IsReached s) (f : Follows s n a) where
+module _ (s : OwnerState) (n : ℕ) (a : View) (reached : IsReached s) (f : Follows s n a) where
   pub mine : own a ≡ last_of n s.queue.order
   mine = same_request a.node n a.count (count_of n s.queue.order) f.node f.count
 
   pub one_place : (p q : ℕ) (r : Request) → slice_get s.queue.order p ≡ Some r → slice_get s.queue.order q ≡ Some r → p ≡ q
-  one_place = same_place_legal s.terms.lease s.queue.order s.queue.ends reached.legal
+  one_place = same_place_legal s.config.lease s.queue.order s.queue.ends reached.legal
 
   -- an open request of the port's node is its last one
   pub last_mine : (p : ℕ) (r : Request) → length s.queue.ends ≤ p → slice_get s.queue.order p ≡ Some r → r.node ≡ n → r ≡ last_of n s.queue.order
@@ -107,7 +107,7 @@ module _ (s : LineState) (n : ℕ) (a : View) (reached : IsReached s) (f : Follo
       let k = reached.nodes_known p r at in
       same_test (has a.marked r) (has s.queue.marked r) ((f.others r.node k.0 k.1 ne).marks r stands refl) (f.marked r stands)
 
-  -- so of all, where that of the port's own is right
+  -- so of all, if that of the port's own is right
   all_marks : (has a.marked (last_of n s.queue.order) ≡ has s.queue.marked (last_of n s.queue.order)) → (r : Request) → Has (open_of s.queue.order s.queue.ends) r → has a.marked r ≡ has s.queue.marked r
   all_marks own_mark r stands = elim (cases_eq r.node n) [
     | inl e ↦ (let (p, le, at) = place_open s.queue.order s.queue.ends r stands in subst (λ x. has a.marked x ≡ has s.queue.marked x) (sym (last_mine p r le at e)) own_mark)
@@ -152,7 +152,7 @@ module _ (s : LineState) (n : ℕ) (a : View) (reached : IsReached s) (f : Follo
       let none : has s.queue.marked (last_of n s.queue.order) ≡ false = false_from_ne_true _ (λ h. never (f.marked (last_of n s.queue.order) stands h) lacks) in (
         first,
         record {
-          terms = f.terms;
+          config = f.config;
           order = f.order;
           ends = ends;
           clear = f.clear;
@@ -189,7 +189,7 @@ module _ (s : LineState) (n : ℕ) (a : View) (reached : IsReached s) (f : Follo
         is_turn,
         ap is_closed (sym ends) ∙ is.is_open,
         record {
-          terms = f.terms;
+          config = f.config;
           order = f.order;
           ends = ends;
           clear = f.clear;
@@ -198,7 +198,7 @@ module _ (s : LineState) (n : ℕ) (a : View) (reached : IsReached s) (f : Follo
           count = f.count ∙ ap (λ m. count_of m s.queue.order) (sym f.node);
           state = ap seen is.state ∙ sym (ap (λ m. seen (state_of (after_grant s) m)) f.node ∙ (λ i. seen (state_from (stands i) (none i) (is_turn i) (is_closed s.queue.ends))));
           asked = λ _. counted (length a.ends) at;
-          turn = λ _. same_write turn (new_turn s.terms.opening.bytes s.queue.ends) is.no_mask (is.bytes ∙ (λ i. bytes_after (f.terms i).opening.bytes (ends i)));
+          turn = λ _. same_write turn (new_turn s.config.opening.bytes s.queue.ends) is.no_mask (is.bytes ∙ (λ i. bytes_after (f.config i).opening.bytes (ends i)));
         },
       )
 
@@ -211,7 +211,7 @@ module _ (s : LineState) (n : ℕ) (a : View) (reached : IsReached s) (f : Follo
       let now : has (s.queue.marked ++ last_of n s.queue.order ∷ []) (last_of n s.queue.order) ≡ true = has_last s.queue.marked (last_of n s.queue.order) in (
         first,
         record {
-          terms = f.terms;
+          config = f.config;
           order = f.order;
           ends = ends;
           clear = f.clear;
@@ -236,7 +236,7 @@ module _ (s : LineState) (n : ℕ) (a : View) (reached : IsReached s) (f : Follo
       let (marked, r, first, ne) = rolled_behind s n reached stands may_s in (
         both (is_open s.queue n) (has s.queue.marked (last_of n s.queue.order)) stands marked,
         record {
-          terms = f.terms;
+          config = f.config;
           order = f.order;
           ends = still r first ne;
           clear = f.clear;

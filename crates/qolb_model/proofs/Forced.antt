@@ -16,22 +16,22 @@ use Rattle.qolb_model.specs.declared.request.Request.{Request}
 use Rattle.qolb_model.specs.declared.write.Write.{Write}
 use Rattle.qolb_model.specs.declared.end.End.{End}
 use Rattle.qolb_model.specs.declared.end.End.TheVariants.{Served, Gone, Told}
-use Rattle.qolb_model.specs.declared.terms.Terms.{Terms}
+use Rattle.qolb_model.specs.declared.config.LineConfig.{LineConfig}
 use Rattle.qolb_model.specs.declared.view.View.{View}
 use Rattle.qolb_model.specs.Requests.{is_same, Has, has, count_of, last_of, next_of}
 use Rattle.qolb_model.specs.Ends.{is_closed}
 use Rattle.qolb_model.specs.Histories.{ended_of, open_of}
 use Rattle.qolb_model.specs.Views.{own, Extends}
 use Rattle.qolb_model.specs.OneHistory.{Knows, OneHistory}
-use Rattle.qolb_model.specs.Asking.{IsBusy, Asks, IsJoined}
-use Rattle.qolb_model.specs.Turns.{IsGranted, IsQueued, IsWithdrawn}
-use Rattle.qolb_model.specs.LettingGo.{EndsTurn, LetsGo, IsTold}
+use Rattle.qolb_model.specs.Enqueueing.{IsBusy, Asks, IsJoined}
+use Rattle.qolb_model.specs.AtTurn.{IsGranted, IsQueued, IsWithdrawn}
+use Rattle.qolb_model.specs.Releasing.{EndsTurn, AfterRelease, IsTold}
 use Rattle.qolb_model.specs.Opening.{MayOpen, new_view, AreNew}
-use Rattle.qolb_model.specs.OneOwner.{LineState, opened, shown, is_first, is_open, is_rolled, state_of, poll_answer, after_poll, as_enq, after_ask, enq_answer, after_enq, as_out, out_answer, after_out, mark_last, after_moves, after_grant, after_release, turn_after, after_write}
+use Rattle.qolb_model.specs.OneOwner.{OwnerState, opened, shown, is_first, is_open, is_rolled, state_of, poll_answer, after_poll, as_enq, after_ask, enq_answer, after_enq, as_out, out_answer, after_out, mark_last, after_moves, after_grant, after_release, turn_after, after_write}
 use Rattle.qolb_model.specs.Plain.{IsReached}
-use Rattle.qolb_model.specs.PortStates.{may_ask, left_by}
+use Rattle.qolb_model.specs.PortStates.{may_ask, state_after}
 use Rattle.qolb_model.specs.Leases.{closes}
-use Rattle.qolb_model.specs.Whole.{Stance, KnowsWhole, AreWhole, seen}
+use Rattle.qolb_model.specs.Whole.{ViewAndTurn, KnowsWhole, AreSynced, seen}
 use Rattle.qolb_model.specs.Rounds.{MeetsOthers}
 use Rattle.qolb_model.proofs.Lists.{element_at, same_some, push_cases, slice_get-push, slice_get-middle}
 use Rattle.qolb_model.proofs.Requests.{same_request, is_same-self, has_prefix, has_push, count_of-push_same, count_of-push_le}
@@ -48,7 +48,7 @@ use Rattle.qolb_model.proofs.Reached.{queued_is, holding_is, reached_write, reac
 use Rattle.qolb_model.proofs.Whole.{Called, called, tells, spreads}
 
 -- what is known of the others bounds the view after an ask too
-bounds_ask : (s : LineState) (n m : ℕ) (a : View) → m ≢ n → Bounds s a m → Bounds (after_ask s n) a m
+bounds_ask : (s : OwnerState) (n m : ℕ) (a : View) → m ≢ n → Bounds s a m → Bounds (after_ask s n) a m
 bounds_ask s n m a ne b = record {
   counts = let k = b.counts in let more = count_of-push_le m s.queue.order (next_of n s.queue.order) in omega arith;
   passed = b.passed;
@@ -64,13 +64,13 @@ bounds_ask s n m a ne b = record {
   marks = λ r stands e marked. b.marks r ((leaves_ask n s).opens r stands (λ same. ne (sym e ∙ same))) e marked;
 }
 
-left_quiet : (closed : Bool) → seen (left_by closed) ≡ port.Idle
+left_quiet : (closed : Bool) → seen (state_after closed) ≡ port.Idle
 left_quiet true = refl
 left_quiet false = refl
 
 -- a port's call, and the round of meets after it
-module _ (allows : List ℕ → List ℕ → Type 0) (s : LineState) (ports : List Stance) (whole : AreWhole s ports) (place : ℕ) (u a : Stance) (at : slice_get ports place ≡ Some u)
-    (extends : Extends u.view a.view) (alone : OneHistory (a.view ∷ [])) (new : List Stance) (round : MeetsOthers allows place (set ports place a) new) where
+module _ (allows : List ℕ → List ℕ → Type 0) (s : OwnerState) (ports : List ViewAndTurn) (whole : AreSynced s ports) (place : ℕ) (u a : ViewAndTurn) (at : slice_get ports place ≡ Some u)
+    (extends : Extends u.view a.view) (alone : OneHistory (a.view ∷ [])) (new : List ViewAndTurn) (round : MeetsOthers allows place (set ports place a) new) where
   abbrev pub n : ℕ
   n = place + 1
 
@@ -89,7 +89,7 @@ module _ (allows : List ℕ → List ℕ → Type 0) (s : LineState) (ports : Li
   low : 1 ≤ place + 1
   low = omega arith
 
-  high : place + 1 ≤ s.terms.nodes
+  high : place + 1 ≤ s.config.nodes
   high = let many = whole.count in let lt = slice_get_within ports place u at in omega arith
 
   order_begins : IsPrefix s.queue.order a.view.order
@@ -101,14 +101,14 @@ module _ (allows : List ℕ → List ℕ → Type 0) (s : LineState) (ports : Li
   call : Called s place a (set ports place a)
   call = called s ports whole place u a at extends.node
 
-  told : (k : ℕ) → 1 ≤ k → k ≤ s.terms.nodes → k ≢ place + 1 → Bounds s a.view k
+  told : (k : ℕ) → 1 ≤ k → k ≤ s.config.nodes → k ≢ place + 1 → Bounds s a.view k
   told = tells allows s place a (set ports place a) new call round reached order_begins ends_begin
 
-  known : Knows alone.terms alone.order alone.ends alone.clear a.view
+  known : Knows alone.config alone.order alone.ends alone.clear a.view
   known = alone.known a.view (among_first a.view [])
 
-  terms_then : a.view.terms ≡ s.terms
-  terms_then = extends.terms ∙ knew.terms
+  config_then : a.view.config ≡ s.config
+  config_then = extends.config ∙ knew.config
 
   count_was : u.view.count ≡ count_of (place + 1) s.queue.order
   count_was = knew.count ∙ ap (λ m. count_of m s.queue.order) u_node
@@ -119,8 +119,8 @@ module _ (allows : List ℕ → List ℕ → Type 0) (s : LineState) (ports : Li
     | inl e ↦ e
     | inr ne ↦ absurd (
         let of = known.of_line p r (prefix_get a.view.order alone.order p r known.order_begins there) in
-        let lines : alone.terms ≡ s.terms = sym known.terms_are ∙ terms_then in
-        let k = (told r.node of.0 (subst (λ (k : Terms). r.node ≤ k.nodes) lines of.1) ne).counts in
+        let lines : alone.config ≡ s.config = sym known.config_is ∙ config_then in
+        let k = (told r.node of.0 (subst (λ (k : LineConfig). r.node ≤ k.nodes) lines of.1) ne).counts in
         let more = count_of-behind s.queue.order a.view.order p r order_begins le there in omega arith)
   ]
 
@@ -146,7 +146,7 @@ module _ (allows : List ℕ → List ℕ → Type 0) (s : LineState) (ports : Li
   pub follows : a.view.count ≡ u.view.count → Follows s (place + 1) a.view
   follows same = record {
     node = a_node;
-    terms = terms_then;
+    config = config_then;
     order = same_order same;
     ends = ends_begin;
     clear = clear_then;
@@ -193,7 +193,7 @@ module _ (allows : List ℕ → List ℕ → Type 0) (s : LineState) (ports : Li
     pub follows_ask : IsJoined a.view → Follows (after_ask s (place + 1)) (place + 1) a.view
     follows_ask joined = record {
       node = a_node;
-      terms = terms_then;
+      config = config_then;
       order = one_more;
       ends = ends_begin;
       clear = λ r h.
@@ -233,13 +233,13 @@ module _ (allows : List ℕ → List ℕ → Type 0) (s : LineState) (ports : Li
             let clear = subst (λ x. Has a.view.clear x) mine (asks.was_clear (omega arith)) in
             let ended = ((told r.node k.0 k.1 ne).stuck r turn refl).1 (last_of (place + 1) s.queue.order) clear in
             let (q, lt, here) = place_ended s.queue.order s.queue.ends (last_of (place + 1) s.queue.order) ended in
-            let same : p ≡ q = same_place_legal s.terms.lease s.queue.order s.queue.ends reached.legal p q (last_of (place + 1) s.queue.order) there here in
+            let same : p ≡ q = same_place_legal s.config.lease s.queue.order s.queue.ends reached.legal p q (last_of (place + 1) s.queue.order) there here in
             omega arith)
 
-  -- a look, where the state t is s, or s after the node's ask
-  look : (t : LineState) → IsReached t → Follows t (place + 1) a.view → is_open t.queue (place + 1) ≡ true → (is_first t.queue (place + 1) ≡ true → t.granted ≡ false) → Leaves (place + 1) s t
+  -- a poll, if the state t is s, or s after the node's request
+  look : (t : OwnerState) → IsReached t → Follows t (place + 1) a.view → is_open t.queue (place + 1) ≡ true → (is_first t.queue (place + 1) ≡ true → t.granted ≡ false) → Leaves (place + 1) s t
       → (p : Poll) → (p ≡ poll.Granted → IsGranted a.view a.turn) → (p ≡ poll.Waiting → IsQueued a.view) → (p ≡ poll.Closed → IsTold a.view)
-      → (p ≡ poll_answer t (place + 1)) × AreWhole (after_poll p t) new
+      → (p ≡ poll_answer t (place + 1)) × AreSynced (after_poll p t) new
   look t reached_t f stands rest leaves poll.Granted granted queued closed =
       let h = granted_whole t (place + 1) a.view reached_t f a.turn (granted refl) in
       let is : poll.Granted ≡ poll_answer t (place + 1) = sym (λ i. if h.0 i then (if h.1 i then poll.Closed else poll.Granted) else poll.Waiting) in
@@ -252,35 +252,35 @@ module _ (allows : List ℕ → List ℕ → Type 0) (s : LineState) (ports : Li
       let h = told_whole t (place + 1) a.view reached_t f stands (closed refl) in
       let first : is_first t.queue (place + 1) ≡ true = ap (λ o. option_map_or (is_same (last_of (place + 1) t.queue.order)) o false) h.0 ∙ is_same-self (last_of (place + 1) t.queue.order) in
       let is : poll.Closed ≡ poll_answer t (place + 1) = sym (λ i. if first i then (if h.1 i then poll.Closed else poll.Granted) else poll.Waiting) in
-      let after : LineState = after_poll poll.Closed t in
+      let after : OwnerState = after_poll poll.Closed t in
       (is, spreads allows s place a (set ports place a) new call round (after_poll poll.Closed t) (leaves_through (place + 1) s t (after_poll poll.Closed t) leaves (leaves_end (place + 1) t Told first)) (reached_poll t reached_t (place + 1) poll.Closed (sym is) rest) (h.2 a.turn))
 
   -- `poll`
   pub polled : state_of s (place + 1) ≡ port.Queued → a.view.count ≡ u.view.count
       → (p : Poll) → (p ≡ poll.Granted → IsGranted a.view a.turn) → (p ≡ poll.Waiting → IsQueued a.view) → (p ≡ poll.Closed → IsTold a.view)
-      → (p ≡ poll_answer s (place + 1)) × AreWhole (after_poll p s) new
+      → (p ≡ poll_answer s (place + 1)) × AreSynced (after_poll p s) new
   polled waits same p granted queued closed =
       let h = queued_is s reached (place + 1) waits in
       look s reached (follows same) h.0 h.2 (leaves_so (place + 1) s) p granted queued closed
 
   -- one that gives up at its turn looks
-  at_turn : (p : Poll) → (p ≡ poll.Waiting → ⊥) → (p ≡ poll_answer s (place + 1)) × AreWhole (after_poll p s) new → AreWhole (after_out s (place + 1)) new
+  at_turn : (p : Poll) → (p ≡ poll.Waiting → ⊥) → (p ≡ poll_answer s (place + 1)) × AreSynced (after_poll p s) new → AreSynced (after_out s (place + 1)) new
   at_turn p ne h = by (is_first s.queue (place + 1)) refl
     where
-      by : (b : Bool) → is_first s.queue (place + 1) ≡ b → AreWhole (if b then after_poll (poll_answer s (place + 1)) s else after_moves (mark_last s (place + 1)) s) new
-      by true e = subst (λ x. AreWhole (after_poll x s) new) h.0 h.1
+      by : (b : Bool) → is_first s.queue (place + 1) ≡ b → AreSynced (if b then after_poll (poll_answer s (place + 1)) s else after_moves (mark_last s (place + 1)) s) new
+      by true e = subst (λ x. AreSynced (after_poll x s) new) h.0 h.1
       by false e = absurd (ne (h.0 ∙ ap (λ b. if b then (if is_closed s.queue.ends then poll.Closed else poll.Granted) else poll.Waiting) e))
 
   -- `withdraw`
   pub withdrew : state_of s (place + 1) ≡ port.Queued → a.view.count ≡ u.view.count
       → (o : Out) → (o ≡ out.Granted → IsGranted a.view a.turn) → (o ≡ out.Withdrawn → IsWithdrawn a.view) → (o ≡ out.Closed → IsTold a.view)
-      → (o ≡ out_answer s (place + 1)) × AreWhole (after_out s (place + 1)) new
+      → (o ≡ out_answer s (place + 1)) × AreSynced (after_out s (place + 1)) new
   withdrew waits same out.Withdrawn granted withdrawn closed =
       let h = queued_is s reached (place + 1) waits in
       let w = withdrawn_whole s (place + 1) a.view reached (follows same) a.turn (withdrawn refl) in
       let is : out.Withdrawn ≡ out_answer s (place + 1) = sym (ap (λ b. as_out (if b then (if is_closed s.queue.ends then poll.Closed else poll.Granted) else poll.Waiting)) w.0) in (
         is,
-        subst (λ b. AreWhole (if b then after_poll (poll_answer s (place + 1)) s else after_moves (mark_last s (place + 1)) s) new) (sym w.0)
+        subst (λ b. AreSynced (if b then after_poll (poll_answer s (place + 1)) s else after_moves (mark_last s (place + 1)) s) new) (sym w.0)
             (spreads allows s place a (set ports place a) new call round (after_moves (mark_last s (place + 1)) s) (leaves_mark (place + 1) s) (reached_mark s reached (place + 1) h.0 h.1 w.0) w.1),
       )
   withdrew waits same out.Granted granted withdrawn closed =
@@ -293,10 +293,10 @@ module _ (allows : List ℕ → List ℕ → Type 0) (s : LineState) (ports : Li
   -- `enqolb`
   ask : may_ask (state_of s (place + 1)) ≡ true → Asks u.view a.view → IsJoined a.view
       → (p : Poll) → (p ≡ poll.Granted → IsGranted a.view a.turn) → (p ≡ poll.Waiting → IsQueued a.view) → (p ≡ poll.Closed → IsTold a.view)
-      → (as_enq p ≡ enq_answer s (place + 1)) × AreWhole (after_enq s (place + 1)) new
+      → (as_enq p ≡ enq_answer s (place + 1)) × AreSynced (after_enq s (place + 1)) new
   ask may asks joined p granted queued closed =
       let none = quiet asks may in
-      let t : LineState = after_ask s (place + 1) in
+      let t : OwnerState = after_ask s (place + 1) in
       let r = reached_asked s reached (place + 1) low high none in
       let same_last : last_of (place + 1) (s.queue.order ++ next_of (place + 1) s.queue.order ∷ []) ≡ next_of (place + 1) s.queue.order =
       same_request (place + 1) (place + 1) _ _ refl (count_of-push_same (place + 1) s.queue.order (next_of (place + 1) s.queue.order) refl) in
@@ -306,19 +306,19 @@ module _ (allows : List ℕ → List ℕ → Type 0) (s : LineState) (ports : Li
       let h = look (after_ask s (place + 1)) r.0 (follows_ask asks joined) stands r.1 (leaves_ask (place + 1) s) p granted queued closed in
       let rolled : is_rolled s.queue (place + 1) ≡ false = ap (λ b. b && has s.queue.marked (last_of (place + 1) s.queue.order)) none in (
         ap as_enq h.0 ∙ sym (ap (λ b. if b then enq.Busy else as_enq (poll_answer (after_ask s (place + 1)) (place + 1))) rolled),
-        subst (λ b. AreWhole (if b then s else after_poll (poll_answer (after_ask s (place + 1)) (place + 1)) (after_ask s (place + 1))) new) (sym rolled)
-            (subst (λ x. AreWhole (after_poll x (after_ask s (place + 1))) new) h.0 h.1),
+        subst (λ b. AreSynced (if b then s else after_poll (poll_answer (after_ask s (place + 1)) (place + 1)) (after_ask s (place + 1))) new) (sym rolled)
+            (subst (λ x. AreSynced (after_poll x (after_ask s (place + 1))) new) h.0 h.1),
       )
 
   pub asked : may_ask u.view.state ≡ true → may_ask (state_of s (place + 1)) ≡ true
       → (e : Enq) → (e ≡ enq.Busy → IsBusy u.view a.view) → (e ≢ enq.Busy → Asks u.view a.view) → (e ≢ enq.Busy → IsJoined a.view)
       → (e ≡ enq.Granted → IsGranted a.view a.turn) → (e ≡ enq.Queued → IsQueued a.view) → (e ≡ enq.Closed → IsTold a.view)
-      → (e ≡ enq_answer s (place + 1)) × AreWhole (after_enq s (place + 1)) new
+      → (e ≡ enq_answer s (place + 1)) × AreSynced (after_enq s (place + 1)) new
   asked may_u may enq.Busy busy asks joined granted queued closed =
       let is = busy refl in
       let h = busy_whole s (place + 1) a.view reached (follows is.count) a.turn u.view may_u (knew.state ∙ ap (λ m. seen (state_of s m)) u_node) knew.asked is may in (
         sym (ap (λ b. if b then enq.Busy else as_enq (poll_answer (after_ask s (place + 1)) (place + 1))) h.0),
-        subst (λ b. AreWhole (if b then s else after_poll (poll_answer (after_ask s (place + 1)) (place + 1)) (after_ask s (place + 1))) new) (sym h.0)
+        subst (λ b. AreSynced (if b then s else after_poll (poll_answer (after_ask s (place + 1)) (place + 1)) (after_ask s (place + 1))) new) (sym h.0)
             (spreads allows s place a (set ports place a) new call round s (leaves_so (place + 1) s) reached h.1),
       )
   asked may_u may enq.Granted busy asks joined granted queued closed =
@@ -330,27 +330,27 @@ module _ (allows : List ℕ → List ℕ → Type 0) (s : LineState) (ports : Li
 
   -- `deqolb` and `shut`
   pub released : u.view.state ≡ port.Holding → state_of s (place + 1) ≡ port.Holding → (shut : Bool)
-      → (let closed = closes u.view.terms.lease u.view.ends shut in EndsTurn u.view (Served u.turn closed) (left_by closed) a.view) → AreWhole (after_release s shut) new
+      → (let closed = closes u.view.config.lease u.view.ends shut in EndsTurn u.view (Served u.turn closed) (state_after closed) a.view) → AreSynced (after_release s shut) new
   released holds_u holds shut r =
       let h = holding_is s reached (place + 1) holds in
       let turn = first_turn s.queue (place + 1) h.1 in
-      let closed : Bool = closes u.view.terms.lease u.view.ends shut in
-      let same : closed ≡ closes s.terms.lease s.queue.ends shut = λ i. closes (knew.terms i).lease (knew.ends i) shut in
-      let e : End = Served s.turn (closes s.terms.lease s.queue.ends shut) in
+      let closed : Bool = closes u.view.config.lease u.view.ends shut in
+      let same : closed ≡ closes s.config.lease s.queue.ends shut = λ i. closes (knew.config i).lease (knew.ends i) shut in
+      let e : End = Served s.turn (closes s.config.lease s.queue.ends shut) in
       let ends : a.view.ends ≡ s.queue.ends ++ e ∷ replicate r.passed Gone = r.ends ∙ (λ i. knew.ends i ++ Served (knew.turn holds_u i) (same i) ∷ replicate r.passed Gone) in
-      let go : LetsGo (length s.queue.ends + 1) (left_by closed) a.view = subst (λ es. LetsGo (length es + 1) (left_by closed) a.view) knew.ends r.lets_go in
-      let knows = goes_whole s (place + 1) a.view reached (follows r.count) e r.passed (left_by closed) ends turn go (left_quiet closed) a.turn in
+      let go : AfterRelease (length s.queue.ends + 1) (state_after closed) a.view = subst (λ es. AfterRelease (length es + 1) (state_after closed) a.view) knew.ends r.releases in
+      let knows = goes_whole s (place + 1) a.view reached (follows r.count) e r.passed (state_after closed) ends turn go (left_quiet closed) a.turn in
       spreads allows s place a (set ports place a) new call round (after_release s shut) (leaves_end (place + 1) s e h.1) (reached_release s reached (place + 1) shut h.0 h.1) knows
 
 -- the holder writes
-pub wrote : (allows : List ℕ → List ℕ → Type 0) (s : LineState) (ports : List Stance) → AreWhole s ports → (place : ℕ) (u a : Stance) → slice_get ports place ≡ Some u → state_of s (place + 1) ≡ port.Holding → u.view.state ≡ port.Holding
-    → (mask : ℕ) (bytes : List ℕ) → a.view ≡ u.view → a.turn ≡ turn_after u.turn mask bytes → (new : List Stance) → MeetsOthers allows place (set ports place a) new → AreWhole (after_write s mask bytes) new
+pub wrote : (allows : List ℕ → List ℕ → Type 0) (s : OwnerState) (ports : List ViewAndTurn) → AreSynced s ports → (place : ℕ) (u a : ViewAndTurn) → slice_get ports place ≡ Some u → state_of s (place + 1) ≡ port.Holding → u.view.state ≡ port.Holding
+    → (mask : ℕ) (bytes : List ℕ) → a.view ≡ u.view → a.turn ≡ turn_after u.turn mask bytes → (new : List ViewAndTurn) → MeetsOthers allows place (set ports place a) new → AreSynced (after_write s mask bytes) new
 wrote allows s ports whole place u a at holds holds_u mask bytes view turn new round =
     let reached = whole.reached in
     let h = holding_is s whole.reached (place + 1) holds in
     let k = whole.knows place u at in
     let knows_u : KnowsWhole (after_write s mask bytes) (record { view = u.view; turn = a.turn }) = record {
-      terms = k.terms;
+      config = k.config;
       order = k.order;
       ends = k.ends;
       clear = k.clear;
@@ -366,35 +366,35 @@ wrote allows s ports whole place u a at holds holds_u mask bytes view turn new r
     (subst (λ v. KnowsWhole (after_write s mask bytes) (record { view = v; turn = a.turn })) (sym view) knows_u)
 
 -- a round alone changes nothing
-pub met_whole : (allows : List ℕ → List ℕ → Type 0) (s : LineState) (ports : List Stance) → AreWhole s ports → (place : ℕ) (u : Stance) → slice_get ports place ≡ Some u → (new : List Stance) → MeetsOthers allows place ports new → AreWhole s new
+pub met_whole : (allows : List ℕ → List ℕ → Type 0) (s : OwnerState) (ports : List ViewAndTurn) → AreSynced s ports → (place : ℕ) (u : ViewAndTurn) → slice_get ports place ≡ Some u → (new : List ViewAndTurn) → MeetsOthers allows place ports new → AreSynced s new
 met_whole allows s ports whole place u at new round =
     spreads allows s place u ports new (record { many = whole.count; node = whole.node; acting = at; others = λ i w ne there. whole.knows i w there }) round s (leaves_so (place + 1) s) whole.reached (whole.knows place u at)
 
 -- the holder sees the state's bytes
-pub shows_bytes : (s : LineState) (ports : List Stance) → AreWhole s ports → (place : ℕ) (u : Stance) → slice_get ports place ≡ Some u → u.view.state ≡ port.Holding → u.turn.bytes.bytes ≡ shown s
+pub shows_bytes : (s : OwnerState) (ports : List ViewAndTurn) → AreSynced s ports → (place : ℕ) (u : ViewAndTurn) → slice_get ports place ≡ Some u → u.view.state ≡ port.Holding → u.turn.bytes.bytes ≡ shown s
 shows_bytes s ports whole place u at holds = ap (λ t. t.bytes.bytes) ((whole.knows place u at).turn holds) ∙ sym whole.reached.turn
 
 -- the ports of a line that was just opened know its whole history
-pub opened_whole : (label : ℕ) (terms : Terms) (ports : List Stance) → MayOpen terms → length terms.opening.bytes ≡ 64 → AreNew label terms (map (λ p. p.view) ports) → AreWhole (opened terms) ports
-opened_whole label terms ports may long new = record {
-  reached = (agrees_opened terms may long).reached;
+pub opened_whole : (label : ℕ) (config : LineConfig) (ports : List ViewAndTurn) → MayOpen config → length config.opening.bytes ≡ 64 → AreNew label config (map (λ p. p.view) ports) → AreSynced (opened config) ports
+opened_whole label config ports may long new = record {
+  reached = (agrees_opened config may long).reached;
   count = many;
   node = λ i p at. ap (λ v. v.node) (view_is i p at);
   knows = λ i p at. knows p (i + 1) (view_is i p at);
 }
   where
-    many : length ports ≡ terms.nodes
+    many : length ports ≡ config.nodes
     many = sym (length-map ports (λ p. p.view)) ∙ new.count
 
-    view_is : (i : ℕ) (p : Stance) → slice_get ports i ≡ Some p → p.view ≡ new_view label terms (i + 1)
+    view_is : (i : ℕ) (p : ViewAndTurn) → slice_get ports i ≡ Some p → p.view ≡ new_view label config (i + 1)
     view_is i p at =
         let lt = slice_get_within ports i p at in
         let e = many in
         same_some (sym (slice_get-map (λ x. x.view) ports i ∙ ap (option_map (λ x. x.view)) at) ∙ new.each i (omega arith))
 
-    of_new : (m : ℕ) (w : Write) → KnowsWhole (opened terms) (record { view = new_view label terms m; turn = w })
+    of_new : (m : ℕ) (w : Write) → KnowsWhole (opened config) (record { view = new_view label config m; turn = w })
     of_new m w = record {
-      terms = refl;
+      config = refl;
       order = refl;
       ends = refl;
       clear = λ r h. absurd (let no : false ≡ true = h in cc no);
@@ -406,5 +406,5 @@ opened_whole label terms ports may long new = record {
       turn = λ e. absurd (let no : port.Idle ≡ port.Holding = e in cc no);
     }
 
-    knows : (p : Stance) (m : ℕ) → p.view ≡ new_view label terms m → KnowsWhole (opened terms) p
-    knows p m e = subst (λ v. KnowsWhole (opened terms) (record { view = v; turn = p.turn })) (sym e) (of_new m p.turn)
+    knows : (p : ViewAndTurn) (m : ℕ) → p.view ≡ new_view label config m → KnowsWhole (opened config) p
+    knows p m e = subst (λ v. KnowsWhole (opened config) (record { view = v; turn = p.turn })) (sym e) (of_new m p.turn)

@@ -1,24 +1,24 @@
 -- What stays true of a port's view while its steps go on, in a line of whatever kind.
 use Rattle.std.proofs.Common.{◌≡◌, ℕ, ◌≤◌, List, true, false, sym, refl, ◌∙◌, subst, ap, Some, ⊎_elim, arith}
-use Rattle.qolb_model.specs.declared.terms.Terms.{Terms}
+use Rattle.qolb_model.specs.declared.config.LineConfig.{LineConfig}
 use Rattle.qolb_model.specs.declared.view.View.{View}
 use Rattle.qolb_model.specs.Requests.{Has}
 use Rattle.qolb_model.specs.Views.{own, Extends}
 use Rattle.qolb_model.specs.Sound.{Continues, IsSound}
-use Rattle.qolb_model.specs.Asking.{IsBusy, IsClear, Asks, IsJoined}
+use Rattle.qolb_model.specs.Enqueueing.{IsBusy, IsClear, Asks, IsJoined}
 use Rattle.qolb_model.proofs.Prefixes.{prefix_self, prefix_get, prefix_length}
 use Rattle.qolb_model.proofs.Requests.{same_request, has_prefix}
 use Rattle.qolb_model.proofs.Agreeing.{extends_trans}
 
 -- a port that forgets nothing, and then goes on, goes on
 pub continues_on : (allows : List ℕ → List ℕ → Type 0) (u v w : View) → Extends u v → Continues allows v w → Continues allows u w
-continues_on allows u v w e c = record { extends = extends_trans u v w e c.extends; history = c.history; kept = c.kept; freed_clear = c.freed_clear; own_past = c.own_past }
+continues_on allows u v w e c = record { extends = extends_trans u v w e c.extends; history = c.history; kept = c.kept; freed_clear = c.freed_clear; own_history = c.own_history }
 
 -- what a port knows it goes on knowing
 pub extends_self : (v : View) → Extends v v
 extends_self v = record {
   label = refl;
-  terms = refl;
+  config = refl;
   node = refl;
   order = prefix_self v.order;
   ends = prefix_self v.ends;
@@ -29,28 +29,28 @@ extends_self v = record {
 }
 
 -- what is true of a port's view stays true
-pub sound_goes : (good : List ℕ → Type 0) (allows : List ℕ → List ℕ → Type 0) (label : ℕ) (terms : Terms) (v w : View) → IsSound good allows label terms v → Continues allows v w → IsSound good allows label terms w
-sound_goes good allows label terms v w s c = record {
+pub sound_goes : (good : List ℕ → Type 0) (allows : List ℕ → List ℕ → Type 0) (label : ℕ) (config : LineConfig) (v w : View) → IsSound good allows label config v → Continues allows v w → IsSound good allows label config w
+sound_goes good allows label config v w s c = record {
   label_is = c.extends.label ∙ s.label_is;
-  terms_are = c.extends.terms ∙ s.terms_are;
+  config_is = c.extends.config ∙ s.config_is;
   may_open = s.may_open;
   first_node = subst (λ n. 1 ≤ n) (sym c.extends.node) s.first_node;
-  last_node = subst (λ n. n ≤ terms.nodes) (sym c.extends.node) s.last_node;
+  last_node = subst (λ n. n ≤ config.nodes) (sym c.extends.node) s.last_node;
   opened_good = s.opened_good;
   history = c.history;
   kept = c.kept;
   freed_clear = c.freed_clear;
-  own_past = c.own_past;
+  own_history = c.own_history;
 }
 
 -- a sound view goes on with itself
-pub continues_sound : (good : List ℕ → Type 0) (allows : List ℕ → List ℕ → Type 0) (label : ℕ) (terms : Terms) (v : View) → IsSound good allows label terms v → Continues allows v v
-continues_sound good allows label terms v s = record {
+pub continues_sound : (good : List ℕ → Type 0) (allows : List ℕ → List ℕ → Type 0) (label : ℕ) (config : LineConfig) (v : View) → IsSound good allows label config v → Continues allows v v
+continues_sound good allows label config v s = record {
   extends = extends_self v;
   history = s.history;
   kept = s.kept;
   freed_clear = s.freed_clear;
-  own_past = s.own_past;
+  own_history = s.own_history;
 }
 
 -- the same request, seen later

@@ -7,7 +7,7 @@ use Rattle.qolb_model.specs.declared.end.End.{End}
 use Rattle.qolb_model.specs.declared.end.End.TheVariants.{Served, Gone, Told}
 use Rattle.qolb_model.specs.Requests.{count_of, next_of}
 use Rattle.qolb_model.specs.Ends.{is_closed, MayEnd, written, bytes_after}
-use Rattle.qolb_model.specs.declared.terms.Terms.{Terms}
+use Rattle.qolb_model.specs.declared.config.LineConfig.{LineConfig}
 use Rattle.qolb_model.specs.Leases.{is_last_turn}
 use Rattle.qolb_model.specs.Histories.{IsLegal}
 use Rattle.qolb_model.specs.Queue.{Queue, Move, ask, mark, finish, EndsAs, CanMove, moved}
@@ -91,11 +91,11 @@ may_end lease q r Gone h = tt
 may_end lease q r Told h = h.1
 
 -- each move that may be made keeps a history legal
-pub legal_moved : (terms : Terms) (q : Queue) (move : Move) → CanMove terms q move → IsLegal terms.lease q.order q.ends → IsLegal terms.lease (moved q move).order (moved q move).ends
-legal_moved terms q (ask node) can legal = legal_ask terms.lease q.order q.ends node legal
-legal_moved terms q (mark r) can legal = legal
-legal_moved terms q (finish e) can legal = legal_end terms.lease q.order q.ends e legal (slice_get_within q.order (length q.ends) can.0 can.1) (may_end terms.lease q can.0 e can.2)
+pub legal_moved : (config : LineConfig) (q : Queue) (move : Move) → CanMove config q move → IsLegal config.lease q.order q.ends → IsLegal config.lease (moved q move).order (moved q move).ends
+legal_moved config q (ask node) can legal = legal_ask config.lease q.order q.ends node legal
+legal_moved config q (mark r) can legal = legal
+legal_moved config q (finish e) can legal = legal_end config.lease q.order q.ends e legal (slice_get_within q.order (length q.ends) can.0 can.1) (may_end config.lease q can.0 e can.2)
 
--- in a legal history no request stands twice: two places that have it are one
+-- in a legal history no request occurs twice: two places that have it are one
 pub same_place_legal : (lease : Option ℕ) (order : List Request) (ends : List End) → IsLegal lease order ends → (p q : ℕ) (r : Request) → slice_get order p ≡ Some r → slice_get order q ≡ Some r → p ≡ q
 same_place_legal lease order ends legal = same_place order legal.numbered

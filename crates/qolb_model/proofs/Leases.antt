@@ -12,7 +12,7 @@ use Rattle.qolb_model.specs.Ends.{is_closed, MayEnd}
 use Rattle.qolb_model.specs.EndKinds.{is_served}
 use Rattle.qolb_model.specs.Leases.{served, IsLease, is_last_turn, turns_left, closes}
 use Rattle.qolb_model.specs.Histories.{IsLegal}
-use Rattle.qolb_model.specs.Steps.{is_one, one_fewer}
+use Rattle.qolb_model.specs.Steps.{is_one, decrement}
 use Rattle.qolb_model.proofs.Lists.{element_at, take_with}
 use Rattle.qolb_model.proofs.Histories.{gone_each, is_closed-append}
 
@@ -35,7 +35,7 @@ turns_left-same None xs ys e = refl
 turns_left-same (Some turns) xs ys e = let same : served (xs ++ ys) ≡ served xs = served-append xs ys ∙ omega (arith, e) in ap (λ n. Some (turns - n)) same
 
 -- a service uses one
-pub turns_left-served : (lease : Option ℕ) (ends : List End) (write : Write) (shut : Bool) → turns_left lease (ends ++ Served write shut ∷ []) ≡ one_fewer (turns_left lease ends)
+pub turns_left-served : (lease : Option ℕ) (ends : List End) (write : Write) (shut : Bool) → turns_left lease (ends ++ Served write shut ∷ []) ≡ decrement (turns_left lease ends)
 turns_left-served None ends write shut = refl
 turns_left-served (Some turns) ends write shut =
     let more : served (ends ++ Served write shut ∷ []) ≡ served ends + 1 = served-append ends (Served write shut ∷ []) in

@@ -13,7 +13,7 @@ use Rattle.qolb_model.specs.Requests.{is_same, Has, has, count_of, last_of, next
 use Rattle.qolb_model.specs.Ends.{is_closed}
 use Rattle.qolb_model.specs.Histories.{turn_of, open_of}
 use Rattle.qolb_model.specs.Queue.{Queue, moved, finish}
-use Rattle.qolb_model.specs.OneOwner.{LineState, new_turn, is_first, is_open, state_of, ends_with, after_moves, after_grant, after_end, after_ask, mark_last, after_write}
+use Rattle.qolb_model.specs.OneOwner.{OwnerState, new_turn, is_first, is_open, state_of, ends_with, after_moves, after_grant, after_end, after_ask, mark_last, after_write}
 use Rattle.qolb_model.specs.Whole.{seen}
 use Rattle.qolb_model.proofs.Lists.{never, same_test, push_cases, same_some, slice_get-drop}
 use Rattle.qolb_model.proofs.Requests.{is_same-self, has_left, count_of-push_other}
@@ -27,8 +27,8 @@ use Rattle.qolb_model.proofs.Passing.{goes_queue}
 
 -- the state goes on from s to t by a call of the node n: nothing is forgotten, no other node makes a request or loses a mark, and each
 -- of them may call what it might; a holder's turn stays
-pub record Leaves (n : ℕ) (s t : LineState) : Type 0 where
-  pub terms : t.terms ≡ s.terms
+pub record Leaves (n : ℕ) (s t : OwnerState) : Type 0 where
+  pub config : t.config ≡ s.config
   pub order : IsPrefix s.queue.order t.queue.order
   pub ends : IsPrefix s.queue.ends t.queue.ends
   pub counts : (m : ℕ) → m ≢ n → count_of m t.queue.order ≡ count_of m s.queue.order
@@ -38,9 +38,9 @@ pub record Leaves (n : ℕ) (s t : LineState) : Type 0 where
   pub turns : (m : ℕ) → m ≢ n → state_of s m ≡ port.Holding → t.turn ≡ s.turn
 
 -- nothing is done
-pub leaves_so : (n : ℕ) (s : LineState) → Leaves n s s
+pub leaves_so : (n : ℕ) (s : OwnerState) → Leaves n s s
 leaves_so n s = record {
-  terms = refl;
+  config = refl;
   order = prefix_self s.queue.order;
   ends = prefix_self s.queue.ends;
   counts = λ m ne. refl;
@@ -51,9 +51,9 @@ leaves_so n s = record {
 }
 
 -- one call after another
-pub leaves_through : (n : ℕ) (s t u : LineState) → Leaves n s t → Leaves n t u → Leaves n s u
+pub leaves_through : (n : ℕ) (s t u : OwnerState) → Leaves n s t → Leaves n t u → Leaves n s u
 leaves_through n s t u a b = record {
-  terms = b.terms ∙ a.terms;
+  config = b.config ∙ a.config;
   order = prefix_trans s.queue.order t.queue.order u.queue.order a.order b.order;
   ends = prefix_trans s.queue.ends t.queue.ends u.queue.ends a.ends b.ends;
   counts = λ m ne. b.counts m ne ∙ a.counts m ne;
@@ -74,7 +74,7 @@ not_first q n m first ne = by (is_first q m) refl
     by true e = absurd (ne (let same : last_of m q.order ≡ last_of n q.order = same_some (sym (first_turn q m e) ∙ first_turn q n first) in ap (λ r. r.node) same))
     by false e = refl
 
-holds_first : (s : LineState) (m : ℕ) → state_of s m ≡ port.Holding → is_first s.queue m ≡ true
+holds_first : (s : OwnerState) (m : ℕ) → state_of s m ≡ port.Holding → is_first s.queue m ≡ true
 holds_first s m e = by (is_open s.queue m) (has s.queue.marked (last_of m s.queue.order)) s.granted (is_first s.queue m) (is_closed s.queue.ends) e
   where
     by : (b k g f c : Bool) → state_from b k (g && f) c ≡ port.Holding → f ≡ true
@@ -86,9 +86,9 @@ holds_first s m e = by (is_open s.queue m) (has s.queue.marked (last_of m s.queu
     by false k g f false e = absurd (let no : port.Idle ≡ port.Holding = e in cc no)
 
 -- the node asks
-pub leaves_ask : (n : ℕ) (s : LineState) → Leaves n s (after_ask s n)
+pub leaves_ask : (n : ℕ) (s : OwnerState) → Leaves n s (after_ask s n)
 leaves_ask n s = record {
-  terms = refl;
+  config = refl;
   order = prefix_append s.queue.order (next_of n s.queue.order ∷ []);
   ends = prefix_self s.queue.ends;
   counts = counts;
@@ -135,9 +135,9 @@ leaves_ask n s = record {
         ∙ ap Some (sym (last_same m ne))))
 
 -- the node is granted
-pub leaves_grant : (n : ℕ) (s : LineState) → is_first s.queue n ≡ true → Leaves n s (after_grant s)
+pub leaves_grant : (n : ℕ) (s : OwnerState) → is_first s.queue n ≡ true → Leaves n s (after_grant s)
 leaves_grant n s first = record {
-  terms = refl;
+  config = refl;
   order = prefix_self s.queue.order;
   ends = prefix_self s.queue.ends;
   counts = λ m ne. refl;
@@ -149,9 +149,9 @@ leaves_grant n s first = record {
 }
 
 -- the node withdraws
-pub leaves_mark : (n : ℕ) (s : LineState) → Leaves n s (after_moves (mark_last s n) s)
+pub leaves_mark : (n : ℕ) (s : OwnerState) → Leaves n s (after_moves (mark_last s n) s)
 leaves_mark n s = record {
-  terms = refl;
+  config = refl;
   order = prefix_self s.queue.order;
   ends = prefix_self s.queue.ends;
   counts = λ m ne. refl;
@@ -162,9 +162,9 @@ leaves_mark n s = record {
 }
 
 -- the holder writes
-pub leaves_write : (n : ℕ) (s : LineState) (mask : ℕ) (bytes : List ℕ) → is_first s.queue n ≡ true → Leaves n s (after_write s mask bytes)
+pub leaves_write : (n : ℕ) (s : OwnerState) (mask : ℕ) (bytes : List ℕ) → is_first s.queue n ≡ true → Leaves n s (after_write s mask bytes)
 leaves_write n s mask bytes first = record {
-  terms = refl;
+  config = refl;
   order = prefix_self s.queue.order;
   ends = prefix_self s.queue.ends;
   counts = λ m ne. refl;
@@ -197,15 +197,15 @@ unmarked_same false false true = refl
 unmarked_same false false false = refl
 
 -- the node's turn ends
-module _ (n : ℕ) (s : LineState) (e : End) (first : is_first s.queue n ≡ true) where
+module _ (n : ℕ) (s : OwnerState) (e : End) (first : is_first s.queue n ≡ true) where
   abbrev pub gone : List Request
   gone = passed s.queue.marked (drop (length s.queue.ends + 1) s.queue.order)
 
   abbrev pub ends_then : List End
   ends_then = (s.queue.ends ++ e ∷ []) ++ gone_each gone
 
-  abbrev pub ended_state : LineState
-  ended_state = record s { queue = passed_by (moved s.queue (finish e)) gone; granted = false; turn = new_turn s.terms.opening.bytes ends_then }
+  abbrev pub ended_state : OwnerState
+  ended_state = record s { queue = passed_by (moved s.queue (finish e)) gone; granted = false; turn = new_turn s.config.opening.bytes ends_then }
 
   long : length ends_then ≡ length s.queue.ends + 1 + length gone
   long =
@@ -233,7 +233,7 @@ module _ (n : ℕ) (s : LineState) (e : End) (first : is_first s.queue n ≡ tru
 
   leaves_ended : Leaves n s ended_state
   leaves_ended = record {
-    terms = refl;
+    config = refl;
     order = prefix_self s.queue.order;
     ends = prefix_trans s.queue.ends (s.queue.ends ++ e ∷ []) ends_then (prefix_append s.queue.ends (e ∷ [])) (prefix_append (s.queue.ends ++ e ∷ []) (gone_each gone));
     counts = λ m ne. refl;
@@ -255,4 +255,4 @@ module _ (n : ℕ) (s : LineState) (e : End) (first : is_first s.queue n ≡ tru
           ∙ (unmarked_same (is_open s.queue m) (is_closed ends_then) (is_closed s.queue.ends) ∙ sym (λ i. seen (state_from (is_open s.queue m) (k i) (later i) (is_closed s.queue.ends))))
 
   pub leaves_end : Leaves n s (after_end (after_moves (ends_with e s.queue) s))
-  leaves_end = subst (λ q. let t : LineState = record s { queue = q; granted = false; turn = new_turn s.terms.opening.bytes q.ends } in Leaves n s t) (sym (goes_queue s e)) leaves_ended
+  leaves_end = subst (λ q. let t : OwnerState = record s { queue = q; granted = false; turn = new_turn s.config.opening.bytes q.ends } in Leaves n s t) (sym (goes_queue s e)) leaves_ended

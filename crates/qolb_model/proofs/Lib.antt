@@ -16,7 +16,7 @@ pub mod Finishing
 pub mod Longer
 pub mod Going
 pub mod Answering
-pub mod Informing
+pub mod Merging
 pub mod Updates
 pub mod Seats
 pub mod Nearness

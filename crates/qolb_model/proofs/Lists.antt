@@ -8,7 +8,7 @@ use Rattle.std.proofs.lemmas.Option.{slice_get_within}
 pub never : {b : Bool} → b ≡ true → b ≡ false → ⊥
 never h k = cc
 
--- two tests are one where each passes with the other
+-- two tests are equal if each passes with the other
 pub same_test : (a b : Bool) → (a ≡ true → b ≡ true) → (b ≡ true → a ≡ true) → a ≡ b
 same_test true b f g = sym (f refl)
 same_test false true f g = g refl
@@ -59,7 +59,7 @@ slice_get-drop zero xs p = let e : p ≡ zero + p = omega arith in ap (slice_get
 slice_get-drop (suc n) [] p = refl
 slice_get-drop (suc n) (x ∷ xs) p = let e : suc (n + p) ≡ suc n + p = omega arith in slice_get-drop n xs p ∙ ap (slice_get (x ∷ xs)) e
 
--- one more element, where a list is cut
+-- one more element, at the place where a list is split
 pub take_with : {X : Type 0} (xs : List X) (p : ℕ) (x : X) → slice_get xs p ≡ Some x → take (suc p) xs ≡ take p xs ++ x ∷ []
 take_with [] p x e = absurd (let h : None ≡ Some x = e in cc h)
 take_with (y ∷ xs) zero x e = ap (λ z. z ∷ []) (same_some e)
@@ -70,7 +70,7 @@ drop_with [] p x e = absurd (let h : None ≡ Some x = e in cc h)
 drop_with (y ∷ xs) zero x e = ap (λ z. z ∷ xs) (same_some e)
 drop_with (y ∷ xs) (suc p) x e = let next : suc (p + 1) ≡ suc p + 1 = omega arith in drop_with xs p x e ∙ ap (λ n. x ∷ drop n (y ∷ xs)) next
 
--- where a test passes for some element of a list, it does so at a place
+-- if a test passes for some element of a list, it does so at a place
 pub place_of : {X : Type 0} (test : X → Bool) (xs : List X) → list_any test xs ≡ true → (p : ℕ) × (x : X) × (slice_get xs p ≡ Some x) × (test x ≡ true)
 place_of test [] h = absurd (let e : false ≡ true = h in cc e)
 place_of {X} test (x ∷ xs) h = by (place_of test xs) (test x) refl h
@@ -90,7 +90,7 @@ passes_at test (y ∷ xs) (suc p) x e t = or_right (test y) (list_any test xs) (
 pub at_same : {X : Type 0} (xs : List X) (p : ℕ) (x y : X) → slice_get xs p ≡ Some x → slice_get xs p ≡ Some y → x ≡ y
 at_same xs p x y a b = same_some (sym a ∙ b)
 
--- it is where it was in a longer list
+-- it is at the same place in a longer list
 pub at_longer : {X : Type 0} (xs ys : List X) (p : ℕ) (x : X) → slice_get xs p ≡ Some x → slice_get (xs ++ ys) p ≡ Some x
 at_longer xs ys p x e = slice_get-append_left xs ys p (slice_get_within xs p x e) ∙ e
 

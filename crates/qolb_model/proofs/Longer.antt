@@ -34,7 +34,7 @@ begins_longer xs ys zs p q = elim (cases_order (length xs) (length ys)) [
   | inr (inr gt) ↦ subst (λ ws. IsPrefix xs ws) (sym (longer_first xs ys (omega (arith, gt)))) (prefix_self xs)
 ]
 
--- and it does not matter which comes first
+-- and the order of the two does not matter
 pub longer_swap : {X : Type 0} (xs ys zs : List X) → IsPrefix xs zs → IsPrefix ys zs → longer xs ys ≡ longer ys xs
 longer_swap xs ys zs p q = elim (cases_order (length xs) (length ys)) [
   | inl e ↦ longer_first xs ys (omega (arith, e)) ∙ (prefix_same xs ys zs p q e ∙ sym (longer_first ys xs (omega (arith, e))))

@@ -10,9 +10,9 @@ use Rattle.qolb_model.specs.Requests.{Has, has, count_of}
 use Rattle.qolb_model.specs.Histories.{open_of}
 use Rattle.qolb_model.specs.OneHistory.{Knows}
 use Rattle.qolb_model.specs.Meeting.{longer}
-use Rattle.qolb_model.specs.OneOwner.{LineState, state_of}
+use Rattle.qolb_model.specs.OneOwner.{OwnerState, state_of}
 use Rattle.qolb_model.specs.Plain.{IsReached}
-use Rattle.qolb_model.specs.Whole.{Stance, KnowsWhole, seen}
+use Rattle.qolb_model.specs.Whole.{ViewAndTurn, KnowsWhole, seen}
 use Rattle.qolb_model.specs.Rounds.{Meet, MeetsEach, nobody, another}
 use Rattle.qolb_model.proofs.Lists.{push_cases, slice_get-append_left, slice_get-push}
 use Rattle.qolb_model.proofs.Requests.{has_prefix}
@@ -41,12 +41,12 @@ right_of x true e = refl
 right_of x false e = e
 
 -- a port that knows the new state's whole history meets one that knows the old one's: then both know the new one's
-module _ (allows : List ℕ → List ℕ → Type 0) (n : ℕ) (s t : LineState) (leaves : Leaves n s t) (a w b u : Stance) (meet : Meet allows a w b u) (node : a.view.node ≡ n) (apart : w.view.node ≢ n)
+module _ (allows : List ℕ → List ℕ → Type 0) (n : ℕ) (s t : OwnerState) (leaves : Leaves n s t) (a w b u : ViewAndTurn) (meet : Meet allows a w b u) (node : a.view.node ≡ n) (apart : w.view.node ≢ n)
     (of_a : KnowsWhole t a) (of_w : KnowsWhole s w) where
-  known_a : Knows meet.tell.before.terms meet.tell.before.order meet.tell.before.ends meet.tell.before.clear a.view
+  known_a : Knows meet.tell.before.config meet.tell.before.order meet.tell.before.ends meet.tell.before.clear a.view
   known_a = meet.tell.before.known a.view (among_first a.view (w.view ∷ []))
 
-  known_w : Knows meet.tell.before.terms meet.tell.before.order meet.tell.before.ends meet.tell.before.clear w.view
+  known_w : Knows meet.tell.before.config meet.tell.before.order meet.tell.before.ends meet.tell.before.clear w.view
   known_w = meet.tell.before.known w.view (among_second a.view w.view [])
 
   shorter_order : length w.view.order ≤ length a.view.order
@@ -66,7 +66,7 @@ module _ (allows : List ℕ → List ℕ → Type 0) (n : ℕ) (s t : LineState)
 
   pub first_whole : KnowsWhole t b
   first_whole = record {
-    terms = meet.tell.continues_a.extends.terms ∙ of_a.terms;
+    config = meet.tell.continues_a.extends.config ∙ of_a.config;
     order = meet.tell.meets_a.order ∙ (longer_first a.view.order w.view.order shorter_order ∙ of_a.order);
     ends = meet.tell.meets_a.ends ∙ (longer_first a.view.ends w.view.ends shorter_ends ∙ of_a.ends);
     clear = λ r h. subst (λ xs. Has xs r) (sym meet.tell.meets_a.clear) (clear_then r (of_a.clear r h));
@@ -80,7 +80,7 @@ module _ (allows : List ℕ → List ℕ → Type 0) (n : ℕ) (s t : LineState)
 
   pub second_whole : KnowsWhole t u
   second_whole = record {
-    terms = meet.tell.continues_b.extends.terms ∙ (of_w.terms ∙ sym leaves.terms);
+    config = meet.tell.continues_b.extends.config ∙ (of_w.config ∙ sym leaves.config);
     order = meet.tell.meets_b.order ∙ (longer_swap w.view.order a.view.order meet.tell.before.order known_w.order_begins known_a.order_begins ∙ (longer_first a.view.order w.view.order shorter_order ∙ of_a.order));
     ends = meet.tell.meets_b.ends ∙ (longer_swap w.view.ends a.view.ends meet.tell.before.ends known_w.ends_begin known_a.ends_begin ∙ (longer_first a.view.ends w.view.ends shorter_ends ∙ of_a.ends));
     clear = λ r h. subst (λ xs. Has xs r) (sym (meet.tell.meets_b.clear ∙ longer_swap w.view.clear a.view.clear meet.tell.before.clear known_w.clear_begins known_a.clear_begins)) (clear_then r (of_a.clear r h));
@@ -95,19 +95,19 @@ module _ (allows : List ℕ → List ℕ → Type 0) (n : ℕ) (s t : LineState)
   }
 
 -- the ports know the state's whole history, and are of other nodes
-abbrev pub AreOthers : LineState → ℕ → List Stance → Type 0
-AreOthers s n ports = (i : ℕ) (w : Stance) → slice_get ports i ≡ Some w → (w.view.node ≢ n) × KnowsWhole s w
+abbrev pub AreOthers : OwnerState → ℕ → List ViewAndTurn → Type 0
+AreOthers s n ports = (i : ℕ) (w : ViewAndTurn) → slice_get ports i ≡ Some w → (w.view.node ≢ n) × KnowsWhole s w
 
 -- these are the same ports, of which each knows the state's whole history
-pub record AreThen (t : LineState) (old new : List Stance) : Type 0 where
+pub record AreThen (t : OwnerState) (old new : List ViewAndTurn) : Type 0 where
   pub many : length new ≡ length old
-  pub each : (i : ℕ) (u : Stance) → slice_get new i ≡ Some u → (w : Stance) × (slice_get old i ≡ Some w) × (u.view.node ≡ w.view.node) × KnowsWhole t u
+  pub each : (i : ℕ) (u : ViewAndTurn) → slice_get new i ≡ Some u → (w : ViewAndTurn) × (slice_get old i ≡ Some w) × (u.view.node ≡ w.view.node) × KnowsWhole t u
 
-others_before : (s : LineState) (n : ℕ) (ws : List Stance) (w : Stance) → AreOthers s n (ws ++ w ∷ []) → AreOthers s n ws
+others_before : (s : OwnerState) (n : ℕ) (ws : List ViewAndTurn) (w : ViewAndTurn) → AreOthers s n (ws ++ w ∷ []) → AreOthers s n ws
 others_before s n ws w all i x at = all i x (slice_get-append_left ws (w ∷ []) i (slice_get_within ws i x at) ∙ at)
 
 -- after the round all know it
-pub round_whole : (allows : List ℕ → List ℕ → Type 0) (n : ℕ) (s t : LineState) → Leaves n s t → (a : Stance) (ws : List Stance) (b : Stance) (us : List Stance) → MeetsEach allows a ws b us
+pub round_whole : (allows : List ℕ → List ℕ → Type 0) (n : ℕ) (s t : OwnerState) → Leaves n s t → (a : ViewAndTurn) (ws : List ViewAndTurn) (b : ViewAndTurn) (us : List ViewAndTurn) → MeetsEach allows a ws b us
     → a.view.node ≡ n → KnowsWhole t a → AreOthers s n ws → (b.view.node ≡ n) × KnowsWhole t b × AreThen t ws us
 round_whole allows n s t leaves a ws b us nobody node knows others =
     (node, knows, record { many = refl; each = λ i u at. absurd (let no : None ≡ Some u = at in cc no) })
@@ -131,10 +131,10 @@ round_whole allows n s t leaves a ws b us (another {others = before} {others_the
       },
     )
 
--- and it tells what the port may have come to know in the call before it
-pub round_bounds : (allows : List ℕ → List ℕ → Type 0) (n : ℕ) (s : LineState) → IsReached s → (v : View) (a : Stance) (ws : List Stance) (b : Stance) (us : List Stance) → MeetsEach allows a ws b us
+-- and it tells what the port may have learned in the call before it
+pub round_bounds : (allows : List ℕ → List ℕ → Type 0) (n : ℕ) (s : OwnerState) → IsReached s → (v : View) (a : ViewAndTurn) (ws : List ViewAndTurn) (b : ViewAndTurn) (us : List ViewAndTurn) → MeetsEach allows a ws b us
     → IsAfter v a.view → IsPrefix s.queue.order v.order → IsPrefix s.queue.ends v.ends → AreOthers s n ws
-    → IsAfter v b.view × ((i : ℕ) (w : Stance) → slice_get ws i ≡ Some w → Bounds s v w.view.node)
+    → IsAfter v b.view × ((i : ℕ) (w : ViewAndTurn) → slice_get ws i ≡ Some w → Bounds s v w.view.node)
 round_bounds allows n s reached v a ws b us nobody after order ends others = (after, λ i w at. absurd (let no : None ≡ Some w = at in cc no))
 round_bounds allows n s reached v a ws b us (another {others = before} {others_then = then_} {now} w later u met meet) after order ends others =
     let (so_far, told) = round_bounds allows n s reached v a before now then_ met after order ends (others_before s n before w others) in

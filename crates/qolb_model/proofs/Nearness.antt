@@ -6,9 +6,9 @@ use Rattle.qolb_model.specs.declared.view.View.{View}
 use Rattle.qolb_model.specs.declared.write.Write.{Write}
 use Rattle.qolb_model.specs.Views.{own, Extends}
 use Rattle.qolb_model.specs.OneHistory.{OneHistory}
-use Rattle.qolb_model.specs.Turns.{IsQueued, IsGranted}
+use Rattle.qolb_model.specs.AtTurn.{IsQueued, IsGranted}
 use Rattle.qolb_model.specs.Requests.{last_of}
-use Rattle.qolb_model.specs.OneOwner.{LineState}
+use Rattle.qolb_model.specs.OneOwner.{OwnerState}
 use Rattle.qolb_model.specs.Plain.{IsReached}
 use Rattle.qolb_model.proofs.Lists.{at_drop}
 use Rattle.qolb_model.proofs.Counts.{few_if_once, count_once}
@@ -18,7 +18,7 @@ use Rattle.qolb_model.proofs.Agreeing.{among_first}
 
 -- the request that waited is the one at its turn, at the same place
 pub few_turns : (asked later : View) (turn : Write) → IsQueued asked → Extends asked later → later.count ≡ asked.count → OneHistory (later ∷ []) → IsGranted later turn
-    → length later.ends < length asked.ends + asked.terms.nodes
+    → length later.ends < length asked.ends + asked.config.nodes
 few_turns asked later turn waits on same h granted =
     let place = waits.waits.0 in
     let at = waits.waits.2 in
@@ -32,14 +32,14 @@ few_turns asked later turn waits on same h granted =
     omega (arith, slice_get_within asked.order place (own asked) at)
 
 -- the open requests of a line with one owner
-module _ (s : LineState) (reached : IsReached s) where
+module _ (s : OwnerState) (reached : IsReached s) where
   abbrev opens : List Request
   opens = drop (length s.queue.ends) s.queue.order
 
   there : (p : ℕ) (r : Request) → slice_get opens p ≡ Some r → slice_get s.queue.order (length s.queue.ends + p) ≡ Some r
   there = at_drop (length s.queue.ends) s.queue.order
 
-  of_nodes : (p : ℕ) (r : Request) → slice_get opens p ≡ Some r → (0 < r.node) × (r.node ≤ s.terms.nodes)
+  of_nodes : (p : ℕ) (r : Request) → slice_get opens p ≡ Some r → (0 < r.node) × (r.node ≤ s.config.nodes)
   of_nodes p r at = let known = reached.nodes_known (length s.queue.ends + p) r (there p r at) in (omega arith, known.1)
 
   -- each is its node's last, so two of one node are one
@@ -51,9 +51,9 @@ module _ (s : LineState) (reached : IsReached s) where
       let place = same_place s.queue.order reached.legal.numbered (length s.queue.ends + i) (length s.queue.ends + j) r (there i r at) (there j t at' ∙ ap Some same) in
       omega arith
 
-  pub few_wait : length s.queue.order ≤ length s.queue.ends + s.terms.nodes
+  pub few_wait : length s.queue.order ≤ length s.queue.ends + s.config.nodes
   few_wait =
-      let few = few_if_once s.terms.nodes opens of_nodes (λ k _ _. count_once k opens (one_open k)) in
+      let few = few_if_once s.config.nodes opens of_nodes (λ k _ _. count_once k opens (one_open k)) in
       let d = length-drop (length s.queue.ends) s.queue.order in
       let i = reached.legal.ended in
       omega arith

@@ -9,20 +9,20 @@ use Rattle.qolb_model.specs.declared.end.End.{End}
 use Rattle.qolb_model.specs.declared.end.End.TheVariants.{Served, Gone, Told}
 use Rattle.qolb_model.specs.declared.answer.PortState.{PortState}
 use Rattle.qolb_model.specs.declared.answer.PortState.TheVariants.{Left}
-use Rattle.qolb_model.specs.declared.terms.Terms.{Terms}
+use Rattle.qolb_model.specs.declared.config.LineConfig.{LineConfig}
 use Rattle.qolb_model.specs.declared.view.View.{View}
 use Rattle.qolb_model.specs.declared.write.Write.{Write}
 use Rattle.qolb_model.specs.Requests.{Has, count_of}
 use Rattle.qolb_model.specs.Ends.{written, bytes_after}
 use Rattle.qolb_model.specs.EndKinds.{is_served, is_gone}
 use Rattle.qolb_model.specs.Leases.{is_last_turn, closes}
-use Rattle.qolb_model.specs.PortStates.{may_ask, left_by}
+use Rattle.qolb_model.specs.PortStates.{may_ask, state_after}
 use Rattle.qolb_model.specs.Views.{own, bytes_of, Extends}
 use Rattle.qolb_model.specs.OneHistory.{Knows, OneHistory}
-use Rattle.qolb_model.specs.Sound.{KnowsOwnPast}
-use Rattle.qolb_model.specs.Asking.{IsBusy, Asks}
-use Rattle.qolb_model.specs.Turns.{IsGranted, IsWithdrawn}
-use Rattle.qolb_model.specs.LettingGo.{IsShort, LetsGo, IsTold}
+use Rattle.qolb_model.specs.Sound.{KnowsOwnHistory}
+use Rattle.qolb_model.specs.Enqueueing.{IsBusy, Asks}
+use Rattle.qolb_model.specs.AtTurn.{IsGranted, IsWithdrawn}
+use Rattle.qolb_model.specs.Releasing.{SuccessorUnlinked, AfterRelease, IsTold}
 use Rattle.qolb_model.specs.Calls.{Releases}
 use Rattle.qolb_model.specs.Sums.{sum_of_turns, sum_of_own, KnowsOwnPlaces, HasNotShut}
 use Rattle.qolb_model.proofs.Lists.{never, same_some, element_at, at_either, drop_with, slice_get-middle}
@@ -49,7 +49,7 @@ take_prefix : {X : Type 0} (xs ys : List X) (p : ℕ) → IsPrefix xs ys → p �
 take_prefix xs ys p (more, is) le = ap (take p) (sym is) ∙ take-append-le p xs more le
 
 module _ (old new : View) (more : Extends old new) (h : OneHistory (new ∷ [])) where
-  knows : Knows h.terms h.order h.ends h.clear new
+  knows : Knows h.config h.order h.ends h.clear new
   knows = h.known new (among_first new [])
 
   -- the requests of the node in each order
@@ -95,7 +95,7 @@ module _ (old new : View) (more : Extends old new) (h : OneHistory (new ∷ []))
   -- two places of its last request are one
   own_one_place : (p q : ℕ) → slice_get new.order p ≡ Some (own new) → slice_get new.order q ≡ Some (own new) → p ≡ q
   own_one_place p q at_p at_q =
-      same_place_legal h.terms.lease h.order h.ends h.legal p q (own new) (prefix_get new.order h.order p (own new) knows.order_begins at_p) (prefix_get new.order h.order q (own new) knows.order_begins at_q)
+      same_place_legal h.config.lease h.order h.ends h.legal p q (own new) (prefix_get new.order h.order p (own new) knows.order_begins at_p) (prefix_get new.order h.order q (own new) knows.order_begins at_q)
 
   asked_beyond : Asks old new → KnowsOwnPlaces old → ((p : ℕ) (e : End) → slice_get new.order p ≡ Some (own new) → slice_get new.ends p ≡ Some e → is_served e ≡ false) → NoneServedBeyond old new
   asked_beyond asks places unserved = λ p r e le at_r at_e same.
@@ -130,7 +130,7 @@ module _ (old new : View) (more : Extends old new) (h : OneHistory (new ∷ []))
       absurd (omega (arith, at_most, le))
 
   -- so the old view knew each turn of the node that the new one knows
-  module _ (quiet : may_ask old.state ≡ true) (past : KnowsOwnPast old) (beyond : NoneServedBeyond old new) where
+  module _ (quiet : may_ask old.state ≡ true) (past : KnowsOwnHistory old) (beyond : NoneServedBeyond old new) where
     stays : (e : End) → is_served e ≡ true → is_gone e ≡ true → ⊥
     stays (Served write shut) a b = let no : false ≡ true = b in cc no
     stays Gone a b = let no : false ≡ true = a in cc no
@@ -154,9 +154,9 @@ module _ (old new : View) (more : Extends old new) (h : OneHistory (new ∷ []))
 
     pub sums_kept : (does : List ℕ → List ℕ → ℕ) → sum_of_own does new ≡ sum_of_own does old
     sums_kept does =
-        ap (λ n. sum_of_turns does n new.terms.opening.bytes new.order new.ends) more.node
-        ∙ (ap (λ (t : Terms). sum_of_turns does old.node t.opening.bytes new.order new.ends) more.terms
-        ∙ turns-same does old.node old.terms.opening.bytes old.order new.order old.ends new.ends more.order more.ends known)
+        ap (λ n. sum_of_turns does n new.config.opening.bytes new.order new.ends) more.node
+        ∙ (ap (λ (t : LineConfig). sum_of_turns does old.node t.opening.bytes new.order new.ends) more.config
+        ∙ turns-same does old.node old.config.opening.bytes old.order new.order old.ends new.ends more.order more.ends known)
 
     pub unshut_kept : HasNotShut old → HasNotShut new
     unshut_kept unshut = λ p r write shut at_r same at_e.
@@ -166,8 +166,8 @@ module _ (old new : View) (more : Extends old new) (h : OneHistory (new ∷ []))
         let is : x ≡ r = same_some (sym (prefix_get old.order new.order p x more.order at_x) ∙ at_r) in
         let is_e : e ≡ Served write shut = same_some (sym (prefix_get old.ends new.ends p e more.ends at_old) ∙ at_e) in
         unshut p x write shut at_x (ap (λ (y : Request). y.node) is ∙ (same ∙ more.node)) (at_old ∙ ap Some is_e)
-        ∙ (ap (λ (t : Terms). is_last_turn t.lease (take p old.ends)) (sym more.terms)
-        ∙ ap (is_last_turn new.terms.lease) (sym (take_prefix old.ends new.ends p more.ends (omega (arith, lt_ends)))))
+        ∙ (ap (λ (t : LineConfig). is_last_turn t.lease (take p old.ends)) (sym more.config)
+        ∙ ap (is_last_turn new.config.lease) (sym (take_prefix old.ends new.ends p more.ends (omega (arith, lt_ends)))))
 
 -- a port that has made no request knows their places, has had no turn, and has not shut the line
 module _ (v : View) (h : OneHistory (v ∷ [])) (unused : v.count ≡ 0) where
@@ -181,22 +181,22 @@ module _ (v : View) (h : OneHistory (v ∷ [])) (unused : v.count ≡ 0) where
   unused_places = none_made ∙ sym unused
 
   pub unused_sum : (does : List ℕ → List ℕ → ℕ) → sum_of_own does v ≡ 0
-  unused_sum does = turns-unserved does v.node v.terms.opening.bytes v.order v.ends (λ p r e at_r at_e same. absurd (none_of_node v.node v.order none_made p r at_r same))
+  unused_sum does = turns-unserved does v.node v.config.opening.bytes v.order v.ends (λ p r e at_r at_e same. absurd (none_of_node v.node v.order none_made p r at_r same))
 
   pub unused_unshut : HasNotShut v
   unused_unshut = λ p r write shut at_r same at_e. absurd (none_of_node v.node v.order none_made p r at_r same)
 
--- a port that let the line go may ask
-pub quiet_after : (from : ℕ) (leaves : PortState) (v : View) → may_ask leaves ≡ true → LetsGo from leaves v → may_ask v.state ≡ true
-quiet_after from leaves v quiet lets_go = by lets_go.state
+-- a port that has released may ask
+pub quiet_after : (from : ℕ) (leaves : PortState) (v : View) → may_ask leaves ≡ true → AfterRelease from leaves v → may_ask v.state ≡ true
+quiet_after from leaves v quiet releases = by releases.state
   where
-    by : ((v.state ≡ Left) × IsShort v × (length v.ends ≡ from)) ⊎ ((v.state ≡ leaves) × Has v.clear (own v)) → may_ask v.state ≡ true
+    by : ((v.state ≡ Left) × SuccessorUnlinked v × (length v.ends ≡ from)) ⊎ ((v.state ≡ leaves) × Has v.clear (own v)) → may_ask v.state ≡ true
     by (inl left) = ap may_ask left.0
     by (inr other) = ap may_ask other.0 ∙ quiet
 
-pub may_ask-left_by : (b : Bool) → may_ask (left_by b) ≡ true
-may_ask-left_by true = refl
-may_ask-left_by false = refl
+pub may_ask-state_after : (b : Bool) → may_ask (state_after b) ≡ true
+may_ask-state_after true = refl
+may_ask-state_after false = refl
 
 -- withdrawn requests, passed, are no turns and change no byte
 turns-gone : (does : List ℕ → List ℕ → ℕ) (node : ℕ) (bytes : List ℕ) (order : List Request) (n : ℕ) → sum_of_turns does node bytes order (replicate n Gone) ≡ 0
@@ -216,7 +216,7 @@ none_served (suc n) (suc q) write shut at = none_served n q write shut at
 -- a port that held the line, and released it
 module _ (allows : List ℕ → List ℕ → Type 0) (held new : View) (write : Write) (releases : Releases allows false held new write) (at_turn : slice_get held.order (length held.ends) ≡ Some (own held)) where
   abbrev shut : Bool
-  shut = closes held.terms.lease held.ends false
+  shut = closes held.config.lease held.ends false
 
   abbrev passed : List End
   passed = replicate releases.ends_turn.passed Gone
@@ -228,23 +228,23 @@ module _ (allows : List ℕ → List ℕ → Type 0) (held new : View) (write : 
   pub left_bytes : written (bytes_of held) write ≡ write.bytes.bytes
   left_bytes =
       sym (bytes-gone (written (bytes_of held) write) releases.ends_turn.passed)
-      ∙ (sym (bytes_after-append held.terms.opening.bytes held.ends (Served write shut ∷ passed))
-      ∙ (ap (bytes_after held.terms.opening.bytes) (sym releases.ends_turn.ends)
-      ∙ (ap (λ (t : Terms). bytes_after t.opening.bytes new.ends) (sym releases.continues.extends.terms)
+      ∙ (sym (bytes_after-append held.config.opening.bytes held.ends (Served write shut ∷ passed))
+      ∙ (ap (bytes_after held.config.opening.bytes) (sym releases.ends_turn.ends)
+      ∙ (ap (λ (t : LineConfig). bytes_after t.opening.bytes new.ends) (sym releases.continues.extends.config)
       ∙ releases.bytes)))
 
   -- its turn is one more
   pub more_turns : (does : List ℕ → List ℕ → ℕ) → sum_of_own does new ≡ sum_of_own does held + does (bytes_of held) write.bytes.bytes
   more_turns does =
-      ap (λ n. sum_of_turns does n new.terms.opening.bytes new.order new.ends) releases.continues.extends.node
-      ∙ (ap (λ (t : Terms). sum_of_turns does held.node t.opening.bytes new.order new.ends) releases.continues.extends.terms
-      ∙ (ap (sum_of_turns does held.node held.terms.opening.bytes new.order) releases.ends_turn.ends
-      ∙ (turns-append does held.node held.terms.opening.bytes new.order held.ends (Served write shut ∷ passed)
+      ap (λ n. sum_of_turns does n new.config.opening.bytes new.order new.ends) releases.continues.extends.node
+      ∙ (ap (λ (t : LineConfig). sum_of_turns does held.node t.opening.bytes new.order new.ends) releases.continues.extends.config
+      ∙ (ap (sum_of_turns does held.node held.config.opening.bytes new.order) releases.ends_turn.ends
+      ∙ (turns-append does held.node held.config.opening.bytes new.order held.ends (Served write shut ∷ passed)
       ∙ (ap (λ n. n + sum_of_turns does held.node (bytes_of held) (drop (length held.ends) new.order) (Served write shut ∷ passed)) before
-      ∙ ap (λ n. sum_of_turns does held.node held.terms.opening.bytes held.order held.ends + n) here))))
+      ∙ ap (λ n. sum_of_turns does held.node held.config.opening.bytes held.order held.ends + n) here))))
     where
-      before : sum_of_turns does held.node held.terms.opening.bytes new.order held.ends ≡ sum_of_turns does held.node held.terms.opening.bytes held.order held.ends
-      before = turns-same does held.node held.terms.opening.bytes held.order new.order held.ends held.ends releases.continues.extends.order (prefix_self held.ends) (λ p r e at_r at_e same served.
+      before : sum_of_turns does held.node held.config.opening.bytes new.order held.ends ≡ sum_of_turns does held.node held.config.opening.bytes held.order held.ends
+      before = turns-same does held.node held.config.opening.bytes held.order new.order held.ends held.ends releases.continues.extends.order (prefix_self held.ends) (λ p r e at_r at_e same served.
           let within = slice_get_within held.ends p e at_e in
           (omega (arith, within, long), within))
 
@@ -276,9 +276,9 @@ module _ (allows : List ℕ → List ℕ → Type 0) (held new : View) (write : 
         | inr (zero, is_p, at_last) ↦
             let e : p ≡ length held.ends = omega (arith, is_p) in
             let is : Served write shut ≡ Served w s = same_some at_last in
-            let same_shut : s ≡ is_last_turn held.terms.lease held.ends = sym (ap shut_of is) in
+            let same_shut : s ≡ is_last_turn held.config.lease held.ends = sym (ap shut_of is) in
             same_shut
-            ∙ (ap (is_last_turn held.terms.lease) (sym (ap (λ n. take n held.ends) e ∙ take-whole held.ends))
+            ∙ (ap (is_last_turn held.config.lease) (sym (ap (λ n. take n held.ends) e ∙ take-whole held.ends))
             ∙ in_new p (omega (arith, e)))
         | inr (suc q, is_p, at_gone) ↦ absurd (none_served releases.ends_turn.passed q w s at_gone)
       ]
@@ -292,7 +292,7 @@ module _ (allows : List ℕ → List ℕ → Type 0) (held new : View) (write : 
       take-whole [] = refl
       take-whole (e ∷ ends) = ap (λ es. e ∷ es) (take-whole ends)
 
-      in_new : (n : ℕ) → n ≤ length held.ends → is_last_turn held.terms.lease (take n held.ends) ≡ is_last_turn new.terms.lease (take n new.ends)
+      in_new : (n : ℕ) → n ≤ length held.ends → is_last_turn held.config.lease (take n held.ends) ≡ is_last_turn new.config.lease (take n new.ends)
       in_new n le =
-          ap (λ (t : Terms). is_last_turn t.lease (take n held.ends)) (sym releases.continues.extends.terms)
-          ∙ ap (is_last_turn new.terms.lease) (sym (take_prefix held.ends new.ends n releases.continues.extends.ends le))
+          ap (λ (t : LineConfig). is_last_turn t.lease (take n held.ends)) (sym releases.continues.extends.config)
+          ∙ ap (is_last_turn new.config.lease) (sym (take_prefix held.ends new.ends n releases.continues.extends.ends le))

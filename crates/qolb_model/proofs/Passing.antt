@@ -14,9 +14,9 @@ use Rattle.qolb_model.specs.declared.view.View.{View}
 use Rattle.qolb_model.specs.Requests.{Has, Lacks, has, count_of, last_of}
 use Rattle.qolb_model.specs.Ends.{is_closed}
 use Rattle.qolb_model.specs.Histories.{turn_of, open_of}
-use Rattle.qolb_model.specs.LettingGo.{IsShort, LetsGo, IsTold}
+use Rattle.qolb_model.specs.Releasing.{SuccessorUnlinked, AfterRelease, IsTold}
 use Rattle.qolb_model.specs.Queue.{moved, finish}
-use Rattle.qolb_model.specs.OneOwner.{LineState, new_turn, is_open, state_of, ends_with, moved_by, after_moves, after_end}
+use Rattle.qolb_model.specs.OneOwner.{OwnerState, new_turn, is_open, state_of, ends_with, moved_by, after_moves, after_end}
 use Rattle.qolb_model.specs.Plain.{IsReached}
 use Rattle.qolb_model.specs.Whole.{KnowsWhole, seen}
 use Rattle.qolb_model.proofs.Lists.{never, element_at, slice_get-drop}
@@ -42,14 +42,14 @@ gone_each_is [] = refl
 gone_each_is (x ∷ xs) = ap (λ es. Gone ∷ es) (gone_each_is xs)
 
 -- the queue when the request at its turn has ended, and the withdrawn ones behind it
-pub goes_queue : (s : LineState) (e : End) → moved_by s.queue (ends_with e s.queue) ≡ passed_by (moved s.queue (finish e)) (passed s.queue.marked (drop (length s.queue.ends + 1) s.queue.order))
+pub goes_queue : (s : OwnerState) (e : End) → moved_by s.queue (ends_with e s.queue) ≡ passed_by (moved s.queue (finish e)) (passed s.queue.marked (drop (length s.queue.ends + 1) s.queue.order))
 goes_queue s e =
     ap (λ xs. moved_by s.queue (finish e ∷ passes_each xs)) (take_while-passed s.queue.marked (drop (length s.queue.ends + 1) s.queue.order))
     ∙ moved_by-passes (moved s.queue (finish e)) (passed s.queue.marked (drop (length s.queue.ends + 1) s.queue.order))
 
-module _ (s : LineState) (n : ℕ) (a : View) (reached : IsReached s) (f : Follows s n a)
+module _ (s : OwnerState) (n : ℕ) (a : View) (reached : IsReached s) (f : Follows s n a)
     (e : End) (k : ℕ) (leaves : PortState) (ends : a.ends ≡ s.queue.ends ++ e ∷ replicate k Gone) (turn : turn_of s.queue.order s.queue.ends ≡ Some (last_of n s.queue.order))
-    (go : LetsGo (length s.queue.ends + 1) leaves a) (quiet : seen leaves ≡ port.Idle) where
+    (go : AfterRelease (length s.queue.ends + 1) leaves a) (quiet : seen leaves ≡ port.Idle) where
   long : length a.ends ≡ length s.queue.ends + 1 + k
   long = let x = length-append s.queue.ends (e ∷ replicate k Gone) in let y = length-replicate k Gone in let z = ap length ends in omega arith
 
@@ -96,7 +96,7 @@ module _ (s : LineState) (n : ℕ) (a : View) (reached : IsReached s) (f : Follo
   ends_are = ends ∙ (sym (append_assoc s.queue.ends (e ∷ []) (replicate k Gone)) ∙ ap (λ es. (s.queue.ends ++ e ∷ []) ++ es) (ap (λ m. replicate m Gone) (sym many) ∙ sym (gone_each_is gone)))
 
   -- the next is joined, so the release is not short
-  not_short : IsShort a → ⊥
+  not_short : SuccessorUnlinked a → ⊥
   not_short short =
       let at = ap (λ xs. slice_get xs (length a.ends)) (sym f.order) ∙ short.1 in
       never (f.joined short.0 (has_at s.queue.order (length a.ends) short.0 at)) short.2
@@ -115,8 +115,8 @@ module _ (s : LineState) (n : ℕ) (a : View) (reached : IsReached s) (f : Follo
   ]
 
   -- the state that is left
-  abbrev pub ended_state : LineState
-  ended_state = record s { queue = passed_by (moved s.queue (finish e)) gone; granted = false; turn = new_turn s.terms.opening.bytes ends_then }
+  abbrev pub ended_state : OwnerState
+  ended_state = record s { queue = passed_by (moved s.queue (finish e)) gone; granted = false; turn = new_turn s.config.opening.bytes ends_then }
 
   closed_own : has (open_of s.queue.order ((s.queue.ends ++ e ∷ []) ++ gone_each (passed s.queue.marked (drop (length s.queue.ends + 1) s.queue.order)))) (last_of n s.queue.order) ≡ false
   closed_own = false_from_ne_true _ (λ h.
@@ -126,7 +126,7 @@ module _ (s : LineState) (n : ℕ) (a : View) (reached : IsReached s) (f : Follo
 
   knows_ended : (w : Write) → KnowsWhole ended_state (record { view = a; turn = w })
   knows_ended w = record {
-    terms = f.terms;
+    config = f.config;
     order = f.order;
     ends = ends_are;
     clear = λ r h. (let (p, lt, at) = place_ended s.queue.order ends_then r h in let z = ap length ends_are in all_clear p r (omega arith) at);
@@ -143,13 +143,13 @@ module _ (s : LineState) (n : ℕ) (a : View) (reached : IsReached s) (f : Follo
     turn = λ h. absurd (let no : port.Holding ≡ port.Idle = ap seen (sym h ∙ own_clear.0) ∙ quiet in cc no);
   }
 
-  -- let go
+  -- released
   pub goes_whole : (w : Write) → KnowsWhole (after_end (after_moves (ends_with e s.queue) s)) (record { view = a; turn = w })
   goes_whole w =
-      subst (λ q. let t : LineState = record s { queue = q; granted = false; turn = new_turn s.terms.opening.bytes q.ends } in KnowsWhole t (record { view = a; turn = w })) (sym (goes_queue s e)) (knows_ended w)
+      subst (λ q. let t : OwnerState = record s { queue = q; granted = false; turn = new_turn s.config.opening.bytes q.ends } in KnowsWhole t (record { view = a; turn = w })) (sym (goes_queue s e)) (knows_ended w)
 
 -- told: nothing had ended of what the state has open, and the line is closed
-pub told_whole : (s : LineState) (n : ℕ) (a : View) → IsReached s → (f : Follows s n a) → is_open s.queue n ≡ true → IsTold a
+pub told_whole : (s : OwnerState) (n : ℕ) (a : View) → IsReached s → (f : Follows s n a) → is_open s.queue n ≡ true → IsTold a
     → (turn_of s.queue.order s.queue.ends ≡ Some (last_of n s.queue.order)) × (is_closed s.queue.ends ≡ true)
     × ((w : Write) → KnowsWhole (after_end (after_moves (ends_with Told s.queue) s)) (record { view = a; turn = w }))
 told_whole s n a reached f stands is =
@@ -171,5 +171,5 @@ told_whole s n a reached f stands is =
       ap is_closed (sym before) ∙ is.closed,
       λ w.
           goes_whole s n a reached f Told is.passed port.Shut (is.ends ∙ ap (λ es. es ++ Told ∷ replicate is.passed Gone) before) turn_is
-          (subst (λ m. LetsGo (m + 1) port.Shut a) same is.lets_go) refl w,
+          (subst (λ m. AfterRelease (m + 1) port.Shut a) same is.releases) refl w,
     )

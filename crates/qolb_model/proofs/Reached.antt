@@ -7,16 +7,16 @@ use Rattle.qolb_model.specs.Requests.{has, last_of}
 use Rattle.qolb_model.specs.Ends.{is_closed}
 use Rattle.qolb_model.specs.Leases.{turns_left}
 use Rattle.qolb_model.specs.Histories.{open_of}
-use Rattle.qolb_model.specs.OneOwner.{LineState, is_first, is_open, state_of, poll_answer, after_poll, after_ask, after_moves, mark_last, after_release, after_write}
+use Rattle.qolb_model.specs.OneOwner.{OwnerState, is_first, is_open, state_of, poll_answer, after_poll, after_ask, after_moves, mark_last, after_release, after_write}
 use Rattle.qolb_model.specs.Plain.{PlainView, IsReached, waiter_of, Agrees}
 use Rattle.qolb_model.proofs.Agreed.{when_queued, when_holding, node_state-state_of, not_both}
 use Rattle.qolb_model.proofs.Steps.{agrees_write, agrees_ask, resting_ask, looks, releases, agrees_mark}
 
 -- the plain line of a state
-abbrev pub plain_of : LineState → PlainView
-plain_of s = record { nodes = s.terms.nodes; waiting = map (waiter_of s.queue.marked) (open_of s.queue.order s.queue.ends); granted = s.granted; closed = is_closed s.queue.ends; left = turns_left s.terms.lease s.queue.ends; turn = s.turn }
+abbrev pub plain_of : OwnerState → PlainView
+plain_of s = record { nodes = s.config.nodes; waiting = map (waiter_of s.queue.marked) (open_of s.queue.order s.queue.ends); granted = s.granted; closed = is_closed s.queue.ends; left = turns_left s.config.lease s.queue.ends; turn = s.turn }
 
-module _ (s : LineState) (reached : IsReached s) where
+module _ (s : OwnerState) (reached : IsReached s) where
   agrees : Agrees (plain_of s) s
   agrees = record { nodes = refl; waiting = refl; granted = refl; closed = refl; left = refl; turn = refl; reached = reached }
 
@@ -41,5 +41,5 @@ module _ (s : LineState) (reached : IsReached s) where
   pub reached_mark : (n : ℕ) → is_open s.queue n ≡ true → has s.queue.marked (last_of n s.queue.order) ≡ false → is_first s.queue n ≡ false → IsReached (after_moves (mark_last s n) s)
   reached_mark n stands unmarked later = (agrees_mark (plain_of s) s n agrees stands unmarked later).reached
 
-  pub reached_asked : (n : ℕ) → 1 ≤ n → n ≤ s.terms.nodes → is_open s.queue n ≡ false → IsReached (after_ask s n) × (is_first (after_ask s n).queue n ≡ true → s.granted ≡ false)
+  pub reached_asked : (n : ℕ) → 1 ≤ n → n ≤ s.config.nodes → is_open s.queue n ≡ false → IsReached (after_ask s n) × (is_first (after_ask s n).queue n ≡ true → s.granted ≡ false)
   reached_asked n low high quiet = ((agrees_ask (plain_of s) s n agrees low high quiet).reached, resting_ask (plain_of s) s n agrees low high quiet)

@@ -32,11 +32,11 @@ is_same-true x y h =
 pub is_same-self : (x : Request) → is_same x x ≡ true
 is_same-self x = rw (eq-eqb x.node x.node refl) (eq-eqb x.number x.number refl)
 
--- a request is one of a list where it stands at a place of it
+-- a request is one of a list if it is at a place of it
 pub has_at : (xs : List Request) (p : ℕ) (r : Request) → slice_get xs p ≡ Some r → Has xs r
 has_at xs p r e = passes_at (is_same r) xs p r e (is_same-self r)
 
--- and the other way: one of a list stands at a place of it
+-- conversely: one of a list is at a place of it
 pub place_of_request : (xs : List Request) (r : Request) → Has xs r → (p : ℕ) × (slice_get xs p ≡ Some r)
 place_of_request xs r h = let found = place_of (is_same r) xs h in (found.0, found.2 ∙ ap Some (sym (is_same-true r found.1 found.3)))
 
@@ -122,12 +122,12 @@ has_last_of order numbered (suc p) le n one =
         let kept = count_of-push_other n (take p order) x other in
         has_left (take p order) (x ∷ []) _ (rw kept (before (omega (arith, le)) (omega (arith, one, kept))))
 
--- what comes before a request lacks it
+-- the requests before one lack it
 pub lacks_before : (order : List Request) → IsNumbered order → (p : ℕ) (r : Request) → slice_get order p ≡ Some r → Lacks (take p order) r
 lacks_before order numbered p r e =
     lacks_from (take p order) r (λ h. omega (arith, number_le_count order numbered p (omega (arith, slice_get_within order p r e)) r h, numbered p r e))
 
--- no request stands twice
+-- no request occurs twice
 pub same_place : (order : List Request) → IsNumbered order → (p q : ℕ) (r : Request) → slice_get order p ≡ Some r → slice_get order q ≡ Some r → p ≡ q
 same_place order numbered p q r at_p at_q = elim (cases_order p q) [
   | inl e ↦ e

@@ -15,15 +15,15 @@ use Rattle.qolb_model.specs.declared.end.End.TheVariants.{Served, Gone, Told}
 use Rattle.qolb_model.specs.declared.answer.Poll.{Poll}
 use Rattle.qolb_model.specs.declared.answer.Poll.TheVariants as poll
 use Rattle.qolb_model.specs.Requests.{is_same, has, Has, Lacks, count_of, last_of, next_of}
-use Rattle.qolb_model.specs.declared.terms.Terms.{Terms}
+use Rattle.qolb_model.specs.declared.config.LineConfig.{LineConfig}
 use Rattle.qolb_model.specs.Ends.{is_closed, bytes_after}
 use Rattle.qolb_model.specs.Leases.{is_last_turn, turns_left, closes}
 use Rattle.qolb_model.specs.Opening.{MayOpen}
 use Rattle.qolb_model.specs.Histories.{turn_of, ended_of, open_of}
 use Rattle.qolb_model.specs.Queue.{Queue, Move, ask, mark, finish, EndsAs, CanMove, moved, Runs}
-use Rattle.qolb_model.specs.OneOwner.{LineState, opened, new_turn, is_first, is_open, moved_by, ends_with, after_moves, after_end, poll_answer, poll_moves, after_poll, after_ask, mark_last, release_moves, after_release, turn_after, after_write}
+use Rattle.qolb_model.specs.OneOwner.{OwnerState, opened, new_turn, is_first, is_open, moved_by, ends_with, after_moves, after_end, poll_answer, poll_moves, after_poll, after_ask, mark_last, release_moves, after_release, turn_after, after_write}
 use Rattle.qolb_model.specs.Plain.{PlainView, IsReached, waiter_of, Agrees}
-use Rattle.qolb_model.specs.Steps.{after_withdrawn, withdrawn_at, joined_by, turn_ended, is_one, one_fewer, turn_served, look_answer, looked}
+use Rattle.qolb_model.specs.Steps.{after_withdrawn, withdrawn_at, with_waiter, turn_ended, is_one, decrement, turn_served, look_answer, looked}
 use Rattle.qolb_model.proofs.Lists.{never, push_cases, slice_get-append_left, slice_get-drop, drop_with}
 use Rattle.qolb_model.proofs.Requests.{same_request, is_same-self, has_at, place_of_request, lacks_from, has_push, has_last, count_of-push_same, count_of-push_other, count_of-push_le, has_last_of_all}
 use Rattle.qolb_model.proofs.Histories.{bytes_after-append, bytes_after-gone, gone_each, is_closed-append, is_closed-gone, legal_ask, legal_gone}
@@ -37,14 +37,14 @@ nothing : {P : Type 0} → false ≡ true → P
 nothing e = absurd (let no : false ≡ true = e in cc no)
 
 -- a line that was just opened
-pub agrees_opened : (terms : Terms) → MayOpen terms → length terms.opening.bytes ≡ 64 →
-    let line : PlainView = record { nodes = terms.nodes; waiting = []; granted = false; closed = false; left = terms.lease; turn = new_turn terms.opening.bytes [] } in Agrees line (opened terms)
-agrees_opened terms may long = record {
+pub agrees_opened : (config : LineConfig) → MayOpen config → length config.opening.bytes ≡ 64 →
+    let line : PlainView = record { nodes = config.nodes; waiting = []; granted = false; closed = false; left = config.lease; turn = new_turn config.opening.bytes [] } in Agrees line (opened config)
+agrees_opened config may long = record {
   nodes = refl;
   waiting = refl;
   granted = refl;
   closed = refl;
-  left = turns_left-none terms.lease;
+  left = turns_left-none config.lease;
   turn = refl;
   reached = record {
     may_open = may;
@@ -61,12 +61,12 @@ agrees_opened terms may long = record {
     passed = λ r e. absurd (let no : None ≡ Some r = e in cc no);
     held = λ e. nothing e;
     resting = λ e. refl;
-    turn = merged-self terms.opening.bytes 0 long;
+    turn = merged-self config.opening.bytes 0 long;
   };
 }
 
 -- the holder writes
-pub agrees_write : (line : PlainView) (s : LineState) (mask : ℕ) (bytes : List ℕ) → Agrees line s → s.granted ≡ true
+pub agrees_write : (line : PlainView) (s : OwnerState) (mask : ℕ) (bytes : List ℕ) → Agrees line s → s.granted ≡ true
     → Agrees (record line { turn = turn_after line.turn mask bytes }) (after_write s mask bytes)
 agrees_write line s mask bytes a holds = record {
   nodes = a.nodes;
@@ -86,12 +86,12 @@ agrees_write line s mask bytes a holds = record {
     passed = a.reached.passed;
     held = a.reached.held;
     resting = λ e. absurd (never holds e);
-    turn = merged-twice (bytes_after s.terms.opening.bytes s.queue.ends) s.turn.bytes.bytes bytes s.turn.mask.0 mask a.reached.turn;
+    turn = merged-twice (bytes_after s.config.opening.bytes s.queue.ends) s.turn.bytes.bytes bytes s.turn.mask.0 mask a.reached.turn;
   };
 }
 
 -- a node that does not wait asks
-module _ (line : PlainView) (s : LineState) (node : ℕ) (a : Agrees line s) (low : 1 ≤ node) (high : node ≤ s.terms.nodes) (quiet : is_open s.queue node ≡ false) where
+module _ (line : PlainView) (s : OwnerState) (node : ℕ) (a : Agrees line s) (low : 1 ≤ node) (high : node ≤ s.config.nodes) (quiet : is_open s.queue node ≡ false) where
   -- the order with its request
   abbrev pub order_then : List Request
   order_then = s.queue.order ++ next_of node s.queue.order ∷ []
@@ -114,7 +114,7 @@ module _ (line : PlainView) (s : LineState) (node : ℕ) (a : Agrees line s) (lo
       never (subst (λ x. Has (open_of s.queue.order s.queue.ends) x) is (has_at (open_of s.queue.order s.queue.ends) (p - length s.queue.ends) r there)) quiet
 
   -- it may ask, since its last request is clear
-  pub can_ask : CanMove s.terms s.queue (ask node)
+  pub can_ask : CanMove s.config s.queue (ask node)
   can_ask = (low, high, λ one. rw a.reached.cleared (past one))
     where
       past : 1 ≤ count_of node s.queue.order → Has (ended_of s.queue.order s.queue.ends) (last_of node s.queue.order)
@@ -126,28 +126,28 @@ module _ (line : PlainView) (s : LineState) (node : ℕ) (a : Agrees line s) (lo
             | inr now ↦ absurd (never now quiet)
           ]
 
-  tidy_ask : IsTidy s.terms.lease (moved s.queue (ask node))
+  tidy_ask : IsTidy s.config.lease (moved s.queue (ask node))
   tidy_ask = record {
-    legal = legal_ask s.terms.lease s.queue.order s.queue.ends node a.reached.legal;
+    legal = legal_ask s.config.lease s.queue.order s.queue.ends node a.reached.legal;
     ended = length s.queue.ends;
     within = omega arith;
     cleared = a.reached.cleared ∙ sym (take-append-le (length s.queue.ends) s.queue.order (next_of node s.queue.order ∷ []) a.reached.legal.ended);
   }
 
   -- a run may begin with its asking
-  pub runs_ask : (moves : List Move) (new : Queue) → Runs s.terms (after_ask s node).queue moves new → Runs s.terms s.queue (ask node ∷ moves) new
-  runs_ask moves new h = (s.queue, has_cleared_none s.queue, can_ask, runs_cleared s.terms (moved s.queue (ask node)) (after_ask s node).queue new moves (clears_all s.terms.lease (moved s.queue (ask node)) tidy_ask) h)
+  pub runs_ask : (moves : List Move) (new : Queue) → Runs s.config (after_ask s node).queue moves new → Runs s.config s.queue (ask node ∷ moves) new
+  runs_ask moves new h = (s.queue, has_cleared_none s.queue, can_ask, runs_cleared s.config (moved s.queue (ask node)) (after_ask s node).queue new moves (clears_all s.config.lease (moved s.queue (ask node)) tidy_ask) h)
 
   -- what holds of reached states holds again
   pub reached_ask : IsReached (after_ask s node)
   reached_ask = record {
     may_open = a.reached.may_open;
     line = a.reached.line;
-    legal = legal_ask s.terms.lease s.queue.order s.queue.ends node a.reached.legal;
+    legal = legal_ask s.config.lease s.queue.order s.queue.ends node a.reached.legal;
     cleared = refl;
     nodes_known = λ p r e. elim (push_cases s.queue.order (next_of node s.queue.order) p r e) [
       | inl old ↦ a.reached.nodes_known p r old.1
-      | inr new ↦ subst (λ x. (1 ≤ x.node) × (x.node ≤ s.terms.nodes)) (sym new.1) (low, high)
+      | inr new ↦ subst (λ x. (1 ≤ x.node) × (x.node ≤ s.config.nodes)) (sym new.1) (low, high)
     ];
     last_open = λ p r from e. elim (push_cases s.queue.order (next_of node s.queue.order) p r e) [
       | inl old ↦
@@ -166,7 +166,7 @@ module _ (line : PlainView) (s : LineState) (node : ℕ) (a : Agrees line s) (lo
   }
 
   -- and the line agrees
-  pub agrees_ask : Agrees (joined_by line node) (after_ask s node)
+  pub agrees_ask : Agrees (with_waiter line node) (after_ask s node)
   agrees_ask = record {
     nodes = a.nodes;
     waiting =
@@ -181,7 +181,7 @@ module _ (line : PlainView) (s : LineState) (node : ℕ) (a : Agrees line s) (lo
     reached = reached_ask;
   }
 
-  -- where the request is at its turn at once, nobody holds
+  -- if the request is at its turn at once, no node holds
   pub resting_ask : is_first (after_ask s node).queue node ≡ true → s.granted ≡ false
   resting_ask first = by s.granted refl
     where
@@ -203,7 +203,7 @@ after_withdrawn-unpassed marked (x ∷ xs) = by (has marked x) (after_withdrawn-
     by false e = refl
 
 -- the request at its turn ends, and the withdrawn ones behind it are passed
-module _ (line : PlainView) (s : LineState) (r : Request) (e : End) (a : Agrees line s) (turn : turn_of s.queue.order s.queue.ends ≡ Some r) (so : EndsAs s.terms.lease s.queue r e) where
+module _ (line : PlainView) (s : OwnerState) (r : Request) (e : End) (a : Agrees line s) (turn : turn_of s.queue.order s.queue.ends ≡ Some r) (so : EndsAs s.config.lease s.queue r e) where
   -- the requests behind it, the withdrawn ones that are passed, and those that are left; and all ends then
   abbrev pub behind : List Request
   behind = drop (length s.queue.ends + 1) s.queue.order
@@ -239,38 +239,38 @@ module _ (line : PlainView) (s : LineState) (r : Request) (e : End) (a : Agrees 
   queue_is : moved_by s.queue (ends_with e s.queue) ≡ passed_by (moved s.queue (finish e)) gone
   queue_is = ap (moved_by s.queue) moves_are ∙ moved_by-passes (moved s.queue (finish e)) gone
 
-  tidy_then : IsTidy s.terms.lease (moved s.queue (finish e))
-  tidy_then = tidy_end s.terms.lease s.queue r e (is_tidy line s a) turn so
+  tidy_then : IsTidy s.config.lease (moved s.queue (finish e))
+  tidy_then = tidy_end s.config.lease s.queue r e (is_tidy line s a) turn so
 
   -- the queue makes these moves
-  pub runs_end : Runs s.terms s.queue (ends_with e s.queue) (moved_by s.queue (ends_with e s.queue))
+  pub runs_end : Runs s.config s.queue (ends_with e s.queue) (moved_by s.queue (ends_with e s.queue))
   runs_end =
-      subst (λ moves. Runs s.terms s.queue moves (moved_by s.queue moves)) (sym moves_are)
-      (s.queue, has_cleared_none s.queue, (r, turn, so), runs_passes s.terms (moved s.queue (finish e)) gone rest tidy_then behind_now (are_marked-passed s.queue.marked behind))
+      subst (λ moves. Runs s.config s.queue moves (moved_by s.queue moves)) (sym moves_are)
+      (s.queue, has_cleared_none s.queue, (r, turn, so), runs_passes s.config (moved s.queue (finish e)) gone rest tidy_then behind_now (are_marked-passed s.queue.marked behind))
 
   -- the passed ones do not close the line, and change no byte
   closed_then : is_closed ends_then ≡ is_closed (s.queue.ends ++ e ∷ [])
   closed_then = is_closed-append (s.queue.ends ++ e ∷ []) (gone_each gone) ∙ (ap (λ b. is_closed (s.queue.ends ++ e ∷ []) || b) (is_closed-gone gone) ∙ or-false (is_closed (s.queue.ends ++ e ∷ [])))
 
-  bytes_then : bytes_after s.terms.opening.bytes ends_then ≡ bytes_after s.terms.opening.bytes (s.queue.ends ++ e ∷ [])
-  bytes_then = bytes_after-append s.terms.opening.bytes (s.queue.ends ++ e ∷ []) (gone_each gone) ∙ bytes_after-gone (bytes_after s.terms.opening.bytes (s.queue.ends ++ e ∷ [])) gone
+  bytes_then : bytes_after s.config.opening.bytes ends_then ≡ bytes_after s.config.opening.bytes (s.queue.ends ++ e ∷ [])
+  bytes_then = bytes_after-append s.config.opening.bytes (s.queue.ends ++ e ∷ []) (gone_each gone) ∙ bytes_after-gone (bytes_after s.config.opening.bytes (s.queue.ends ++ e ∷ [])) gone
 
-  left_then : turns_left s.terms.lease ends_then ≡ turns_left s.terms.lease (s.queue.ends ++ e ∷ [])
-  left_then = turns_left-same s.terms.lease (s.queue.ends ++ e ∷ []) (gone_each gone) (served-gone gone)
+  left_then : turns_left s.config.lease ends_then ≡ turns_left s.config.lease (s.queue.ends ++ e ∷ [])
+  left_then = turns_left-same s.config.lease (s.queue.ends ++ e ∷ []) (gone_each gone) (served-gone gone)
 
   more_ended : length s.queue.ends ≤ length ends_then
   more_ended = omega (arith, length-append (s.queue.ends ++ e ∷ []) (gone_each gone), length-append s.queue.ends (e ∷ []))
 
   -- the state that is left
-  abbrev pub ended_state : LineState
-  ended_state = record s { queue = passed_by (moved s.queue (finish e)) gone; granted = false; turn = new_turn s.terms.opening.bytes ends_then }
+  abbrev pub ended_state : OwnerState
+  ended_state = record s { queue = passed_by (moved s.queue (finish e)) gone; granted = false; turn = new_turn s.config.opening.bytes ends_then }
 
   -- what holds of reached states holds of it
   pub reached_end : IsReached ended_state
   reached_end = record {
     may_open = a.reached.may_open;
     line = a.reached.line;
-    legal = legal_gone s.terms.lease s.queue.order (s.queue.ends ++ e ∷ []) gone tidy_then.legal
+    legal = legal_gone s.config.lease s.queue.order (s.queue.ends ++ e ∷ []) gone tidy_then.legal
         (omega (arith, length-drop (length (s.queue.ends ++ e ∷ [])) s.queue.order, ap length behind_now, length-append gone rest, tidy_then.legal.ended));
     cleared = refl;
     nodes_known = a.reached.nodes_known;
@@ -282,15 +282,15 @@ module _ (line : PlainView) (s : LineState) (r : Request) (e : End) (a : Agrees 
         (ap (λ xs. slice_get xs 0) (sym left_now) ∙ (slice_get-drop (length ends_then) s.queue.order 0 ∙ (ap (slice_get s.queue.order) zero_more ∙ at)));
     held = λ h. nothing h;
     resting = λ h. refl;
-    turn = merged-self (bytes_after s.terms.opening.bytes ends_then) 0 (length-bytes_after s.terms.opening.bytes ends_then a.reached.line);
+    turn = merged-self (bytes_after s.config.opening.bytes ends_then) 0 (length-bytes_after s.config.opening.bytes ends_then a.reached.line);
   }
 
   -- and the line agrees
   pub agrees_end :
-      (closed : Bool) (left : Option ℕ) → closed ≡ is_closed (s.queue.ends ++ e ∷ []) → left ≡ turns_left s.terms.lease (s.queue.ends ++ e ∷ []) → bytes_after s.terms.opening.bytes (s.queue.ends ++ e ∷ []) ≡ s.turn.bytes.bytes
+      (closed : Bool) (left : Option ℕ) → closed ≡ is_closed (s.queue.ends ++ e ∷ []) → left ≡ turns_left s.config.lease (s.queue.ends ++ e ∷ []) → bytes_after s.config.opening.bytes (s.queue.ends ++ e ∷ []) ≡ s.turn.bytes.bytes
       → Agrees (turn_ended (record line { closed = closed; left = left })) (after_end (after_moves (ends_with e s.queue) s))
   agrees_end closed left closing fewer bytes =
-      subst (λ q. let t : LineState = record s { queue = q; granted = false; turn = new_turn s.terms.opening.bytes q.ends } in Agrees (turn_ended (record line { closed = closed; left = left })) t) (sym queue_is)
+      subst (λ q. let t : OwnerState = record s { queue = q; granted = false; turn = new_turn s.config.opening.bytes q.ends } in Agrees (turn_ended (record line { closed = closed; left = left })) t) (sym queue_is)
       (record {
         nodes = a.nodes;
         waiting =
@@ -316,17 +316,17 @@ answered true false = (refl, refl)
 answered false closed = refl
 
 -- the answer of a look is that of `poll`
-pub look_answer-poll_answer : (line : PlainView) (s : LineState) (node : ℕ) → Agrees line s → look_answer line node ≡ poll_answer s node
+pub look_answer-poll_answer : (line : PlainView) (s : OwnerState) (node : ℕ) → Agrees line s → look_answer line node ≡ poll_answer s node
 look_answer-poll_answer line s node a =
     ap (λ f. if f then (if line.closed then poll.Closed else poll.Granted) else poll.Waiting) (oldest-is_first line s a node)
     ∙ ap (λ c. if is_first s.queue node then (if c then poll.Closed else poll.Granted) else poll.Waiting) a.closed
 
 -- a node that does not hold looks
-pub looks : (line : PlainView) (s : LineState) (node : ℕ) (p : Poll) → Agrees line s → poll_answer s node ≡ p → (is_first s.queue node ≡ true → s.granted ≡ false)
-    → Runs s.terms s.queue (poll_moves p s) (after_poll p s).queue × Agrees (looked p line) (after_poll p s)
+pub looks : (line : PlainView) (s : OwnerState) (node : ℕ) (p : Poll) → Agrees line s → poll_answer s node ≡ p → (is_first s.queue node ≡ true → s.granted ≡ false)
+    → Runs s.config s.queue (poll_moves p s) (after_poll p s).queue × Agrees (looked p line) (after_poll p s)
 looks line s node p a is rest = by p (subst (λ x. Answered (is_first s.queue node) (is_closed s.queue.ends) x) is (answered (is_first s.queue node) (is_closed s.queue.ends)))
   where
-    by : (x : Poll) → Answered (is_first s.queue node) (is_closed s.queue.ends) x → Runs s.terms s.queue (poll_moves x s) (after_poll x s).queue × Agrees (looked x line) (after_poll x s)
+    by : (x : Poll) → Answered (is_first s.queue node) (is_closed s.queue.ends) x → Runs s.config s.queue (poll_moves x s) (after_poll x s).queue × Agrees (looked x line) (after_poll x s)
     by poll.Granted h = (
       has_cleared_none s.queue,
       record {
@@ -347,41 +347,41 @@ looks line s node p a is rest = by p (subst (λ x. Answered (is_first s.queue no
           passed = a.reached.passed;
           held = λ _. (slice_get_within s.queue.order (length s.queue.ends) (last_of node s.queue.order) (first_turn s.queue node h.0), h.1);
           resting = λ _. refl;
-          turn = merged-self (bytes_after s.terms.opening.bytes s.queue.ends) 0 (length-bytes_after s.terms.opening.bytes s.queue.ends a.reached.line);
+          turn = merged-self (bytes_after s.config.opening.bytes s.queue.ends) 0 (length-bytes_after s.config.opening.bytes s.queue.ends a.reached.line);
         };
       },
     )
     by poll.Waiting h = (has_cleared_none s.queue, a)
     by poll.Closed h =
         let turn = first_turn s.queue node h.0 in
-        let so : EndsAs s.terms.lease s.queue (last_of node s.queue.order) Told = (a.reached.passed (last_of node s.queue.order) turn, h.1) in (
+        let so : EndsAs s.config.lease s.queue (last_of node s.queue.order) Told = (a.reached.passed (last_of node s.queue.order) turn, h.1) in (
           runs_end line s (last_of node s.queue.order) Told a turn so,
           agrees_end line s (last_of node s.queue.order) Told a turn so line.closed line.left
               (a.closed ∙ sym (is_closed-append s.queue.ends (Told ∷ []) ∙ or-false (is_closed s.queue.ends)))
-              (a.left ∙ sym (turns_left-same s.terms.lease s.queue.ends (Told ∷ []) refl))
-              (bytes_after-append s.terms.opening.bytes s.queue.ends (Told ∷ []) ∙ sym (ap (λ t. t.bytes.bytes) (a.reached.resting (rest h.0)))),
+              (a.left ∙ sym (turns_left-same s.config.lease s.queue.ends (Told ∷ []) refl))
+              (bytes_after-append s.config.opening.bytes s.queue.ends (Told ∷ []) ∙ sym (ap (λ t. t.bytes.bytes) (a.reached.resting (rest h.0)))),
         )
 
 -- the holder releases
-pub releases : (line : PlainView) (s : LineState) (node : ℕ) (shut : Bool) → Agrees line s → s.granted ≡ true → is_first s.queue node ≡ true
-    → Runs s.terms s.queue (release_moves s shut) (after_release s shut).queue × Agrees (turn_served shut line) (after_release s shut)
+pub releases : (line : PlainView) (s : OwnerState) (node : ℕ) (shut : Bool) → Agrees line s → s.granted ≡ true → is_first s.queue node ≡ true
+    → Runs s.config s.queue (release_moves s shut) (after_release s shut).queue × Agrees (turn_served shut line) (after_release s shut)
 releases line s node shut a holds first =
     let turn = first_turn s.queue node first in
     let open_line = (a.reached.held holds).1 in
-    let closing : Bool = closes s.terms.lease s.queue.ends shut in
+    let closing : Bool = closes s.config.lease s.queue.ends shut in
     let e : End = Served s.turn closing in
-    let so : EndsAs s.terms.lease s.queue (last_of node s.queue.order) e =
-    (a.reached.passed (last_of node s.queue.order) turn, open_line, last_closes s.terms.lease s.queue.ends shut) in
-    let last : is_one line.left ≡ is_last_turn s.terms.lease s.queue.ends = ap is_one a.left ∙ last-is_one s.terms.lease s.queue.ends in (
+    let so : EndsAs s.config.lease s.queue (last_of node s.queue.order) e =
+    (a.reached.passed (last_of node s.queue.order) turn, open_line, last_closes s.config.lease s.queue.ends shut) in
+    let last : is_one line.left ≡ is_last_turn s.config.lease s.queue.ends = ap is_one a.left ∙ last-is_one s.config.lease s.queue.ends in (
       runs_end line s (last_of node s.queue.order) e a turn so,
-      agrees_end line s (last_of node s.queue.order) e a turn so (line.closed || (shut || is_one line.left)) (one_fewer line.left)
+      agrees_end line s (last_of node s.queue.order) e a turn so (line.closed || (shut || is_one line.left)) (decrement line.left)
           ((λ i. a.closed i || (shut || last i)) ∙ sym (is_closed-append s.queue.ends (e ∷ []) ∙ ap (λ b. is_closed s.queue.ends || b) (or-false closing)))
-          (ap one_fewer a.left ∙ sym (turns_left-served s.terms.lease s.queue.ends s.turn closing))
-          (bytes_after-append s.terms.opening.bytes s.queue.ends (e ∷ []) ∙ a.reached.turn),
+          (ap decrement a.left ∙ sym (turns_left-served s.config.lease s.queue.ends s.turn closing))
+          (bytes_after-append s.config.opening.bytes s.queue.ends (e ∷ []) ∙ a.reached.turn),
     )
 
 -- a node that waits behind another withdraws
-module _ (line : PlainView) (s : LineState) (node : ℕ) (a : Agrees line s) (stands : is_open s.queue node ≡ true) (unmarked : has s.queue.marked (last_of node s.queue.order) ≡ false) (behind_one : is_first s.queue node ≡ false) where
+module _ (line : PlainView) (s : OwnerState) (node : ℕ) (a : Agrees line s) (stands : is_open s.queue node ≡ true) (unmarked : has s.queue.marked (last_of node s.queue.order) ≡ false) (behind_one : is_first s.queue node ≡ false) where
   -- its last request, and the marks with it
   abbrev pub last : Request
   last = last_of node s.queue.order
@@ -390,7 +390,7 @@ module _ (line : PlainView) (s : LineState) (node : ℕ) (a : Agrees line s) (st
   marked_then = s.queue.marked ++ last ∷ []
 
   -- it may be marked, since it waits behind the one at its turn
-  can_mark : CanMove s.terms s.queue (mark last)
+  can_mark : CanMove s.config s.queue (mark last)
   can_mark =
       let (p, there) = place_of_request (open_of s.queue.order s.queue.ends) last stands in
       let at : slice_get s.queue.order (length s.queue.ends + p) ≡ Some last = sym (slice_get-drop (length s.queue.ends) s.queue.order p) ∙ there in
@@ -404,12 +404,12 @@ module _ (line : PlainView) (s : LineState) (node : ℕ) (a : Agrees line s) (st
       later (suc p) at = omega arith
 
   -- the queue makes this move
-  pub runs_mark : Runs s.terms s.queue (mark_last s node) (after_moves (mark_last s node) s).queue
+  pub runs_mark : Runs s.config s.queue (mark_last s node) (after_moves (mark_last s node) s).queue
   runs_mark = (
     s.queue,
     has_cleared_none s.queue,
     can_mark,
-    clears_all s.terms.lease (moved s.queue (mark last)) (record { legal = a.reached.legal; ended = length s.queue.ends; within = omega arith; cleared = a.reached.cleared }),
+    clears_all s.config.lease (moved s.queue (mark last)) (record { legal = a.reached.legal; ended = length s.queue.ends; within = omega arith; cleared = a.reached.cleared }),
   )
 
   -- each entry changes as the marks do

@@ -8,7 +8,7 @@ use mathlib.Core.List.{IsPrefix}
 use Rattle.qolb_model.specs.declared.request.Request.{Request}
 use Rattle.qolb_model.specs.declared.end.End.{End}
 use Rattle.qolb_model.specs.declared.end.End.TheVariants.{Served, Gone, Told}
-use Rattle.qolb_model.specs.declared.terms.Terms.{Terms}
+use Rattle.qolb_model.specs.declared.config.LineConfig.{LineConfig}
 use Rattle.qolb_model.specs.declared.view.View.{View}
 use Rattle.qolb_model.specs.Requests.{count_of}
 use Rattle.qolb_model.specs.Ends.{written, bytes_after}
@@ -72,7 +72,7 @@ not_served (Served write shut) h = absurd (h refl)
 not_served Gone h = refl
 not_served Told h = refl
 
--- a longer order and more ends have the same turns of a node, where each of its served requests is known to the shorter ones
+-- a longer order and more ends have the same turns of a node, if each of its served requests is known to the shorter ones
 pub turns-same : (does : List ℕ → List ℕ → ℕ) (node : ℕ) (bytes : List ℕ) (order more : List Request) (ends later : List End)
     → IsPrefix order more → IsPrefix ends later
     → ((p : ℕ) (r : Request) (e : End) → slice_get more p ≡ Some r → slice_get later p ≡ Some e → r.node ≡ node → is_served e ≡ true → (p < length order) × (p < length ends))
@@ -100,7 +100,7 @@ turns-same does node bytes order more ends later (xs, is_more) (ys, is_later) h 
         let known = h (length order + p) r e (ap (λ l. slice_get l (length order + p)) (sym is_more) ∙ (slice_get-append_right order xs p ∙ at_r)) (prefix_get ends later (length order + p) e (ys, is_later) (sym (slice_get-drop (length order) ends p) ∙ at_e)) same served in
         let no : length order + p < length order = known.0 in omega arith))
 
--- what each of these adds, where it does so at one node alone
+-- the sum of what each of these adds, if it adds at one node only
 sum-at : (views : List View) (node amount : ℕ) → sum_by (λ (v : View). if node == v.node then amount else 0) views ≡ amount * count_by (λ (v : View). node == v.node) views
 sum-at [] node amount = omega arith
 sum-at (v ∷ views) node amount =
@@ -120,7 +120,7 @@ pub sum-zero : {X : Type 0} (f : X → ℕ) (xs : List X) → ((x : X) → f x �
 sum-zero f [] h = refl
 sum-zero f (x ∷ xs) h = sum_by-cons f x xs ∙ (ap (λ n. n + sum_by f xs) (h x) ∙ (zero-add (sum_by f xs) ∙ sum-zero f xs h))
 
--- what all turns did is what those of each node did, where each request's node is there once
+-- the changes by all turns are those by the turns of each node, if each request's node occurs once
 pub sums-split : (does : List ℕ → List ℕ → ℕ) (views : List View) (bytes : List ℕ) (order : List Request) (ends : List End) → length ends ≤ length order
     → ((p : ℕ) (r : Request) → slice_get order p ≡ Some r → count_by (λ (v : View). r.node == v.node) views ≡ 1)
     → sum_by (λ (v : View). sum_of_turns does v.node bytes order ends) views ≡ sum_of_all does bytes ends
@@ -188,11 +188,11 @@ served_stays Gone h = absurd (let no : false ≡ true = h in cc no)
 served_stays Told h = absurd (let no : false ≡ true = h in cc no)
 
 -- a port knows all turns of its node in the whole history
-pub turns-whole : (does : List ℕ → List ℕ → ℕ) (terms : Terms) (order : List Request) (ends : List End) (clear : List Request) (v : View) → Knows terms order ends clear v → KnowsOwnPlaces v
-    → sum_of_turns does v.node v.terms.opening.bytes v.order v.ends ≡ sum_of_turns does v.node terms.opening.bytes order ends
-turns-whole does terms order ends clear v knows places =
-    ap (λ (t : Terms). sum_of_turns does v.node t.opening.bytes v.order v.ends) knows.terms_are
-    ∙ sym (turns-same does v.node terms.opening.bytes v.order order v.ends ends knows.order_begins knows.ends_begin (λ p r e at_r at_e same served. (
+pub turns-whole : (does : List ℕ → List ℕ → ℕ) (config : LineConfig) (order : List Request) (ends : List End) (clear : List Request) (v : View) → Knows config order ends clear v → KnowsOwnPlaces v
+    → sum_of_turns does v.node v.config.opening.bytes v.order v.ends ≡ sum_of_turns does v.node config.opening.bytes order ends
+turns-whole does config order ends clear v knows places =
+    ap (λ (t : LineConfig). sum_of_turns does v.node t.opening.bytes v.order v.ends) knows.config_is
+    ∙ sym (turns-same does v.node config.opening.bytes v.order order v.ends ends knows.order_begins knows.ends_begin (λ p r e at_r at_e same served. (
       own_place v.node v.order order knows.order_begins (places ∙ sym knows.own_count) p r at_r same,
       slice_get_within v.ends p e (knows.own_ends p r e at_r at_e same (served_stays e served)),
     )))
@@ -206,13 +206,13 @@ sum-each f g (x ∷ xs) h =
 
 -- a finished line: what all turns did is the sum of what each port's own did
 module _ (good : List ℕ → Type 0) (allows : List ℕ → List ℕ → Type 0) where
-  pub sums_of_ports : (does : List ℕ → List ℕ → ℕ) (label : ℕ) (terms : Terms) (views : List View) (bytes : List ℕ) (finished : IsFinished good allows label terms views bytes)
-      → ((v : View) → IsAmong views v → KnowsOwnPlaces v) → sum_of_all does terms.opening.bytes finished.history.ends ≡ sum_by (sum_of_own does) views
-  sums_of_ports does label terms views bytes f places =
+  pub sums_of_ports : (does : List ℕ → List ℕ → ℕ) (label : ℕ) (config : LineConfig) (views : List View) (bytes : List ℕ) (finished : IsFinished good allows label config views bytes)
+      → ((v : View) → IsAmong views v → KnowsOwnPlaces v) → sum_of_all does config.opening.bytes finished.history.ends ≡ sum_by (sum_of_own does) views
+  sums_of_ports does label config views bytes f places =
       let h = f.history in
-      let whole = sum-each (sum_of_own does) (λ (v : View). sum_of_turns does v.node terms.opening.bytes h.order h.ends) views
-      (λ i v at. turns-whole does h.terms h.order h.ends h.clear v (h.known v (i, at)) (places v (i, at)) ∙ ap (λ (t : Terms). sum_of_turns does v.node t.opening.bytes h.order h.ends) f.terms_are) in
+      let whole = sum-each (sum_of_own does) (λ (v : View). sum_of_turns does v.node config.opening.bytes h.order h.ends) views
+      (λ i v at. turns-whole does h.config h.order h.ends h.clear v (h.known v (i, at)) (places v (i, at)) ∙ ap (λ (t : LineConfig). sum_of_turns does v.node t.opening.bytes h.order h.ends) f.config_is) in
       let (w, among, is) = f.there 1 (omega arith) f.may_open.nodes.some in
-      let of_line = subst (λ (t : Terms). (p : ℕ) (r : Request) → slice_get h.order p ≡ Some r → (1 ≤ r.node) × (r.node ≤ t.nodes)) f.terms_are (h.known w among).of_line in
+      let of_line = subst (λ (t : LineConfig). (p : ℕ) (r : Request) → slice_get h.order p ≡ Some r → (1 ≤ r.node) × (r.node ≤ t.nodes)) f.config_is (h.known w among).of_line in
       let once = λ (p : ℕ) (r : Request) (at : slice_get h.order p ≡ Some r). once_there views r.node f.once (f.there r.node (of_line p r at).0 (of_line p r at).1) in
-      sym (whole ∙ sums-split does views terms.opening.bytes h.order h.ends (omega (arith, f.all_ended)) once)
+      sym (whole ∙ sums-split does views config.opening.bytes h.order h.ends (omega (arith, f.all_ended)) once)

@@ -8,17 +8,17 @@ use Rattle.qolb_model.specs.Requests.{count_of}
 use Rattle.qolb_model.specs.EndKinds.{is_served}
 use Rattle.qolb_model.specs.Views.{own}
 use Rattle.qolb_model.specs.OneHistory.{OneHistory}
-use Rattle.qolb_model.specs.Asking.{IsBusy, Asks}
-use Rattle.qolb_model.specs.Turns.{IsWithdrawn}
-use Rattle.qolb_model.specs.LettingGo.{IsTold}
+use Rattle.qolb_model.specs.Enqueueing.{IsBusy, Asks}
+use Rattle.qolb_model.specs.AtTurn.{IsWithdrawn}
+use Rattle.qolb_model.specs.Releasing.{IsTold}
 use Rattle.qolb_model.proofs.Lists.{same_some, slice_get-middle}
 use Rattle.qolb_model.proofs.Prefixes.{prefix_get}
 use Rattle.qolb_model.proofs.Requests.{has_at, same_request, number_le_count_all}
 use Rattle.qolb_model.proofs.Histories.{same_place_legal}
 use Rattle.qolb_model.proofs.Agreeing.{among_first}
-use Rattle.qolb_model.specs.declared.patience.Asked.{Asked}
-use Rattle.qolb_model.specs.declared.patience.Asked.TheVariants as asked
-use Rattle.qolb_model.specs.Patience.{IsUnserved}
+use Rattle.qolb_model.specs.declared.acquire.Acquired.{Acquired}
+use Rattle.qolb_model.specs.declared.acquire.Acquired.TheVariants as outcome
+use Rattle.qolb_model.specs.Acquiring.{IsUnserved}
 
 module _ (old new : View) (history : OneHistory (new ∷ [])) where
   -- no request of the node has a higher number than its count
@@ -33,11 +33,11 @@ module _ (old new : View) (history : OneHistory (new ∷ [])) where
   is_own : (p : ℕ) (r : Request) → slice_get new.order p ≡ Some r → r.node ≡ new.node → old.count < r.number → new.count ≡ old.count + 1 → r ≡ own new
   is_own p r at its made once = same_request r.node new.node r.number new.count its (omega (arith, numbered p r at its, made, once))
 
-  -- and stands at one place
+  -- and is at one place
   one_place : (p q : ℕ) (r : Request) → slice_get new.order p ≡ Some r → slice_get new.order q ≡ Some r → p ≡ q
   one_place p q r at there =
       let begins = (history.known new (among_first new [])).order_begins in
-      same_place_legal history.terms.lease history.order history.ends history.legal p q r (prefix_get new.order history.order p r begins at) (prefix_get new.order history.order q r begins there)
+      same_place_legal history.config.lease history.order history.ends history.legal p q r (prefix_get new.order history.order p r begins at) (prefix_get new.order history.order q r begins there)
 
   busy_unserved : IsBusy old new → IsUnserved old new
   busy_unserved busy p r e at its made ended = absurd (omega (arith, numbered p r at its, made, busy.count))
@@ -58,9 +58,9 @@ module _ (old new : View) (history : OneHistory (new ∷ [])) where
       ap is_served (same_some (sym ended ∙ end))
 
   pub unserved :
-      (answer : Asked) → (answer ≡ asked.Busy → IsBusy old new) → (answer ≢ asked.Busy → Asks old new) → (answer ≡ asked.Late → IsWithdrawn new) → (answer ≡ asked.Closed → IsTold new)
-      → answer ≢ asked.Granted → IsUnserved old new
-  unserved asked.Granted busy asks late told other = absurd (other refl)
-  unserved asked.Late busy asks late told other = late_unserved (asks (λ e. cc e)) (late refl)
-  unserved asked.Closed busy asks late told other = told_unserved (asks (λ e. cc e)) (told refl)
-  unserved asked.Busy busy asks late told other = busy_unserved (busy refl)
+      (answer : Acquired) → (answer ≡ outcome.Busy → IsBusy old new) → (answer ≢ outcome.Busy → Asks old new) → (answer ≡ outcome.Late → IsWithdrawn new) → (answer ≡ outcome.Closed → IsTold new)
+      → answer ≢ outcome.Granted → IsUnserved old new
+  unserved outcome.Granted busy asks late told other = absurd (other refl)
+  unserved outcome.Late busy asks late told other = late_unserved (asks (λ e. cc e)) (late refl)
+  unserved outcome.Closed busy asks late told other = told_unserved (asks (λ e. cc e)) (told refl)
+  unserved outcome.Busy busy asks late told other = busy_unserved (busy refl)

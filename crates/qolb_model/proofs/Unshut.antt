@@ -6,7 +6,7 @@ use Rattle.std.proofs.lemmas.Option.{slice_get_within}
 use Rattle.qolb_model.specs.declared.request.Request.{Request}
 use Rattle.qolb_model.specs.declared.end.End.{End}
 use Rattle.qolb_model.specs.declared.end.End.TheVariants.{Served, Gone, Told}
-use Rattle.qolb_model.specs.declared.terms.Terms.{Terms}
+use Rattle.qolb_model.specs.declared.config.LineConfig.{LineConfig}
 use Rattle.qolb_model.specs.declared.view.View.{View}
 use Rattle.qolb_model.specs.declared.write.Write.{Write}
 use Rattle.qolb_model.specs.Ends.{is_closed}
@@ -14,7 +14,7 @@ use Rattle.qolb_model.specs.Leases.{served, is_last_turn, IsLease}
 use Rattle.qolb_model.specs.Histories.{IsLegal}
 use Rattle.qolb_model.specs.OneHistory.{IsAmong}
 use Rattle.qolb_model.specs.Finishing.{IsFinished}
-use Rattle.qolb_model.specs.LettingGo.{IsTold}
+use Rattle.qolb_model.specs.Releasing.{IsTold}
 use Rattle.qolb_model.specs.Sums.{KnowsOwnPlaces, HasNotShut}
 use Rattle.qolb_model.proofs.Lists.{same_some, element_at, take_with}
 use Rattle.qolb_model.proofs.Prefixes.{prefix_get}
@@ -22,7 +22,7 @@ use Rattle.qolb_model.proofs.Histories.{is_closed-append}
 use Rattle.qolb_model.proofs.Leases.{served-append, lease_bounds}
 use Rattle.qolb_model.proofs.Sums.{own_place}
 
--- where ends closed the line, one of them did
+-- if ends closed the line, one of them did
 closed_at : (ends : List End) → is_closed ends ≡ true → (p : ℕ) × (write : Write) × (slice_get ends p ≡ Some (Served write true))
 closed_at [] h = absurd (let no : false ≡ true = h in cc no)
 closed_at (Served write true ∷ ends) h = (0, write, refl)
@@ -44,16 +44,16 @@ all_served (Some turns) order ends some legal p write shut at last =
 
 module _ (good : List ℕ → Type 0) (allows : List ℕ → List ℕ → Type 0) where
   -- a finished line that no port of its has shut is closed by its lease, or not at all
-  pub closed_by_lease : (label : ℕ) (terms : Terms) (views : List View) (bytes : List ℕ) (finished : IsFinished good allows label terms views bytes)
-      → ((v : View) → IsAmong views v → KnowsOwnPlaces v) → ((v : View) → IsAmong views v → HasNotShut v) → is_closed finished.history.ends ≡ true → terms.lease ≡ Some (served finished.history.ends)
-  closed_by_lease label terms views bytes f places unshut closed =
+  pub closed_by_lease : (label : ℕ) (config : LineConfig) (views : List View) (bytes : List ℕ) (finished : IsFinished good allows label config views bytes)
+      → ((v : View) → IsAmong views v → KnowsOwnPlaces v) → ((v : View) → IsAmong views v → HasNotShut v) → is_closed finished.history.ends ≡ true → config.lease ≡ Some (served finished.history.ends)
+  closed_by_lease label config views bytes f places unshut closed =
       let h = f.history in
       let (p, write, at) = closed_at h.ends closed in
       let within = slice_get_within h.ends p (Served write true) at in
       let (r, at_r) = element_at h.order p (omega (arith, within, f.all_ended)) in
       let (u, among_u, is_u) = f.there 1 (omega arith) f.may_open.nodes.some in
       let of_line = (h.known u among_u).of_line p r at_r in
-      let (v, among, is) = f.there r.node of_line.0 (subst (λ (t : Terms). r.node ≤ t.nodes) f.terms_are of_line.1) in
+      let (v, among, is) = f.there r.node of_line.0 (subst (λ (t : LineConfig). r.node ≤ t.nodes) f.config_is of_line.1) in
       let knows = h.known v among in
       let end = knows.own_ends p r (Served write true) at_r at (sym is) refl in
       let place = own_place v.node v.order h.order knows.order_begins (places v among ∙ sym knows.own_count) p r at_r (sym is) in
@@ -61,20 +61,20 @@ module _ (good : List ℕ → Type 0) (allows : List ℕ → List ℕ → Type 0
       let same : x ≡ r = same_some (sym (prefix_get v.order h.order p x knows.order_begins at_x) ∙ at_r) in
       let lt = slice_get_within v.ends p (Served write true) end in
       let cut : take p h.ends ≡ take p v.ends = ap (take p) (sym knows.ends_begin.1) ∙ take-append-le p v.ends knows.ends_begin.0 (omega (arith, lt)) in
-      let terms_are : v.terms ≡ terms = knows.terms_are ∙ f.terms_are in
-      let last : true ≡ is_last_turn v.terms.lease (take p v.ends) = unshut v among p x write true at_x (ap (λ (y : Request). y.node) same ∙ sym is) end in
-      let legal = subst (λ (t : Terms). IsLegal t.lease h.order h.ends) f.terms_are h.legal in
-      all_served terms.lease h.order h.ends f.may_open.lease legal p write true at (sym (last ∙ (ap (λ (t : Terms). is_last_turn t.lease (take p v.ends)) terms_are ∙ ap (is_last_turn terms.lease) (sym cut))))
+      let config_is : v.config ≡ config = knows.config_is ∙ f.config_is in
+      let last : true ≡ is_last_turn v.config.lease (take p v.ends) = unshut v among p x write true at_x (ap (λ (y : Request). y.node) same ∙ sym is) end in
+      let legal = subst (λ (t : LineConfig). IsLegal t.lease h.order h.ends) f.config_is h.legal in
+      all_served config.lease h.order h.ends f.may_open.lease legal p write true at (sym (last ∙ (ap (λ (t : LineConfig). is_last_turn t.lease (take p v.ends)) config_is ∙ ap (is_last_turn config.lease) (sym cut))))
 
   -- so without a lease none of them is told that it is closed
-  pub untold : (label : ℕ) (terms : Terms) (views : List View) (bytes : List ℕ) → IsFinished good allows label terms views bytes → ((v : View) → IsAmong views v → KnowsOwnPlaces v)
-      → ((v : View) → IsAmong views v → HasNotShut v) → terms.lease ≡ None → (v : View) → IsAmong views v → IsTold v → ⊥
-  untold label terms views bytes f places unshut none v among told =
+  pub untold : (label : ℕ) (config : LineConfig) (views : List View) (bytes : List ℕ) → IsFinished good allows label config views bytes → ((v : View) → IsAmong views v → KnowsOwnPlaces v)
+      → ((v : View) → IsAmong views v → HasNotShut v) → config.lease ≡ None → (v : View) → IsAmong views v → IsTold v → ⊥
+  untold label config views bytes f places unshut none v among told =
       let h = f.history in
       let begins = (h.known v among).ends_begin in
       let closed : is_closed h.ends ≡ true =
       ap is_closed (sym begins.1)
       ∙ (is_closed-append v.ends begins.0
       ∙ ap (λ b. b || is_closed begins.0) (ap is_closed told.ends ∙ (is_closed-append told.before (Told ∷ replicate told.passed Gone) ∙ ap (λ b. b || is_closed (Told ∷ replicate told.passed Gone)) told.closed))) in
-      let no : None ≡ Some (served h.ends) = sym none ∙ closed_by_lease label terms views bytes f places unshut closed in
+      let no : None ≡ Some (served h.ends) = sym none ∙ closed_by_lease label config views bytes f places unshut closed in
       cc no

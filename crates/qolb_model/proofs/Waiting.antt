@@ -101,7 +101,7 @@ written_back f ws =
     let long = length-map ws f in
     take-append-le (length ws) (map f ws) (drop (length (map f ws)) ws) (omega (arith, long)) ∙ take_all (length ws) (map f ws) (omega (arith, long))
 
--- an entry is found where one waits
+-- an entry is found if one waits
 is_some-find : (test : Waiter → Bool) (ws : List Waiter) → is_some (find test ws) ≡ list_any test ws
 is_some-find test [] = refl
 is_some-find test (w ∷ ws) = by (test w) (is_some-find test ws)

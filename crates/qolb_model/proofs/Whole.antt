@@ -3,10 +3,10 @@ use Rattle.std.proofs.Common.{◌≡◌, ◌≢◌, ℕ, zero, suc, ◌+◌, ◌
 use Rattle.std.proofs.lemmas.Bool.{cases_eq, cases_order}
 use Rattle.std.proofs.lemmas.Option.{slice_get_within}
 use mathlib.Core.List.{IsPrefix}
-use Rattle.qolb_model.specs.declared.terms.Terms.{Terms}
-use Rattle.qolb_model.specs.OneOwner.{LineState}
+use Rattle.qolb_model.specs.declared.config.LineConfig.{LineConfig}
+use Rattle.qolb_model.specs.OneOwner.{OwnerState}
 use Rattle.qolb_model.specs.Plain.{IsReached}
-use Rattle.qolb_model.specs.Whole.{Stance, KnowsWhole, AreWhole}
+use Rattle.qolb_model.specs.Whole.{ViewAndTurn, KnowsWhole, AreSynced}
 use Rattle.qolb_model.specs.Rounds.{MeetsOthers}
 use Rattle.qolb_model.proofs.Lists.{element_at, same_some, slice_get-append_left, slice_get-middle}
 use Rattle.qolb_model.proofs.Prefixes.{prefix_self}
@@ -36,13 +36,13 @@ get_behind [] x ys i = let e : 0 + 1 + i ≡ suc i = omega arith in ap (slice_ge
 get_behind (z ∷ xs) x ys i = let e : length (z ∷ xs) + 1 + i ≡ suc (length xs + 1 + i) = omega arith in ap (slice_get (z ∷ xs ++ x ∷ ys)) e ∙ get_behind xs x ys i
 
 -- the port at the place, and the others, which know the state's whole history
-pub record Called (s : LineState) (place : ℕ) (a : Stance) (ports : List Stance) : Type 0 where
-  pub many : length ports ≡ s.terms.nodes
-  pub node : (i : ℕ) (w : Stance) → slice_get ports i ≡ Some w → w.view.node ≡ i + 1
+pub record Called (s : OwnerState) (place : ℕ) (a : ViewAndTurn) (ports : List ViewAndTurn) : Type 0 where
+  pub many : length ports ≡ s.config.nodes
+  pub node : (i : ℕ) (w : ViewAndTurn) → slice_get ports i ≡ Some w → w.view.node ≡ i + 1
   pub acting : slice_get ports place ≡ Some a
-  pub others : (i : ℕ) (w : Stance) → i ≢ place → slice_get ports i ≡ Some w → KnowsWhole s w
+  pub others : (i : ℕ) (w : ViewAndTurn) → i ≢ place → slice_get ports i ≡ Some w → KnowsWhole s w
 
-pub called : (s : LineState) (ports : List Stance) → AreWhole s ports → (place : ℕ) (u a : Stance) → slice_get ports place ≡ Some u → a.view.node ≡ u.view.node → Called s place a (set ports place a)
+pub called : (s : OwnerState) (ports : List ViewAndTurn) → AreSynced s ports → (place : ℕ) (u a : ViewAndTurn) → slice_get ports place ≡ Some u → a.view.node ≡ u.view.node → Called s place a (set ports place a)
 called s ports whole place u a at node = record {
   many = length-set ports place a ∙ whole.count;
   node = λ i w there. elim (cases_eq place i) [
@@ -54,11 +54,11 @@ called s ports whole place u a at node = record {
   others = λ i w ne there. whole.knows i w (sym (get_set_other ports place i a (λ e. ne (sym e))) ∙ there);
 }
 
-module _ (allows : List ℕ → List ℕ → Type 0) (s : LineState) (place : ℕ) (a : Stance) (ports new : List Stance) (c : Called s place a ports) (m : MeetsOthers allows place ports new) where
-  first_at : (i : ℕ) (w : Stance) → slice_get m.before i ≡ Some w → slice_get ports i ≡ Some w
+module _ (allows : List ℕ → List ℕ → Type 0) (s : OwnerState) (place : ℕ) (a : ViewAndTurn) (ports new : List ViewAndTurn) (c : Called s place a ports) (m : MeetsOthers allows place ports new) where
+  first_at : (i : ℕ) (w : ViewAndTurn) → slice_get m.before i ≡ Some w → slice_get ports i ≡ Some w
   first_at i w at = ap (λ xs. slice_get xs i) m.was ∙ get_before m.before m.port m.behind i w at
 
-  second_at : (i : ℕ) (w : Stance) → slice_get m.behind i ≡ Some w → slice_get ports (place + 1 + i) ≡ Some w
+  second_at : (i : ℕ) (w : ViewAndTurn) → slice_get m.behind i ≡ Some w → slice_get ports (place + 1 + i) ≡ Some w
   second_at i w at = ap (λ xs. slice_get xs (place + 1 + i)) m.was ∙ (ap (λ k. slice_get (m.before ++ m.port ∷ m.behind) (k + 1 + i)) (sym m.at) ∙ (get_behind m.before m.port m.behind i ∙ at))
 
   acting_is : m.port ≡ a
@@ -80,9 +80,9 @@ module _ (allows : List ℕ → List ℕ → Type 0) (s : LineState) (place : �
   a_node = c.node place a c.acting
 
   -- what the round tells of the call
-  pub tells : IsReached s → IsPrefix s.queue.order a.view.order → IsPrefix s.queue.ends a.view.ends → (k : ℕ) → 1 ≤ k → k ≤ s.terms.nodes → k ≢ place + 1 → Bounds s a.view k
+  pub tells : IsReached s → IsPrefix s.queue.order a.view.order → IsPrefix s.queue.ends a.view.ends → (k : ℕ) → 1 ≤ k → k ≤ s.config.nodes → k ≢ place + 1 → Bounds s a.view k
   tells reached order ends k low high ne =
-      let start : IsAfter a.view m.port.view = subst (λ (x : Stance). IsAfter a.view x.view) (sym acting_is) (record { order = refl; ends = refl; clear = prefix_self a.view.clear; marked = λ r h. h }) in
+      let start : IsAfter a.view m.port.view = subst (λ (x : ViewAndTurn). IsAfter a.view x.view) (sym acting_is) (record { order = refl; ends = refl; clear = prefix_self a.view.clear; marked = λ r h. h }) in
       let (after, told) = round_bounds allows (place + 1) s reached a.view m.port m.before m.now m.before_then m.meets_before start order ends before_others in
       let (rest, more) = round_bounds allows (place + 1) s reached a.view m.now m.behind m.port_then m.behind_then m.meets_behind after order ends behind_others in
       let x = c.many in
@@ -102,13 +102,13 @@ module _ (allows : List ℕ → List ℕ → Type 0) (s : LineState) (place : �
       ]
 
   -- and what the ports then know
-  pub spreads : (t : LineState) → Leaves (place + 1) s t → IsReached t → KnowsWhole t a → AreWhole t new
+  pub spreads : (t : OwnerState) → Leaves (place + 1) s t → IsReached t → KnowsWhole t a → AreSynced t new
   spreads t leaves reached knows =
       let (node, now, then_) = round_whole allows (place + 1) s t leaves m.port m.before m.now m.before_then m.meets_before (ap (λ x. x.view.node) acting_is ∙ a_node) (subst (λ x. KnowsWhole t x) (sym acting_is) knows) before_others in
       let (last_node, last, rest) = round_whole allows (place + 1) s t leaves m.now m.behind m.port_then m.behind_then m.meets_behind node now behind_others in
       let at_then : length m.before_then ≡ place = then_.many ∙ m.at in
-      let many : length new ≡ t.terms.nodes = (let e = ap (λ (k : Terms). k.nodes) leaves.terms in let x = c.many in let y = long in let z = ap length m.is in let q = length-append m.before_then (m.port_then ∷ m.behind_then) in let b = rest.many in omega arith) in
-      let each : (i : ℕ) (w : Stance) → slice_get new i ≡ Some w → (w.view.node ≡ i + 1) × KnowsWhole t w = λ i w at.
+      let many : length new ≡ t.config.nodes = (let e = ap (λ (k : LineConfig). k.nodes) leaves.config in let x = c.many in let y = long in let z = ap length m.is in let q = length-append m.before_then (m.port_then ∷ m.behind_then) in let b = rest.many in omega arith) in
+      let each : (i : ℕ) (w : ViewAndTurn) → slice_get new i ≡ Some w → (w.view.node ≡ i + 1) × KnowsWhole t w = λ i w at.
       elim (cases_order i place) [
         | inl same ↦ (
             let is : Some m.port_then ≡ Some w = sym (slice_get-middle m.before_then m.port_then m.behind_then) ∙ (ap (λ k. slice_get (m.before_then ++ m.port_then ∷ m.behind_then) k) (at_then ∙ sym same) ∙ (ap (λ xs. slice_get xs i) (sym m.is) ∙ at)) in

@@ -55,7 +55,7 @@ allowed-begins allows bytes (Served write shut ∷ xs) ys h = (h.0, allowed-begi
 allowed-begins allows bytes (Gone ∷ xs) ys h = allowed-begins allows bytes xs ys h
 allowed-begins allows bytes (Told ∷ xs) ys h = allowed-begins allows bytes xs ys h
 
--- a closed line serves nobody
+-- a closed line serves no request
 pub not_served : (last : Bool) (e : End) → MayEnd true last e → is_served e ≡ false
 not_served last (Served write shut) h = h.0
 not_served last Gone h = refl

@@ -1,4 +1,4 @@
--- What each call of a port promises: one record a call, one field an answer. `old` and `new` are what the port knew before and after, and
+-- The promise of each call of a port: one record a call, one field an answer. `old` and `new` are the port's views before and after, and
 -- `turn` is what its holder has written. (The calls are named after Goodman, Vernon and Woest, 1989; their rules are of this project.)
 use Rattle.std.specs.Prelude.{◌≡◌, ◌≢◌, ◌⊎◌, ℕ, Bool, true, false, List, [], ◌∷◌}
 use Rattle.qolb_model.specs.declared.answer.Enq.{Enq}
@@ -13,23 +13,24 @@ use Rattle.qolb_model.specs.declared.answer.PortState.TheVariants.{Holding, Idle
 use Rattle.qolb_model.specs.declared.end.End.TheVariants.{Served}
 use Rattle.qolb_model.specs.declared.view.View.{View}
 use Rattle.qolb_model.specs.declared.write.Write.{Write}
-use Rattle.qolb_model.specs.PortStates.{left_by}
+use Rattle.qolb_model.specs.PortStates.{state_after}
 use Rattle.qolb_model.specs.Leases.{closes}
 use Rattle.qolb_model.specs.Views.{bytes_of}
 use Rattle.qolb_model.specs.OneHistory.{OneHistory}
 use Rattle.qolb_model.specs.Sound.{Continues}
-use Rattle.qolb_model.specs.Asking.{IsBusy, IsClear, Asks, IsJoined}
-use Rattle.qolb_model.specs.Turns.{IsGranted, IsQueued, IsWithdrawn}
-use Rattle.qolb_model.specs.LettingGo.{EndsTurn, IsTold}
+use Rattle.qolb_model.specs.Enqueueing.{IsBusy, IsClear, Asks, IsJoined}
+use Rattle.qolb_model.specs.AtTurn.{IsGranted, IsQueued, IsWithdrawn}
+use Rattle.qolb_model.specs.Releasing.{EndsTurn, IsTold}
 use Rattle.qolb_model.specs.Linking.{IsLinking, Links}
 use Rattle.qolb_model.specs.Meeting.{Meets}
 
--- the line has come, by this answer: the port holds it, granted; or it was closed, and the port was told, and has passed it on
-abbrev pub HasCome : {A : Type 0} → A → A → A → View → Write → Type 0
-HasCome granted closed answer new turn = ((answer ≡ granted) × IsGranted new turn) ⊎ ((answer ≡ closed) × IsTold new)
+-- the line was accepted, by this answer: it is open, and the port holds it, granted; or it is closed, and the port was told and has
+-- forwarded it
+abbrev pub IsGrantedOrTold : {A : Type 0} → A → A → A → View → Write → Type 0
+IsGrantedOrTold granted closed answer new turn = ((answer ≡ granted) × IsGranted new turn) ⊎ ((answer ≡ closed) × IsTold new)
 
 module _ (allows : List ℕ → List ℕ → Type 0) where
-  -- `enqolb`: the port asks for the line, unless it is busy
+  -- `enqolb`: the port makes a request, unless it is busy
   pub record Enqueues (old new : View) (turn : Write) (answer : Enq) : Type 0 where
     pub continues : Continues allows old new
     pub busy : answer ≡ enq.Busy → IsBusy old new
@@ -39,7 +40,7 @@ module _ (allows : List ℕ → List ℕ → Type 0) where
     pub queued : answer ≡ enq.Queued → IsQueued new
     pub told : answer ≡ enq.Closed → IsTold new
 
-  -- `prepend`, the first half of `enqolb`: the port makes its request, unless it is busy; behind another it is not linked yet
+  -- `prepend`, the first half of `enqolb`: the port makes a request, unless it is busy; behind another the request is not linked yet
   pub record Prepends (old new : View) (turn : Write) (answer : Prep) : Type 0 where
     pub continues : Continues allows old new
     pub busy : answer ≡ prep.Busy → IsBusy old new
@@ -49,7 +50,7 @@ module _ (allows : List ℕ → List ℕ → Type 0) where
     pub linking : answer ≡ prep.Linking → IsLinking new
     pub told : answer ≡ prep.Closed → IsTold new
 
-  -- `link`, the second half of `enqolb`: the port links its request to the one before
+  -- `link`, the second half of `enqolb`: the port links its request to its predecessor's
   pub record LinksUp (old new : View) (turn : Write) (answer : Enq) : Type 0 where
     pub continues : Continues allows old new
     pub never_busy : answer ≢ enq.Busy
@@ -58,7 +59,7 @@ module _ (allows : List ℕ → List ℕ → Type 0) where
     pub queued : answer ≡ enq.Queued → IsQueued new
     pub told : answer ≡ enq.Closed → IsTold new
 
-  -- `poll`: it looks whether its request has come to its turn
+  -- `poll`: the port polls whether its request is at its turn
   pub record Polls (old new : View) (turn : Write) (answer : Poll) : Type 0 where
     pub continues : Continues allows old new
     pub count : new.count ≡ old.count
@@ -66,7 +67,7 @@ module _ (allows : List ℕ → List ℕ → Type 0) where
     pub waiting : answer ≡ poll.Waiting → IsQueued new
     pub told : answer ≡ poll.Closed → IsTold new
 
-  -- `withdraw`: it gives its request up, unless that has come to its turn
+  -- `withdraw`: the port withdraws its request, unless that is at its turn
   pub record Withdraws (old new : View) (turn : Write) (answer : Out) : Type 0 where
     pub continues : Continues allows old new
     pub count : new.count ≡ old.count
@@ -74,8 +75,8 @@ module _ (allows : List ℕ → List ℕ → Type 0) where
     pub granted : answer ≡ out.Granted → IsGranted new turn
     pub told : answer ≡ out.Closed → IsTold new
 
-  -- `is_clear`: it looks whether its last request is clear, and asks nothing. If that is clear, asking next is not answered busy, and a line may show
-  -- the port as idle again; if not, the port is as one that asked and was busy
+  -- `is_clear`: the port polls whether its last request is clear, and makes none. If that is clear, the next request is not answered busy,
+  -- and the port may be idle again; if not, the port is as after a request that was answered busy.
   pub record LooksIfClear (old new : View) (answer : Bool) : Type 0 where
     pub continues : Continues allows old new
     pub count : new.count ≡ old.count
@@ -83,15 +84,15 @@ module _ (allows : List ℕ → List ℕ → Type 0) where
     pub clear : answer ≡ true → IsClear new
     pub busy : answer ≡ false → IsBusy old new
 
-  -- `deqolb`, and with `shut` the call of that name: its request is served with what its turn wrote, which closes the line where the holder
-  -- shuts it, and at the last turn of a lease
+  -- `deqolb`, and `shut` with `shut` true: the port's request ends as served with what its turn wrote. That end closes the line if the
+  -- holder shuts it, or at the last turn of a lease.
   pub record Releases (shut : Bool) (old new : View) (turn : Write) : Type 0 where
     pub continues : Continues allows old new
-    pub ends_turn : let closed = closes old.terms.lease old.ends shut in EndsTurn old (Served turn closed) (left_by closed) new
+    pub ends_turn : let closed = closes old.config.lease old.ends shut in EndsTurn old (Served turn closed) (state_after closed) new
     pub bytes : bytes_of new ≡ turn.bytes.bytes
 
-  -- `meet`: the ports of two nodes tell each other what they know; a holder learns of no end
-  pub record TellEachOther (a b a_then b_then : View) : Type 0 where
+  -- `meet`: the ports of two nodes merge their views; a holder learns no end
+  pub record MergesViews (a b a_then b_then : View) : Type 0 where
     pub apart : a.node ≢ b.node
     pub before : OneHistory (a ∷ b ∷ [])
     pub after : OneHistory (a_then ∷ b_then ∷ [])

@@ -1,11 +1,11 @@
--- What a port counts of its calls.
+-- The counters of a port's calls.
 use Rattle.std.specs.Prelude.{◌≡◌, ◌+◌, ◌≤◌, ℕ, Bool}
 use Rattle.qolb_model.specs.declared.answer.Enq.{Enq}
 use Rattle.qolb_model.specs.declared.answer.Poll.{Poll}
 use Rattle.qolb_model.specs.declared.answer.Out.{Out}
 use Rattle.qolb_model.specs.declared.view.View.{View}
 
--- word steps of a port's last call, word steps of all its calls, and how often it was polled
+-- the word steps of a port's last call, those of all its calls, and its polls
 pub record Counters : Type 0 where
   pub steps : ℕ
   pub total_steps : ℕ
@@ -19,7 +19,7 @@ pub data Call : Type 0 where
   looks_if_clear : (clear : Bool) → Call
   releases : Call
 
--- how often a port was polled, after a call: each poll counts, and no other call
+-- the number of a port's polls after a call: each poll counts, and no other call
 abbrev pub polls_after : Call → ℕ → ℕ
 polls_after (asks answer) count = count
 polls_after (polls answer) count = count + 1
@@ -27,10 +27,10 @@ polls_after (withdraws answer) count = count
 polls_after (looks_if_clear clear) count = count
 polls_after releases count = count
 
--- a port's counters after a call: the call took as many word steps as the lock says, no more than the most, and they are counted
-pub record Counts (call_steps : Call → View → View → ℕ → Type 0) (most : ℕ) (call : Call) (before after : View) (old new : Counters)
+-- a port's counters after a call: the call took word steps as its lock says, at most the maximum, and they are counted
+pub record Counts (call_steps : Call → View → View → ℕ → Type 0) (max_steps : ℕ) (call : Call) (before after : View) (old new : Counters)
     : Type 0 where
   pub within : call_steps call before after new.steps
-  pub bound : new.steps ≤ most
+  pub bound : new.steps ≤ max_steps
   pub total_steps : new.total_steps ≡ old.total_steps + new.steps
   pub poll_count : new.poll_count ≡ polls_after call old.poll_count

@@ -1,5 +1,5 @@
--- Ends of requests, and what they leave of a line's bytes. A list of ends goes with an order: end p is that of request p.
--- (Masked writes and closing are of this project.)
+-- Ends of requests, and a line's bytes after them. A list of ends belongs to an order: end p is that of request p. (Masked writes and
+-- closing are of this project.)
 use Rattle.std.specs.Prelude.{◌≡◌, ℕ, Bool, true, false, ◌||◌, List, [], ◌∷◌}
 use Rattle.line_lanes.specs.Line.{merged}
 use Rattle.qolb_model.specs.declared.write.Write.{Write}
@@ -13,18 +13,18 @@ is_closed (Served write shut ∷ ends) = shut || is_closed ends
 is_closed (Gone ∷ ends) = is_closed ends
 is_closed (Told ∷ ends) = is_closed ends
 
--- how a request may end, on a closed line or an open one, and at the last turn of a lease or before: it is served on an open line
--- alone, and the last turn closes it; it is told on a closed one alone
+-- the ends that a request may have, on a closed line or an open one, at the last turn of a lease or before: served only on an open line,
+-- where the last turn closes it; told only on a closed one
 abbrev pub MayEnd : Bool → Bool → End → Type 0
 MayEnd closed last (Served write shut) = (closed ≡ false) × (last ≡ true → shut ≡ true)
 MayEnd closed last Gone = Unit {0}
 MayEnd closed last Told = closed ≡ true
 
--- the bytes after a masked write: the write's byte where the mask has its place, else the old byte
+-- the bytes after a masked write: a byte of the write if the mask has its place, else the old byte
 abbrev pub written : List ℕ → Write → List ℕ
 written bytes write = merged bytes write.bytes.bytes write.mask.0
 
--- the bytes after these ends: the writes of those that were served, one after another
+-- the bytes after these ends: the writes of the served ones, applied in turn
 abbrev pub bytes_after : List ℕ → List End → List ℕ
 bytes_after bytes [] = bytes
 bytes_after bytes (Served write shut ∷ ends) = bytes_after (written bytes write) ends

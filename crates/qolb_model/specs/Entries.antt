@@ -10,7 +10,7 @@ pub record Member {E : Type 0} (node : E → ℕ) (nodes : ℕ) (who : ℕ → E
   pub is : who (node e) ≡ e
   pub at : owner (node e) ≡ (j, i)
 
--- so is each entry of each seat
+-- each entry of each seat is that of its node, at the owner's place
 abbrev pub AreMembers : {E : Type 0} → (E → ℕ) → ℕ → (ℕ → E) → (ℕ → ℕ × ℕ) → List (List E) → Type 0
 AreMembers {E} node nodes who owner seats = (j i : ℕ) (es : List E) (e : E) → get_elem? seats j ≡ some es → slice_get es i ≡ Some e → Member node nodes who owner j i e
 
@@ -19,7 +19,7 @@ abbrev pub each_from : {E : Type 0} → (ℕ → E) → ℕ → ℕ → List E
 each_from entry n zero = []
 each_from entry n (suc k) = entry (suc n) ∷ each_from entry (suc n) k
 
--- the first entry of a seat that is cut, and those behind it
+-- the first entry of a seat that is split, and those behind it
 abbrev pub front : {E : Type 0} → List E → List E
 front [] = []
 front (e ∷ es) = e ∷ []
@@ -28,6 +28,6 @@ abbrev pub behind : {E : Type 0} → List E → List E
 behind [] = []
 behind (e ∷ es) = es
 
--- each node has an entry among these, and it is at rest
+-- these are the entries of all nodes, each at rest
 abbrev pub AllAtRest : {E : Type 0} → (E → ℕ) → (E → Type 0) → ℕ → List E → Type 0
 AllAtRest {E} node IsAtRest nodes entries = (n : ℕ) → 0 < n → n ≤ nodes → (i : ℕ) × (e : E) × (slice_get entries i ≡ Some e) × (node e ≡ n) × IsAtRest e

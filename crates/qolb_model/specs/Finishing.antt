@@ -1,9 +1,9 @@
--- Taking a line apart, with the ports of all its nodes. (Of this project.)
+-- Finishing a line, with the ports of all its nodes. (Of this project.)
 use Rattle.std.specs.Prelude.{◌≡◌, ◌≢◌, ℕ, zero, suc, ◌<◌, ◌≤◌, true, false, List, length, slice_get, Some}
 use Rattle.qolb_model.specs.declared.unfinished.FinishError.{FinishError}
 use Rattle.qolb_model.specs.declared.unfinished.FinishError.TheVariants.{Memory, Unquiet, Missing}
 use Rattle.qolb_model.specs.declared.view.View.{View}
-use Rattle.qolb_model.specs.declared.terms.Terms.{Terms}
+use Rattle.qolb_model.specs.declared.config.LineConfig.{LineConfig}
 use Rattle.qolb_model.specs.PortStates.{may_ask}
 use Rattle.qolb_model.specs.Ends.{bytes_after}
 use Rattle.qolb_model.specs.OneHistory.{IsAmong, OneHistory}
@@ -17,7 +17,7 @@ AreOfLine label views = (v : View) → IsAmong views v → v.label ≡ label
 abbrev pub HasOther : ℕ → List View → Type 0
 HasOther label views = (v : View) × IsAmong views v × (v.label ≢ label)
 
--- there is a port of the node; and there is none
+-- the node has a port; the node has none
 abbrev pub IsThere : List View → ℕ → Type 0
 IsThere views node = (v : View) × IsAmong views v × (v.node ≡ node)
 
@@ -28,7 +28,7 @@ IsMissing views node = (v : View) → IsAmong views v → v.node ≢ node
 abbrev pub EachNodeOnce : List View → Type 0
 EachNodeOnce views = (i j : ℕ) (v w : View) → slice_get views i ≡ Some v → slice_get views j ≡ Some w → v.node ≡ w.node → i ≡ j
 
--- no port of the node waits or holds; and some does
+-- no port of the node waits or holds; some port of it does
 abbrev pub IsQuiet : List View → ℕ → Type 0
 IsQuiet views node = (v : View) → IsAmong views v → v.node ≡ node → may_ask v.state ≡ true
 
@@ -39,48 +39,48 @@ IsUnquiet views node = (v : View) × IsAmong views v × (v.node ≡ node) × (ma
 abbrev pub EachNode : ℕ → (ℕ → Type 0) → Type 0
 EachNode nodes P = (node : ℕ) → 1 ≤ node → node ≤ nodes → P node
 
--- the node fails, and each node before it is fine
+-- the least node that fails: each node before it is fine
 pub record IsLeast (nodes : ℕ) (Fails IsFine : ℕ → Type 0) (node : ℕ) : Type 0 where
   pub first : 1 ≤ node
   pub last : node ≤ nodes
   pub fails : Fails node
   pub before : (m : ℕ) → 1 ≤ m → m < node → IsFine m
 
--- with these ports nothing but want of memory is in the way: they are of the line, each node has one, and none waits or holds
+-- with these ports only want of memory can prevent finishing: they are of the line, each node has one, and none waits or holds
 abbrev pub MayFinish : ℕ → ℕ → List View → Type 0
 MayFinish label nodes views = AreOfLine label views × EachNode nodes (IsThere views) × EachNode nodes (IsQuiet views)
 
--- why a line may be refused, the first cause that stands: a port of another line; a node without a port; a node that is not
--- quiet; and only where nothing else stands, want of memory
+-- the cause of a refusal, in this order: a port of another line; a node without a port; a node that is not quiet; want of memory only if
+-- there is no other
 abbrev pub MayRefuse : ℕ → ℕ → List View → FinishError → Type 0
 MayRefuse label nodes views (Missing zero) = HasOther label views
 MayRefuse label nodes views (Missing (suc n)) = AreOfLine label views × IsLeast nodes (IsMissing views) (IsThere views) (suc n)
 MayRefuse label nodes views (Unquiet n) = AreOfLine label views × EachNode nodes (IsThere views) × IsLeast nodes (IsUnquiet views) (IsQuiet views) n
 MayRefuse label nodes views Memory = MayFinish label nodes views
 
--- with views of all its nodes a line is at its end: they are of different nodes, and of one history, in which every request has ended and
--- every turn kept the law; and the bytes are those after all ends, and good
-pub record IsLast (good : List ℕ → Type 0) (allows : List ℕ → List ℕ → Type 0) (terms : Terms) (views : List View) (bytes : List ℕ) : Type 0 where
-  pub may_open : MayOpen terms
+-- The end of a line, by the views of all its nodes: they are of different nodes and of one history, in which every request has ended and
+-- every turn kept the law. The bytes are those after all ends, and good.
+pub record IsFinalLine (good : List ℕ → Type 0) (allows : List ℕ → List ℕ → Type 0) (config : LineConfig) (views : List View) (bytes : List ℕ) : Type 0 where
+  pub may_open : MayOpen config
   pub once : EachNodeOnce views
   pub history : OneHistory views
-  pub terms_are : history.terms ≡ terms
+  pub config_is : history.config ≡ config
   pub all_ended : length history.ends ≡ length history.order
-  pub kept : AreAllowed allows terms.opening.bytes history.ends
-  pub result : bytes ≡ bytes_after terms.opening.bytes history.ends
+  pub kept : AreAllowed allows config.opening.bytes history.ends
+  pub result : bytes ≡ bytes_after config.opening.bytes history.ends
   pub is_good : good bytes
 
--- finished: no cause of refusal stands, and each node has one port; all ports are of one history of the line, in which every request has
--- ended and every turn kept the law; and the bytes are the opening ones changed by all its served writes in order, and good
-pub record IsFinished (good : List ℕ → Type 0) (allows : List ℕ → List ℕ → Type 0) (label : ℕ) (terms : Terms) (views : List View) (bytes : List ℕ) : Type 0 where
+-- The line is finished: there is no cause of refusal, and each node has one port. All ports are of one history of the line, in which every
+-- request has ended and every turn kept the law. The bytes are the opening ones changed by all served writes in order, and good.
+pub record IsFinished (good : List ℕ → Type 0) (allows : List ℕ → List ℕ → Type 0) (label : ℕ) (config : LineConfig) (views : List View) (bytes : List ℕ) : Type 0 where
   pub of_line : AreOfLine label views
-  pub may_open : MayOpen terms
-  pub there : EachNode terms.nodes (IsThere views)
+  pub may_open : MayOpen config
+  pub there : EachNode config.nodes (IsThere views)
   pub once : EachNodeOnce views
-  pub quiet : EachNode terms.nodes (IsQuiet views)
+  pub quiet : EachNode config.nodes (IsQuiet views)
   pub history : OneHistory views
-  pub terms_are : history.terms ≡ terms
+  pub config_is : history.config ≡ config
   pub all_ended : length history.ends ≡ length history.order
-  pub kept : AreAllowed allows terms.opening.bytes history.ends
-  pub result : bytes ≡ bytes_after terms.opening.bytes history.ends
+  pub kept : AreAllowed allows config.opening.bytes history.ends
+  pub result : bytes ≡ bytes_after config.opening.bytes history.ends
   pub is_good : good bytes

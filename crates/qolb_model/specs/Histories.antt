@@ -1,4 +1,4 @@
--- Histories of a line: an order of requests, and the ends that the first of them have had. (Of this project.)
+-- Histories of a line: an order of requests, and the ends of the first of them. (Of this project.)
 use Rattle.std.specs.Prelude.{◌≡◌, ℕ, ◌+◌, ◌<◌, ◌≤◌, List, ◌++◌, [], ◌∷◌, length, take, drop, Option, Some, slice_get}
 use Rattle.qolb_model.specs.declared.request.Request.{Request}
 use Rattle.qolb_model.specs.declared.end.End.{End}
@@ -17,16 +17,15 @@ ended_of order ends = take (length ends) order
 abbrev pub open_of : List Request → List End → List Request
 open_of order ends = drop (length ends) order
 
--- Each node's requests are numbered 1, 2 and so on, so none stands twice; requests end in their order;
--- the last turn of the lease closes the line; and after the end that closes it come only withdrawn and told ones, the told ones
--- nowhere else.
+-- Each node's requests are numbered 1, 2 and so on, so none occurs twice. Requests end in their order. The last turn of the lease closes
+-- the line. After the end that closes it there are only withdrawn and told ones, and told ones nowhere else.
 pub record IsLegal (lease : Option ℕ) (order : List Request) (ends : List End) : Type 0 where
   pub numbered : (p : ℕ) (r : Request) → slice_get order p ≡ Some r → r.number ≡ count_of r.node (take p order) + 1
   pub ended : length ends ≤ length order
   pub closing : (p : ℕ) (e : End) → slice_get ends p ≡ Some e → MayEnd (is_closed (take p ends)) (is_last_turn lease (take p ends)) e
 
--- The clear list grows at its end: by requests that are among the first `ended` of the order, each once.
--- A node may ask again when its last request is on it.
+-- The clear list grows at its end, by requests that are among the first `ended` of the order, each once. A node may ask again if its last
+-- request is in the list.
 pub data Clears (order : List Request) (ended : ℕ) : List Request → List Request → Type 0 where
   none : {clear : List Request} → Clears order ended clear clear
   more : {old clear : List Request} → (p : ℕ) (r : Request) → Clears order ended old clear → p < ended → slice_get order p ≡ Some r → Lacks clear r → Clears order ended old (clear ++ r ∷ [])

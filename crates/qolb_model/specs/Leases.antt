@@ -1,9 +1,9 @@
--- Leases: a line may be opened for so many served turns, the last of which closes it. (Of this project.)
+-- Leases: a line may be opened for a number of served turns, the last of which closes it. (Of this project.)
 use Rattle.std.specs.Prelude.{ℕ, ◌+◌, ◌-◌, ◌≤◌, ◌==◌, Bool, false, ◌||◌, List, Option, Some, None, count_by}
 use Rattle.qolb_model.specs.declared.end.End.{End}
 use Rattle.qolb_model.specs.EndKinds.{is_served}
 
--- how many of the ends are services
+-- the number of served ends
 abbrev pub served : List End → ℕ
 served ends = count_by is_served ends
 
@@ -12,16 +12,16 @@ abbrev pub IsLease : Option ℕ → Type 0
 IsLease None = Unit {0}
 IsLease (Some turns) = 1 ≤ turns
 
--- a service behind these ends is the last of the lease
+-- a served end behind these ends is the last of the lease
 abbrev pub is_last_turn : Option ℕ → List End → Bool
 is_last_turn None ends = false
 is_last_turn (Some turns) ends = served ends + 1 == turns
 
--- the turns that are left behind these ends
+-- the number of turns left behind these ends
 abbrev pub turns_left : Option ℕ → List End → Option ℕ
 turns_left None ends = None
 turns_left (Some turns) ends = Some (turns - served ends)
 
--- a service behind these ends closes the line: by the holder's wish, or as the last of the lease
+-- a served end behind these ends closes the line: the holder shuts it, or the turn is the last of the lease
 abbrev pub closes : Option ℕ → List End → Bool → Bool
 closes lease ends shut = shut || is_last_turn lease ends

@@ -1,21 +1,21 @@
--- Asking in two steps: a request is made, and then linked to the one before. (The prepend of IEEE Std 1596-1992.)
+-- Enqueueing in two calls: a request is made, and then linked to its predecessor's. (The prepend of IEEE Std 1596-1992.)
 use Rattle.std.specs.Prelude.{◌≡◌}
 use Rattle.qolb_model.specs.declared.answer.PortState.TheVariants.{Linking}
 use Rattle.qolb_model.specs.declared.view.View.{View}
 use Rattle.qolb_model.specs.Requests.{Lacks}
 use Rattle.qolb_model.specs.Views.{own}
-use Rattle.qolb_model.specs.Asking.{IsJoined}
-use Rattle.qolb_model.specs.Turns.{Waits, IsNear}
+use Rattle.qolb_model.specs.Enqueueing.{IsJoined}
+use Rattle.qolb_model.specs.AtTurn.{Waits, IsBoundedBypass}
 
 -- linking: the port's request is made and behind another, not yet linked to it, and not withdrawn
 pub record IsLinking (new : View) : Type 0 where
   pub state : new.state ≡ Linking
   pub waits : Waits new
-  pub near : IsNear new
+  pub near : IsBoundedBypass new
   pub unjoined : Lacks new.joined (own new)
   pub unmarked : Lacks new.marked (own new)
 
--- the port's request is linked to the one before, and is the same request
+-- the port's request is linked to its predecessor's, and is the same request
 pub record Links (old new : View) : Type 0 where
   pub count : new.count ≡ old.count
   pub joined : IsJoined new

@@ -1,4 +1,4 @@
--- Two ports of a line tell each other what they know. (Of this project.)
+-- Two ports of a line merge their views. (Of this project.)
 use Rattle.std.specs.Prelude.{◌≡◌, ◌||◌, ◌++◌, if◌then◌else◌, nat_lt, List, length}
 use Rattle.qolb_model.specs.declared.request.Request.{Request}
 use Rattle.qolb_model.specs.declared.view.View.{View}
@@ -8,7 +8,7 @@ use Rattle.qolb_model.specs.Requests.{has}
 abbrev pub longer : {X : Type 0} → List X → List X → List X
 longer xs ys = if nat_lt (length xs) (length ys) then ys else xs
 
--- the third set has the requests of the first and of the second, and no others
+-- the third set is the union of the first and the second
 abbrev pub IsUnion : List Request → List Request → List Request → Type 0
 IsUnion xs ys zs = (r : Request) → has zs r ≡ (has xs r || has ys r)
 
@@ -24,8 +24,8 @@ pub record Meets (old other new : View) : Type 0 where
   pub count : new.count ≡ old.count
 
 -- the view v, once it has learned what u knows
-abbrev pub informed_view : View → View → View
-informed_view v u = record v {
+abbrev pub merged_view : View → View → View
+merged_view v u = record v {
   order = longer v.order u.order;
   ends = longer v.ends u.ends;
   clear = longer v.clear u.clear;

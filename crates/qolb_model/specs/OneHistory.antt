@@ -4,7 +4,7 @@ use mathlib.Core.List.{IsPrefix}
 use Rattle.qolb_model.specs.declared.answer.PortState.TheVariants.{Holding}
 use Rattle.qolb_model.specs.declared.request.Request.{Request}
 use Rattle.qolb_model.specs.declared.end.End.{End}
-use Rattle.qolb_model.specs.declared.terms.Terms.{Terms}
+use Rattle.qolb_model.specs.declared.config.LineConfig.{LineConfig}
 use Rattle.qolb_model.specs.declared.view.View.{View}
 use Rattle.qolb_model.specs.Requests.{Has, has, count_of}
 use Rattle.qolb_model.specs.EndKinds.{is_gone}
@@ -15,12 +15,12 @@ use Rattle.qolb_model.specs.Views.{own}
 abbrev pub IsAmong : List View → View → Type 0
 IsAmong views v = (i : ℕ) × (slice_get views i ≡ Some v)
 
--- What a view knows of a history: what its line was opened with; that all requests are of its line's nodes; a beginning of each of its
--- lists; how many requests its own node has made; of these, each end by service or by telling, and which of the ended ones were
--- withdrawn; and that none is open but the last. A holder's request is at its turn.
-pub record Knows (terms : Terms) (order : List Request) (ends : List End) (clear : List Request) (v : View) : Type 0 where
-  pub terms_are : v.terms ≡ terms
-  pub of_line : (p : ℕ) (r : Request) → slice_get order p ≡ Some r → (1 ≤ r.node) × (r.node ≤ terms.nodes)
+-- What a view knows of a history: the line's config; that all requests are of its nodes; a prefix of each of its lists; the number of its
+-- own node's requests; of these, each that was served or told, and which of the ended ones were withdrawn; and that only the last can be
+-- open. A holder's request is at its turn.
+pub record Knows (config : LineConfig) (order : List Request) (ends : List End) (clear : List Request) (v : View) : Type 0 where
+  pub config_is : v.config ≡ config
+  pub of_line : (p : ℕ) (r : Request) → slice_get order p ≡ Some r → (1 ≤ r.node) × (r.node ≤ config.nodes)
   pub order_begins : IsPrefix v.order order
   pub ends_begin : IsPrefix v.ends ends
   pub clear_begins : IsPrefix v.clear clear
@@ -30,18 +30,18 @@ pub record Knows (terms : Terms) (order : List Request) (ends : List End) (clear
   pub own_open : (p : ℕ) (r : Request) → length ends ≤ p → slice_get order p ≡ Some r → r.node ≡ v.node → r ≡ own v
   pub holder : v.state ≡ Holding → turn_of order ends ≡ Some (own v)
 
--- what one view knows to be joined or withdrawn of the requests of the other's node, that other view knows too
+-- if one view knows that a request of the other's node is joined or withdrawn, the other knows so
 pub record KnowsOwn (v w : View) : Type 0 where
   pub joined : (r : Request) → r.node ≡ w.node → Has v.joined r → Has w.joined r
   pub marked : (r : Request) → r.node ≡ w.node → Has v.marked r → Has w.marked r
 
--- the views are of one history: there are an order, its ends and a clear list that all of them know, of one line
+-- the views are of one history: some order, ends and clear list of one line are known to each of them
 pub record OneHistory (views : List View) : Type 0 where
-  pub terms : Terms
+  pub config : LineConfig
   pub order : List Request
   pub ends : List End
   pub clear : List Request
-  pub legal : IsLegal terms.lease order ends
+  pub legal : IsLegal config.lease order ends
   pub cleared : Clears order (length ends) [] clear
-  pub known : (v : View) → IsAmong views v → Knows terms order ends clear v
+  pub known : (v : View) → IsAmong views v → Knows config order ends clear v
   pub agreed : (v w : View) → IsAmong views v → IsAmong views w → KnowsOwn v w

@@ -1,5 +1,5 @@
--- What each call answers, and which moves of the queue it makes, where one owner makes all calls of a line one after another.
--- (Of this project: the table of a script's answers.)
+-- The answer of each call, and its moves of the queue, if one owner makes all calls of a line one after another. (Of this project: the
+-- table of a script's answers.)
 use Rattle.std.specs.Prelude.{ℕ, ◌+◌, Bool, true, false, not, ◌&&◌, if◌then◌else◌, List, [], ◌∷◌, length, drop, map, take_while, bit_or}
 use Rattle.std.specs.Option.{option_map_or}
 use Rattle.line_lanes.specs.Line.{merged}
@@ -12,7 +12,7 @@ use Rattle.qolb_model.specs.declared.answer.Out.TheVariants as out
 use Rattle.qolb_model.specs.declared.answer.PortState.{PortState}
 use Rattle.qolb_model.specs.declared.answer.PortState.TheVariants as port
 use Rattle.qolb_model.specs.declared.write.Write.{Write}
-use Rattle.qolb_model.specs.declared.terms.Terms.{Terms}
+use Rattle.qolb_model.specs.declared.config.LineConfig.{LineConfig}
 use Rattle.qolb_model.specs.declared.end.End.{End}
 use Rattle.qolb_model.specs.declared.end.End.TheVariants.{Served, Gone, Told}
 use Rattle.qolb_model.specs.Requests.{has, is_same, last_of}
@@ -21,129 +21,129 @@ use Rattle.qolb_model.specs.Leases.{closes}
 use Rattle.qolb_model.specs.Histories.{turn_of, ended_of, open_of}
 use Rattle.qolb_model.specs.Queue.{Queue, empty_queue, Move, ask, mark, finish, moved}
 
--- what a line was opened with, its queue, whether the request at its turn was answered granted, and what its holder has written in this
--- turn
-pub record LineState : Type 0 where
-  pub terms : Terms
+-- a line's config, its queue, whether the request at its turn was answered granted, and what its holder has written in this turn
+pub record OwnerState : Type 0 where
+  pub config : LineConfig
   pub queue : Queue
   pub granted : Bool
   pub turn : Write
 
--- a turn in which nothing is written yet
+-- a turn without a write yet
 abbrev pub new_turn : List ℕ → List End → Write
 new_turn opening ends = record { mask = record { 0 = 0 }; bytes = record { bytes = bytes_after opening ends } }
 
--- a line that was just opened
-abbrev pub opened : Terms → LineState
-opened terms = record { terms = terms; queue = empty_queue; granted = false; turn = new_turn terms.opening.bytes [] }
+-- a new line
+abbrev pub opened : LineConfig → OwnerState
+opened config = record { config = config; queue = empty_queue; granted = false; turn = new_turn config.opening.bytes [] }
 
 -- the node's last request is at its turn
 abbrev pub is_first : Queue → ℕ → Bool
 is_first q node = option_map_or (is_same (last_of node q.order)) (turn_of q.order q.ends) false
 
--- the node's last request has no end; and it has none and was withdrawn
+-- the node's last request has no end; the node's last request has no end and was withdrawn
 abbrev pub is_open : Queue → ℕ → Bool
 is_open q node = has (open_of q.order q.ends) (last_of node q.order)
 
 abbrev pub is_rolled : Queue → ℕ → Bool
 is_rolled q node = is_open q node && has q.marked (last_of node q.order)
 
--- A node with an open request is Holding where that was answered granted, Rolled where it was withdrawn, else Queued.
--- Any other node is Idle, or Shut once the line is closed.
-abbrev pub state_of : LineState → ℕ → PortState
+-- A node with an open request is Holding if that was answered granted, Rolled if it was withdrawn, else Queued. Any other node is Idle, or
+-- Shut once the line is closed.
+abbrev pub state_of : OwnerState → ℕ → PortState
 state_of s node =
     if is_open s.queue node
     then (if has s.queue.marked (last_of node s.queue.order) then port.Rolled else (if s.granted && is_first s.queue node then port.Holding else port.Queued))
     else (if is_closed s.queue.ends then port.Shut else port.Idle)
 
--- the queue after these moves, with all requests clear that have ended
+-- the queue after these moves, with all ended requests clear
 abbrev pub moved_by : Queue → List Move → Queue
 moved_by q [] = record q { clear = ended_of q.order q.ends }
 moved_by q (move ∷ moves) = moved_by (moved q move) moves
 
--- the request at its turn ends, and each withdrawn one that then comes to its turn is passed
+-- the request at its turn ends, and each withdrawn one behind it is passed, up to the next that is not
 abbrev pub ends_with : End → Queue → List Move
 ends_with end q = finish end ∷ map (λ _. finish Gone) (take_while (has q.marked) (drop (length q.ends + 1) q.order))
 
 -- the line after moves, after a grant, and after the end of a turn
-abbrev pub after_moves : List Move → LineState → LineState
+abbrev pub after_moves : List Move → OwnerState → OwnerState
 after_moves moves s = record s { queue = moved_by s.queue moves }
 
-abbrev pub after_grant : LineState → LineState
-after_grant s = record s { granted = true; turn = new_turn s.terms.opening.bytes s.queue.ends }
+abbrev pub after_grant : OwnerState → OwnerState
+after_grant s = record s { granted = true; turn = new_turn s.config.opening.bytes s.queue.ends }
 
-abbrev pub after_end : LineState → LineState
-after_end s = record s { granted = false; turn = new_turn s.terms.opening.bytes s.queue.ends }
+abbrev pub after_end : OwnerState → OwnerState
+after_end s = record s { granted = false; turn = new_turn s.config.opening.bytes s.queue.ends }
 
--- `poll`: a request that is not at its turn waits; at its turn it is granted, or told of a closed line
-abbrev pub poll_answer : LineState → ℕ → Poll
+-- `poll`: a request that is not at its turn waits; at its turn it is granted, or told if the line is closed
+abbrev pub poll_answer : OwnerState → ℕ → Poll
 poll_answer s node = if is_first s.queue node then (if is_closed s.queue.ends then poll.Closed else poll.Granted) else poll.Waiting
 
-abbrev pub poll_moves : Poll → LineState → List Move
+abbrev pub poll_moves : Poll → OwnerState → List Move
 poll_moves poll.Granted s = []
 poll_moves poll.Waiting s = []
 poll_moves poll.Closed s = ends_with Told s.queue
 
-abbrev pub after_poll : Poll → LineState → LineState
+abbrev pub after_poll : Poll → OwnerState → OwnerState
 after_poll poll.Granted s = after_grant s
 after_poll poll.Waiting s = s
 after_poll poll.Closed s = after_end (after_moves (ends_with Told s.queue) s)
 
--- `enqolb`: busy while the last request is withdrawn and has no end; else the node asks, and then it is as `poll`, with queued for waiting
+-- `enqolb`: busy while the last request is withdrawn and has no end; else the node makes a request, and the answer is as by `poll`, with
+-- queued for waiting
 abbrev pub as_enq : Poll → Enq
 as_enq poll.Granted = enq.Granted
 as_enq poll.Waiting = enq.Queued
 as_enq poll.Closed = enq.Closed
 
-abbrev pub after_ask : LineState → ℕ → LineState
+abbrev pub after_ask : OwnerState → ℕ → OwnerState
 after_ask s node = after_moves (ask node ∷ []) s
 
-abbrev pub enq_answer : LineState → ℕ → Enq
+abbrev pub enq_answer : OwnerState → ℕ → Enq
 enq_answer s node = if is_rolled s.queue node then enq.Busy else as_enq (poll_answer (after_ask s node) node)
 
--- the node's last request is clear: it would not be busy
-abbrev pub clear_answer : LineState → ℕ → Bool
+-- the node's last request is clear, so that the next is not busy
+abbrev pub clear_answer : OwnerState → ℕ → Bool
 clear_answer s node = not (is_rolled s.queue node)
 
-abbrev pub enq_moves : LineState → ℕ → List Move
+abbrev pub enq_moves : OwnerState → ℕ → List Move
 enq_moves s node = if is_rolled s.queue node then [] else ask node ∷ poll_moves (poll_answer (after_ask s node) node) (after_ask s node)
 
-abbrev pub after_enq : LineState → ℕ → LineState
+abbrev pub after_enq : OwnerState → ℕ → OwnerState
 after_enq s node = if is_rolled s.queue node then s else after_poll (poll_answer (after_ask s node) node) (after_ask s node)
 
--- `withdraw`: a request that is not at its turn is marked; else it is as `poll`
+-- `withdraw`: a request that is not at its turn is marked; else the answer is as by `poll`
 abbrev pub as_out : Poll → Out
 as_out poll.Granted = out.Granted
 as_out poll.Waiting = out.Withdrawn
 as_out poll.Closed = out.Closed
 
-abbrev pub out_answer : LineState → ℕ → Out
+abbrev pub out_answer : OwnerState → ℕ → Out
 out_answer s node = as_out (poll_answer s node)
 
-abbrev pub mark_last : LineState → ℕ → List Move
+abbrev pub mark_last : OwnerState → ℕ → List Move
 mark_last s node = mark (last_of node s.queue.order) ∷ []
 
-abbrev pub out_moves : LineState → ℕ → List Move
+abbrev pub out_moves : OwnerState → ℕ → List Move
 out_moves s node = if is_first s.queue node then poll_moves (poll_answer s node) s else mark_last s node
 
-abbrev pub after_out : LineState → ℕ → LineState
+abbrev pub after_out : OwnerState → ℕ → OwnerState
 after_out s node = if is_first s.queue node then after_poll (poll_answer s node) s else after_moves (mark_last s node) s
 
--- `deqolb`, and with true `shut`: the request at its turn ends as served, with what its turn wrote; the last turn of a lease closes the
+-- `deqolb`, and `shut` with true: the request at its turn ends as served with what its turn wrote; the last turn of a lease closes the
 -- line, as `shut` does
-abbrev pub release_moves : LineState → Bool → List Move
-release_moves s shut = ends_with (Served s.turn (closes s.terms.lease s.queue.ends shut)) s.queue
+abbrev pub release_moves : OwnerState → Bool → List Move
+release_moves s shut = ends_with (Served s.turn (closes s.config.lease s.queue.ends shut)) s.queue
 
-abbrev pub after_release : LineState → Bool → LineState
+abbrev pub after_release : OwnerState → Bool → OwnerState
 after_release s shut = after_end (after_moves (release_moves s shut) s)
 
 -- `write`: the bytes by their mask, which joins the mask of the turn
 abbrev pub turn_after : Write → ℕ → List ℕ → Write
 turn_after turn mask bytes = record { mask = record { 0 = bit_or turn.mask.0 mask }; bytes = record { bytes = merged turn.bytes.bytes bytes mask } }
 
-abbrev pub after_write : LineState → ℕ → List ℕ → LineState
+abbrev pub after_write : OwnerState → ℕ → List ℕ → OwnerState
 after_write s mask bytes = record s { turn = turn_after s.turn mask bytes }
 
 -- the bytes that the line shows: those after all ends, changed by what this turn wrote
-abbrev pub shown : LineState → List ℕ
-shown s = written (bytes_after s.terms.opening.bytes s.queue.ends) s.turn
+abbrev pub shown : OwnerState → List ℕ
+shown s = written (bytes_after s.config.opening.bytes s.queue.ends) s.turn

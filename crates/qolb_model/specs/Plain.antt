@@ -1,4 +1,4 @@
--- The plain line as its callers see it, and when it agrees with the state of a line.
+-- The plain line's model, and its agreement with a state of the queue machine.
 use Rattle.std.specs.Prelude.{◌≡◌, ℕ, ◌<◌, ◌≤◌, ◌==◌, Bool, true, false, ◌&&◌, if◌then◌else◌, List, [], ◌∷◌, map, length, Option, Some, None, slice_get, find}
 use Rattle.std.specs.Option.{option_map_or}
 use Rattle.std.specs.List.{list_any}
@@ -12,10 +12,10 @@ use Rattle.qolb_model.specs.Ends.{is_closed, bytes_after, written}
 use Rattle.qolb_model.specs.Leases.{turns_left}
 use Rattle.qolb_model.specs.Opening.{MayOpen}
 use Rattle.qolb_model.specs.Histories.{IsLegal, turn_of, ended_of, open_of}
-use Rattle.qolb_model.specs.OneOwner.{LineState, new_turn}
+use Rattle.qolb_model.specs.OneOwner.{OwnerState, new_turn}
 
--- the line's number of nodes, the nodes that wait or hold with the oldest first, whether that one holds, whether the line is closed, the
--- turns that are left of its lease, and the bytes with the mask of what the holder has written
+-- the number of nodes, the nodes that wait or hold with the oldest first, whether the oldest holds, whether the line is closed, the number
+-- of turns left, and the bytes with the mask of what the holder has written
 pub record PlainView : Type 0 where
   pub nodes : ℕ
   pub waiting : List Waiter
@@ -27,11 +27,11 @@ pub record PlainView : Type 0 where
 abbrev pub is_at : ℕ → Waiter → Bool
 is_at node w = w.node == node
 
--- the node is the oldest of those that wait
+-- the node is the oldest that waits
 abbrev pub is_oldest : PlainView → ℕ → Bool
 is_oldest line node = option_map_or (is_at node) (slice_get line.waiting 0) false
 
--- where a node stands whose entry is this, if it has one
+-- the state of a node, by its entry if it has one
 abbrev pub waiter_state : PlainView → ℕ → Option Waiter → PortState
 waiter_state line node None = if line.closed then Shut else Idle
 waiter_state line node (Some w) = if w.withdrawn then Rolled else (if line.granted && is_oldest line node then Holding else Queued)
@@ -39,33 +39,32 @@ waiter_state line node (Some w) = if w.withdrawn then Rolled else (if line.grant
 abbrev pub node_state : PlainView → ℕ → PortState
 node_state line node = waiter_state line node (find (is_at node) line.waiting)
 
--- what holds of every state that one owner's calls reach: the line was lawfully opened, the history is legal, all that has ended is clear,
--- each open request is its node's last, no withdrawn one is at its turn, and what a turn has written lies over the bytes after all ends
-pub record IsReached (s : LineState) : Type 0 where
-  pub may_open : MayOpen s.terms
-  pub line : length s.terms.opening.bytes ≡ 64
-  pub legal : IsLegal s.terms.lease s.queue.order s.queue.ends
+-- What holds of every state that one owner's calls reach: the line was lawfully opened; the history is legal; all that has ended is clear;
+-- each open request is its node's last; no withdrawn one is at its turn; and what a turn has written is over the bytes after all ends.
+pub record IsReached (s : OwnerState) : Type 0 where
+  pub may_open : MayOpen s.config
+  pub line : length s.config.opening.bytes ≡ 64
+  pub legal : IsLegal s.config.lease s.queue.order s.queue.ends
   pub cleared : s.queue.clear ≡ ended_of s.queue.order s.queue.ends
-  pub nodes_known : (p : ℕ) (r : Request) → slice_get s.queue.order p ≡ Some r → (1 ≤ r.node) × (r.node ≤ s.terms.nodes)
+  pub nodes_known : (p : ℕ) (r : Request) → slice_get s.queue.order p ≡ Some r → (1 ≤ r.node) × (r.node ≤ s.config.nodes)
   pub last_open : (p : ℕ) (r : Request) → length s.queue.ends ≤ p → slice_get s.queue.order p ≡ Some r → r ≡ last_of r.node s.queue.order
   pub marks_known : (r : Request) → Has s.queue.marked r → r.number ≤ count_of r.node s.queue.order
   pub passed : (r : Request) → turn_of s.queue.order s.queue.ends ≡ Some r → Lacks s.queue.marked r
   pub held : s.granted ≡ true → (length s.queue.ends < length s.queue.order) × (is_closed s.queue.ends ≡ false)
-  pub resting : s.granted ≡ false → s.turn ≡ new_turn s.terms.opening.bytes s.queue.ends
-  pub turn : written (bytes_after s.terms.opening.bytes s.queue.ends) s.turn ≡ s.turn.bytes.bytes
+  pub resting : s.granted ≡ false → s.turn ≡ new_turn s.config.opening.bytes s.queue.ends
+  pub turn : written (bytes_after s.config.opening.bytes s.queue.ends) s.turn ≡ s.turn.bytes.bytes
 
 -- the entry of an open request
 abbrev pub waiter_of : List Request → Request → Waiter
 waiter_of marked r = record { node = r.node; withdrawn = has marked r }
 
--- the line agrees with a state: on the nodes, on the open requests and their marks, on who holds, on closing, on the turns left, and on
--- the turn's write
-pub record Agrees (line : PlainView) (s : LineState) : Type 0 where
-  pub nodes : line.nodes ≡ s.terms.nodes
+-- the line agrees with a state: on the nodes, the open requests and their marks, the holder, closing, the turns left, and the turn's write
+pub record Agrees (line : PlainView) (s : OwnerState) : Type 0 where
+  pub nodes : line.nodes ≡ s.config.nodes
   pub waiting : line.waiting ≡ map (waiter_of s.queue.marked) (open_of s.queue.order s.queue.ends)
   pub granted : line.granted ≡ s.granted
   pub closed : line.closed ≡ is_closed s.queue.ends
-  pub left : line.left ≡ turns_left s.terms.lease s.queue.ends
+  pub left : line.left ≡ turns_left s.config.lease s.queue.ends
   pub turn : line.turn ≡ s.turn
   pub reached : IsReached s
 

@@ -5,7 +5,7 @@ use Rattle.qolb_model.specs.declared.request.Request.{Request}
 use Rattle.qolb_model.specs.declared.end.End.{End}
 use Rattle.qolb_model.specs.declared.end.End.TheVariants.{Served, Gone, Told}
 use Rattle.qolb_model.specs.Requests.{Has, Lacks, count_of, last_of, next_of}
-use Rattle.qolb_model.specs.declared.terms.Terms.{Terms}
+use Rattle.qolb_model.specs.declared.config.LineConfig.{LineConfig}
 use Rattle.qolb_model.specs.Ends.{is_closed}
 use Rattle.qolb_model.specs.Leases.{is_last_turn}
 use Rattle.qolb_model.specs.Histories.{turn_of, Clears}
@@ -26,19 +26,19 @@ pub data Move : Type 0 where
   mark : (request : Request) → Move
   finish : (end : End) → Move
 
--- how the request at its turn may end: a marked one is gone; another is served while the line is open, by the last turn of the lease
--- with closing it, and then told
+-- the ends that the request at its turn may have: Gone if it is marked; else served while the line is open, where the last turn of the
+-- lease closes it; else told
 abbrev pub EndsAs : Option ℕ → Queue → Request → End → Type 0
 EndsAs lease q r (Served write shut) = Lacks q.marked r × (is_closed q.ends ≡ false) × (is_last_turn lease q.ends ≡ true → shut ≡ true)
 EndsAs lease q r Gone = Has q.marked r
 EndsAs lease q r Told = Lacks q.marked r × (is_closed q.ends ≡ true)
 
--- when a move may be made on a line that was opened so:
--- a node asks if its last request, if any, is clear; a request is marked, once, while it waits behind the one at its turn
-abbrev pub CanMove : Terms → Queue → Move → Type 0
-CanMove terms q (ask node) = (1 ≤ node) × (node ≤ terms.nodes) × (1 ≤ count_of node q.order → Has q.clear (last_of node q.order))
-CanMove terms q (mark r) = (p : ℕ) × (length q.ends < p) × (slice_get q.order p ≡ Some r) × Lacks q.marked r
-CanMove terms q (finish end) = (r : Request) × (turn_of q.order q.ends ≡ Some r) × EndsAs terms.lease q r end
+-- the conditions of a move, on a line with this config: a node asks if its last request, if any, is clear; a request is marked, once, while
+-- it waits behind the one at its turn
+abbrev pub CanMove : LineConfig → Queue → Move → Type 0
+CanMove config q (ask node) = (1 ≤ node) × (node ≤ config.nodes) × (1 ≤ count_of node q.order → Has q.clear (last_of node q.order))
+CanMove config q (mark r) = (p : ℕ) × (length q.ends < p) × (slice_get q.order p ≡ Some r) × Lacks q.marked r
+CanMove config q (finish end) = (r : Request) × (turn_of q.order q.ends ≡ Some r) × EndsAs config.lease q r end
 
 -- the queue after a move
 abbrev pub moved : Queue → Move → Queue
@@ -46,11 +46,11 @@ moved q (ask node) = record q { order = q.order ++ next_of node q.order ∷ [] }
 moved q (mark r) = record q { marked = q.marked ++ r ∷ [] }
 moved q (finish end) = record q { ends = q.ends ++ end ∷ [] }
 
--- nothing but the clear list has changed, and that has grown
+-- only the clear list has changed, and has grown
 abbrev pub HasCleared : Queue → Queue → Type 0
 HasCleared old new = (clear : List Request) × Clears old.order (length old.ends) old.clear clear × (new ≡ record old { clear = clear })
 
--- the queue makes these moves, each where it may; before, between and after them ended requests may be cleared
-abbrev pub Runs : Terms → Queue → List Move → Queue → Type 0
-Runs terms old [] new = HasCleared old new
-Runs terms old (move ∷ moves) new = (now : Queue) × HasCleared old now × CanMove terms now move × Runs terms (moved now move) moves new
+-- the queue makes these moves, each one allowed; before, between and after them ended requests may be cleared
+abbrev pub Runs : LineConfig → Queue → List Move → Queue → Type 0
+Runs config old [] new = HasCleared old new
+Runs config old (move ∷ moves) new = (now : Queue) × HasCleared old now × CanMove config now move × Runs config (moved now move) moves new

@@ -1,11 +1,11 @@
--- Requests, and the order in which they were made. A requester puts itself at the head of a line's list, and the oldest
--- stands at the tail (the sharing list of IEEE Std 1596-1992; queueing at it after Goodman, Vernon and Woest, 1989).
--- An order is a list, the oldest first. Places are counted from 0.
+-- Requests, and the order in which they were made. A requester puts itself at the head of a line's list, and the oldest is at the tail (the
+-- sharing list of IEEE Std 1596-1992; queueing at it after Goodman, Vernon and Woest, 1989). An order is a list, the oldest first. Places
+-- are counted from 0.
 use Rattle.std.specs.Prelude.{◌≡◌, ◌≢◌, ℕ, ◌+◌, ◌<◌, ◌≤◌, ◌==◌, ◌&&◌, Bool, true, false, List, count_by, Some, slice_get}
 use Rattle.std.specs.List.{list_any}
 use Rattle.qolb_model.specs.declared.request.Request.{Request}
 
--- the two are one request
+-- both are the same request
 abbrev pub is_same : Request → Request → Bool
 is_same r s = (r.node == s.node) && (r.number == s.number)
 
@@ -16,19 +16,19 @@ has requests r = list_any (is_same r) requests
 abbrev pub Has : List Request → Request → Type 0
 Has requests r = has requests r ≡ true
 
--- it is none of them
+-- the request is none of these
 abbrev pub Lacks : List Request → Request → Type 0
 Lacks requests r = has requests r ≡ false
 
--- how many requests a node has made
+-- the number of requests that a node has made
 abbrev pub count_of : ℕ → List Request → ℕ
 count_of node order = count_by (λ r. r.node == node) order
 
--- the node's last request; with number 0, which no request has, if it has made none
+-- the node's last request; number 0, which no request has, if it has made none
 abbrev pub last_of : ℕ → List Request → Request
 last_of node order = record { node = node; number = count_of node order }
 
--- the request that the node makes next
+-- the node's next request
 abbrev pub next_of : ℕ → List Request → Request
 next_of node order = record { node = node; number = count_of node order + 1 }
 
@@ -36,7 +36,7 @@ next_of node order = record { node = node; number = count_of node order + 1 }
 abbrev pub AreOfDifferentNodes : List Request → ℕ → ℕ → Type 0
 AreOfDifferentNodes order first last = (p q : ℕ) (r s : Request) → first ≤ p → p < q → q < last → slice_get order p ≡ Some r → slice_get order q ≡ Some s → r.node ≢ s.node
 
--- the requests at these places, each another one, are of different nodes, and none is of this node
+-- the requests at these places are of different nodes, and none is of this node
 pub record AreOfOthers (node : ℕ) (order : List Request) (places : List ℕ) : Type 0 where
   pub others : (i p : ℕ) (r : Request) → slice_get places i ≡ Some p → slice_get order p ≡ Some r → r.node ≢ node
   pub apart : (i j p q : ℕ) (r s : Request) → i < j → slice_get places i ≡ Some p → slice_get places j ≡ Some q → slice_get order p ≡ Some r → slice_get order q ≡ Some s → r.node ≢ s.node

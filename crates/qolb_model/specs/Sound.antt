@@ -1,7 +1,7 @@
 -- What is true of a port's view after each call, and so between calls. (Of this project.)
 use Rattle.std.specs.Prelude.{◌≡◌, ◌⊎◌, ℕ, ◌+◌, ◌<◌, ◌≤◌, false, List, [], ◌∷◌, length, slice_get, Some}
 use Rattle.qolb_model.specs.declared.request.Request.{Request}
-use Rattle.qolb_model.specs.declared.terms.Terms.{Terms}
+use Rattle.qolb_model.specs.declared.config.LineConfig.{LineConfig}
 use Rattle.qolb_model.specs.declared.view.View.{View}
 use Rattle.qolb_model.specs.PortStates.{may_ask}
 use Rattle.qolb_model.specs.Requests.{Has}
@@ -14,28 +14,28 @@ use Rattle.qolb_model.specs.Opening.{MayOpen}
 abbrev pub IsFreedClear : View → Type 0
 IsFreedClear v = (p : ℕ) (r next : Request) → slice_get v.order p ≡ Some r → slice_get v.order (p + 1) ≡ Some next → Has v.freed r → Has v.joined next → Has v.clear r
 
--- the port knows what became of each request of its own node: it has ended; or it is withdrawn; or it is the last one, and waits or holds
-abbrev pub KnowsOwnPast : View → Type 0
-KnowsOwnPast v = (p : ℕ) (r : Request) → slice_get v.order p ≡ Some r → r.node ≡ v.node → (p < length v.ends) ⊎ (Has v.marked r ⊎ ((r ≡ own v) × (may_ask v.state ≡ false)))
+-- the port knows the outcome of each request of its own node: it has ended; or it is withdrawn; or it is the last one, and waits or holds
+abbrev pub KnowsOwnHistory : View → Type 0
+KnowsOwnHistory v = (p : ℕ) (r : Request) → slice_get v.order p ≡ Some r → r.node ≡ v.node → (p < length v.ends) ⊎ (Has v.marked r ⊎ ((r ≡ own v) × (may_ask v.state ≡ false)))
 
--- what every call keeps: the port forgets nothing, what it knows is true of some history, all turns in it kept the law, and it knows
--- its own past
+-- what every call keeps: the port forgets nothing, its view is true of some history, all turns in that kept the law, and it knows the
+-- outcome of its own requests
 pub record Continues (allows : List ℕ → List ℕ → Type 0) (old new : View) : Type 0 where
   pub extends : Extends old new
   pub history : OneHistory (new ∷ [])
   pub kept : IsKept allows new
   pub freed_clear : IsFreedClear new
-  pub own_past : KnowsOwnPast new
+  pub own_history : KnowsOwnHistory new
 
--- what is true of each port of a line that was opened with this label and these terms
-pub record IsSound (good : List ℕ → Type 0) (allows : List ℕ → List ℕ → Type 0) (label : ℕ) (terms : Terms) (v : View) : Type 0 where
+-- what is true of each port of a line that was opened with this label and config
+pub record IsSound (good : List ℕ → Type 0) (allows : List ℕ → List ℕ → Type 0) (label : ℕ) (config : LineConfig) (v : View) : Type 0 where
   pub label_is : v.label ≡ label
-  pub terms_are : v.terms ≡ terms
-  pub may_open : MayOpen terms
-  pub opened_good : good terms.opening.bytes
+  pub config_is : v.config ≡ config
+  pub may_open : MayOpen config
+  pub opened_good : good config.opening.bytes
   pub first_node : 1 ≤ v.node
-  pub last_node : v.node ≤ terms.nodes
+  pub last_node : v.node ≤ config.nodes
   pub history : OneHistory (v ∷ [])
   pub kept : IsKept allows v
   pub freed_clear : IsFreedClear v
-  pub own_past : KnowsOwnPast v
+  pub own_history : KnowsOwnHistory v

@@ -1,41 +1,41 @@
--- What the steps of a plain line do to what its callers see of it.
+-- What the calls of a plain line do to its model.
 use Rattle.std.specs.Prelude.{ℕ, ◌-◌, ◌==◌, Bool, true, false, ◌||◌, if◌then◌else◌, List, [], ◌∷◌, ◌++◌, drop, Option, Some, None}
 use Rattle.qolb_model.specs.declared.answer.Poll.{Poll}
 use Rattle.qolb_model.specs.declared.answer.Poll.TheVariants.{Granted, Waiting, Closed}
 use Rattle.qolb_model.specs.declared.waiter.Waiter.{Waiter}
 use Rattle.qolb_model.specs.Plain.{PlainView, is_at, is_oldest}
 
--- those that are left when the withdrawn ones at the front are passed
+-- the entries left after the withdrawn ones at the front are passed
 abbrev pub after_withdrawn : List Waiter → List Waiter
 after_withdrawn [] = []
 after_withdrawn (w ∷ ws) = if w.withdrawn then after_withdrawn ws else w ∷ ws
 
--- the entry, withdrawn if it is the node's
+-- the entry, marked as withdrawn if it is the node's
 abbrev pub withdrawn_at : ℕ → Waiter → Waiter
 withdrawn_at node w = if is_at node w then record w { withdrawn = true } else w
 
--- a node that does not wait stands behind all others
-abbrev pub joined_by : PlainView → ℕ → PlainView
-joined_by line node = record line { waiting = line.waiting ++ record { node = node; withdrawn = false } ∷ [] }
+-- a node that does not wait is put behind all others
+abbrev pub with_waiter : PlainView → ℕ → PlainView
+with_waiter line node = record line { waiting = line.waiting ++ record { node = node; withdrawn = false } ∷ [] }
 
 -- the turn of the oldest ends, and the withdrawn ones behind it are passed
 abbrev pub turn_ended : PlainView → PlainView
 turn_ended line = record line { waiting = after_withdrawn (drop 1 line.waiting); granted = false; turn = record { mask = record { 0 = 0 }; bytes = line.turn.bytes } }
 
--- one turn of so many is left; and one fewer is left
+-- exactly one turn of the lease is left; the lease with one turn fewer
 abbrev pub is_one : Option ℕ → Bool
 is_one None = false
 is_one (Some turns) = turns == 1
 
-abbrev pub one_fewer : Option ℕ → Option ℕ
-one_fewer None = None
-one_fewer (Some turns) = Some (turns - 1)
+abbrev pub decrement : Option ℕ → Option ℕ
+decrement None = None
+decrement (Some turns) = Some (turns - 1)
 
--- the turn of the oldest was served: the line is closed if that was wished, and by the last turn
+-- the turn of the oldest was served: the line is closed if `shut` was set, and by the last turn
 abbrev pub turn_served : Bool → PlainView → PlainView
-turn_served shut line = turn_ended (record line { closed = line.closed || (shut || is_one line.left); left = one_fewer line.left })
+turn_served shut line = turn_ended (record line { closed = line.closed || (shut || is_one line.left); left = decrement line.left })
 
--- a node looks whether it is the oldest
+-- the answer of a node's poll
 abbrev pub look_answer : PlainView → ℕ → Poll
 look_answer line node = if is_oldest line node then (if line.closed then Closed else Granted) else Waiting
 

@@ -1,4 +1,4 @@
--- What a port knows of its line, and how that grows. (Of this project.)
+-- A port's view of its line, and how it grows. (Of this project.)
 use Rattle.std.specs.Prelude.{◌≡◌, ℕ, List}
 use mathlib.Core.List.{IsPrefix}
 use Rattle.qolb_model.specs.declared.request.Request.{Request}
@@ -10,18 +10,18 @@ use Rattle.qolb_model.specs.Ends.{bytes_after}
 abbrev pub own : View → Request
 own v = record { node = v.node; number = v.count }
 
--- the bytes that the ends leave which the port knows
+-- the bytes after the ends that the port knows
 abbrev pub bytes_of : View → List ℕ
-bytes_of v = bytes_after v.terms.opening.bytes v.ends
+bytes_of v = bytes_after v.config.opening.bytes v.ends
 
--- each request of the first list is one of the second
+-- each request of the first list is in the second
 abbrev pub IsSubset : List Request → List Request → Type 0
 IsSubset xs ys = (r : Request) → Has xs r → Has ys r
 
 -- the new view is of the same port as the old one, and knows all that the old one knew
 pub record Extends (old new : View) : Type 0 where
   pub label : new.label ≡ old.label
-  pub terms : new.terms ≡ old.terms
+  pub config : new.config ≡ old.config
   pub node : new.node ≡ old.node
   pub order : IsPrefix old.order new.order
   pub ends : IsPrefix old.ends new.ends

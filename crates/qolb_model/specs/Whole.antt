@@ -1,5 +1,5 @@
--- Ports that know the whole history of their line, as the state of its one owner has it: so it is where all ports meet after
--- each call. (Of this project.)
+-- Ports that know the whole history of their line, as the state of its one owner has it: so it is if all ports meet after each call. (Of
+-- this project.)
 use Rattle.std.specs.Prelude.{◌≡◌, ◌⊎◌, ℕ, ◌+◌, ◌≤◌, List, length, Some, slice_get}
 use Rattle.qolb_model.specs.declared.answer.PortState.{PortState}
 use Rattle.qolb_model.specs.declared.answer.PortState.TheVariants.{Idle, Linking, Queued, Holding, Left, Rolled, Shut}
@@ -8,10 +8,10 @@ use Rattle.qolb_model.specs.declared.view.View.{View}
 use Rattle.qolb_model.specs.declared.write.Write.{Write}
 use Rattle.qolb_model.specs.Requests.{Has, has, count_of}
 use Rattle.qolb_model.specs.Histories.{ended_of, open_of}
-use Rattle.qolb_model.specs.OneOwner.{LineState, state_of}
+use Rattle.qolb_model.specs.OneOwner.{OwnerState, state_of}
 use Rattle.qolb_model.specs.Plain.{IsReached}
 
--- what a node's state allows it to call: one with no request that waits or holds is as an idle one
+-- the calls that a node's state allows: one that neither waits nor holds counts as idle
 abbrev pub seen : PortState → PortState
 seen Idle = Idle
 seen Linking = Linking
@@ -21,15 +21,15 @@ seen Left = Idle
 seen Rolled = Idle
 seen Shut = Idle
 
--- a port: what it knows, and what its holder has written in this turn
-pub record Stance : Type 0 where
+-- a port's view, and what its holder has written in this turn
+pub record ViewAndTurn : Type 0 where
   pub view : View
   pub turn : Write
 
--- the port knows the state's whole history: all requests, each of them joined, all ends, that all ended requests are clear, and
--- which open ones are withdrawn; its node stands as the state has it, and a holder's turn is the state's
-pub record KnowsWhole (s : LineState) (port : Stance) : Type 0 where
-  pub terms : port.view.terms ≡ s.terms
+-- The port knows the state's whole history: all requests, each of them joined; all ends; that all ended requests are clear; and which open
+-- ones are withdrawn. Its node is in the state's phase, and a holder's turn is the state's.
+pub record KnowsWhole (s : OwnerState) (port : ViewAndTurn) : Type 0 where
+  pub config : port.view.config ≡ s.config
   pub order : port.view.order ≡ s.queue.order
   pub ends : port.view.ends ≡ s.queue.ends
   pub clear : (r : Request) → Has (ended_of s.queue.order s.queue.ends) r → Has port.view.clear r
@@ -40,9 +40,9 @@ pub record KnowsWhole (s : LineState) (port : Stance) : Type 0 where
   pub asked : (port.view.state ≡ Left) ⊎ (port.view.state ≡ Rolled) → 1 ≤ port.view.count
   pub turn : port.view.state ≡ Holding → port.turn ≡ s.turn
 
--- the ports of nodes 1, 2 and so on, all of which know the whole history of a state that one owner's calls reach
-pub record AreWhole (s : LineState) (ports : List Stance) : Type 0 where
+-- the ports of nodes 1, 2 and so on, which all know the whole history of a state that one owner's calls reach
+pub record AreSynced (s : OwnerState) (ports : List ViewAndTurn) : Type 0 where
   pub reached : IsReached s
-  pub count : length ports ≡ s.terms.nodes
-  pub node : (i : ℕ) (port : Stance) → slice_get ports i ≡ Some port → port.view.node ≡ i + 1
-  pub knows : (i : ℕ) (port : Stance) → slice_get ports i ≡ Some port → KnowsWhole s port
+  pub count : length ports ≡ s.config.nodes
+  pub node : (i : ℕ) (port : ViewAndTurn) → slice_get ports i ≡ Some port → port.view.node ≡ i + 1
+  pub knows : (i : ℕ) (port : ViewAndTurn) → slice_get ports i ≡ Some port → KnowsWhole s port

@@ -11,20 +11,20 @@ pub enum Enq {
     Queued,
     /// The line is closed, and the request has ended.
     Closed,
-    /// The node's last request has ended or was withdrawn, and its entry is not clear, so it may not ask yet.
+    /// No request was made: the node's last one has ended or was withdrawn, and its entry is not clear yet.
     Busy,
 }
 
-/// The answer of `prepend`, which asks and leaves the request to be linked to the one before.
+/// The answer of `prepend`, which makes a request and does not link it.
 #[derive(Clone, Copy, Debug, PartialEq, Eq)]
 pub enum Prep {
     /// The node holds the line.
     Granted,
     /// The line is closed, and the request has ended.
     Closed,
-    /// The node's last request has ended or was withdrawn, and its entry is not clear, so it may not ask yet.
+    /// No request was made: the node's last one has ended or was withdrawn, and its entry is not clear yet.
     Busy,
-    /// The request stands behind another, and is not yet linked to it.
+    /// The request is behind another, and not yet linked to its predecessor's.
     Linking,
 }
 
@@ -42,35 +42,35 @@ pub enum Poll {
 /// The answer of `withdraw`.
 #[derive(Clone, Copy, Debug, PartialEq, Eq)]
 pub enum Out {
-    /// The request is withdrawn: it will be passed when it comes to its turn.
+    /// The request is withdrawn: the release that reaches it will pass it.
     Withdrawn,
-    /// The request had come to its turn: the node holds the line.
+    /// The request was at its turn already: the node holds the line.
     Granted,
-    /// The request had come to its turn on a closed line, and has ended.
+    /// The request was at its turn already, on a closed line, and has ended.
     Closed,
 }
 
-/// Where a node stands at a line after its last call.
+/// The state of a node at a line after its last call.
 #[derive(Clone, Copy, Debug, PartialEq, Eq)]
 pub enum PortState {
-    /// It has no open request, and may ask.
+    /// The node has no open request, and may ask.
     Idle,
-    /// Its request is in the order, and is not yet linked to the one before.
+    /// The node's request is in the order, and not yet linked to its predecessor's.
     Linking,
-    /// Its request waits.
+    /// The node's request waits.
     Queued,
-    /// It holds the line.
+    /// The node holds the line.
     Holding,
-    /// Its last request has ended, and left the line in its mailbox.
+    /// The node's last request has ended; the line was left in its mailbox for the successor.
     Left,
-    /// Its last request was withdrawn.
+    /// The node's last request was withdrawn.
     Rolled,
-    /// It knows that the line is closed.
+    /// The node knows that the line is closed.
     Shut,
 }
 
 impl PortState {
-    /// Whether a node in this state may ask: it has no request that waits or holds.
+    /// Returns `true` if a node in this state may ask: it neither waits nor holds.
     pub fn may_ask(self) -> bool
         ensures { result ≡ may_ask self }
     {
@@ -81,13 +81,13 @@ impl PortState {
     }
 }
 
-/// Why a line could not be opened.
+/// The cause for which a line could not be opened.
 #[derive(Clone, Copy, Debug, PartialEq, Eq)]
 pub enum OpenError {
-    /// Memory was refused.
+    /// The allocator returned no memory.
     Memory = 1,
-    /// The number of nodes is not 1 to `MOST_NODES`.
+    /// The number of nodes is not 1 to `MAX_NODES`.
     Nodes = 2,
-    /// The lease is of no turn.
+    /// The lease is 0 turns.
     Lease = 3,
 }

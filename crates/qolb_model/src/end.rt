@@ -1,12 +1,12 @@
 use crate::write::Write;
 
-/// How a request ended.
+/// The end of a request.
 #[derive(Clone, Copy, Debug, PartialEq, Eq)]
 pub enum End {
-    /// Served: what its turn wrote, and whether it closed the line.
+    /// The request was served: what its turn wrote, and whether its turn closed the line.
     Served(Write, bool),
-    /// Withdrawn, and passed.
+    /// The request was withdrawn, and passed by a release.
     Gone,
-    /// Told that the line is closed.
+    /// The request was told that the line is closed.
     Told,
 }

@@ -2,16 +2,16 @@ ghost use Rattle.std.specs.Prelude.{List, ℕ};
 
 /// The law of a line: which bytes are good, and which changes a turn may make.
 pub trait Keep {
-    /// These bytes are good.
+    /// The bytes are good.
     ghost good: { List ℕ → Type 0 };
 
-    /// A turn may change the first bytes to the second.
+    /// A turn may change the old bytes to the new ones.
     ghost allows: { List ℕ → List ℕ → Type 0 };
 
-    /// An allowed change of good bytes leaves good bytes.
+    /// An allowed change of good bytes gives good bytes.
     ghost stays_good: { (old new : List ℕ) → good old → allows old new → good new };
 
-    /// A turn may leave good bytes as they are.
+    /// A turn may leave good bytes unchanged.
     ghost allows_same: { (bytes : List ℕ) → good bytes → allows bytes bytes };
 }
 

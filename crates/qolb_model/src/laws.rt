@@ -1,11 +1,11 @@
-//! Laws of the definitions that a line's contracts speak of. Each is the contract of a function that does nothing.
+//! Laws that the definitions of the contracts imply. Each is the contract of a function that does nothing.
 ghost use Rattle.std.specs.Prelude.{◌≡◌};
-ghost use Rattle.qolb_model.specs.Laws.{NoRequestStandsTwice, NoneIsServedAfterClosing, LeaseBounds, OpenLineHasTurns, OnlyServedEndsWrite, GoodStaysGood, ClearPortIsNotBusy, ExtendsThrough, PartIsOfOneHistory, EachTwoAreOfOneHistory, FewerEndsBegin, SameEndsSameBytes, OneNodeHolds, FewEndBefore, FewTurnsBefore, FewWaitAtOnce, NewPortsAreOfOneHistory, PortsThatMetKnowTheSame, SumsAreOfEachPort, ClosedByLeaseAlone, NoneIsTold};
+ghost use Rattle.qolb_model.specs.Laws.{NoRequestStandsTwice, NoneIsServedAfterClosing, LeaseBounds, OpenLineHasTurns, OnlyServedEndsWrite, GoodStaysGood, ClearPortIsNotBusy, ExtendsThrough, PartIsOfOneHistory, EachTwoAreOfOneHistory, FewerEndsBegin, SameEndsSameBytes, OneNodeHolds, BoundedBypass, FewTurnsBefore, FewWaitAtOnce, NewPortsAreOfOneHistory, PortsThatMetKnowTheSame, SumsAreOfEachPort, ClosedByLeaseAlone, NoneIsTold};
 
+use crate::config::MAX_NODES;
 use crate::keep::Keep;
-use crate::terms::MOST_NODES;
 
-/// No request stands twice in a legal order.
+/// No request occurs twice in a legal order.
 pub fn no_request_stands_twice()
     ensures { NoRequestStandsTwice }
 {}
@@ -20,7 +20,7 @@ pub fn lease_bounds()
     ensures { LeaseBounds }
 {}
 
-/// An open line has a turn left.
+/// An open line has at least one turn left.
 pub fn open_line_has_turns()
     ensures { OpenLineHasTurns }
 {}
@@ -30,22 +30,22 @@ pub fn only_served_ends_write()
     ensures { OnlyServedEndsWrite }
 {}
 
-/// Good bytes stay good while the law is kept.
+/// Good bytes stay good if every turn keeps the law.
 pub fn good_stays_good<K: Keep>()
     ensures { GoodStaysGood K.good K.allows }
 {}
 
-/// A port that is clear is not busy when it asks next.
+/// A clear port is not busy at its next request.
 pub fn clear_port_is_not_busy<K: Keep>()
     ensures { ClearPortIsNotBusy K.allows }
 {}
 
-/// A port that forgets nothing, call after call, forgets nothing.
+/// Extending a view is transitive: call after call, a port forgets nothing.
 pub fn extends_through()
     ensures { ExtendsThrough }
 {}
 
-/// Some of the views of one history are of one history.
+/// Any subset of the views of one history is of one history.
 pub fn part_is_of_one_history()
     ensures { PartIsOfOneHistory }
 {}
@@ -55,7 +55,7 @@ pub fn each_two_are_of_one_history()
     ensures { EachTwoAreOfOneHistory }
 {}
 
-/// The fewer ends of one port begin the more ends of another.
+/// Of two ports, the fewer ends are a prefix of the more ends.
 pub fn fewer_ends_begin()
     ensures { FewerEndsBegin }
 {}
@@ -65,32 +65,32 @@ pub fn same_ends_same_bytes()
     ensures { SameEndsSameBytes }
 {}
 
-/// No two nodes hold the line at once.
+/// No two nodes hold the line at the same time.
 pub fn one_node_holds()
     ensures { OneNodeHolds }
 {}
 
-/// Between an ask that waits and its turn, fewer requests end than the line has nodes.
-pub fn few_end_before()
-    ensures { FewEndBefore }
+/// Bounded bypass: between a request and its turn, fewer requests end than the line has nodes.
+pub fn bounded_bypass()
+    ensures { BoundedBypass }
 {}
 
-/// When a turn has come, fewer requests have ended since the answer that it waits than the line has nodes.
+/// At its turn, a request has seen fewer ends since its wait began than there are nodes.
 pub fn few_turns_before()
     ensures { FewTurnsBefore }
 {}
 
-/// Of a line with one owner no more requests are open than it has nodes.
+/// On a line with one owner no more requests are open than it has nodes.
 pub fn few_wait_at_once()
     ensures { FewWaitAtOnce }
 {}
 
 /// A line has at most 200 nodes.
 pub fn most_nodes()
-    ensures { MOST_NODES ≡ 200 }
+    ensures { MAX_NODES ≡ 200 }
 {}
 
-/// The ports that a line is opened with are of one history.
+/// The ports that `open` returns are of one history.
 pub fn new_ports_are_of_one_history()
     ensures { NewPortsAreOfOneHistory }
 {}
@@ -100,7 +100,7 @@ pub fn ports_that_met_know_the_same()
     ensures { PortsThatMetKnowTheSame }
 {}
 
-/// What all turns of a finished line did is the sum of what each port's own did.
+/// The changes by all turns of a finished line are the sum of each port's own.
 pub fn sums_are_of_each_port<K: Keep>()
     ensures { SumsAreOfEachPort K.good K.allows }
 {}
@@ -110,7 +110,7 @@ pub fn closed_by_lease_alone<K: Keep>()
     ensures { ClosedByLeaseAlone K.good K.allows }
 {}
 
-/// A finished line without a lease, which no port has shut, told none that it is closed.
+/// Without a lease, no request of a finished line that no port has shut was told.
 pub fn none_is_told<K: Keep>()
     ensures { NoneIsTold K.good K.allows }
 {}

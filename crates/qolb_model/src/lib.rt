@@ -1,37 +1,37 @@
-//! What a queued line means: requests, their ends and the bytes that they leave, the queue as a machine, and a plain line
-//! with one owner that runs it. And what a line that many nodes share promises to each of them: its calls, as a trait.
+//! The specification of a queued line: requests, their ends and the bytes after these; the queue as a state machine; and a plain line with
+//! one owner, which runs it. The calls of a shared line are a trait, whose contracts say what each promises to its node.
 #![tactic(auto)]
 
+mod acquire;
 mod answer;
+mod config;
 mod end;
 mod finish;
 mod keep;
 pub mod laws;
-mod looks;
 mod opening;
-mod patience;
+mod parking_line;
 mod plain;
+mod poll_count;
 mod request;
-mod sleeping;
 mod sync;
-mod terms;
 mod unfinished;
 mod view;
 mod waiter;
 mod write;
 
+pub use acquire::{Acquired, acquire_bounded};
 pub use answer::{Enq, OpenError, Out, Poll, PortState, Prep};
+pub use config::{LineConfig, MAX_NODES};
 pub use end::End;
-pub use finish::{LinePort, lay_by_node, refusal};
+pub use finish::{LinePort, refusal, sort_by_node};
 pub use keep::{Free, Keep};
-pub use looks::Looks;
 pub use opening::OpenLine;
-pub use patience::{Asked, acquire_patiently};
+pub use parking_line::ParkingLine;
 pub use plain::PlainLine;
+pub use poll_count::PollCount;
 pub use request::Request;
-pub use sleeping::Sleeping;
 pub use sync::LineSync;
-pub use terms::{MOST_NODES, Terms};
 pub use unfinished::{FinishError, Unfinished};
 pub use view::View;
 pub use waiter::Waiter;

@@ -3,25 +3,25 @@ ghost use Rattle.std.specs.Prelude.{IfOk, IfErr};
 ghost use Rattle.qolb_model.specs.Opening.{MayOpen, MayNotOpen, Opens};
 
 use crate::answer::OpenError;
+use crate::config::LineConfig;
 use crate::keep::Keep;
 use crate::sync::LineSync;
-use crate::terms::Terms;
 use std::alloc::Global;
 
-/// A line that nodes share, and that can be opened, under the law `K`.
+/// A line that can be opened under the law `K`, and that nodes then share.
 pub trait OpenLine<K: Keep>: LineSync<K> {
-    /// Opens a line on these terms, with a port for each of its nodes, in their order. Only this call and `finish` take memory.
+    /// Opens a line by `config`, with a port for each of its nodes, in their order. Only this call and `finish` allocate.
     ///
     /// # Errors
     ///
-    /// `Nodes` for a number of nodes that is not 1 to `MOST_NODES`, else `Lease` for a lease of no turn, else `Memory` for want of memory.
+    /// `Nodes` if the number of nodes is not 1 to `MAX_NODES`, else `Lease` if the lease is 0, else `Memory` if memory is short.
     fn open_with(
         alloc: Global,
         label: u64,
-        terms: Terms,
+        config: LineConfig,
     ) -> Result<(Self, Vec<Self::Port>), OpenError>
-        requires good { K.good terms.opening.bytes }
-        ensures opens { IfOk result (λ r. Opens Self.view (Self.belongs r.0) (Self.label_of r.0) (Self.terms_of r.0) label terms r.1.items) }
-        ensures may_open { IfOk result (λ r. MayOpen terms) }
-        ensures why { IfErr result (λ error. MayNotOpen terms error) };
+        requires good { K.good config.opening.bytes }
+        ensures opens { IfOk result (λ r. Opens Self.view (Self.belongs r.0) (Self.label_of r.0) (Self.config_of r.0) label config r.1.items) }
+        ensures may_open { IfOk result (λ r. MayOpen config) }
+        ensures why { IfErr result (λ error. MayNotOpen config error) };
 }

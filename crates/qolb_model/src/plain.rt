@@ -1,8 +1,8 @@
-//! The reference line: one owner, no threads, no memory.
+//! The reference line: one owner, no threads, no allocation.
 ghost use Rattle.std.specs.Prelude.{◌≡◌, ◌≢◌, ℕ, ◌≤◌, Bool, true, false, IsTrue, IfOk, IfErr, MatchResult, ◌<◌, length, map, find, Option, Some, None};
 ghost use Rattle.qolb_model.specs.Queue.{Runs};
-ghost use Rattle.qolb_model.specs.OneOwner.{LineState, opened, state_of, shown, enq_answer, enq_moves, after_enq, clear_answer, poll_answer, poll_moves, after_poll, as_enq, out_answer, out_moves, after_out, release_moves, after_release, after_write};
-ghost use Rattle.qolb_model.specs.declared.terms.Terms.{Terms};
+ghost use Rattle.qolb_model.specs.OneOwner.{OwnerState, opened, state_of, shown, enq_answer, enq_moves, after_enq, clear_answer, poll_answer, poll_moves, after_poll, as_enq, out_answer, out_moves, after_out, release_moves, after_release, after_write};
+ghost use Rattle.qolb_model.specs.declared.config.LineConfig.{LineConfig};
 ghost use Rattle.qolb_model.specs.PortStates.{may_ask};
 ghost use Rattle.qolb_model.specs.Leases.{turns_left};
 ghost use Rattle.qolb_model.specs.Opening.{MayOpen, MayNotOpen};
@@ -10,27 +10,26 @@ ghost use Rattle.qolb_model.specs.Plain.{node_state, is_at, is_oldest, Agrees};
 ghost use Rattle.qolb_model.specs.Steps.{after_withdrawn, withdrawn_at, turn_ended, turn_served, look_answer, looked};
 
 use crate::answer::{Enq, OpenError, Out, Poll, PortState};
-use crate::terms::{MOST_NODES, Terms};
+use crate::config::{LineConfig, MAX_NODES};
 use crate::waiter::Waiter;
 use crate::write::Write;
 use arrayvec::ArrayVec;
 use line_lanes::{Line64, Mask, merge};
 use std::marker::Model;
 
-/// The room for nodes that wait or hold.
-const ROOM: usize = MOST_NODES as usize;
+/// The capacity for nodes that wait or hold.
+const ROOM: usize = MAX_NODES as usize;
 
-/// A line that is called by one owner, on behalf of nodes 1 to `nodes`.
+/// A line with one owner, who makes the calls of nodes 1 to `nodes`.
 ///
-/// Every call's contract is the run of the queue machine that the table of answers gives for it: from each state that agrees
-/// with the line, to one that agrees again. Calls take no memory: the line has room for all nodes to wait, 16 bytes for each, and so
-/// is some 3,300 bytes large.
+/// Each call's contract is a run of the queue machine, given by the table of answers: from each state that agrees with the line, to one
+/// that agrees again. Calls do not allocate: the line has room for all nodes to wait, 16 bytes for each, and so has some 3,300 bytes.
 #[derive(Drop)]
 pub struct PlainLine {
     turn: Write,
     waiting: ArrayVec<Waiter, ROOM>,
     nodes: u64,
-    /// How many turns are left of the lease, if there is one.
+    /// The number of turns left, if there is a lease.
     left: Option<u64>,
     granted: bool,
     closed: bool,
@@ -38,61 +37,65 @@ pub struct PlainLine {
 
 impl Model for PlainLine {
     ghost use Rattle.std.specs.Prelude.{◌≤◌};
-    ghost use Rattle.qolb_model.specs.declared.terms.TheConstants.{MOST_NODES};
+    ghost use Rattle.qolb_model.specs.declared.config.TheConstants.{MAX_NODES};
     ghost use Rattle.qolb_model.specs.Plain.{PlainView, AreWaiting};
 
     ghost Value = { PlainView };
 
     ghost view = { λ p. record { nodes = p.nodes; waiting = p.waiting.items; granted = p.granted; closed = p.closed; left = p.left; turn = p.turn } };
 
-    ghost invariant = { λ p. (p.nodes ≤ MOST_NODES) × AreWaiting p.nodes p.waiting.items };
+    ghost invariant = { λ p. (p.nodes ≤ MAX_NODES) × AreWaiting p.nodes p.waiting.items };
 }
 
 impl PlainLine {
-    /// A line with these bytes for nodes 1 to `nodes`, all idle. `Nodes` where that is not 1 to `MOST_NODES`.
+    /// Opens a line with the bytes `opening` for nodes 1 to `nodes`, all idle.
+    ///
+    /// Returns `Nodes` if `nodes` is not 1 to `MAX_NODES`.
     pub fn open(nodes: u64, opening: Line64) -> Result<PlainLine, OpenError>
-        ensures { let terms : Terms = record { nodes = nodes; opening = opening; lease = None } in MatchResult result (λ line. Agrees line (opened terms)) (λ error. (error ≢ OpenError.Memory) × MayNotOpen terms error) }
+        ensures { let config : LineConfig = record { nodes = nodes; opening = opening; lease = None } in MatchResult result (λ line. Agrees line (opened config)) (λ error. (error ≢ OpenError.Memory) × MayNotOpen config error) }
     {
-        PlainLine::with_terms(Terms {
+        PlainLine::with_config(LineConfig {
             nodes,
             opening,
             lease: None,
         })
     }
 
-    /// The same with a lease: the line closes at the `lease`-th turn that is served. `Nodes`, or else `Lease` where it is 0.
+    /// Opens a line as `open` does, which closes at the `lease`-th served turn.
+    ///
+    /// Returns `Nodes` as `open`, or else `Lease` if `lease` is 0.
     pub fn open_leased(nodes: u64, opening: Line64, lease: u64) -> Result<PlainLine, OpenError>
-        ensures { let terms : Terms = record { nodes = nodes; opening = opening; lease = Some lease } in MatchResult result (λ line. Agrees line (opened terms)) (λ error. (error ≢ OpenError.Memory) × MayNotOpen terms error) }
+        ensures { let config : LineConfig = record { nodes = nodes; opening = opening; lease = Some lease } in MatchResult result (λ line. Agrees line (opened config)) (λ error. (error ≢ OpenError.Memory) × MayNotOpen config error) }
     {
-        PlainLine::with_terms(Terms {
+        PlainLine::with_config(LineConfig {
             nodes,
             opening,
             lease: Some(lease),
         })
     }
 
-    /// The same, for these terms.
-    pub fn with_terms(terms: Terms) -> Result<PlainLine, OpenError>
-        ensures { MatchResult result (λ line. Agrees line (opened terms)) (λ error. (error ≢ OpenError.Memory) × MayNotOpen terms error) }
+    /// Opens a line by `config`: its nodes, opening bytes and lease.
+    pub fn with_config(config: LineConfig) -> Result<PlainLine, OpenError>
+        ensures { MatchResult result (λ line. Agrees line (opened config)) (λ error. (error ≢ OpenError.Memory) × MayNotOpen config error) }
     {
-        terms.check()?;
+        config.check()?;
         Ok(PlainLine {
             turn: Write {
                 mask: Mask(0),
-                bytes: terms.opening,
+                bytes: config.opening,
             },
             waiting: ArrayVec::new(),
-            nodes: terms.nodes,
-            left: terms.lease,
+            nodes: config.nodes,
+            left: config.lease,
             granted: false,
             closed: false,
         })
     }
 
-    /// Where the node stands.
+    /// Returns the state of the node.
     pub fn state(&self, node: u64) -> PortState
         ensures state { result ≡ node_state self.now node }
-        ensures agrees { (s : LineState) → Agrees self.now s → result ≡ state_of s node }
+        ensures agrees { (s : OwnerState) → Agrees self.now s → result ≡ state_of s node }
     {
         match self.entry(node) {
             None if self.closed => PortState::Shut,
@@ -103,41 +106,41 @@ impl PlainLine {
         }
     }
 
-    /// The line's bytes as the node sees them that holds it.
+    /// Returns the line's bytes as the holder `node` sees them.
     pub fn bytes(&self, node: u64) -> &Line64
         requires { node_state self.now node ≡ PortState.Holding }
-        ensures { (s : LineState) → Agrees self.now s → result.now.bytes ≡ shown s }
+        ensures { (s : OwnerState) → Agrees self.now s → result.now.bytes ≡ shown s }
     {
         &self.turn.bytes
     }
 
-    /// How many turns are left of the lease, with that of the node that holds: at least 1. `None` without a lease.
+    /// Returns the number of turns left, with the holder's own: at least 1. `None` without a lease.
     pub fn turns_left(&self, node: u64) -> Option<u64>
         requires { node_state self.now node ≡ PortState.Holding }
-        ensures left { (s : LineState) → Agrees self.now s → result ≡ turns_left s.terms.lease s.queue.ends }
-        ensures some { (s : LineState) → Agrees self.now s → result ≢ Some 0 }
+        ensures left { (s : OwnerState) → Agrees self.now s → result ≡ turns_left s.config.lease s.queue.ends }
+        ensures some { (s : OwnerState) → Agrees self.now s → result ≢ Some 0 }
     {
         self.left
     }
 
-    /// The node that holds the line writes the bytes of the mask.
+    /// Writes the bytes of `mask` for the holder `node`.
     pub fn write(&mut self, node: u64, mask: Mask, bytes: &Line64)
         requires { node_state self.old node ≡ PortState.Holding }
-        ensures agrees { (s : LineState) → Agrees self.old s → Agrees self.new (after_write s mask.0 bytes.now.bytes) }
+        ensures agrees { (s : OwnerState) → Agrees self.old s → Agrees self.new (after_write s mask.0 bytes.now.bytes) }
         ensures nodes { self.new.nodes ≡ self.old.nodes }
     {
         self.turn.bytes = merge(&self.turn.bytes, bytes, mask);
         self.turn.mask = Mask(self.turn.mask.0 | mask.0);
     }
 
-    /// The node asks for the line.
+    /// Makes a request for `node`, and answers at once.
     pub fn enqolb(&mut self, node: u64) -> Enq
         requires first { 1 ≤ node }
         requires last { node ≤ self.old.nodes }
         requires may_ask { IsTrue (may_ask (node_state self.old node)) }
-        ensures answer { (s : LineState) → Agrees self.old s → result ≡ enq_answer s node }
-        ensures moves { (s : LineState) → Agrees self.old s → Runs s.terms s.queue (enq_moves s node) (after_enq s node).queue }
-        ensures agrees { (s : LineState) → Agrees self.old s → Agrees self.new (after_enq s node) }
+        ensures answer { (s : OwnerState) → Agrees self.old s → result ≡ enq_answer s node }
+        ensures moves { (s : OwnerState) → Agrees self.old s → Runs s.config s.queue (enq_moves s node) (after_enq s node).queue }
+        ensures agrees { (s : OwnerState) → Agrees self.old s → Agrees self.new (after_enq s node) }
         ensures nodes { self.new.nodes ≡ self.old.nodes }
     {
         if self.entry(node).is_some() {
@@ -150,33 +153,33 @@ impl PlainLine {
         as_enq(self.look(node))
     }
 
-    /// Whether the node's last request is clear, so that asking is not answered busy.
+    /// Returns `true` if the node's last request is clear: its next is not answered `Busy`.
     pub fn is_clear(&self, node: u64) -> bool
         requires first { 1 ≤ node }
         requires last { node ≤ self.now.nodes }
         requires may_ask { IsTrue (may_ask (node_state self.now node)) }
-        ensures { (s : LineState) → Agrees self.now s → result ≡ clear_answer s node }
+        ensures { (s : OwnerState) → Agrees self.now s → result ≡ clear_answer s node }
     {
         self.entry(node).is_none()
     }
 
-    /// The node that waits looks whether it has come to its turn.
+    /// Polls whether the waiting node is at its turn.
     pub fn poll(&mut self, node: u64) -> Poll
         requires { node_state self.old node ≡ PortState.Queued }
-        ensures answer { (s : LineState) → Agrees self.old s → result ≡ poll_answer s node }
-        ensures moves { (s : LineState) → Agrees self.old s → Runs s.terms s.queue (poll_moves result s) (after_poll result s).queue }
-        ensures agrees { (s : LineState) → Agrees self.old s → Agrees self.new (after_poll result s) }
+        ensures answer { (s : OwnerState) → Agrees self.old s → result ≡ poll_answer s node }
+        ensures moves { (s : OwnerState) → Agrees self.old s → Runs s.config s.queue (poll_moves result s) (after_poll result s).queue }
+        ensures agrees { (s : OwnerState) → Agrees self.old s → Agrees self.new (after_poll result s) }
         ensures nodes { self.new.nodes ≡ self.old.nodes }
     {
         self.look(node)
     }
 
-    /// The node that waits gives its request up, unless it has come to its turn.
+    /// Withdraws the waiting node's request, unless it is at its turn.
     pub fn withdraw(&mut self, node: u64) -> Out
         requires { node_state self.old node ≡ PortState.Queued }
-        ensures answer { (s : LineState) → Agrees self.old s → result ≡ out_answer s node }
-        ensures moves { (s : LineState) → Agrees self.old s → Runs s.terms s.queue (out_moves s node) (after_out s node).queue }
-        ensures agrees { (s : LineState) → Agrees self.old s → Agrees self.new (after_out s node) }
+        ensures answer { (s : OwnerState) → Agrees self.old s → result ≡ out_answer s node }
+        ensures moves { (s : OwnerState) → Agrees self.old s → Runs s.config s.queue (out_moves s node) (after_out s node).queue }
+        ensures agrees { (s : OwnerState) → Agrees self.old s → Agrees self.new (after_out s node) }
         ensures nodes { self.new.nodes ≡ self.old.nodes }
     {
         match self.look(node) {
@@ -189,41 +192,41 @@ impl PlainLine {
         }
     }
 
-    /// The node that holds the line releases it. The last turn of a lease closes the line, as `shut` does.
+    /// Releases the line for the holder `node`. The last turn of a lease closes the line, as `shut` does.
     pub fn deqolb(&mut self, node: u64)
         requires { node_state self.old node ≡ PortState.Holding }
-        ensures moves { (s : LineState) → Agrees self.old s → Runs s.terms s.queue (release_moves s false) (after_release s false).queue }
-        ensures agrees { (s : LineState) → Agrees self.old s → Agrees self.new (after_release s false) }
+        ensures moves { (s : OwnerState) → Agrees self.old s → Runs s.config s.queue (release_moves s false) (after_release s false).queue }
+        ensures agrees { (s : OwnerState) → Agrees self.old s → Agrees self.new (after_release s false) }
         ensures nodes { self.new.nodes ≡ self.old.nodes }
     {
         self.serve(false);
     }
 
-    /// The node that holds the line releases it and closes it: nobody will be served any more.
+    /// Releases and closes the line for the holder `node`. No later request is served.
     pub fn shut(&mut self, node: u64)
         requires { node_state self.old node ≡ PortState.Holding }
-        ensures moves { (s : LineState) → Agrees self.old s → Runs s.terms s.queue (release_moves s true) (after_release s true).queue }
-        ensures agrees { (s : LineState) → Agrees self.old s → Agrees self.new (after_release s true) }
+        ensures moves { (s : OwnerState) → Agrees self.old s → Runs s.config s.queue (release_moves s true) (after_release s true).queue }
+        ensures agrees { (s : OwnerState) → Agrees self.old s → Agrees self.new (after_release s true) }
         ensures nodes { self.new.nodes ≡ self.old.nodes }
     {
         self.serve(true);
     }
 
-    /// The node's entry, if it waits or holds the line.
+    /// Returns the node's entry, if the node waits or holds.
     fn entry(&self, node: u64) -> Option<Waiter>
         ensures { result ≡ find (is_at node) self.now.waiting }
     {
         self.waiting.iter().copied().find(|w| w.node == node)
     }
 
-    /// Whether the node's request is the oldest.
+    /// Returns `true` if the node's request is the oldest.
     fn is_oldest(&self, node: u64) -> bool
         ensures { result ≡ is_oldest self.now node }
     {
         self.waiting.first().is_some_and(|w| w.node == node)
     }
 
-    /// What `poll` does, whatever the node's state.
+    /// Polls for `node`, in any state of it.
     fn look(&mut self, node: u64) -> Poll
         ensures answer { result ≡ look_answer self.old node }
         ensures new { self.new ≡ looked result self.old }
@@ -239,7 +242,7 @@ impl PlainLine {
         Poll::Granted
     }
 
-    /// Ends the turn of the oldest request as served: one turn fewer is left, and the last one closes the line, as `shut` does.
+    /// Ends the oldest request as served: one turn fewer is left. The last turn closes the line, as `shut` does.
     fn serve(&mut self, shut: bool)
         requires { 0 < length self.old.waiting }
         ensures { self.new ≡ turn_served shut self.old }
@@ -253,7 +256,7 @@ impl PlainLine {
         self.end_turn();
     }
 
-    /// Ends the turn of the oldest request, and passes the withdrawn ones behind it.
+    /// Ends the oldest request, and passes the withdrawn ones behind it.
     fn end_turn(&mut self)
         requires { 0 < length self.old.waiting }
         ensures { self.new ≡ turn_ended self.old }
@@ -265,7 +268,7 @@ impl PlainLine {
     }
 }
 
-/// What one that asks is answered, by what it then finds.
+/// Returns the answer of `enqolb` to a node whose poll finds `found`.
 fn as_enq(found: Poll) -> Enq
     ensures { result ≡ as_enq found }
 {
@@ -276,7 +279,7 @@ fn as_enq(found: Poll) -> Enq
     }
 }
 
-/// Passes the withdrawn ones at the front.
+/// Passes the withdrawn entries at the front.
 fn pass(waiting: &mut ArrayVec<Waiter, ROOM>)
     ensures { waiting.new.items ≡ after_withdrawn waiting.old.items }
 {

@@ -1,4 +1,4 @@
-/// A node's request for a line: its `number`-th on that line, from 1.
+/// A node's request: its `number`-th on the line, from 1.
 #[derive(Clone, Copy, Debug, PartialEq, Eq)]
 pub struct Request {
     pub node: u64,

@@ -1,5 +1,6 @@
+//! The trait of a lock: its calls, the promise of each, and what is true of a port between calls.
 ghost use Rattle.std.specs.Prelude.{◌≡◌, ◌≢◌, ◌↔◌, ℕ, true, false, All, Some, IsTrue, IfOk, IfErr, map};
-ghost use Rattle.qolb_model.specs.declared.terms.Terms.{Terms};
+ghost use Rattle.qolb_model.specs.declared.config.LineConfig.{LineConfig};
 ghost use Rattle.qolb_model.specs.declared.answer.PortState.{PortState};
 ghost use Rattle.qolb_model.specs.declared.view.View.{View};
 ghost use Rattle.qolb_model.specs.declared.write.Write.{Write};
@@ -7,9 +8,9 @@ ghost use Rattle.qolb_model.specs.OneOwner.{turn_after};
 ghost use Rattle.qolb_model.specs.PortStates.{may_ask};
 ghost use Rattle.qolb_model.specs.Leases.{turns_left};
 ghost use Rattle.qolb_model.specs.Kept.{MayRelease};
-ghost use Rattle.qolb_model.specs.Turns.{IsTurn};
+ghost use Rattle.qolb_model.specs.AtTurn.{IsTurn};
 ghost use Rattle.qolb_model.specs.Sound.{IsSound};
-ghost use Rattle.qolb_model.specs.Calls.{Enqueues, Polls, Withdraws, LooksIfClear, Releases, TellEachOther};
+ghost use Rattle.qolb_model.specs.Calls.{Enqueues, Polls, Withdraws, LooksIfClear, Releases, MergesViews};
 ghost use Rattle.qolb_model.specs.Counting.{Counters, Call, Counts};
 ghost use Rattle.qolb_model.specs.Counting as call;
 ghost use Rattle.qolb_model.specs.Finishing.{MayRefuse, IsFinished};
@@ -21,32 +22,33 @@ use crate::view::View;
 use line_lanes::{Line64, Mask};
 use std::alloc::Global;
 
-/// A line that nodes queue at, under the law `K`. Each node calls it through its own port.
+/// A queue lock (QOLB, Goodman 1989) that hands 64 bytes from node to node. Each node has its own port.
 ///
-/// What a call promises is one record of `specs/Calls`, named after what the port does by it; it says what the port knows before and after
-/// the call, answer by answer. No call but `finish` takes memory, and none waits, unless the
-/// line's type has a handle by which it may. A call changes no port but those that it is passed.
+/// `K` says which bytes the line may have and which changes a turn may make. The contract of each call is one record of `specs/Calls`, with
+/// a field for each answer: what the port knows before and after the call. A word step is one atomic operation on a word that nodes share.
+/// Each call is wait-free: it takes at most `max_steps` word steps, whatever other nodes do meanwhile. Only `finish` allocates. To block
+/// takes a handle, which no call is passed: only a line's type that has one can block. A call changes only the ports that it is passed.
 pub trait LineSync<K: Keep> {
-    /// A node's end of the line.
+    /// A node's handle of the line.
     type Port;
 
-    /// What a port knows of its line and of its own requests.
+    /// The port's view: what it knows of its line and of its own requests.
     ghost view: { Self.Port → View };
 
-    /// The line's bytes in the holder's hand, with the mask of what it has written in this turn.
+    /// The line's bytes in the holder's port, with the mask of what this turn has written.
     ghost turn: { Self.Port → Write };
 
-    /// The word steps and polls that a port has counted.
+    /// The port's counters of word steps and polls.
     ghost counters: { Self.Port → Counters };
 
-    /// A port may show this state.
+    /// The states that a port may show.
     ghost allowed_states: { PortState → Type 0 };
 
-    /// A call takes so many word steps, by the port's view before it and after it.
+    /// The numbers of word steps that a call may take, by the views before and after.
     ghost call_steps: { Self → Call → View → View → ℕ → Type 0 };
 
-    /// The most word steps of one call of a port, whatever other nodes do meanwhile.
-    ghost most: { Self → ℕ };
+    /// The maximum of word steps of one call of a port, whatever other nodes do meanwhile.
+    ghost max_steps: { Self → ℕ };
 
     /// The port was opened with the line.
     ghost belongs: { Self → Self.Port → Type 0 };
@@ -54,44 +56,44 @@ pub trait LineSync<K: Keep> {
     /// The line's label.
     ghost label_of: { Self → ℕ };
 
-    /// What else the line was opened with.
-    ghost terms_of: { Self → Terms };
+    /// The line's config.
+    ghost config_of: { Self → LineConfig };
 
-    /// The label that the line was opened with.
+    /// Returns the label that the line was opened with.
     fn label(&self) -> u64
         ensures { result ≡ label_of self.now };
 
-    /// How many nodes the line has. They are numbered from 1.
+    /// Returns the number of nodes. They are numbered from 1.
     fn nodes(&self) -> u64
-        ensures { result ≡ (terms_of self.now).nodes };
+        ensures { result ≡ (config_of self.now).nodes };
 
-    /// The port's node.
+    /// Returns the port's node.
     fn node(port: &Self::Port) -> u64
         ensures { result ≡ (view port.now).node };
 
-    /// What the port's last call left.
+    /// Returns the state after the port's last call, `Idle` before the first. Reads no shared word.
     fn state(port: &Self::Port) -> PortState
         ensures state { result ≡ (view port.now).state }
         ensures allowed { allowed_states result };
 
-    /// Whether the port's label is the line's.
+    /// Returns `true` if the port's label is the line's. Two lines may have one label, so that is less than `belongs`.
     fn owns(&self, port: &Self::Port) -> bool
         ensures { IsTrue result ↔ ((view port.now).label ≡ label_of self.now) };
 
-    /// The line's bytes as the holder sees them.
+    /// Returns the line's bytes as the holder sees them.
     fn bytes(port: &Self::Port) -> &Line64
         requires { (view port.now).state ≡ PortState.Holding }
         ensures bytes { result.now ≡ (turn port.now).bytes }
         ensures turn { IsTurn (view port.now) (turn port.now) };
 
-    /// How many turns are left of the line's lease, with the holder's own: at least 1. `None` without a lease.
+    /// Returns the number of turns left, with the holder's own: at least 1. `None` without a lease.
     fn turns_left(&self, port: &Self::Port) -> Option<u64>
         requires belongs { belongs self.now port.now }
         requires state { (view port.now).state ≡ PortState.Holding }
-        ensures left { result ≡ turns_left (terms_of self.now).lease (view port.now).ends }
+        ensures left { result ≡ turns_left (config_of self.now).lease (view port.now).ends }
         ensures some { result ≢ Some 0 };
 
-    /// The holder writes the bytes of the mask.
+    /// Writes those of `bytes` that `mask` selects, in the holder's port. Other nodes see them after the release. No word step.
     fn write(port: &mut Self::Port, mask: Mask, bytes: &Line64)
         requires { (view port.old).state ≡ PortState.Holding }
         ensures view { view port.new ≡ view port.old }
@@ -99,80 +101,86 @@ pub trait LineSync<K: Keep> {
         ensures counters { counters port.new ≡ counters port.old }
         ensures belongs { (line : Self) → belongs line port.old → belongs line port.new };
 
-    /// Asks for the line: the request is granted, or waits; or it is told that the line is closed. Busy, nothing is asked.
+    /// Requests the line, and answers at once: granted, queued or closed. `Busy`: the last request is not clear, and none was made.
     fn enqolb(&self, port: &mut Self::Port) -> Enq
         requires belongs { belongs self.now port.old }
         requires state { IsTrue (may_ask (view port.old).state) }
         ensures belongs { belongs self.now port.new }
         ensures enqueues { Enqueues K.allows (view port.old) (view port.new) (turn port.new) result }
-        ensures counts { Counts (call_steps self.now) (most self.now) (call.asks result) (view port.old) (view port.new) (counters port.old) (counters port.new) };
+        ensures counts { Counts (call_steps self.now) (max_steps self.now) (call.asks result) (view port.old) (view port.new) (counters port.old) (counters port.new) };
 
-    /// Looks whether the request has come to its turn.
+    /// Polls the request. If it is at its turn, the port takes the line and holds it, or is told that the line is closed.
     fn poll(&self, port: &mut Self::Port) -> Poll
         requires belongs { belongs self.now port.old }
         requires state { (view port.old).state ≡ PortState.Queued }
         ensures belongs { belongs self.now port.new }
         ensures polls { Polls K.allows (view port.old) (view port.new) (turn port.new) result }
-        ensures counts { Counts (call_steps self.now) (most self.now) (call.polls result) (view port.old) (view port.new) (counters port.old) (counters port.new) };
+        ensures counts { Counts (call_steps self.now) (max_steps self.now) (call.polls result) (view port.old) (view port.new) (counters port.old) (counters port.new) };
 
-    /// Gives the request up, unless it has come to its turn.
+    /// Withdraws the request. If it is at its turn, the port holds the line instead, or is told that it is closed.
+    ///
+    /// A withdrawn request is not clear until a release has passed it.
     fn withdraw(&self, port: &mut Self::Port) -> Out
         requires belongs { belongs self.now port.old }
         requires state { (view port.old).state ≡ PortState.Queued }
         ensures belongs { belongs self.now port.new }
         ensures withdraws { Withdraws K.allows (view port.old) (view port.new) (turn port.new) result }
-        ensures counts { Counts (call_steps self.now) (most self.now) (call.withdraws result) (view port.old) (view port.new) (counters port.old) (counters port.new) };
+        ensures counts { Counts (call_steps self.now) (max_steps self.now) (call.withdraws result) (view port.old) (view port.new) (counters port.old) (counters port.new) };
 
-    /// Looks whether the port's last request is clear, so that asking next is not answered busy. It asks nothing.
+    /// Returns `true` if the port's last request is clear, so that the next is not answered `Busy`. Makes no request.
+    ///
+    /// A request is clear once no other node uses its word. The port's view grows by what the look found.
     fn is_clear(&self, port: &mut Self::Port) -> bool
         requires belongs { belongs self.now port.old }
         requires state { IsTrue (may_ask (view port.old).state) }
         ensures belongs { belongs self.now port.new }
-        ensures looks { LooksIfClear K.allows (view port.old) (view port.new) result }
-        ensures counts { Counts (call_steps self.now) (most self.now) (call.looks_if_clear result) (view port.old) (view port.new) (counters port.old) (counters port.new) };
+        ensures found { LooksIfClear K.allows (view port.old) (view port.new) result }
+        ensures counts { Counts (call_steps self.now) (max_steps self.now) (call.looks_if_clear result) (view port.old) (view port.new) (counters port.old) (counters port.new) };
 
-    /// Releases the line: the request has been served. The last turn of a lease closes the line, as `shut` does.
+    /// Ends the holder's request as served and releases the line. The last turn of a lease closes it, as `shut` does.
     fn deqolb(&self, port: &mut Self::Port)
         requires belongs { belongs self.now port.old }
         requires state { (view port.old).state ≡ PortState.Holding }
         requires allowed { MayRelease K.allows (view port.old) (turn port.old) }
         ensures belongs { belongs self.now port.new }
         ensures releases { Releases K.allows false (view port.old) (view port.new) (turn port.old) }
-        ensures counts { Counts (call_steps self.now) (most self.now) call.releases (view port.old) (view port.new) (counters port.old) (counters port.new) };
+        ensures counts { Counts (call_steps self.now) (max_steps self.now) call.releases (view port.old) (view port.new) (counters port.old) (counters port.new) };
 
-    /// Releases the line and closes it: nobody will be served any more.
+    /// Ends the holder's request as served, and closes the line: no request behind it is served, not even one queued now.
     fn shut(&self, port: &mut Self::Port)
         requires belongs { belongs self.now port.old }
         requires state { (view port.old).state ≡ PortState.Holding }
         requires allowed { MayRelease K.allows (view port.old) (turn port.old) }
         ensures belongs { belongs self.now port.new }
         ensures releases { Releases K.allows true (view port.old) (view port.new) (turn port.old) }
-        ensures counts { Counts (call_steps self.now) (most self.now) call.releases (view port.old) (view port.new) (counters port.old) (counters port.new) };
+        ensures counts { Counts (call_steps self.now) (max_steps self.now) call.releases (view port.old) (view port.new) (counters port.old) (counters port.new) };
 
-    /// Two ports of the line tell each other what they know. They are of different nodes, and not both hold the line.
+    /// Merges the views of two ports, and shows that not both hold. For proofs: no word step is counted.
     fn meet(&self, a: &mut Self::Port, b: &mut Self::Port)
         requires belongs_a { belongs self.now a.old }
         requires belongs_b { belongs self.now b.old }
         ensures belongs_a { belongs self.now a.new }
         ensures belongs_b { belongs self.now b.new }
-        ensures tell { TellEachOther K.allows (view a.old) (view b.old) (view a.new) (view b.new) }
+        ensures tell { MergesViews K.allows (view a.old) (view b.old) (view a.new) (view b.new) }
         ensures turn_a { turn a.new ≡ turn a.old }
         ensures turn_b { turn b.new ≡ turn b.old }
         ensures counters_a { counters a.new ≡ counters a.old }
         ensures counters_b { counters b.new ≡ counters b.old };
 
-    /// Takes the line apart, with the ports of all its nodes in any order. Refused, it hands both back.
+    /// Finishes the line and returns its bytes, given the ports of all its nodes in any order.
+    ///
+    /// A port with this line's label must be this line's. If refused, returns the cause with the line, and the ports in their order.
     fn finish(
         self,
         alloc: Global,
         ports: Vec<Self::Port>,
     ) -> Result<Line64, Unfinished<Self, Self::Port>>
-        requires belong { All (λ port. (view port).label ≡ label_of self → belongs self port) ports.items }
-        ensures finished { IfOk result (λ line. IsFinished K.good K.allows (label_of self) (terms_of self) (map view ports.items) line.bytes) }
-        ensures why { IfErr result (λ back. MayRefuse (label_of self) (terms_of self).nodes (map view ports.items) back.why) }
+        requires belongs { All (λ port. (view port).label ≡ label_of self → belongs self port) ports.items }
+        ensures finished { IfOk result (λ line. IsFinished K.good K.allows (label_of self) (config_of self) (map view ports.items) line.bytes) }
+        ensures why { IfErr result (λ back. MayRefuse (label_of self) (config_of self).nodes (map view ports.items) back.why) }
         ensures line { IfErr result (λ back. back.line ≡ self) }
         ensures ports { IfErr result (λ back. back.ports.items ≡ ports.items) };
 
-    /// What is true of each port of the line.
-    ghost sound: { (line : Self) (port : Self.Port) → belongs line port → IsSound K.good K.allows (label_of line) (terms_of line) (view port) };
+    /// What is true of each port of the line between calls.
+    ghost sound: { (line : Self) (port : Self.Port) → belongs line port → IsSound K.good K.allows (label_of line) (config_of line) (view port) };
 }

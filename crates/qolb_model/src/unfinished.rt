@@ -1,19 +1,19 @@
-//! Why a line was not finished, and what is handed back.
+//! A line that could not be finished, and the cause.
 ghost use Rattle.std.specs.Prelude.{◌≡◌, ℕ};
 
-/// Why a line could not be finished.
+/// The cause for which a line could not be finished.
 #[derive(Clone, Copy, Debug, PartialEq, Eq)]
 pub enum FinishError {
-    /// Memory was refused.
+    /// The allocator returned no memory.
     Memory,
-    /// This node has an open request, or holds the line. It is the least such node.
+    /// This node has an open request, or holds the line: the least such node.
     Unquiet(u64),
-    /// No port of this node was handed in. It is the least such node; 0 where a port of another line was handed in.
+    /// This node has no port here: the least such node; 0 if a port is of another line.
     Missing(u64),
 }
 
 impl FinishError {
-    /// The error's number.
+    /// Returns the error's number: 1, 2 or 3.
     pub fn number(&self) -> u8
         ensures memory { self.now ≡ FinishError.Memory → result ≡ 1 }
         ensures unquiet { (node : ℕ) → self.now ≡ FinishError.Unquiet node → result ≡ 2 }
@@ -27,7 +27,7 @@ impl FinishError {
     }
 }
 
-/// What a refused `finish` hands back.
+/// The line and its ports, returned by a refused `finish` with the cause.
 #[derive(Drop)]
 pub struct Unfinished<L, P> {
     pub why: FinishError,

@@ -1,33 +1,22 @@
-//! Runs over queued lines: workers that share lines, and replays of scripts. What `line_threads` has is given on under the same names.
+//! Runs over queued lines by the names of locks: workers that share lines, and replays of scripts. What `line_blocking`, `qolb_replay` and
+//! `qolb_work` have is given on under the same names.
 #![tactic(auto)]
 
-mod bank;
-mod board;
-mod by_ports;
-mod gate;
-mod input;
-mod line;
-mod opening;
-mod plain;
-mod progress;
 mod replay;
 mod report;
-mod steps;
-mod tally;
 mod task;
 mod work;
-mod workers;
 
-pub use gate::{AlwaysOpen, Gate, MOST_REFUSALS};
-pub use input::{InputError, MOST_BYTES, read_all, read_input};
-pub use line::ReplayLine;
-pub use line_threads::{
-    Got, SleepingLine, Within, acquire, acquire_asleep, acquire_within, meet_all, together,
+pub use line_blocking::{
+    Got, ParkOnPoll, TimedAcquire, acquire, acquire_parking, acquire_timeout, meet_all, scoped,
 };
-pub use locks::Lines;
-pub use progress::Progress;
-pub use replay::{Kind, ReplayError, run_schedule, run_schedule_over};
+pub use line_kinds::Lines;
+pub use qolb_replay::{
+    Detail, InputError, MAX_BYTES, ReplayError, ReplayLine, read_all, read_input,
+    run_schedule_over, run_steps, run_steps_with,
+};
+pub use qolb_work::{AlwaysOpen, Gate, MAX_REFUSALS, Progress, RunError, WaitMode, run_work_over};
+pub use replay::{Kind, run_schedule};
 pub use report::{TaskError, report_work};
-pub use steps::{run_steps, run_steps_with};
-pub use task::{Detail, Task, Waits};
-pub use work::{DoneOver, Locks, RunError, run_work, run_work_over, run_work_with};
+pub use task::Task;
+pub use work::{KindSpec, Locks, run_work, run_work_with};

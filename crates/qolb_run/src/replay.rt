@@ -1,46 +1,36 @@
-//! Replays of schedules: what is said of each command, and then of each line.
-ghost use Rattle.std.specs.Prelude.{◌≡◌, ◌≢◌, ◌⊎◌, ◌↔◌, ℕ, List, length, ◌≤◌, true, false, Ok, Err, OnOk, IfOk, IfErr, IfSome};
+//! Replays of schedules by lines of each kind.
+ghost use Rattle.std.specs.Prelude.{◌≡◌, ◌≢◌, ◌↔◌, ℕ, List, true, false, Ok, Err, OnOk, IfOk, IfErr, IfSome};
 ghost use Rattle.std.specs.Io.KnownBytes.{Appends};
 ghost use Rattle.qolb_script.specs.Watched.{inner_of, has_failed};
-ghost use Rattle.qolb_script.specs.Reply.{terms_of, replay_start, reply_of, reply_to};
-ghost use Rattle.qolb_model.specs.Opening.{MayOpen};
-ghost use Rattle.qolb_model.specs.Plain.{PlainView, Agrees};
-ghost use Rattle.qolb_model.specs.OneOwner.{LineState};
-ghost use Rattle.qolb_model.specs.Whole.{Stance, AreWhole};
-ghost use Rattle.qolb_run.specs.Tallies.{AreLinesOf};
-ghost use Rattle.qolb_run.specs.declared.replay.ReplayError.TheVariants.{Memory, Write};
+ghost use Rattle.qolb_script.specs.Reply.{reply_to};
+ghost use Rattle.qolb_replay.specs.Outcome.{IsReply, HasNoReply};
 ghost use Rattle.qolb_run.specs.declared.task.Task.TheVariants as task;
-ghost use Rattle.qolb_run.specs.Outcome.{IsReply, MayFail, HasNoReply, as_replay_error, script_error};
+ghost use Rattle.qolb_run.specs.Outcome.{MayFail};
 
-use crate::by_ports::PortedLine;
-use crate::input::{InputError, read_input};
-use crate::line::ReplayLine;
-use crate::tally::TalliedLine;
-use line_lanes::Line64;
-use locks::{Lines, over_named};
-use qolb_model::{Free, OpenLine, PlainLine, Terms};
-use qolb_script::{Fault, Schedule, ScriptError, Watched, push_said, read_schedule};
-use std::alloc::{AllocError, Allocator, Global};
+use line_kinds::{Lines, for_kind};
+use qolb_model::Free;
+use qolb_replay::{ReplayError, answered_over, answered_plainly, read_input};
+use qolb_script::{ScriptError, Watched};
+use std::alloc::Global;
 use std::io::{Read, Write};
-use thiserror::Error;
 
-/// What represents the lines of a replay.
+/// The kind of lines by which a replay answers.
 ///
-/// At lines that nodes share each has a port of its own. The port that acts meets each other one before and after its call.
+/// Nodes that share a line have a port each. The port that acts meets every other port before and after its call.
 #[derive(Clone, Copy, Debug, PartialEq, Eq)]
 pub enum Kind {
-    /// The plain reference, with one owner.
+    /// The plain reference, a line with one owner.
     Plain,
-    /// Rings, which nodes share: lines by tickets and cells.
+    /// Rings, which nodes share: Anderson's array, with tickets and cells.
     Ring,
-    /// Lists, which nodes share: lines by a home word and reversed links.
+    /// Lists, which nodes share: MCS' swap of a home word, with reversed links.
     Link,
-    /// Ticket lines, which nodes share: lines by tickets, and cells that say whose turn it is by a number.
+    /// Ticket lines, which nodes share: a partitioned ticket lock, whose cells show by a number the node at its turn.
     Ticket,
 }
 
 impl Kind {
-    /// The lines that nodes share of this kind, or none of the plain reference.
+    /// Returns the shared lines of this kind, or `None` for the plain reference.
     fn shared(self) -> Option<Lines>
         ensures plain { self ≡ Kind.Plain → result ≡ None }
         ensures ring { self ≡ Kind.Ring → result ≡ Some Lines.Ring }
@@ -56,88 +46,10 @@ impl Kind {
     }
 }
 
-/// Why a schedule could not be replayed.
-#[derive(Clone, Copy, Debug, PartialEq, Eq, Error)]
-pub enum ReplayError {
-    /// A growth of memory was refused.
-    #[error("out of memory")]
-    Memory,
-    /// The reader failed.
-    #[error("read fault")]
-    Read,
-    /// The input has more bytes than a script may have.
-    #[error("script too long")]
-    Long,
-    /// The input is no schedule.
-    #[error(transparent)]
-    Script(ScriptError),
-    /// The writer failed, or took no byte.
-    #[error("write fault")]
-    Write,
-}
-
-impl ReplayError {
-    /// The error's number.
-    pub fn number(&self) -> u8
-        ensures memory { self.now ≡ ReplayError.Memory → result ≡ 1 }
-        ensures read { self.now ≡ ReplayError.Read → result ≡ 2 }
-        ensures long { self.now ≡ ReplayError.Long → result ≡ 3 }
-        ensures script { (fault : ScriptError) → self.now ≡ ReplayError.Script fault → result ≡ 4 }
-        ensures write { self.now ≡ ReplayError.Write → result ≡ 5 }
-    {
-        match self {
-            ReplayError::Memory => 1,
-            ReplayError::Read => 2,
-            ReplayError::Long => 3,
-            ReplayError::Script(_) => 4,
-            ReplayError::Write => 5,
-        }
-    }
-}
-
-impl From<AllocError> for ReplayError {
-    ghost from_gives = { λ _ error. error ≡ Memory };
-
-    fn from(_error: AllocError) -> ReplayError {
-        ReplayError::Memory
-    }
-}
-
-impl From<InputError> for ReplayError {
-    ghost from_gives = { λ fault error. error ≡ as_replay_error fault };
-
-    fn from(error: InputError) -> ReplayError {
-        match error {
-            InputError::Memory => ReplayError::Memory,
-            InputError::Read => ReplayError::Read,
-            InputError::Long => ReplayError::Long,
-        }
-    }
-}
-
-impl From<ScriptError> for ReplayError {
-    ghost from_gives = { λ fault error. error ≡ script_error fault };
-
-    fn from(error: ScriptError) -> ReplayError {
-        match error {
-            ScriptError::Memory => ReplayError::Memory,
-            error => ReplayError::Script(error),
-        }
-    }
-}
-
-impl From<Fault> for ReplayError {
-    ghost from_gives = { λ _ error. error ≡ Write };
-
-    fn from(_fault: Fault) -> ReplayError {
-        ReplayError::Write
-    }
-}
-
 /// Replays the schedule that the reader gives, and writes its reply, which is the same for each kind.
 ///
-/// The whole input is read first, and the reply is built whole before its first byte is written: with every error but `Write`
-/// nothing was written.
+/// Reads the whole input first, and builds the whole reply before it writes the first byte. So with every error but `Write` no byte was
+/// written.
 pub fn run_schedule<R: Read, W: Write>(
     alloc: Global,
     reader: &mut Watched<R>,
@@ -161,69 +73,6 @@ pub fn run_schedule<R: Read, W: Write>(
     Ok(())
 }
 
-/// The same by lines that nodes share, of this type.
-pub fn run_schedule_over<L: OpenLine<Free> + Drop, R: Read, W: Write>(
-    alloc: Global,
-    reader: &mut Watched<R>,
-    writer: &mut Watched<W>,
-) -> Result<(), ReplayError>
-where
-    L::Port: Drop,
-    ensures ok { OnOk result (IfSome (R.remaining (inner_of reader.old)) (λ input. (text : List ℕ) × IsReply input text × Appends (W.contents (inner_of writer.old)) (W.contents (inner_of writer.new)) text)) }
-    ensures refused { IfErr result (λ error. IfSome (R.remaining (inner_of reader.old)) (λ input. (kind : Kind) → MayFail (task.Replay kind) input error)) }
-    ensures unwritten { IfErr result (λ error. error ≢ ReplayError.Write → writer.new ≡ writer.old) }
-    ensures read_fault { (result ≡ Err ReplayError.Read) ↔ (has_failed reader.new ≡ true) }
-    ensures write_fault { result ≡ Err ReplayError.Write → has_failed writer.new ≡ true }
-    ensures written { OnOk result (has_failed writer.new ≡ false) }
-    ensures memory { result ≢ Err (ReplayError.Script ScriptError.Memory) }
-{
-    let input = read_input(alloc, reader)?;
-    let text = answered_over::<Global, L>(&alloc, alloc, input.as_slice())?;
-    writer.write_all(text.as_slice())?;
-    Ok(())
-}
-
-/// What the lines of a schedule are opened with.
-fn terms_for<A: Allocator>(schedule: &Schedule<A>) -> Terms
-    ensures { result ≡ terms_of schedule.now }
-{
-    Terms {
-        nodes: schedule.nodes(),
-        opening: Line64::zero(),
-        lease: schedule.lease(),
-    }
-}
-
-/// The reply of the schedule that the input is, by plain lines.
-fn answered_plainly<'a, A: Allocator>(
-    alloc: &'a A,
-    input: &[u8],
-) -> Result<Vec<u8, &'a A>, ReplayError>
-    ensures ok { IfOk result (λ text. reply_to input.now ≡ Ok text.items) }
-    ensures refused { IfErr result (HasNoReply input.now) }
-{
-    let schedule = read_schedule(alloc, input)?;
-    let lines = open_lines(alloc, &terms_for(&schedule), schedule.lines())?;
-    Ok(reply(alloc, &schedule, lines)?)
-}
-
-/// The reply of the schedule that the input is. Lines that nodes share and their ports lie in memory of `shared`, all else in memory of
-/// `alloc`.
-fn answered_over<'a, A: Allocator, L: OpenLine<Free> + Drop>(
-    alloc: &'a A,
-    shared: Global,
-    input: &[u8],
-) -> Result<Vec<u8, &'a A>, ReplayError>
-where
-    L::Port: Drop,
-    ensures ok { IfOk result (λ text. reply_to input.now ≡ Ok text.items) }
-    ensures refused { IfErr result (HasNoReply input.now) }
-{
-    let schedule = read_schedule(alloc, input)?;
-    let lines = open_ported::<&A, L>(alloc, shared, &terms_for(&schedule), schedule.lines())?;
-    Ok(reply(alloc, &schedule, lines)?)
-}
-
 /// The reply of the schedule that the input is, by lines of this name.
 fn answered_by<'a>(
     lines: Lines,
@@ -233,76 +82,11 @@ fn answered_by<'a>(
     ensures ok { IfOk result (λ text. reply_to input.now ≡ Ok text.items) }
     ensures refused { IfErr result (HasNoReply input.now) }
 {
-    over_named!(
+    for_kind!(
         lines,
         answered_over,
         [Global],
         [Free],
         (alloc, *alloc, input)
     )
-}
-
-/// The reply of a schedule, by these lines, of which nothing was said yet.
-fn reply<A: Allocator, R: ReplayLine + Drop>(
-    alloc: A,
-    schedule: &Schedule<A>,
-    lines: Vec<TalliedLine<R>, A>,
-) -> Result<Vec<u8, A>, AllocError>
-    requires { AreLinesOf R.shows R.nodes_of schedule.now.nodes (replay_start (terms_of schedule.now) schedule.now.lines) lines.items }
-    ensures { IfOk result (λ text. text.items ≡ reply_of schedule.now) }
-{
-    let nodes = schedule.nodes();
-    let mut lines = lines;
-    let mut text = Vec::new(alloc);
-    for command in schedule.commands() {
-        let said = lines[command.line() as usize].take(command);
-        push_said(&mut text, &said)?;
-    }
-    for (number, line) in lines.iter().enumerate() {
-        push_said(&mut text, &line.summary(number as u64, nodes))?;
-    }
-    Ok(text)
-}
-
-/// Lines that are opened so, of which nothing was said.
-fn open_lines<A: Allocator>(
-    alloc: A,
-    terms: &Terms,
-    lines: u64,
-) -> Result<Vec<TalliedLine<PlainLine>, A>, AllocError>
-    requires bytes { length terms.now.opening.bytes ≡ 64 }
-    requires may_open { MayOpen terms.now }
-    ensures { IfOk result (λ all. AreLinesOf Agrees (λ (line : PlainView). line.nodes) terms.now.nodes (replay_start terms.now lines) all.items) }
-{
-    let mut all = Vec::with_capacity(alloc, lines as usize)?;
-    for _ in 0..lines {
-        let Ok(line) = PlainLine::with_terms(*terms) else {
-            unreachable!();
-        };
-        all.push(TalliedLine::new(line))?;
-    }
-    Ok(all)
-}
-
-/// Lines that nodes share, opened so, of which nothing was said.
-fn open_ported<A: Allocator, L: OpenLine<Free> + Drop>(
-    alloc: A,
-    shared: Global,
-    terms: &Terms,
-    lines: u64,
-) -> Result<Vec<TalliedLine<PortedLine<L>>, A>, AllocError>
-where
-    L::Port: Drop,
-    requires bytes { length terms.now.opening.bytes ≡ 64 }
-    requires may_open { MayOpen terms.now }
-    ensures { IfOk result (λ all. AreLinesOf (λ (ports : List Stance) (s : LineState). AreWhole s ports) (λ (ports : List Stance). length ports) terms.now.nodes (replay_start terms.now lines) all.items) }
-{
-    let mut all = Vec::with_capacity(alloc, lines as usize)?;
-    for number in 0..lines {
-        let Ok((line, ports)) = L::open_with(shared, number, *terms) else {
-            return Err(AllocError);
-        };
-        all.push(TalliedLine::new(PortedLine::new(line, ports)))?;
-    }
-    Ok(all)
 }

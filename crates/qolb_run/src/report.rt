@@ -1,20 +1,18 @@
-//! Work scripts, from the bytes in to the report out.
+//! Work scripts: from the bytes of the script to the bytes of the report.
 ghost use Rattle.std.specs.Prelude.{◌≡◌, ◌≢◌, ◌↔◌, ℕ, List, true, false, Ok, Err, OnOk, IfOk, IfErr, IfSome};
 ghost use Rattle.std.specs.Io.KnownBytes.{Appends};
 ghost use Rattle.qolb_script.specs.Watched.{inner_of, has_failed};
 ghost use Rattle.qolb_run.specs.declared.task.Task.TheVariants as task;
-ghost use Rattle.locks.specs.declared.Lines.{Lines};
-ghost use Rattle.qolb_run.specs.declared.task.Waits.{Waits};
+ghost use Rattle.line_kinds.specs.declared.Lines.{Lines};
+ghost use Rattle.qolb_work.specs.declared.work.WaitMode.{WaitMode};
 ghost use Rattle.qolb_run.specs.declared.report.TaskError.TheVariants.{Replay};
 ghost use Rattle.qolb_run.specs.Outcome.{IsWork, IsReplyOver, MayFail, MayEnd, task_error};
 
-use crate::gate::Gate;
-use crate::input::read_input;
-use crate::replay::ReplayError;
-use crate::task::Waits;
-use crate::work::{DoneOver, Locks, RunError, run_work_with};
-use locks::Lines;
+use crate::work::{KindSpec, Locks, run_work_with};
+use line_kinds::Lines;
+use qolb_replay::{ReplayError, read_input};
 use qolb_script::{ScriptError, Watched, Work, WorkKind, read_work, write_report};
+use qolb_work::{Gate, RunError, WaitMode};
 use std::alloc::Global;
 use std::io::{Read, Write};
 use std::sync::Wait;
@@ -53,8 +51,7 @@ impl From<RunError> for TaskError {
 
 /// Does the work of the script that the reader gives, and writes its report.
 ///
-/// The whole input is read first, and the work is done before the first byte is written: with every error but `Write` nothing was
-/// written.
+/// Reads the whole input first, and does the work before it writes the first byte. So with every error but `Write` no byte was written.
 pub fn report_work<T: Threads + Wait + Sync, G: Gate + Sync, R: Read, W: Write>(
     rt: &T,
     alloc: Global,
@@ -63,9 +60,9 @@ pub fn report_work<T: Threads + Wait + Sync, G: Gate + Sync, R: Read, W: Write>(
     writer: &mut Watched<W>,
     kind: WorkKind,
     lines: Lines,
-    waits: Waits,
+    waits: WaitMode,
 ) -> Result<(), TaskError>
-    ensures ok { OnOk result (IfSome (R.remaining (inner_of reader.old)) (λ input. (text : List ℕ) × IsReplyOver (⟦<Locks as DoneOver>⟧.done_over lines) kind input text × Appends (W.contents (inner_of writer.old)) (W.contents (inner_of writer.new)) text)) }
+    ensures ok { OnOk result (IfSome (R.remaining (inner_of reader.old)) (λ input. (text : List ℕ) × IsReplyOver (⟦<Locks as KindSpec>⟧.done_over lines) kind input text × Appends (W.contents (inner_of writer.old)) (W.contents (inner_of writer.new)) text)) }
     ensures refused { IfErr result (λ error. IfSome (R.remaining (inner_of reader.old)) (λ input. MayEnd (task.Work kind lines waits) input error)) }
     ensures by_gate { (worker : ℕ) → result ≡ Err (TaskError.Stalled worker) → G.may_refuse gate.now worker }
     ensures unwritten { IfErr result (λ error. error ≢ TaskError.Replay ReplayError.Write → writer.new ≡ writer.old) }
@@ -82,14 +79,14 @@ pub fn report_work<T: Threads + Wait + Sync, G: Gate + Sync, R: Read, W: Write>(
     Ok(())
 }
 
-/// The work of the script that the reader gives.
+/// Reads the work script that the reader gives.
 fn read_script<R: Read>(
     alloc: Global,
     reader: &mut Watched<R>,
     kind: WorkKind,
 ) -> Result<Work, ReplayError>
     ensures work { IfOk result (λ work. IfSome (R.remaining (inner_of reader.old)) (λ input. IsWork kind input work)) }
-    ensures refused { IfErr result (λ error. (error ≢ ReplayError.Write) × IfSome (R.remaining (inner_of reader.old)) (λ input. (lines : Lines) (waits : Waits) → MayFail (task.Work kind lines waits) input error)) }
+    ensures refused { IfErr result (λ error. (error ≢ ReplayError.Write) × IfSome (R.remaining (inner_of reader.old)) (λ input. (lines : Lines) (waits : WaitMode) → MayFail (task.Work kind lines waits) input error)) }
     ensures read_fault { (result ≡ Err ReplayError.Read) ↔ (has_failed reader.new ≡ true) }
     ensures memory { result ≢ Err (ReplayError.Script ScriptError.Memory) }
 {

@@ -1,34 +1,17 @@
-//! What a script is for.
+//! The tasks that take a script.
 use crate::replay::Kind;
-use locks::Lines;
+use line_kinds::Lines;
+use qolb_replay::Detail;
 use qolb_script::WorkKind;
-
-/// What is written of each event of a step script.
-#[derive(Clone, Copy, Debug, PartialEq, Eq)]
-pub enum Detail {
-    /// The word that it told.
-    Words,
-    /// The word, and then the core's rank after the event: how many productive events can follow each other from there.
-    Ranks,
-}
-
-/// How a worker waits for its turn at a line.
-#[derive(Clone, Copy, Debug, Default, PartialEq, Eq)]
-pub enum Waits {
-    /// It looks again and again, and gives its processor away at times.
-    #[default]
-    Awake,
-    /// It sleeps between two looks, until whoever lets the line go to it wakes it.
-    Asleep,
-}
+use qolb_work::WaitMode;
 
 /// A task that takes a script.
 #[derive(Clone, Copy, Debug, PartialEq, Eq)]
 pub enum Task {
-    /// To replay a schedule on lines of this kind.
+    /// To replay a schedule by lines of this kind.
     Replay(Kind),
-    /// To run a step script, and to write so much of each event.
+    /// To run a step script, and to write this of each event.
     Steps(Detail),
     /// To do the work of a work script of this kind, over lines of that kind, by workers that wait so.
-    Work(WorkKind, Lines, Waits),
+    Work(WorkKind, Lines, WaitMode),
 }

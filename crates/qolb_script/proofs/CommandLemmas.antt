@@ -1,4 +1,4 @@
--- Lemmas on what a write line writes.
+-- Lemmas on lines that are a write.
 use Rattle.std.proofs.Common.{◌≡◌, ℕ, ◌+◌, ◌*◌, ◌/◌, ◌<◌, ◌≤◌, nat_le, false, true, is_err, List, length, Result, Ok, Err, MatchResult, refl, sym, ap, ◌∙◌, arith}
 use Rattle.hex.specs.Hex.{decode_of, decode_sized}
 use Rattle.hex.specs.declared.error.FromHexError.{FromHexError}
@@ -28,7 +28,7 @@ decoded_so (Ok bytes) r out h ok = ap Ok (sym h.1)
 decoded_so (Err e) (Ok u) out h ok = cc
 decoded_so (Err e) (Err f) out h ok = cc
 
--- what was decoded
+-- the decoded bytes
 pub decoded : (hex : List ℕ) (n : ℕ) (r : Result (Unit {0}) FromHexError) (out : List ℕ)
     → MatchResult (decode_sized hex n) (λ bytes. (r ≡ Ok tt) × (out ≡ bytes)) (λ e. r ≡ Err e) → is_err r ≡ false → decode_of hex ≡ Ok out
 decoded hex n r out h ok =

@@ -1,4 +1,4 @@
--- A script is refused for the line of which something is told.
+-- A script is refused for the line of its complaint.
 use Rattle.std.proofs.Common.{◌≡◌, ℕ, ◌+◌, nat_le, Bool, true, false, is_err, if◌then◌else◌, List, [], ◌∷◌, Option, Some, Result, Ok, Err, refl, ◌∙◌}
 use Rattle.qolb_script.specs.declared.command.Command.{Command}
 use Rattle.qolb_script.specs.declared.command_reader.Header.{Header}
@@ -11,7 +11,7 @@ use Rattle.qolb_script.specs.declared.error.ScriptError.{ScriptError}
 use Rattle.qolb_script.specs.declared.error.ScriptError.TheVariants as error
 use Rattle.qolb_script.specs.declared.reason.Reason.{Reason}
 use Rattle.qolb_script.specs.declared.reason.Reason.TheVariants as reason
-use Rattle.qolb_script.specs.declared.schedule.TheConstants.{MOST_COMMANDS}
+use Rattle.qolb_script.specs.declared.schedule.TheConstants.{MAX_COMMANDS}
 use Rattle.qolb_script.specs.declared.text.LineFault.{LineFault}
 use Rattle.qolb_script.specs.declared.text.LineFault.TheVariants.{Bad, Number}
 use Rattle.qolb_script.specs.Text.{numbered_lines, worded}
@@ -32,11 +32,11 @@ one_more false (Err Number) n line why later others h = refl
 one_more false (Ok item) n line why later (Ok items) h = h
 one_more false (Ok item) n line why later (Err e) h = h
 
--- below a header
+-- the lines below a header
 items : {A : Type 0} (item_of : List (List ℕ) → Result A LineFault) (why : List (List ℕ) → Reason) (before : ℕ) (lines : List (ℕ × List ℕ)) → told_line (first_refused item_of why before lines) ≡ refused_line (items_of item_of before lines)
 items item_of why before [] = refl
 items item_of why before (line ∷ rest) =
-    one_more (nat_le MOST_COMMANDS before) (read_line item_of line.1) line.0 line.1 (why_line why line.1) (first_refused item_of why (before + 1) rest) (items_of item_of (before + 1) rest)
+    one_more (nat_le MAX_COMMANDS before) (read_line item_of line.1) line.0 line.1 (why_line why line.1) (first_refused item_of why (before + 1) rest) (items_of item_of (before + 1) rest)
     (items item_of why (before + 1) rest)
 
 commands : (h : Header) (r : Result (List Command) ScriptError) → refused_line r ≡ refused_line (with_commands h r)

@@ -45,7 +45,7 @@ all_step : (x : ℕ) (xs : List ℕ) (b : Bool) → (x == 32) ≡ b → list_all
 all_step x xs true e h = rw (words_of-space x xs e, e) h
 all_step x xs false e h = rw (words_of-byte x xs e, e) refl
 
--- a line has no word exactly where all its bytes are spaces
+-- a line has no word exactly if all its bytes are spaces
 pub all_spaces : (line : List ℕ) → list_all (λ b. b == 32) line ≡ (length (words_of line) == 0)
 all_spaces [] = refl
 all_spaces (x ∷ xs) = all_step x xs (x == 32) refl (all_spaces xs)

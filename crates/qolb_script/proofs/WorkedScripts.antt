@@ -1,4 +1,4 @@
--- Worked scripts: what the definitions of a script and of its reply say of them, by computation.
+-- Worked scripts: the values of the definitions of a script and of its reply, by computation.
 use Rattle.std.specs.Prelude.{◌≡◌, [], ◌∷◌, ◌++◌, codes, map, replicate, refl, Some, None, Ok, Err}
 use Rattle.std.specs.Fmt.{digits}
 use Rattle.hex.specs.Hex.{encode_with, decode_pairs}
@@ -18,7 +18,7 @@ no_commands : reply_to (codes "nodes 1 lines 1\n") ≡ Ok (codes "line 0 served 
 unfolding digits
 no_commands = refl
 
--- two nodes hand the line over, with a write
+-- one node hands the line over to another, with a write
 handed_over : reply_to (codes "nodes 2 lines 1\nenq 1 0\nwrite 1 0 0 a1b2\nenq 2 0\npoll 2 0\ndeq 1 0\npoll 2 0\nshow 2 0\ndeq 2 0\n") ≡ Ok (codes "granted\nok\nqueued\nwaiting\nreleased\ngranted\na1b2" ++ replicate 124 48 ++ codes "\nreleased\nline 0 served 2 withdrawn 0 told 0 left 0\n")
 unfolding digits encode_with decode_pairs
 handed_over = refl
@@ -37,7 +37,7 @@ misuses : reply_to (codes "nodes 1 lines 1\npoll 1 0\ndeq 1 0\nenq 1 0\nenq 1 0\
 unfolding digits
 misuses = refl
 
--- the oldest request comes first, whatever its node
+-- the oldest request is served first, whatever its node
 in_order : reply_to (codes "nodes 4 lines 1\nenq 4 0\nenq 3 0\nenq 1 0\nenq 2 0\ndeq 4 0\npoll 1 0\npoll 3 0\ndeq 3 0\npoll 2 0\npoll 1 0\ndeq 1 0\npoll 2 0\n") ≡ Ok (codes "granted\nqueued\nqueued\nqueued\nreleased\nwaiting\ngranted\nreleased\nwaiting\ngranted\nreleased\ngranted\nline 0 served 3 withdrawn 0 told 0 left 1\n")
 unfolding digits
 in_order = refl
@@ -47,12 +47,12 @@ withdrawn : reply_to (codes "nodes 3 lines 1\nenq 1 0\nenq 2 0\nenq 3 0\nout 2 0
 unfolding digits
 withdrawn = refl
 
--- a closed line is told of to each request that comes to its turn
+-- each request that is at its turn on a closed line is told
 closed : reply_to (codes "nodes 3 lines 1\nenq 1 0\nenq 2 0\nenq 3 0\nshut 1 0\npoll 3 0\npoll 2 0\npoll 3 0\nenq 1 0\nenq 2 0\n") ≡ Ok (codes "granted\nqueued\nqueued\nshut\nwaiting\nclosed\nclosed\nclosed\nclosed\nline 0 served 1 withdrawn 0 told 4 left 0\n")
 unfolding digits
 closed = refl
 
--- two lines are apart
+-- two lines do not share anything
 two_lines : reply_to (codes "nodes 2 lines 2\nenq 1 0\nenq 2 1\nenq 1 1\ndeq 2 1\npoll 1 1\nshut 1 1\nenq 2 1\nenq 2 0\nout 2 0\n") ≡ Ok (codes "granted\ngranted\nqueued\nreleased\ngranted\nshut\nclosed\nqueued\nwithdrawn\nline 0 served 0 withdrawn 1 told 0 left 1\nline 1 served 2 withdrawn 0 told 1 left 0\n")
 unfolding digits
 two_lines = refl
@@ -73,7 +73,7 @@ no_turns = refl
 no_number_of_turns : reply_to (codes "nodes 1 lines 1 lease") ≡ Err (BadLine 1)
 no_number_of_turns = refl
 
--- of two faults of a header a wrong word comes first
+-- of two faults of a header a wrong word is named first
 wrong_word_first : reply_to (codes "nodes 0 lines 1 leash 1") ≡ Err (BadLine 1)
 wrong_word_first = refl
 
@@ -117,7 +117,7 @@ write_past_the_end : steps_of (codes "nodes 2\nwrite 1 63 ffff") ≡ Err (BadLin
 unfolding decode_pairs
 write_past_the_end = refl
 
--- what is said of a request that is served and of one that is told of the closed line, with one event refused between them
+-- the text of a request that is served and of one that is told of the closed line, with one event refused between them
 said_of_steps : text_of (map step_said (Some told.Went ∷ Some told.Granted ∷ Some told.Shut ∷ None ∷ Some told.Closed ∷ [])) ≡ codes "went\ngranted\nshut\nrefused\nclosed\n"
 said_of_steps = refl
 

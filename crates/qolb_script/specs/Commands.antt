@@ -9,14 +9,14 @@ use Rattle.line_lanes.specs.declared.line.Mask.{Mask}
 use Rattle.line_lanes.specs.declared.line.Line64.{Line64}
 use Rattle.qolb_script.specs.declared.command.Command.{Command}
 use Rattle.qolb_script.specs.declared.command.Command.TheVariants.{Enq, Poll, Show, Deq, Out, Shut, Write}
-use Rattle.qolb_model.specs.declared.terms.TheConstants.{MOST_NODES}
-use Rattle.qolb_script.specs.declared.schedule.TheConstants.{MOST_LINES}
+use Rattle.qolb_model.specs.declared.config.TheConstants.{MAX_NODES}
+use Rattle.qolb_script.specs.declared.schedule.TheConstants.{MAX_LINES}
 use Rattle.qolb_script.specs.declared.command_reader.Header.{Header}
 use Rattle.qolb_script.specs.declared.text.LineFault.{LineFault}
 use Rattle.qolb_script.specs.declared.text.LineFault.TheVariants.{Bad}
 use Rattle.qolb_script.specs.Text.{words_of, is_plain, number_within}
 
--- what is called
+-- the node, and the line, that a command is of
 abbrev pub node_of : Command → ℕ
 node_of (Enq node line) = node
 node_of (Poll node line) = node
@@ -35,12 +35,12 @@ line_of (Out node line) = line
 line_of (Shut node line) = line
 line_of (Write node line mask bytes) = line
 
--- the first value, if there is one, goes on into the next step
+-- the value, if there is one, passed to the next step
 abbrev pub and_then : {A B : Type 0} → Result A LineFault → (A → Result B LineFault) → Result B LineFault
 and_then (Ok a) next = next a
 and_then (Err fault) next = Err fault
 
--- the command that a first word names, where a node and a line are all that follows
+-- the command that a first word names, behind which are a node and a line
 abbrev pub named_command : List ℕ → Option (ℕ → ℕ → Command)
 named_command word =
     if bytes_eq word (codes "enq") then Some Enq
@@ -64,7 +64,7 @@ command_at nodes lines None node line = Err Bad
 command_at nodes lines (Some command) node line =
     and_then (node_within nodes node) (λ n. and_then (line_within lines line) (λ l. Ok (command n l)))
 
--- the mask and the line of a write of these bytes from place `off` on, if they fit into a line
+-- the mask and the line of a write from place `off` on, if these bytes fit
 abbrev pub placed_at : ℕ → Result (List ℕ) FromHexError → Result (Mask × Line64) LineFault
 placed_at off (Err error) = Err Bad
 placed_at off (Ok bytes) =
@@ -72,7 +72,7 @@ placed_at off (Ok bytes) =
     then Ok (record { 0 = placed_mask off (length bytes) }, record { bytes = placed_line off bytes })
     else Err Bad
 
--- the same, of the words for the place and for the bytes
+-- the mask and the line of a write, from its words for place and bytes
 abbrev pub placed_of : List ℕ → List ℕ → Result (Mask × Line64) LineFault
 placed_of off hex = and_then (number_within 0 63 off) (λ o. placed_at o (decode_of hex))
 
@@ -80,7 +80,7 @@ abbrev pub write_command : ℕ → ℕ → List ℕ → List ℕ → List ℕ �
 write_command nodes lines node line off hex =
     and_then (node_within nodes node) (λ n. and_then (line_within lines line) (λ l. and_then (placed_of off hex) (λ p. Ok (Write n l p.0 p.1))))
 
--- the command that some words write
+-- the command that these words are
 abbrev pub command_of : ℕ → ℕ → List (List ℕ) → Result Command LineFault
 command_of nodes lines (word ∷ node ∷ line ∷ []) = command_at nodes lines (named_command word) node line
 command_of nodes lines (word ∷ node ∷ line ∷ off ∷ hex ∷ []) =
@@ -89,9 +89,9 @@ command_of nodes lines words = Err Bad
 
 -- the numbers of nodes and of lines
 abbrev pub sizes_of : List ℕ → List ℕ → Result (ℕ × ℕ) LineFault
-sizes_of nodes lines = and_then (number_within 1 MOST_NODES nodes) (λ n. and_then (number_within 1 MOST_LINES lines) (λ l. Ok (n, l)))
+sizes_of nodes lines = and_then (number_within 1 MAX_NODES nodes) (λ n. and_then (number_within 1 MAX_LINES lines) (λ l. Ok (n, l)))
 
--- a lease is of at least one turn
+-- a lease of at least one turn
 abbrev pub lease_within : List ℕ → Result ℕ LineFault
 lease_within word = number_within 1 (2 ^ 64 - 1) word
 
@@ -100,7 +100,7 @@ abbrev pub lease_of : Option (List ℕ) → Result (Option ℕ) LineFault
 lease_of None = Ok None
 lease_of (Some word) = and_then (lease_within word) (λ turns. Ok (Some turns))
 
--- the header that some words write: `nodes N lines L`, and perhaps `lease C`
+-- the header that these words are: `nodes N lines L`, and perhaps `lease C`
 abbrev pub header_of : List (List ℕ) → Result Header LineFault
 header_of (first ∷ nodes ∷ third ∷ lines ∷ []) =
     if bytes_eq first (codes "nodes") && bytes_eq third (codes "lines") then and_then (sizes_of nodes lines) (λ sizes. Ok (record { nodes = sizes.0; lines = sizes.1; lease = None })) else Err Bad
@@ -108,6 +108,6 @@ header_of (first ∷ nodes ∷ third ∷ lines ∷ fifth ∷ lease ∷ []) =
     if bytes_eq first (codes "nodes") && bytes_eq third (codes "lines") && bytes_eq fifth (codes "lease") then and_then (sizes_of nodes lines) (λ sizes. and_then (lease_within lease) (λ turns. Ok (record { nodes = sizes.0; lines = sizes.1; lease = Some turns }))) else Err Bad
 header_of words = Err Bad
 
--- a line with a byte that no script has is bad whatever its words
+-- a line that has a byte which no script has is bad, whatever its words
 abbrev pub read_line : {A : Type 0} → (List (List ℕ) → Result A LineFault) → List ℕ → Result A LineFault
 read_line read line = if is_plain line then read (words_of line) else Err Bad

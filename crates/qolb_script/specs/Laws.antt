@@ -1,4 +1,4 @@
--- What is wrong with a script, and that it is refused. (Of this project.)
+-- Complaints about a script, and its refusal. (Of this project.)
 use Rattle.std.specs.Prelude.{◌≡◌, ℕ, List, Option, Some, None, Result, Ok, Err}
 use Rattle.std.specs.Option.{option_map}
 use Rattle.qolb_script.specs.declared.error.ScriptError.{ScriptError}
@@ -21,11 +21,11 @@ abbrev pub refused_line : {S : Type 0} → Result S ScriptError → Option ℕ
 refused_line (Ok script) = None
 refused_line (Err error) = line_of error
 
--- the line of which something is told, if anything is
+-- the line of the complaint, if there is one
 abbrev pub told_line : Option Complaint → Option ℕ
 told_line complaint = option_map (λ (it : Complaint). it.0) complaint
 
--- something is told of a script exactly if it is refused, and of the line that its error names
+-- A script has a complaint exactly if it is refused. The complaint is about the line that the error names.
 pub record IsToldOfRefusals : Type 0 where
   pub schedules : (text : List ℕ) → told_line (schedule_complaint text) ≡ refused_line (script_of text)
   pub step_scripts : (text : List ℕ) → told_line (steps_complaint text) ≡ refused_line (steps_of text)

@@ -1,4 +1,4 @@
--- The reply of a script: what is said of each command, and then of each line. (Of this project.)
+-- The reply of a script: the answer to each command, and then the counts of each line. (Of this project.)
 use Rattle.std.specs.Prelude.{ℕ, ◌==◌, ◌&&◌, ◌||◌, Bool, true, false, if◌then◌else◌, List, [], ◌∷◌, ◌++◌, map, fold, flat_map, count_by, replicate, slice_set, None, Result, Ok, Err}
 use Rattle.std.specs.List.{slice_index_or, range_with_len}
 use Rattle.line_lanes.specs.Line.{zeros}
@@ -7,8 +7,8 @@ use Rattle.qolb_model.specs.declared.answer.Poll.TheVariants as poll
 use Rattle.qolb_model.specs.declared.answer.Out.TheVariants as out
 use Rattle.qolb_model.specs.declared.answer.PortState.{PortState}
 use Rattle.qolb_model.specs.declared.answer.PortState.TheVariants as port
-use Rattle.qolb_model.specs.OneOwner.{LineState, opened, state_of, shown, enq_answer, after_enq, poll_answer, after_poll, out_answer, after_out, after_release, after_write}
-use Rattle.qolb_model.specs.declared.terms.Terms.{Terms}
+use Rattle.qolb_model.specs.OneOwner.{OwnerState, opened, state_of, shown, enq_answer, after_enq, poll_answer, after_poll, out_answer, after_out, after_release, after_write}
+use Rattle.qolb_model.specs.declared.config.LineConfig.{LineConfig}
 use Rattle.qolb_model.specs.PortStates.{may_ask}
 use Rattle.link_core.specs.declared.told.Told.TheVariants as told
 use Rattle.qolb_script.specs.declared.command.Command.{Command}
@@ -49,8 +49,8 @@ is_allowed state (Out node line) = is_queued state
 is_allowed state (Shut node line) = is_holding state
 is_allowed state (Write node line mask bytes) = is_holding state
 
--- what an allowed command is answered, and what it leaves
-abbrev pub answered : LineState → Command → Said
+-- the answer to an allowed command, and the state after it
+abbrev pub answered : OwnerState → Command → Said
 answered s (Enq node line) = said.Enq (enq_answer s node)
 answered s (Poll node line) = said.Poll (poll_answer s node)
 answered s (Show node line) = said.Bytes (record { bytes = shown s })
@@ -59,7 +59,7 @@ answered s (Out node line) = said.Out (out_answer s node)
 answered s (Shut node line) = said.Shut
 answered s (Write node line mask bytes) = said.Written
 
-abbrev pub after_allowed : LineState → Command → LineState
+abbrev pub after_allowed : OwnerState → Command → OwnerState
 after_allowed s (Enq node line) = after_enq s node
 after_allowed s (Poll node line) = after_poll (poll_answer s node) s
 after_allowed s (Show node line) = s
@@ -68,31 +68,31 @@ after_allowed s (Out node line) = after_out s node
 after_allowed s (Shut node line) = after_release s true
 after_allowed s (Write node line mask bytes) = after_write s mask.0 bytes.bytes
 
--- any other is misuse, and changes nothing
-abbrev pub said_of : LineState → Command → Said
+-- a command that is not allowed is misuse, and changes nothing
+abbrev pub said_of : OwnerState → Command → Said
 said_of s c = if is_allowed (state_of s (node_of c)) c then answered s c else said.Misuse
 
-abbrev pub after_command : LineState → Command → LineState
+abbrev pub after_command : OwnerState → Command → OwnerState
 after_command s c = if is_allowed (state_of s (node_of c)) c then after_allowed s c else s
 
--- the state of every line, and what was said so far, each with its line
+-- the state of every line, and the answers so far, each with its line
 pub record Replay : Type 0 where
-  pub lines : List LineState
+  pub lines : List OwnerState
   pub said : List (ℕ × Said)
 
 -- every line is opened with zeros, for the script's nodes and with its lease
-abbrev pub terms_of : Script → Terms
-terms_of script = record { nodes = script.nodes; opening = record { bytes = zeros }; lease = script.lease }
+abbrev pub config_of : Script → LineConfig
+config_of script = record { nodes = script.nodes; opening = record { bytes = zeros }; lease = script.lease }
 
--- then the commands are done in order, each on its line
-abbrev pub replay_start : Terms → ℕ → Replay
-replay_start terms lines = record { lines = replicate lines (opened terms); said = [] }
+-- the replay before its commands, after one more command, and after all commands in order
+abbrev pub replay_start : LineConfig → ℕ → Replay
+replay_start config lines = record { lines = replicate lines (opened config); said = [] }
 
--- what a line is of which there is none
-abbrev pub no_line : LineState
+-- the state of a line that does not exist
+abbrev pub no_line : OwnerState
 no_line = opened (record { nodes = 0; opening = record { bytes = zeros }; lease = None })
 
-abbrev pub line_at : List LineState → ℕ → LineState
+abbrev pub line_at : List OwnerState → ℕ → OwnerState
 line_at lines l = slice_index_or lines l no_line
 
 abbrev pub replay_step : Replay → Command → Replay
@@ -102,13 +102,13 @@ replay_step r c = record {
 }
 
 abbrev pub replay_of : Script → Replay
-replay_of script = fold replay_step (replay_start (terms_of script) script.lines) script.commands
+replay_of script = fold replay_step (replay_start (config_of script) script.lines) script.commands
 
--- how often such a thing was said of a line
+-- how many answers of this kind a line has
 abbrev pub times_said : (Said → Bool) → ℕ → List (ℕ × Said) → ℕ
 times_said test line said = count_by (λ s. (s.0 == line) && test s.1) said
 
--- it says, of a call or of an event, that a request was served, was withdrawn, or was told that the line is closed
+-- tests of an answer: a request was served, was withdrawn, or was told. The answer is of a call or of an event
 abbrev pub is_served : Said → Bool
 is_served said.Released = true
 is_served said.Shut = true
@@ -129,14 +129,14 @@ is_told (said.Told told.Closed) = true
 is_told what = false
 
 -- how many of the nodes wait at a line or hold it
-abbrev pub nodes_left : ℕ → LineState → ℕ
+abbrev pub nodes_left : ℕ → OwnerState → ℕ
 nodes_left nodes s = count_by (λ n. is_queued (state_of s n) || is_holding (state_of s n)) (range_with_len 1 nodes)
 
 abbrev pub summary_of : ℕ → Replay → ℕ → Said
 summary_of nodes r line =
     said.Summary line (times_said is_served line r.said) (times_said is_withdrawn line r.said) (times_said is_told line r.said) (nodes_left nodes (line_at r.lines line))
 
--- the text: what was said of the commands, in order, and then the summaries of the lines
+-- the text: the answers to the commands, in order, and then the summaries of the lines
 abbrev pub text_of : List Said → List ℕ
 text_of all = flat_map said_text all
 
@@ -144,7 +144,7 @@ abbrev pub reply_of : Script → List ℕ
 reply_of script =
     text_of (map (λ s. s.1) (replay_of script).said) ++ text_of (map (summary_of script.nodes (replay_of script)) (range_with_len 0 script.lines))
 
--- what a replay of some bytes writes, or the first fault in them
+-- the text that a replay of these bytes writes, or their first fault
 abbrev pub replied : Result Script ScriptError → Result (List ℕ) ScriptError
 replied (Ok script) = Ok (reply_of script)
 replied (Err error) = Err error

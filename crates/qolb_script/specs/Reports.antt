@@ -3,7 +3,7 @@ use Rattle.std.specs.Prelude.{ℕ, List, [], ◌∷◌, ◌++◌, codes, decimal
 use Rattle.qolb_script.specs.declared.report.Report.{Report}
 use Rattle.qolb_script.specs.declared.report.Report.TheVariants.{Board, Bank}
 
--- a word and the digits of a number, on a line of their own
+-- a word and the digits of a number, on one line
 abbrev pub figure : List ℕ → List ℕ → List ℕ
 figure word digits = word ++ digits ++ 10 ∷ []
 

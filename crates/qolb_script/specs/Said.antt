@@ -1,4 +1,4 @@
--- The text of what a replay says: one line each. (Of this project.)
+-- The text of the answers of a replay: one line each. (Of this project.)
 use Rattle.std.specs.Prelude.{ℕ, List, [], ◌∷◌, ◌++◌, codes, decimal}
 use Rattle.hex.specs.Hex.{encode_lower}
 use Rattle.qolb_model.specs.declared.answer.Enq.TheVariants as enq
@@ -8,7 +8,7 @@ use Rattle.link_core.specs.declared.told.Told.TheVariants as told
 use Rattle.qolb_script.specs.declared.reply_text.Said.{Said}
 use Rattle.qolb_script.specs.declared.reply_text.Said.TheVariants as said
 
--- the words of it
+-- the words of an answer
 abbrev pub said_words : Said → List ℕ
 said_words (said.Enq enq.Granted) = codes "granted"
 said_words (said.Enq enq.Queued) = codes "queued"
@@ -40,6 +40,6 @@ said_words (said.Summary line served withdrawn told left) =
     codes "line " ++ decimal line ++ codes " served " ++ decimal served ++ codes " withdrawn " ++ decimal withdrawn
     ++ codes " told " ++ decimal told ++ codes " left " ++ decimal left
 
--- the line of text, with its newline
+-- the answer's line of text, with its newline
 abbrev pub said_text : Said → List ℕ
 said_text what = said_words what ++ 10 ∷ []

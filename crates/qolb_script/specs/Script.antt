@@ -6,18 +6,18 @@ use Rattle.qolb_script.specs.declared.error.ScriptError.TheVariants as error
 use Rattle.qolb_script.specs.declared.command_reader.Header.{Header}
 use Rattle.qolb_script.specs.declared.text.LineFault.{LineFault}
 use Rattle.qolb_script.specs.declared.text.LineFault.TheVariants.{Bad, Number}
-use Rattle.qolb_script.specs.declared.schedule.TheConstants.{MOST_COMMANDS}
+use Rattle.qolb_script.specs.declared.schedule.TheConstants.{MAX_COMMANDS}
 use Rattle.qolb_script.specs.Text.{numbered_lines, worded}
 use Rattle.qolb_script.specs.Commands.{header_of, command_of, read_line, node_of, line_of}
 
--- the numbers of nodes and lines, the lease of each line, if it has one, and the commands in order
+-- a schedule: its numbers of nodes and lines, the lease of each line, if it has one, and the commands in order
 pub record Script : Type 0 where
   pub nodes : ℕ
   pub lines : ℕ
   pub lease : Option ℕ
   pub commands : List Command
 
--- every command is of a node and a line that there are
+-- every command is of one of the nodes and one of the lines
 abbrev pub IsInRange : Script → Type 0
 IsInRange script = All (λ c. (1 ≤ node_of c) × (node_of c ≤ script.nodes) × (line_of c < script.lines)) script.commands
 
@@ -36,13 +36,12 @@ followed_by (Err error) rest = Err error
 followed_by (Ok item) (Err error) = Err error
 followed_by (Ok item) (Ok items) = Ok (item ∷ items)
 
--- the items that words write on these lines, where `before` come before them; a line past the most that a script may have is refused
--- unread
+-- the items that the words of these lines are, below `before` items; a line past the largest number of items is refused unread
 abbrev pub items_of : {A : Type 0} → (List (List ℕ) → Result A LineFault) → ℕ → List (ℕ × List ℕ) → Result (List A) ScriptError
 items_of item_of before [] = Ok []
 items_of item_of before (line ∷ rest) =
     followed_by
-    (if nat_le MOST_COMMANDS before then Err (error.TooMany line.0) else found_at line.0 (read_line item_of line.1))
+    (if nat_le MAX_COMMANDS before then Err (error.TooMany line.0) else found_at line.0 (read_line item_of line.1))
     (items_of item_of (before + 1) rest)
 
 -- the commands

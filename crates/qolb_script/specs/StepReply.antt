@@ -1,4 +1,4 @@
--- The reply of a step script: what is said of each event, and then of the line. (Of this project.)
+-- The reply of a step script: the answer of each event, and then the counts of the line. (Of this project.)
 use Rattle.std.specs.Prelude.{ℕ, List, [], ◌∷◌, ◌++◌, count_by, codes, decimal, Option, Some, None}
 use Rattle.link_core.specs.declared.told.Told.{Told}
 use Rattle.qolb_script.specs.declared.reply_text.Said.{Said}
@@ -6,7 +6,7 @@ use Rattle.qolb_script.specs.declared.reply_text.Said.TheVariants as said
 use Rattle.qolb_script.specs.Said.{said_words}
 use Rattle.qolb_script.specs.Reply.{is_served, is_withdrawn, is_told}
 
--- what an event told, or that it was refused
+-- the answer of an event: what it told, or that it was refused
 abbrev pub step_said : Option Told → Said
 step_said (Some what) = said.Told what
 step_said None = said.Refused
@@ -15,6 +15,6 @@ step_said None = said.Refused
 abbrev pub ranked_text : Option Told → ℕ → List ℕ
 ranked_text told rank = said_words (step_said told) ++ codes " " ++ decimal rank ++ 10 ∷ []
 
--- what was said of the line, which is the only one, and how many nodes are left in a call or at it
+-- the summary of the only line: its counts, and how many nodes are left in a call or at the line
 abbrev pub step_summary : List Said → ℕ → Said
 step_summary all left = said.Summary 0 (count_by is_served all) (count_by is_withdrawn all) (count_by is_told all) left

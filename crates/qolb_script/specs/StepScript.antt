@@ -10,17 +10,17 @@ use Rattle.qolb_script.specs.Commands.{read_line}
 use Rattle.qolb_script.specs.Events.{event_of, step_header_of}
 use Rattle.qolb_script.specs.Script.{found_at, items_of}
 
--- the number of nodes, the line's lease, if it has one, and the events in order
+-- a step script: its number of nodes, the line's lease, if it has one, and the events in order
 pub record StepScript : Type 0 where
   pub nodes : ℕ
   pub lease : Option ℕ
   pub events : List Event
 
--- every event is of a node that there is
+-- every event is of one of the nodes
 abbrev pub IsOfItsNodes : StepScript → Type 0
 IsOfItsNodes script = All (λ e. (1 ≤ node_of e) × (node_of e ≤ script.nodes)) script.events
 
--- the events on these lines, where `before` come before them
+-- the events on these lines, below `before` events
 abbrev pub events_of : ℕ → ℕ → List (ℕ × List ℕ) → Result (List Event) ScriptError
 events_of nodes before lines = items_of (event_of nodes) before lines
 

@@ -14,7 +14,7 @@ numbered_lines text = enumerate_from 1 (slice_split (λ b. b == 10) text)
 abbrev pub words_of : List ℕ → List (List ℕ)
 words_of line = filter (λ word. not (length word == 0)) (slice_split (λ b. b == 32) line)
 
--- those of the lines that have words
+-- the lines that have words
 abbrev pub worded : List (ℕ × List ℕ) → List (ℕ × List ℕ)
 worded lines = filter (λ line. not (length (words_of line.1) == 0)) lines
 
@@ -29,7 +29,7 @@ number_of word =
     then Some (digits_value 10 word)
     else None
 
--- it, if it is from `low` to `high`
+-- this number, if it is from `low` to `high`
 abbrev pub between : ℕ → ℕ → Option ℕ → Result ℕ LineFault
 between low high None = Err Number
 between low high (Some n) = if nat_le low n && nat_le n high then Ok n else Err Number

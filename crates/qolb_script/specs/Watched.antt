@@ -1,8 +1,8 @@
--- What a watched reader or writer shows. (Of this project.)
+-- A watched reader or writer, as contracts see it. (Of this project.)
 use Rattle.std.specs.Prelude.{Bool}
 use Rattle.qolb_script.specs.declared.watched.Watched.{Watched}
 
--- what is watched
+-- the reader or writer inside
 abbrev pub inner_of : {T : Type 0} → Watched T → T
 inner_of w = w.inner
 

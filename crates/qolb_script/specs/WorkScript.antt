@@ -10,18 +10,18 @@ use Rattle.qolb_script.specs.Commands.{read_line}
 use Rattle.qolb_script.specs.Jobs.{worker_of, IsOfKind, job_of, work_header_of}
 use Rattle.qolb_script.specs.Script.{found_at, items_of}
 
--- the kind of work, the numbers of workers and of lines, and the jobs in order
+-- a work script: its kind, its numbers of workers and of lines, and the jobs in order
 pub record WorkScript : Type 0 where
   pub kind : WorkKind
   pub workers : ℕ
   pub lines : ℕ
   pub jobs : List Job
 
--- every job is of this kind, of a worker and of accounts that there are
+-- every job is of this kind, of a worker and of accounts that exist
 abbrev pub AreOfIts : WorkScript → Type 0
 AreOfIts work = All (λ job. (1 ≤ worker_of job) × (worker_of job ≤ work.workers) × IsOfKind work.kind work.lines job) work.jobs
 
--- the jobs on these lines, where `before` come before them
+-- the jobs on these lines, below `before` jobs
 abbrev pub jobs_of : WorkKind → WorkHeader → ℕ → List (ℕ × List ℕ) → Result (List Job) ScriptError
 jobs_of kind header before lines = items_of (job_of kind header.workers header.lines) before lines
 

@@ -41,7 +41,7 @@ pub enum Command {
 }
 
 impl Command {
-    /// The node that makes the call.
+    /// Returns the node that makes the call.
     pub fn node(&self) -> u64
         ensures { result ≡ node_of self.now }
     {
@@ -56,7 +56,7 @@ impl Command {
         }
     }
 
-    /// The line that it is made on.
+    /// Returns the line of the call.
     pub fn line(&self) -> u64
         ensures { result ≡ line_of self.now }
     {
@@ -72,7 +72,7 @@ impl Command {
     }
 }
 
-/// What a command of a node and a line does, by its first word.
+/// The kind of a command of a node and a line, by its first word.
 #[derive(Clone, Copy)]
 pub enum Verb {
     Enq,
@@ -83,7 +83,7 @@ pub enum Verb {
     Shut,
 }
 
-/// All of them.
+/// All kinds.
 const VERBS: [Verb; 6] = [
     Verb::Enq,
     Verb::Poll,
@@ -94,14 +94,14 @@ const VERBS: [Verb; 6] = [
 ];
 
 impl Verb {
-    /// The one that a first word names.
+    /// Returns the kind that a first word names, or `None` if it names none.
     pub fn named(word: &[u8]) -> Option<Verb>
         ensures { result ≡ find (λ verb. bytes_eq word.now (word_of verb)) VERBS }
     {
         VERBS.iter().find(|verb| word == verb.word()).copied()
     }
 
-    /// The first word of its commands.
+    /// Returns the first word of its commands.
     fn word(self) -> &'static [u8]
         ensures { result.now ≡ word_of self }
     {
@@ -115,7 +115,7 @@ impl Verb {
         }
     }
 
-    /// The command.
+    /// Returns the command of this kind of a node and a line.
     pub fn command(self, node: u64, line: u64) -> Command
         ensures { result ≡ made self node line }
     {

@@ -10,18 +10,18 @@ use crate::command::{Command, Verb};
 use crate::items::ReadItem;
 use crate::number::number_within;
 use crate::reason::Reason;
-use crate::schedule::MOST_LINES;
+use crate::schedule::MAX_LINES;
 use crate::text::LineFault;
 use crate::why_command::why_command;
 use crate::words::Words;
 use hex::decode_to_slice;
 use line_lanes::{Line64, Mask, placed};
-use qolb_model::MOST_NODES;
+use qolb_model::MAX_NODES;
 
-/// The most bytes that a command may write: a whole line.
-const MOST_BYTES: usize = 64;
+/// The largest number of bytes that a command may write: a whole line.
+const MAX_BYTES: usize = 64;
 
-/// The last place of a line.
+/// The last place of a byte in a line.
 pub const LAST_PLACE: u64 = 63;
 
 /// The first word of a write.
@@ -36,7 +36,7 @@ pub const LINES: &[u8] = b"lines";
 /// The word of a header before its lease.
 pub const LEASE: &[u8] = b"lease";
 
-/// What the header of a schedule says.
+/// The numbers in the header of a schedule.
 #[derive(Clone, Copy)]
 pub struct Header {
     pub nodes: u64,
@@ -44,7 +44,7 @@ pub struct Header {
     pub lease: Option<u64>,
 }
 
-/// Reads the commands below a header of these numbers.
+/// A reader of the commands below a header of these numbers.
 #[derive(Drop)]
 pub struct CommandReader {
     pub nodes: u64,
@@ -72,11 +72,11 @@ impl ReadItem for CommandReader {
     }
 }
 
-/// What a header line gives: the numbers of nodes and of lines, and perhaps the lines' lease.
+/// Reads a header line: the numbers of nodes and of lines, and the lease if there is one.
 pub fn read_header(line: &[u8]) -> Result<Header, LineFault>
     ensures header { result ≡ spec.read_line spec.header_of line.now }
     ensures nodes { IfOk result (λ header. AreNodes header.nodes) }
-    ensures lines { IfOk result (λ header. (1 ≤ header.lines) × (header.lines ≤ MOST_LINES)) }
+    ensures lines { IfOk result (λ header. (1 ≤ header.lines) × (header.lines ≤ MAX_LINES)) }
     ensures lease { IfOk result (λ header. IsLease header.lease) }
 {
     let mut words = Words::of_line(line)?;
@@ -92,7 +92,7 @@ pub fn read_header(line: &[u8]) -> Result<Header, LineFault>
     })
 }
 
-/// The word for the lease, if it is not left out: nothing else may stand at the end of a header.
+/// Returns the word for the lease, or `None` if it is left out. No other word may be at the end of a header.
 pub fn lease_word<'a>(mut words: Words<'a>) -> Result<Option<&'a [u8]>, LineFault>
     ensures { MatchResult result
         (λ lease. words_left words.entry ≡ lease_words (option_copied lease))
@@ -105,18 +105,18 @@ pub fn lease_word<'a>(mut words: Words<'a>) -> Result<Option<&'a [u8]>, LineFaul
     }
 }
 
-/// The numbers of nodes and of lines.
+/// Reads the numbers of nodes and of lines.
 pub fn read_sizes(nodes: &[u8], lines: &[u8]) -> Result<(u64, u64), LineFault>
     ensures sizes { result ≡ spec.sizes_of nodes.now lines.now }
     ensures nodes { IfOk result (λ sizes. AreNodes sizes.0) }
-    ensures lines { IfOk result (λ sizes. (1 ≤ sizes.1) × (sizes.1 ≤ MOST_LINES)) }
+    ensures lines { IfOk result (λ sizes. (1 ≤ sizes.1) × (sizes.1 ≤ MAX_LINES)) }
 {
-    let nodes = number_within(1, MOST_NODES, nodes)?;
-    let lines = number_within(1, MOST_LINES, lines)?;
+    let nodes = number_within(1, MAX_NODES, nodes)?;
+    let lines = number_within(1, MAX_LINES, lines)?;
     Ok((nodes, lines))
 }
 
-/// The lease, if there is a word for it.
+/// Reads the lease, if there is a word for it.
 pub fn read_lease(word: Option<&[u8]>) -> Result<Option<u64>, LineFault>
     ensures lease { result ≡ spec.lease_of (option_copied word.entry) }
     ensures range { IfOk result (λ lease. IsLease lease) }
@@ -127,7 +127,7 @@ pub fn read_lease(word: Option<&[u8]>) -> Result<Option<u64>, LineFault>
     }
 }
 
-/// The lease that a word writes, of at least one turn.
+/// Reads a lease of at least one turn.
 fn lease_within(word: &[u8]) -> Result<u64, LineFault>
     ensures lease { result ≡ spec.lease_within word.now }
     ensures range { IfOk result (λ turns. 1 ≤ turns) }
@@ -135,7 +135,7 @@ fn lease_within(word: &[u8]) -> Result<u64, LineFault>
     number_within(1, u64::MAX, word)
 }
 
-/// The command that a line writes, under a header of these numbers.
+/// Reads the command on a line, under a header of these numbers.
 fn read_command(nodes: u64, lines: u64, text: &[u8]) -> Result<Command, LineFault>
     requires { 1 ≤ lines }
     ensures command { result ≡ spec.read_line (spec.command_of nodes lines) text.now }
@@ -154,7 +154,7 @@ fn read_command(nodes: u64, lines: u64, text: &[u8]) -> Result<Command, LineFaul
     }
 }
 
-/// The node that a word writes, from 1 to the number of nodes.
+/// Reads a node, from 1 to `nodes`.
 pub fn node_within(nodes: u64, word: &[u8]) -> Result<u64, LineFault>
     ensures node { result ≡ spec.node_within nodes word.now }
     ensures range { IfOk result (λ n. (1 ≤ n) × (n ≤ nodes)) }
@@ -162,7 +162,7 @@ pub fn node_within(nodes: u64, word: &[u8]) -> Result<u64, LineFault>
     number_within(1, nodes, word)
 }
 
-/// The line that a word writes, from 0 to below the number of lines.
+/// Reads a line number, from 0 to `lines` - 1.
 fn line_within(lines: u64, word: &[u8]) -> Result<u64, LineFault>
     requires { 1 ≤ lines }
     ensures line { result ≡ spec.line_within lines word.now }
@@ -171,7 +171,7 @@ fn line_within(lines: u64, word: &[u8]) -> Result<u64, LineFault>
     number_within(0, lines - 1, word)
 }
 
-/// The command of a node and a line that a first word names.
+/// Reads the command of a node and a line that a first word names.
 fn read_named_command(
     nodes: u64,
     lines: u64,
@@ -191,7 +191,7 @@ fn read_named_command(
     Ok(verb.command(node, line))
 }
 
-/// The write of hex bytes from a place of a line on.
+/// Reads a write of hex bytes from a place of a line on.
 fn read_write(
     nodes: u64,
     lines: u64,
@@ -215,7 +215,7 @@ fn read_write(
     })
 }
 
-/// The mask and the line of a write, from the words for its place and for its bytes.
+/// Reads the mask and the bytes of a write, from its words for place and bytes.
 pub fn read_placed(off: &[u8], hex: &[u8]) -> Result<(Mask, Line64), LineFault>
     ensures { result ≡ spec.placed_of off.now hex.now }
 {
@@ -223,16 +223,16 @@ pub fn read_placed(off: &[u8], hex: &[u8]) -> Result<(Mask, Line64), LineFault>
     placed_at(off as usize, hex)
 }
 
-/// The same of hex bytes from place `off` on, if they fit into the line.
+/// Reads the mask and the bytes of a write of hex bytes from place `off` on, if they fit into a line.
 fn placed_at(off: usize, hex: &[u8]) -> Result<(Mask, Line64), LineFault>
     requires { off < 64 }
     ensures { result ≡ spec.placed_at off (decode_of hex.now) }
 {
     let len = hex.len() / 2;
-    if len > MOST_BYTES {
+    if len > MAX_BYTES {
         return Err(LineFault::Bad);
     }
-    let mut buffer = [0; MOST_BYTES];
+    let mut buffer = [0; MAX_BYTES];
     let bytes = &mut buffer[..len];
     if decode_to_slice(hex, bytes).is_err() {
         return Err(LineFault::Bad);

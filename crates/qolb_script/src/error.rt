@@ -3,7 +3,7 @@ ghost use Rattle.std.specs.Prelude.{◌≡◌, ℕ};
 
 use thiserror::Error;
 
-/// Why a script is refused. Line numbers count from 1, and lines without words count too.
+/// Why a script is refused. Line numbers count from 1; lines without words count, too.
 #[derive(Clone, Copy, Debug, PartialEq, Eq, Error)]
 pub enum ScriptError {
     /// A growth of memory was refused.
@@ -13,16 +13,16 @@ pub enum ScriptError {
     /// none or does not fit.
     #[error("bad line {0}")]
     BadLine(u64),
-    /// A word of the line stands in a number's place and is none, or is out of its range.
+    /// A word of the line is no number, or out of its range.
     #[error("bad line {0}")]
     Number(u64),
-    /// The line is the first command past the most that a script may have.
+    /// The line is the first command past the largest number that a script may have.
     #[error("bad line {0}")]
     TooMany(u64),
 }
 
 impl ScriptError {
-    /// The error's number.
+    /// Returns the error's number.
     pub fn number(&self) -> u8
         ensures memory { self.now ≡ ScriptError.Memory → result ≡ 1 }
         ensures bad_line { (line : ℕ) → self.now ≡ ScriptError.BadLine line → result ≡ 2 }

@@ -14,9 +14,9 @@ use crate::text::LineFault;
 use crate::why_event::why_event;
 use crate::words::Words;
 use link_core::Event;
-use qolb_model::MOST_NODES;
+use qolb_model::MAX_NODES;
 
-/// Reads the events below a header of this number of nodes.
+/// A reader of the events below a header of this number of nodes.
 #[derive(Drop)]
 pub struct EventReader {
     pub nodes: u64,
@@ -42,14 +42,14 @@ impl ReadItem for EventReader {
     }
 }
 
-/// What the header of a step script says.
+/// The numbers in the header of a step script.
 #[derive(Clone, Copy)]
 pub struct StepHeader {
     pub nodes: u64,
     pub lease: Option<u64>,
 }
 
-/// What the header line of a step script gives: the number of nodes, and perhaps the line's lease.
+/// Reads the header line of a step script: the number of nodes, and the lease if there is one.
 pub fn read_step_header(text: &[u8]) -> Result<StepHeader, LineFault>
     ensures header { result ≡ read_line spec.step_header_of text.now }
     ensures nodes { IfOk result (λ header. AreNodes header.nodes) }
@@ -58,12 +58,12 @@ pub fn read_step_header(text: &[u8]) -> Result<StepHeader, LineFault>
     let mut words = Words::of_line(text)?;
     let nodes = words.named(NODES)?;
     let lease = lease_word(words)?;
-    let nodes = number_within(1, MOST_NODES, nodes)?;
+    let nodes = number_within(1, MAX_NODES, nodes)?;
     let lease = read_lease(lease)?;
     Ok(StepHeader { nodes, lease })
 }
 
-/// The event that a line writes, of one of so many nodes.
+/// Reads the event on a line, of one of `nodes` nodes.
 fn read_event(nodes: u64, text: &[u8]) -> Result<Event, LineFault>
     ensures event { result ≡ read_line (spec.event_of nodes) text.now }
     ensures range { IfOk result (λ e. (1 ≤ node_of e) × (node_of e ≤ nodes)) }
@@ -79,7 +79,7 @@ fn read_event(nodes: u64, text: &[u8]) -> Result<Event, LineFault>
     }
 }
 
-/// The event of a node that a first word names.
+/// Reads the event of a node that a first word names.
 fn named_event(nodes: u64, first: &[u8], node: &[u8]) -> Result<Event, LineFault>
     ensures event { result ≡ spec.event_at nodes (spec.named_event first.now) node.now }
     ensures range { IfOk result (λ e. (1 ≤ node_of e) × (node_of e ≤ nodes)) }
@@ -90,7 +90,7 @@ fn named_event(nodes: u64, first: &[u8], node: &[u8]) -> Result<Event, LineFault
     Ok(step.event(node_within(nodes, node)?))
 }
 
-/// The write of hex bytes from a place on, into the line in a node's hand.
+/// Reads a write of hex bytes from a place on, into the bytes of a holder.
 fn write_event(nodes: u64, node: &[u8], off: &[u8], hex: &[u8]) -> Result<Event, LineFault>
     ensures event { result ≡ spec.write_event nodes node.now off.now hex.now }
     ensures range { IfOk result (λ e. (1 ≤ node_of e) × (node_of e ≤ nodes)) }

@@ -1,4 +1,4 @@
-//! The first line of a script that is refused, and why.
+//! Explanations: the first line of a script that is refused, and why.
 ghost use Rattle.std.specs.Prelude.{◌≡◌, Some, None, MatchOption};
 ghost use Rattle.qolb_script.specs.Reasons as spec;
 ghost use Rattle.qolb_script.specs.Reading.{lines_left};
@@ -8,29 +8,29 @@ use crate::event_reader::{EventReader, StepHeader, read_step_header};
 use crate::items::ReadItem;
 use crate::job::WorkKind;
 use crate::job_reader::{JobReader, WorkHeader, read_work_header};
-use crate::lines::Lines;
+use crate::lines::NumberedLines;
 use crate::reason::{Complaint, Reason};
-use crate::schedule::MOST_COMMANDS;
+use crate::schedule::MAX_COMMANDS;
 use crate::why_command::why_header;
 use crate::why_event::why_step_header;
 use crate::why_job::why_work_header;
 
-/// What is wrong with a script that has no header.
+/// The complaint about a script that has no header.
 const NO_HEADER: Complaint<'static> = Complaint {
     number: 1,
     line: &[],
     reason: Reason::Empty,
 };
 
-/// The first line below a header that is refused.
-fn explain_items<'a, R: ReadItem>(reader: &R, rest: Lines<'a>) -> Option<Complaint<'a>>
+/// Returns the first refused line below a header, with its fault.
+fn explain_items<'a, R: ReadItem>(reader: &R, rest: NumberedLines<'a>) -> Option<Complaint<'a>>
     ensures { MatchOption result
         (spec.first_refused (R.item_of reader.now) (R.why_of reader.now) 0 (lines_left rest.entry) ≡ None)
         (λ it. spec.first_refused (R.item_of reader.now) (R.why_of reader.now) 0 (lines_left rest.entry) ≡ Some (it.number, it.line.now, it.reason)) }
 {
     let mut before: u64 = 0;
     for (number, line) in rest {
-        if before >= MOST_COMMANDS {
+        if before >= MAX_COMMANDS {
             return Some(Complaint {
                 number,
                 line,
@@ -49,13 +49,13 @@ fn explain_items<'a, R: ReadItem>(reader: &R, rest: Lines<'a>) -> Option<Complai
     None
 }
 
-/// What is wrong with a schedule, if it is refused.
+/// Returns the first fault of a schedule, or `None` if it is not refused.
 pub fn explain_schedule<'a>(text: &'a [u8]) -> Option<Complaint<'a>>
     ensures { MatchOption result
         (spec.schedule_complaint text.now ≡ None)
         (λ it. spec.schedule_complaint text.now ≡ Some (it.number, it.line.now, it.reason)) }
 {
-    let mut rest = Lines::new(text);
+    let mut rest = NumberedLines::new(text);
     let Some((number, line)) = rest.next() else {
         return Some(NO_HEADER);
     };
@@ -69,13 +69,13 @@ pub fn explain_schedule<'a>(text: &'a [u8]) -> Option<Complaint<'a>>
     }
 }
 
-/// What is wrong with a step script, if it is refused.
+/// Returns the first fault of a step script, or `None` if it is not refused.
 pub fn explain_steps<'a>(text: &'a [u8]) -> Option<Complaint<'a>>
     ensures { MatchOption result
         (spec.steps_complaint text.now ≡ None)
         (λ it. spec.steps_complaint text.now ≡ Some (it.number, it.line.now, it.reason)) }
 {
-    let mut rest = Lines::new(text);
+    let mut rest = NumberedLines::new(text);
     let Some((number, line)) = rest.next() else {
         return Some(NO_HEADER);
     };
@@ -89,13 +89,13 @@ pub fn explain_steps<'a>(text: &'a [u8]) -> Option<Complaint<'a>>
     }
 }
 
-/// What is wrong with a work script of this kind, if it is refused.
+/// Returns the first fault of a work script, or `None` if it is not refused. The script is to be of this kind.
 pub fn explain_work<'a>(text: &'a [u8], kind: WorkKind) -> Option<Complaint<'a>>
     ensures { MatchOption result
         (spec.work_complaint kind text.now ≡ None)
         (λ it. spec.work_complaint kind text.now ≡ Some (it.number, it.line.now, it.reason)) }
 {
-    let mut rest = Lines::new(text);
+    let mut rest = NumberedLines::new(text);
     let Some((number, line)) = rest.next() else {
         return Some(NO_HEADER);
     };

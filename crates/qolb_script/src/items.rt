@@ -3,13 +3,13 @@ ghost use Rattle.qolb_script.specs.Script.{items_of};
 ghost use Rattle.qolb_script.specs.Reading.{lines_left};
 
 use crate::error::ScriptError;
-use crate::lines::Lines;
+use crate::lines::NumberedLines;
 use crate::reason::Reason;
-use crate::schedule::MOST_COMMANDS;
+use crate::schedule::MAX_COMMANDS;
 use crate::text::LineFault;
 use std::alloc::Allocator;
 
-/// A reader of the lines below a header, each of which writes an item.
+/// A reader of the lines below a header, each of which is an item.
 pub trait ReadItem {
     ghost use Rattle.std.specs.Prelude.{◌≡◌, ℕ, List, Result, IfOk};
     ghost use Rattle.qolb_script.specs.declared.text.LineFault.{LineFault};
@@ -19,21 +19,21 @@ pub trait ReadItem {
 
     type Item: Drop;
 
-    /// The item that some words write.
+    /// The item that these words are.
     ghost item_of: { Self → List (List ℕ) → Result Self.Item LineFault };
 
-    /// What is wrong with the words, if they are refused.
+    /// The fault of the words, if they are refused.
     ghost why_of: { Self → List (List ℕ) → Reason };
 
     /// The item's numbers are in the ranges that the header gives.
     ghost in_range: { Self → Self.Item → Type 0 };
 
-    /// The item that a line writes.
+    /// Reads the item on a line.
     fn read_item(&self, line: &[u8]) -> Result<Self::Item, LineFault>
         ensures item { result ≡ read_line (item_of self.now) line.now }
         ensures range { IfOk result (λ item. in_range self.now item) };
 
-    /// What is wrong with the line, if it is refused.
+    /// Returns the fault of the line, if it is refused.
     fn why(&self, line: &[u8]) -> Reason
         ensures { result ≡ why_line (why_of self.now) line.now };
 }
@@ -42,16 +42,16 @@ pub trait ReadItem {
 pub fn read_items<R: ReadItem, A: Allocator>(
     alloc: A,
     reader: &R,
-    rest: Lines,
+    rest: NumberedLines,
 ) -> Result<Vec<R::Item, A>, ScriptError>
     ensures ok { IfOk result (λ items. items_of (R.item_of reader.now) 0 (lines_left rest.entry) ≡ Ok items.items) }
     ensures refused { IfErr result (λ error. error ≢ ScriptError.Memory → items_of (R.item_of reader.now) 0 (lines_left rest.entry) ≡ Err error) }
     ensures range { IfOk result (λ items. All (R.in_range reader.now) items.items) }
-    ensures most { IfOk result (λ items. length items.items ≤ MOST_COMMANDS) }
+    ensures most { IfOk result (λ items. length items.items ≤ MAX_COMMANDS) }
 {
     let mut items = Vec::new(alloc);
     for (number, line) in rest {
-        if items.len() as u64 >= MOST_COMMANDS {
+        if items.len() as u64 >= MAX_COMMANDS {
             return Err(ScriptError::TooMany(number));
         }
         let item = reader.read_item(line).map_err(|fault| fault.at(number))?;

@@ -2,10 +2,10 @@
 ghost use Rattle.std.specs.Prelude.{◌≡◌};
 ghost use Rattle.qolb_script.specs.Jobs.{worker_of};
 
-/// How many accounts a line of a bank has: one for each of its lanes.
+/// The number of accounts of a bank's line: one for each lane.
 pub const ACCOUNTS_A_LINE: u64 = 8;
 
-/// What the workers of a script share: one board, or the lines of a bank.
+/// What the workers of a script share: a board, or the lines of a bank.
 #[derive(Clone, Copy, Debug, PartialEq, Eq)]
 pub enum WorkKind {
     Board,
@@ -46,7 +46,7 @@ pub enum Job {
 }
 
 impl Job {
-    /// Who does it.
+    /// Returns the worker that does the job.
     pub fn worker(&self) -> u64
         ensures { result ≡ worker_of self.now }
     {

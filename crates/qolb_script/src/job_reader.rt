@@ -3,18 +3,18 @@ ghost use Rattle.std.specs.Prelude.{◌≡◌, ◌≤◌, ◌<◌, ◌*◌, IfOk
 ghost use Rattle.qolb_model.specs.Opening.{AreNodes};
 ghost use Rattle.qolb_script.specs.Commands.{read_line, sizes_of};
 ghost use Rattle.qolb_script.specs.Jobs as spec;
-ghost use Rattle.qolb_script.specs.declared.schedule.TheConstants.{MOST_LINES};
+ghost use Rattle.qolb_script.specs.declared.schedule.TheConstants.{MAX_LINES};
 
 use crate::command_reader::{LINES, node_within, read_sizes};
 use crate::items::ReadItem;
 use crate::job::{ACCOUNTS_A_LINE, Job, WorkKind};
 use crate::number::number_within;
 use crate::reason::Reason;
-use crate::schedule::MOST_LINES;
+use crate::schedule::MAX_LINES;
 use crate::text::LineFault;
 use crate::why_job::why_job;
 use crate::words::Words;
-use qolb_model::MOST_NODES;
+use qolb_model::MAX_NODES;
 
 /// The words of headers.
 pub const BOARD: &[u8] = b"board";
@@ -34,21 +34,21 @@ pub const PAY_OUT: &[u8] = b"out";
 
 pub const MOVE: &[u8] = b"move";
 
-/// What the header of a work script says. A board has one line.
+/// The numbers in the header of a work script. A board has one line.
 #[derive(Clone, Copy)]
 pub struct WorkHeader {
     pub workers: u64,
     pub lines: u64,
 }
 
-/// Reads the jobs below a header of these numbers, in work of this kind.
+/// A reader of the jobs of this kind of work, below a header of these numbers.
 #[derive(Drop)]
 pub struct JobReader {
     pub kind: WorkKind,
     pub workers: u64,
     pub lines: u64,
     ghost some_line: { 1 ≤ lines },
-    ghost few_lines: { lines ≤ MOST_LINES },
+    ghost few_lines: { lines ≤ MAX_LINES },
 }
 
 impl ReadItem for JobReader {
@@ -74,11 +74,11 @@ impl ReadItem for JobReader {
     }
 }
 
-/// What the header line of a work script of this kind gives.
+/// Reads the header line of a work script of this kind.
 pub fn read_work_header(kind: WorkKind, text: &[u8]) -> Result<WorkHeader, LineFault>
     ensures header { result ≡ read_line (spec.work_header_of kind) text.now }
     ensures workers { IfOk result (λ header. AreNodes header.workers) }
-    ensures lines { IfOk result (λ header. (1 ≤ header.lines) × (header.lines ≤ MOST_LINES)) }
+    ensures lines { IfOk result (λ header. (1 ≤ header.lines) × (header.lines ≤ MAX_LINES)) }
     ensures one { IfOk result (λ header. kind ≡ WorkKind.Board → header.lines ≡ 1) }
 {
     match kind {
@@ -87,7 +87,7 @@ pub fn read_work_header(kind: WorkKind, text: &[u8]) -> Result<WorkHeader, LineF
     }
 }
 
-/// The header of a board's work.
+/// Reads the header of a board's work.
 fn read_board_header(text: &[u8]) -> Result<WorkHeader, LineFault>
     ensures header { result ≡ read_line spec.board_header text.now }
     ensures workers { IfOk result (λ header. AreNodes header.workers) }
@@ -98,16 +98,16 @@ fn read_board_header(text: &[u8]) -> Result<WorkHeader, LineFault>
     let workers = words.named(WORKERS)?;
     words.end()?;
     Ok(WorkHeader {
-        workers: number_within(1, MOST_NODES, workers)?,
+        workers: number_within(1, MAX_NODES, workers)?,
         lines: 1,
     })
 }
 
-/// The header of a bank's work.
+/// Reads the header of a bank's work.
 fn read_bank_header(text: &[u8]) -> Result<WorkHeader, LineFault>
     ensures header { result ≡ read_line spec.bank_header text.now }
     ensures workers { IfOk result (λ header. AreNodes header.workers) }
-    ensures lines { IfOk result (λ header. (1 ≤ header.lines) × (header.lines ≤ MOST_LINES)) }
+    ensures lines { IfOk result (λ header. (1 ≤ header.lines) × (header.lines ≤ MAX_LINES)) }
 {
     let mut words = Words::of_line(text)?;
     words.pass(BANK)?;
@@ -118,7 +118,7 @@ fn read_bank_header(text: &[u8]) -> Result<WorkHeader, LineFault>
     Ok(WorkHeader { workers, lines })
 }
 
-/// The job that a line writes on a board.
+/// Reads the job on a line, at a board.
 fn read_board_job(workers: u64, text: &[u8]) -> Result<Job, LineFault>
     ensures job { result ≡ read_line (spec.board_job workers) text.now }
     ensures range { IfOk result (λ job. (1 ≤ spec.worker_of job) × (spec.worker_of job ≤ workers) × spec.IsOfKind WorkKind.Board 1 job) }
@@ -139,10 +139,10 @@ fn read_board_job(workers: u64, text: &[u8]) -> Result<Job, LineFault>
     }
 }
 
-/// The job that a line writes at a bank of so many lines.
+/// Reads the job on a line, at a bank of `lines` lines.
 fn read_bank_job(workers: u64, lines: u64, text: &[u8]) -> Result<Job, LineFault>
     requires some { 1 ≤ lines }
-    requires few { lines ≤ MOST_LINES }
+    requires few { lines ≤ MAX_LINES }
     ensures job { result ≡ read_line (spec.bank_job workers lines) text.now }
     ensures range { IfOk result (λ job. (1 ≤ spec.worker_of job) × (spec.worker_of job ≤ workers) × spec.IsOfKind WorkKind.Bank lines job) }
 {
@@ -164,7 +164,7 @@ fn read_bank_job(workers: u64, lines: u64, text: &[u8]) -> Result<Job, LineFault
     }
 }
 
-/// The payment that a second word names.
+/// Reads the payment that a second word names.
 fn read_payment_job(
     workers: u64,
     lines: u64,
@@ -174,7 +174,7 @@ fn read_payment_job(
     amount: &[u8],
 ) -> Result<Job, LineFault>
     requires some { 1 ≤ lines }
-    requires few { lines ≤ MOST_LINES }
+    requires few { lines ≤ MAX_LINES }
     ensures job { result ≡ spec.payment_job workers lines verb.now worker.now account.now amount.now }
     ensures range { IfOk result (λ job. (1 ≤ spec.worker_of job) × (spec.worker_of job ≤ workers) × spec.IsOfKind WorkKind.Bank lines job) }
 {
@@ -198,7 +198,7 @@ fn read_payment_job(
     }
 }
 
-/// The worker, the account and the amount of a payment.
+/// Reads the worker, the account and the amount of a payment.
 fn read_payment(
     workers: u64,
     lines: u64,
@@ -207,7 +207,7 @@ fn read_payment(
     amount: &[u8],
 ) -> Result<(u64, u64, u64), LineFault>
     requires some { 1 ≤ lines }
-    requires few { lines ≤ MOST_LINES }
+    requires few { lines ≤ MAX_LINES }
     ensures payment { result ≡ spec.payment_of workers lines worker.now account.now amount.now }
     ensures range { IfOk result (λ p. (1 ≤ p.0) × (p.0 ≤ workers) × (p.1 < ACCOUNTS_A_LINE * lines)) }
 {
@@ -217,7 +217,7 @@ fn read_payment(
     Ok((worker, account, amount))
 }
 
-/// The move of an amount from one account to another.
+/// Reads the move of an amount from one account to another.
 fn read_move_job(
     workers: u64,
     lines: u64,
@@ -227,7 +227,7 @@ fn read_move_job(
     amount: &[u8],
 ) -> Result<Job, LineFault>
     requires some { 1 ≤ lines }
-    requires few { lines ≤ MOST_LINES }
+    requires few { lines ≤ MAX_LINES }
     ensures job { result ≡ spec.move_job workers lines worker.now source.now target.now amount.now }
     ensures range { IfOk result (λ job. (1 ≤ spec.worker_of job) × (spec.worker_of job ≤ workers) × spec.IsOfKind WorkKind.Bank lines job) }
 {
@@ -243,17 +243,17 @@ fn read_move_job(
     })
 }
 
-/// The number that a word writes, whatever it is.
+/// Reads any number.
 fn any_number(word: &[u8]) -> Result<u64, LineFault>
     ensures { result ≡ spec.any_number word.now }
 {
     number_within(0, u64::MAX, word)
 }
 
-/// The account that a word writes, of those that so many lines have.
+/// Reads an account of one of `lines` lines.
 fn account_within(lines: u64, word: &[u8]) -> Result<u64, LineFault>
     requires some { 1 ≤ lines }
-    requires few { lines ≤ MOST_LINES }
+    requires few { lines ≤ MAX_LINES }
     ensures account { result ≡ spec.account_within lines word.now }
     ensures range { IfOk result (λ a. a < ACCOUNTS_A_LINE * lines) }
 {

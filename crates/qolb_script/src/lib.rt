@@ -1,4 +1,4 @@
-//! Scripts of calls and of steps: their readers, what is said of each call or step, and readers and writers that remember a fault.
+//! Scripts of calls, steps and work: their readers, the text of answers, and readers and writers that remember a fault.
 #![tactic(auto)]
 
 mod command;

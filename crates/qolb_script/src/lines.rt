@@ -3,32 +3,32 @@ ghost use Rattle.std.specs.Option.{ForSome};
 
 use crate::text::{is_blank, split_once};
 
-/// The lines of a text that are left and have words, with their numbers.
+/// The lines of the rest of a text that have words, with their numbers.
 #[derive(Drop)]
-pub struct Lines<'a> {
+pub struct NumberedLines<'a> {
     rest: Option<&'a [u8]>,
     number: u64,
-    // So that the numbers of the lines fit.
+    // So the numbers of the lines fit.
     ghost fits: { ForSome rest (λ r. number + length r.now + 1 < 2 ^ 64) },
 }
 
-impl<'a> Lines<'a> {
+impl<'a> NumberedLines<'a> {
     ghost use Rattle.std.specs.Prelude.{◌≡◌};
     ghost use Rattle.qolb_script.specs.Text.{numbered_lines, worded};
     ghost use Rattle.qolb_script.specs.Reading.{lines_left};
 
-    /// The lines of a text.
-    pub fn new(text: &'a [u8]) -> Lines<'a>
+    /// Returns the lines of a text that have words.
+    pub fn new(text: &'a [u8]) -> NumberedLines<'a>
         ensures { lines_left result ≡ worded (numbered_lines text.now) }
     {
-        Lines {
+        NumberedLines {
             rest: Some(text),
             number: 1,
         }
     }
 }
 
-impl<'a> Iterator for Lines<'a> {
+impl<'a> Iterator for NumberedLines<'a> {
     ghost use Rattle.std.specs.Iterator.{YieldsFirstBy, item_count};
     ghost use Rattle.qolb_script.specs.Reading.{lines_left};
 

@@ -4,20 +4,20 @@ ghost use Rattle.qolb_script.specs.Text as text;
 use crate::text::LineFault;
 use std::str;
 
-/// The most digits that a number may have.
-const MOST_DIGITS: usize = 20;
+/// The largest number of digits of a number.
+const MAX_DIGITS: usize = 20;
 
-/// The number that a word writes in 1 to 20 decimal digits, if it is below 2^64.
+/// Returns the number that a word of 1 to 20 decimal digits writes, or `None` if it is not below 2^64.
 fn number(word: &[u8]) -> Option<u64>
     ensures { result ≡ text.number_of word.now }
 {
-    if word.len() > MOST_DIGITS || !word.iter().all(|b| b.is_ascii_digit()) {
+    if word.len() > MAX_DIGITS || !word.iter().all(|b| b.is_ascii_digit()) {
         return None;
     }
     str::from_utf8(word).ok()?.parse().ok()
 }
 
-/// The same, if it is from `low` to `high`.
+/// Returns the number that a word writes, if it is from `low` to `high`.
 pub fn number_within(low: u64, high: u64, word: &[u8]) -> Result<u64, LineFault>
     ensures number { result ≡ text.number_within low high word.now }
     ensures range { IfOk result (λ n. (low ≤ n) × (n ≤ high)) }

@@ -1,4 +1,4 @@
-//! What is wrong with a script, told to people.
+//! Faults of scripts, told to people.
 ghost use Rattle.std.specs.Prelude.{◌≡◌};
 ghost use Rattle.qolb_script.specs.Reasons.{unless_number, unless_word};
 
@@ -6,10 +6,10 @@ use crate::number::number_within;
 use std::fmt;
 use thiserror::Error;
 
-/// The most bytes of a line that are shown.
-const MOST_SHOWN: usize = 200;
+/// The largest number of bytes of a line that are shown.
+const MAX_SHOWN: usize = 200;
 
-/// What is wrong with a line. Places of words count from 1.
+/// The fault of a line. Places of words count from 1.
 #[derive(Clone, Copy, Debug, PartialEq, Eq, Error)]
 pub enum Reason {
     /// No line has a word.
@@ -17,7 +17,7 @@ pub enum Reason {
     Empty,
     #[error("a byte is neither a space nor a visible ASCII character")]
     Byte,
-    /// The word at this place is none that may stand there.
+    /// The word at this place is none of those that are allowed there.
     #[error("word {0} is unknown")]
     Word(u64),
     #[error("wrong number of words")]
@@ -27,16 +27,16 @@ pub enum Reason {
     Number { place: u64, low: u64, high: u64 },
     #[error("word {0} is not hex, of two digits a byte")]
     Hex(u64),
-    /// The bytes that the word at this place writes go past the end of the line.
+    /// The bytes of the word at this place go past the end of the line.
     #[error("the bytes of word {0} do not fit: a line has 64")]
     Fit(u64),
-    /// The line is the first past the most that a script may have below its header.
+    /// The line is the first past the largest number below a header.
     #[error("more than 100,000 commands")]
     TooMany,
 }
 
 impl Reason {
-    /// What is wrong, if this word has to be a number of this range: that, or something else.
+    /// Returns the fault of a word that is no number of this range, else `self`.
     pub fn unless_number(self, place: u64, low: u64, high: u64, word: &[u8]) -> Reason
         ensures { result ≡ unless_number place low high word.now self }
     {
@@ -47,7 +47,7 @@ impl Reason {
         }
     }
 
-    /// The same, if the word has to be this one.
+    /// Returns the fault of a word that is not `name`, else `self`.
     pub fn unless_word(self, place: u64, name: &[u8], word: &[u8]) -> Reason
         ensures { result ≡ unless_word place name.now word.now self }
     {
@@ -59,7 +59,7 @@ impl Reason {
     }
 }
 
-/// The first line that is refused, and what is wrong with it.
+/// The first line that is refused, and its fault.
 #[derive(Clone, Copy, Debug)]
 pub struct Complaint<'a> {
     pub number: u64,
@@ -77,17 +77,17 @@ impl<'a> fmt::Display for Complaint<'a> {
     }
 }
 
-/// Writes a line, with other bytes than a script's as `\xNN`, and cut where it is long.
+/// Writes a line: with bytes that no script has as `\xNN`, and at most `MAX_SHOWN` bytes of it.
 fn write_line<W: fmt::Write>(f: &mut fmt::Formatter<W>, line: &[u8]) -> fmt::Result {
     f.write_str("    ")?;
-    for byte in line.iter().copied().take(MOST_SHOWN) {
+    for byte in line.iter().copied().take(MAX_SHOWN) {
         if b' ' <= byte && byte <= b'~' {
             f.write_char(char::from(byte))?;
         } else {
             write!(f, "\\x{byte:02x}")?;
         }
     }
-    if line.len() > MOST_SHOWN {
+    if line.len() > MAX_SHOWN {
         f.write_str(" ..")?;
     }
     f.write_str("\n")

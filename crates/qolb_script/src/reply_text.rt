@@ -10,7 +10,7 @@ use link_core::Told;
 use qolb_model::{Enq, Out, Poll};
 use std::alloc::{AllocError, Allocator};
 
-/// What a replay says, one line of text each.
+/// An answer in the output of a replay, a line of text each.
 #[derive(Clone, Copy, Debug, PartialEq, Eq)]
 pub enum Said {
     Enq(Enq),
@@ -23,11 +23,11 @@ pub enum Said {
     Misuse,
     /// The bytes of a line, as 128 hex digits.
     Bytes(Line64),
-    /// What an event of a step script told.
+    /// The word that an event of a step script told.
     Told(Told),
     /// The event is not enabled.
     Refused,
-    /// What was said of a line: how many requests were served, withdrawn and told closed, and how many nodes still wait or hold.
+    /// The counts of a line: the requests that were served, withdrawn and told closed, and the nodes that still wait or hold.
     Summary {
         line: u64,
         served: u64,
@@ -37,13 +37,13 @@ pub enum Said {
     },
 }
 
-/// The most bytes of a summary, with its newline: five numbers of at most 20 digits, and the words before them.
-const MOST_SUMMARY: usize = 137;
+/// The largest number of bytes of a summary, with its newline: five numbers of at most 20 digits, and the words before them.
+const MAX_SUMMARY: usize = 137;
 
-/// The most bytes of a rank, with the space before it and the newline.
-const MOST_RANK: usize = 22;
+/// The largest number of bytes of a rank, with the space before it and the newline.
+const MAX_RANK: usize = 22;
 
-/// Appends the line of text, with its newline. At want of memory the text is unchanged.
+/// Appends the answer's line of text, with its newline. If memory is refused the text is unchanged.
 pub fn push_said<A: Allocator>(text: &mut Vec<u8, A>, said: &Said) -> Result<(), AllocError>
     ensures ok { OnOk result (text.new.items ≡ text.old.items ++ said_text said.now) }
     ensures err { OnErr result (text.new.items ≡ text.old.items) }
@@ -69,7 +69,7 @@ pub fn push_said<A: Allocator>(text: &mut Vec<u8, A>, said: &Said) -> Result<(),
     }
 }
 
-/// The words of an answer to asking.
+/// Returns the words of an answer to asking.
 fn enq_words(answer: Enq) -> &'static [u8]
     ensures { result.now ≡ said_words (Said.Enq answer) }
 {
@@ -81,7 +81,7 @@ fn enq_words(answer: Enq) -> &'static [u8]
     }
 }
 
-/// The words of an answer to polling.
+/// Returns the words of an answer to polling.
 fn poll_words(answer: Poll) -> &'static [u8]
     ensures { result.now ≡ said_words (Said.Poll answer) }
 {
@@ -92,7 +92,7 @@ fn poll_words(answer: Poll) -> &'static [u8]
     }
 }
 
-/// The words of an answer to withdrawing.
+/// Returns the words of an answer to withdrawing.
 fn out_words(answer: Out) -> &'static [u8]
     ensures { result.now ≡ said_words (Said.Out answer) }
 {
@@ -103,7 +103,7 @@ fn out_words(answer: Out) -> &'static [u8]
     }
 }
 
-/// The words of what an event told.
+/// Returns the words of what an event told.
 fn told_words(told: Told) -> &'static [u8]
     ensures { result.now ≡ said_words (Said.Told told) }
 {
@@ -121,8 +121,8 @@ fn told_words(told: Told) -> &'static [u8]
     }
 }
 
-/// Appends what an event of a step script told, or that it was refused, and then the rank after it. At want of memory the text is
-/// unchanged.
+/// Appends the answer of an event of a step script, and then the rank. The answer is what the event told, or that it was refused. If memory
+/// is refused the text is unchanged.
 pub fn push_ranked<A: Allocator>(
     text: &mut Vec<u8, A>,
     told: Option<Told>,
@@ -132,14 +132,14 @@ pub fn push_ranked<A: Allocator>(
     ensures err { OnErr result (text.new.items ≡ text.old.items) }
 {
     let words = step_words(told);
-    text.reserve(words.len() + MOST_RANK)?;
+    text.reserve(words.len() + MAX_RANK)?;
     text.extend_from_slice(words).unwrap();
     put_number(text, b" ", rank);
     text.push_reserved(b'\n');
     Ok(())
 }
 
-/// The words of what an event told, or that it was refused.
+/// Returns the words of what an event told, or of a refusal.
 fn step_words(told: Option<Told>) -> &'static [u8]
     ensures { result.now ≡ said_words (step_said told) }
 {
@@ -170,7 +170,7 @@ fn push_bytes<A: Allocator>(text: &mut Vec<u8, A>, line: &Line64) -> Result<(), 
     push_line(text, &digits)
 }
 
-/// Appends what was said of a line, and a newline.
+/// Appends the counts of a line, and a newline.
 fn push_summary<A: Allocator>(
     text: &mut Vec<u8, A>,
     line: u64,
@@ -182,7 +182,7 @@ fn push_summary<A: Allocator>(
     ensures ok { OnOk result (text.new.items ≡ text.old.items ++ said_text (Said.Summary line served withdrawn told left)) }
     ensures err { OnErr result (text.new.items ≡ text.old.items) }
 {
-    text.reserve(MOST_SUMMARY)?;
+    text.reserve(MAX_SUMMARY)?;
     put_number(text, b"line ", line);
     put_number(text, b" served ", served);
     put_number(text, b" withdrawn ", withdrawn);

@@ -8,11 +8,10 @@ use crate::watched::{Fault, Watched};
 use itoa::{Buffer, Integer};
 use std::io::Write;
 
-/// What workers have done.
+/// What workers have done, as a report.
 #[derive(Clone, Copy, Debug, PartialEq, Eq)]
 pub enum Report {
-    /// Of a board: how many tasks were stored, how many puts found it full, how many tasks were taken, how many takes found it empty,
-    /// and how many tasks are left.
+    /// The report of a board: tasks stored, puts that found it full, tasks taken, takes that found it empty, and tasks left.
     Board {
         stored: u64,
         full: u64,
@@ -20,7 +19,7 @@ pub enum Report {
         empty: u64,
         left: u64,
     },
-    /// Of a bank: what was paid in and paid out, and the sum of all balances.
+    /// The report of a bank: what was paid in, what was paid out, and the sum of all balances.
     Bank {
         paid_in: u128,
         paid_out: u128,
@@ -28,7 +27,7 @@ pub enum Report {
     },
 }
 
-/// Writes the report, a line for each number. After a fault some of it may have gone out.
+/// Writes the report, a line for each number. If it fails, a part of the report may have been written.
 pub fn write_report<W: Write>(report: &Report, out: &mut Watched<W>) -> Result<(), Fault>
     ensures fault { IsErr result ↔ (has_failed out.new ≡ true) }
     ensures bytes { OnOk result (Appends (W.contents (inner_of out.old)) (W.contents (inner_of out.new)) (report_text report.now)) }
@@ -59,7 +58,7 @@ pub fn write_report<W: Write>(report: &Report, out: &mut Watched<W>) -> Result<(
     }
 }
 
-/// Writes a word and a number, on a line of their own.
+/// Writes a word and a number, on one line.
 fn write_figure<W: Write, N: Integer>(
     out: &mut Watched<W>,
     word: &[u8],

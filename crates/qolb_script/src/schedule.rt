@@ -5,17 +5,17 @@ use crate::command::Command;
 use crate::command_reader::{CommandReader, Header, read_header};
 use crate::error::ScriptError;
 use crate::items::read_items;
-use crate::lines::Lines;
+use crate::lines::NumberedLines;
 use std::alloc::{Allocator, Global};
 use std::marker::Model;
 
-/// The most commands that a script may have, or events.
-pub const MOST_COMMANDS: u64 = 100_000;
+/// The largest number of commands or events of a script.
+pub const MAX_COMMANDS: u64 = 100_000;
 
-/// The most lines that a schedule may have.
-pub const MOST_LINES: u64 = 8;
+/// The largest number of lines of a schedule.
+pub const MAX_LINES: u64 = 8;
 
-/// A script that was read: the header's numbers, and the commands in order. Nothing but `read_schedule` makes one.
+/// A schedule that was read: the header's numbers, and the commands in order. Only `read_schedule` makes it.
 #[derive(Drop)]
 pub struct Schedule<A: Allocator = Global> {
     nodes: u64,
@@ -41,7 +41,7 @@ impl<A: Allocator> Schedule<A> {
     ghost use Rattle.qolb_model.specs.Leases.{IsLease};
     ghost use Rattle.qolb_script.specs.Script.{IsInRange};
 
-    /// How many nodes there are.
+    /// Returns the number of nodes.
     pub fn nodes(&self) -> u64
         ensures nodes { result ≡ self.now.nodes }
         ensures range { AreNodes result }
@@ -49,15 +49,15 @@ impl<A: Allocator> Schedule<A> {
         self.nodes
     }
 
-    /// How many lines there are.
+    /// Returns the number of lines.
     pub fn lines(&self) -> u64
         ensures lines { result ≡ self.now.lines }
-        ensures range { (1 ≤ result) × (result ≤ MOST_LINES) }
+        ensures range { (1 ≤ result) × (result ≤ MAX_LINES) }
     {
         self.lines
     }
 
-    /// After how many served turns each line closes, if the header says so.
+    /// Returns the lease of each line: the number of its served turns. Returns `None` if the header has none.
     pub fn lease(&self) -> Option<u64>
         ensures lease { result ≡ self.now.lease }
         ensures range { IsLease result }
@@ -65,22 +65,22 @@ impl<A: Allocator> Schedule<A> {
         self.lease
     }
 
-    /// The commands, in order.
+    /// Returns the commands, in order.
     pub fn commands(&self) -> &[Command]
         ensures commands { result.now ≡ self.now.commands }
         ensures range { IsInRange self.now }
-        ensures most { length result.now ≤ MOST_COMMANDS }
+        ensures most { length result.now ≤ MAX_COMMANDS }
     {
         &self.commands
     }
 }
 
-/// Reads a schedule. The first faulty line decides what is refused; `Memory` where a growth was refused.
+/// Reads a schedule. The error is the first faulty line's, or `Memory` if a growth was refused.
 pub fn read_schedule<A: Allocator>(alloc: A, text: &[u8]) -> Result<Schedule<A>, ScriptError>
     ensures ok { IfOk result (λ schedule. script_of text.now ≡ Ok schedule) }
     ensures refused { IfErr result (λ error. error ≢ ScriptError.Memory → script_of text.now ≡ Err error) }
 {
-    let mut rest = Lines::new(text);
+    let mut rest = NumberedLines::new(text);
     let Some((number, line)) = rest.next() else {
         return Err(ScriptError::BadLine(1));
     };

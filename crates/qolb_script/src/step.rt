@@ -1,11 +1,11 @@
-//! The steps of a node that nothing but their first word tells apart.
+//! The events of a node that differ only by their first word.
 ghost use Rattle.std.specs.Prelude.{◌≡◌, find};
 ghost use Rattle.std.specs.Str.{bytes_eq};
 ghost use Rattle.qolb_script.specs.Stepped.{word_of, event_of};
 
 use link_core::Event;
 
-/// What an event of a node does, by its first word.
+/// The kind of an event of a node, by its first word.
 #[derive(Clone, Copy)]
 pub enum Step {
     Reset,
@@ -20,7 +20,7 @@ pub enum Step {
     Close,
 }
 
-/// All of them.
+/// All kinds.
 const STEPS: [Step; 10] = [
     Step::Reset,
     Step::Prepend,
@@ -35,14 +35,14 @@ const STEPS: [Step; 10] = [
 ];
 
 impl Step {
-    /// The one that a first word names.
+    /// Returns the kind that a first word names, or `None` if it names none.
     pub fn named(word: &[u8]) -> Option<Step>
         ensures { result ≡ find (λ step. bytes_eq word.now (word_of step)) STEPS }
     {
         STEPS.iter().find(|step| word == step.word()).copied()
     }
 
-    /// The first word of its events.
+    /// Returns the first word of its events.
     fn word(self) -> &'static [u8]
         ensures { result.now ≡ word_of self }
     {
@@ -60,7 +60,7 @@ impl Step {
         }
     }
 
-    /// The event of a node.
+    /// Returns the event of this kind of a node.
     pub fn event(self, node: u64) -> Event
         ensures { result ≡ event_of self node }
     {

@@ -4,12 +4,12 @@ ghost use Rattle.qolb_script.specs.StepScript.{steps_of};
 use crate::error::ScriptError;
 use crate::event_reader::{EventReader, StepHeader, read_step_header};
 use crate::items::read_items;
-use crate::lines::Lines;
+use crate::lines::NumberedLines;
 use link_core::Event;
 use std::alloc::{Allocator, Global};
 use std::marker::Model;
 
-/// A step script that was read: the header's number of nodes, and the events in order. Nothing but `read_steps` makes one.
+/// A step script that was read: the header's number of nodes, and the events in order. Only `read_steps` makes it.
 #[derive(Drop)]
 pub struct Steps<A: Allocator = Global> {
     nodes: u64,
@@ -30,12 +30,12 @@ impl<A: Allocator> Model for Steps<A> {
 
 impl<A: Allocator> Steps<A> {
     ghost use Rattle.std.specs.Prelude.{◌≡◌, ◌≤◌, length};
-    ghost use Rattle.qolb_script.specs.declared.schedule.TheConstants.{MOST_COMMANDS};
+    ghost use Rattle.qolb_script.specs.declared.schedule.TheConstants.{MAX_COMMANDS};
     ghost use Rattle.qolb_model.specs.Opening.{AreNodes};
     ghost use Rattle.qolb_model.specs.Leases.{IsLease};
     ghost use Rattle.qolb_script.specs.StepScript.{IsOfItsNodes};
 
-    /// How many nodes there are.
+    /// Returns the number of nodes.
     pub fn nodes(&self) -> u64
         ensures nodes { result ≡ self.now.nodes }
         ensures range { AreNodes result }
@@ -43,7 +43,7 @@ impl<A: Allocator> Steps<A> {
         self.nodes
     }
 
-    /// After how many served turns the line closes, if the header says so.
+    /// Returns the lease of the line: the number of its served turns. Returns `None` if the header has none.
     pub fn lease(&self) -> Option<u64>
         ensures lease { result ≡ self.now.lease }
         ensures range { IsLease result }
@@ -51,22 +51,22 @@ impl<A: Allocator> Steps<A> {
         self.lease
     }
 
-    /// The events, in order.
+    /// Returns the events, in order.
     pub fn events(&self) -> &[Event]
         ensures events { result.now ≡ self.now.events }
         ensures range { IsOfItsNodes self.now }
-        ensures most { length result.now ≤ MOST_COMMANDS }
+        ensures most { length result.now ≤ MAX_COMMANDS }
     {
         &self.events
     }
 }
 
-/// Reads a step script. The first faulty line decides what is refused; `Memory` where a growth was refused.
+/// Reads a step script. The error is the first faulty line's, or `Memory` if a growth was refused.
 pub fn read_steps<A: Allocator>(alloc: A, text: &[u8]) -> Result<Steps<A>, ScriptError>
     ensures ok { IfOk result (λ steps. steps_of text.now ≡ Ok steps) }
     ensures refused { IfErr result (λ error. error ≢ ScriptError.Memory → steps_of text.now ≡ Err error) }
 {
-    let mut rest = Lines::new(text);
+    let mut rest = NumberedLines::new(text);
     let Some((number, line)) = rest.next() else {
         return Err(ScriptError::BadLine(1));
     };

@@ -5,17 +5,17 @@ ghost use Rattle.qolb_script.specs.Script.{fault_at};
 
 use crate::error::ScriptError;
 
-/// What is wrong with a line.
+/// The fault of a line.
 #[derive(Clone, Copy, Debug, PartialEq, Eq)]
 pub enum LineFault {
-    /// It is no line of such a script.
+    /// The line is none of such a script.
     Bad,
-    /// A word in a number's place is no number, or is out of its range.
+    /// A word of the line is no number, or out of its range.
     Number,
 }
 
 impl LineFault {
-    /// The same, of the line with this number.
+    /// Returns the error for this fault of line `number`.
     pub fn at(self, number: u64) -> ScriptError
         ensures { result ≡ fault_at number self }
     {
@@ -26,7 +26,7 @@ impl LineFault {
     }
 }
 
-/// The bytes before the first separator, and those after it, if there is one.
+/// Returns the bytes before the first separator, and those after it if there is one.
 pub fn split_once(bytes: &[u8], separator: u8) -> (&[u8], Option<&[u8]>)
     ensures parts { MatchOption result.1
         (slice_split (λ b. b == separator) bytes.now ≡ result.0.now ∷ [])
@@ -39,14 +39,14 @@ pub fn split_once(bytes: &[u8], separator: u8) -> (&[u8], Option<&[u8]>)
     }
 }
 
-/// Whether the line has no word.
+/// Returns `true` if the line has no word.
 pub fn is_blank(line: &[u8]) -> bool
     ensures { result ≡ (length (words_of line.now) == 0) }
 {
     line.iter().all(|&b| b == b' ')
 }
 
-/// Whether every byte is a space or a visible ASCII character.
+/// Returns `true` if every byte is a space or a visible ASCII character.
 pub fn is_plain_line(line: &[u8]) -> bool
     ensures { result ≡ is_plain line.now }
 {

@@ -11,12 +11,12 @@ pub struct Watched<T> {
     failed: bool,
 }
 
-/// A read or a write has failed, this one or one before.
+/// The error of a read or a write that failed, or followed a failure.
 #[derive(Clone, Copy, Debug, PartialEq, Eq)]
 pub struct Fault;
 
 impl<T> Watched<T> {
-    /// Watches a reader or a writer that has not failed.
+    /// Wraps a reader or a writer that has not failed.
     pub fn new(inner: T) -> Watched<T>
         ensures inner { inner_of result ≡ inner }
         ensures failed { has_failed result ≡ false }
@@ -27,7 +27,7 @@ impl<T> Watched<T> {
         }
     }
 
-    /// The reader or writer that was watched.
+    /// Returns the reader or writer.
     pub fn into_inner(self) -> T
         ensures { result ≡ inner_of self }
     {
@@ -35,7 +35,7 @@ impl<T> Watched<T> {
         inner
     }
 
-    /// Whether a read or a write has failed.
+    /// Returns `true` if a read or a write has failed.
     pub fn failed(&self) -> bool
         ensures { result ≡ has_failed self.now }
     {
@@ -44,12 +44,12 @@ impl<T> Watched<T> {
 }
 
 impl<R: Read> Watched<R> {
-    /// Fills a part of the buffer: none of it only at the end, or where it has no room. An interrupted read is tried again.
+    /// Fills a part of the buffer. Returns 0 only at the end, or if the buffer has no room. An interrupted read is tried again.
     pub fn read(&mut self, buf: &mut [u8]) -> Result<usize, Fault>
         ensures bound { IfOk result (λ n. n ≤ length buf.new) }
         ensures fault { IsErr result ↔ (has_failed self.new ≡ true) }
 
-        // What is read is what comes next, and after a fault nothing is.
+        // The bytes read are the next ones of the reader; after a fault no byte is read.
         ensures bytes { IfOk result (λ n. Consumes (R.remaining (inner_of self.old)) (R.remaining (inner_of self.new)) (take n buf.new)) }
         ensures end { IfOk result (λ n. n ≡ 0 → 0 < length buf.new → IsAtEnd (R.remaining (inner_of self.new))) }
         ensures none_lost { OnErr result (Keeps (R.remaining (inner_of self.old)) (R.remaining (inner_of self.new))) }
@@ -74,7 +74,7 @@ impl<R: Read> Watched<R> {
 }
 
 impl<W: Write> Watched<W> {
-    /// Writes all the bytes. An interrupted write is tried again, and one that takes no byte is a fault.
+    /// Writes all the bytes. An interrupted write is tried again; a write that takes no byte is a fault.
     pub fn write_all(&mut self, buf: &[u8]) -> Result<(), Fault>
         ensures fault { IsErr result ↔ (has_failed self.new ≡ true) }
         ensures bytes { OnOk result (Appends (W.contents (inner_of self.old)) (W.contents (inner_of self.new)) buf.now) }

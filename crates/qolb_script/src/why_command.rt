@@ -1,4 +1,4 @@
-//! What is wrong with a line of a schedule that is refused.
+//! Faults of refused lines of a schedule.
 ghost use Rattle.std.specs.Prelude.{◌≡◌, ◌≤◌, ◌<◌};
 ghost use Rattle.std.specs.List.{list_all};
 ghost use Rattle.hex.specs.Hex as hex;
@@ -8,11 +8,11 @@ ghost use Rattle.qolb_script.specs.Reading.{words_left};
 use crate::command::Verb;
 use crate::command_reader::{LAST_PLACE, LEASE, LINES, NODES, WRITE};
 use crate::reason::Reason;
-use crate::schedule::MOST_LINES;
+use crate::schedule::MAX_LINES;
 use crate::words::Words;
-use qolb_model::MOST_NODES;
+use qolb_model::MAX_NODES;
 
-/// What is wrong with the words for the place and for the bytes of a write, of which the first is the word at `place`.
+/// Returns the fault of the words for the place and the bytes of a write; the first of them is word `place` of its line.
 pub fn why_placed(place: u64, off: &[u8], hex: &[u8]) -> Reason
     requires { place < 10 }
     ensures { result ≡ spec.why_placed place off.now hex.now }
@@ -25,28 +25,28 @@ pub fn why_placed(place: u64, off: &[u8], hex: &[u8]) -> Reason
     last.unless_number(place, 0, LAST_PLACE, off)
 }
 
-/// Whether a word is digits in pairs.
+/// Returns `true` if the word is digits in pairs.
 fn is_hex(word: &[u8]) -> bool
     ensures { result ≡ spec.is_hex word.now }
 {
     word.len() % 2 == 0 && are_hex_digits(word)
 }
 
-/// Whether each byte is a hex digit.
+/// Returns `true` if each byte is a hex digit.
 fn are_hex_digits(word: &[u8]) -> bool
     ensures { result ≡ list_all hex.is_hex_digit word.now }
 {
     word.iter().all(|&b| is_hex_digit(b))
 }
 
-/// Whether a byte is a hex digit, in either case.
+/// Returns `true` if the byte is a hex digit, in either case.
 fn is_hex_digit(byte: u8) -> bool
     ensures { result ≡ hex.is_hex_digit byte }
 {
     matches!(byte, b'0'..=b'9' | b'a'..=b'f' | b'A'..=b'F')
 }
 
-/// What is wrong with a command.
+/// Returns the fault of a command.
 pub fn why_command(nodes: u64, lines: u64, line: &[u8]) -> Reason
     requires { 1 ≤ lines }
     ensures { result ≡ spec.why_line (spec.why_command nodes lines) line.now }
@@ -66,7 +66,7 @@ pub fn why_command(nodes: u64, lines: u64, line: &[u8]) -> Reason
     }
 }
 
-/// The same behind its first word, which names a call.
+/// Returns the fault of a command behind its first word, which names a call.
 fn why_call(nodes: u64, lines: u64, mut words: Words) -> Reason
     requires { 1 ≤ lines }
     ensures { result ≡ spec.why_call nodes lines (words_left words.entry) }
@@ -82,7 +82,7 @@ fn why_call(nodes: u64, lines: u64, mut words: Words) -> Reason
     }
 }
 
-/// The same of a write.
+/// Returns the fault of a write behind its first word.
 fn why_write(nodes: u64, lines: u64, mut words: Words) -> Reason
     requires { 1 ≤ lines }
     ensures { result ≡ spec.why_write nodes lines (words_left words.entry) }
@@ -98,7 +98,7 @@ fn why_write(nodes: u64, lines: u64, mut words: Words) -> Reason
     }
 }
 
-/// What is wrong with the header of a schedule.
+/// Returns the fault of the header of a schedule.
 pub fn why_header(line: &[u8]) -> Reason
     ensures { result ≡ spec.why_line spec.why_header line.now }
 {
@@ -111,7 +111,7 @@ pub fn why_header(line: &[u8]) -> Reason
     }
 }
 
-/// The same behind its first word.
+/// Returns the fault of a schedule's header behind its first word.
 fn why_sizes(mut words: Words) -> Reason
     ensures { result ≡ spec.why_sizes (words_left words.entry) }
 {
@@ -127,19 +127,19 @@ fn why_sizes(mut words: Words) -> Reason
     }
 }
 
-/// What is wrong with the numbers of nodes and of lines, if one of them is out of its range.
+/// Returns the fault of a header's numbers of nodes and of lines, if one of them is out of its range.
 fn why_two(nodes: &[u8]) -> Reason
     ensures { result ≡ spec.why_two nodes.now }
 {
     Reason::Number {
         place: 4,
         low: 1,
-        high: MOST_LINES,
+        high: MAX_LINES,
     }
-    .unless_number(2, 1, MOST_NODES, nodes)
+    .unless_number(2, 1, MAX_NODES, nodes)
 }
 
-/// The same with a lease behind them.
+/// Returns the fault of these numbers, with a lease behind them.
 fn why_three(nodes: &[u8], lines: &[u8]) -> Reason
     ensures { result ≡ spec.why_three nodes.now lines.now }
 {
@@ -148,6 +148,6 @@ fn why_three(nodes: &[u8], lines: &[u8]) -> Reason
         low: 1,
         high: u64::MAX,
     }
-    .unless_number(4, 1, MOST_LINES, lines)
-    .unless_number(2, 1, MOST_NODES, nodes)
+    .unless_number(4, 1, MAX_LINES, lines)
+    .unless_number(2, 1, MAX_NODES, nodes)
 }

@@ -1,4 +1,4 @@
-//! What is wrong with a line of a step script that is refused.
+//! Faults of refused lines of a step script.
 ghost use Rattle.std.specs.Prelude.{◌≡◌};
 ghost use Rattle.qolb_script.specs.Reasons as spec;
 ghost use Rattle.qolb_script.specs.Reading.{words_left};
@@ -8,9 +8,9 @@ use crate::reason::Reason;
 use crate::step::Step;
 use crate::why_command::why_placed;
 use crate::words::Words;
-use qolb_model::MOST_NODES;
+use qolb_model::MAX_NODES;
 
-/// What is wrong with an event.
+/// Returns the fault of an event.
 pub fn why_event(nodes: u64, line: &[u8]) -> Reason
     ensures { result ≡ spec.why_line (spec.why_event nodes) line.now }
 {
@@ -29,7 +29,7 @@ pub fn why_event(nodes: u64, line: &[u8]) -> Reason
     }
 }
 
-/// The same behind its first word, which names a step.
+/// Returns the fault of an event behind its first word, which names a step.
 fn why_step(nodes: u64, mut words: Words) -> Reason
     ensures { result ≡ spec.why_step nodes (words_left words.entry) }
 {
@@ -43,7 +43,7 @@ fn why_step(nodes: u64, mut words: Words) -> Reason
     }
 }
 
-/// The same of a write.
+/// Returns the fault of a write behind its first word.
 fn why_step_write(nodes: u64, mut words: Words) -> Reason
     ensures { result ≡ spec.why_step_write nodes (words_left words.entry) }
 {
@@ -56,7 +56,7 @@ fn why_step_write(nodes: u64, mut words: Words) -> Reason
     }
 }
 
-/// What is wrong with the header of a step script.
+/// Returns the fault of the header of a step script.
 pub fn why_step_header(line: &[u8]) -> Reason
     ensures { result ≡ spec.why_line spec.why_step_header line.now }
 {
@@ -69,7 +69,7 @@ pub fn why_step_header(line: &[u8]) -> Reason
     }
 }
 
-/// The same behind its first word.
+/// Returns the fault of a step script's header behind its first word.
 fn why_nodes(mut words: Words) -> Reason
     ensures { result ≡ spec.why_nodes (words_left words.entry) }
 {
@@ -80,14 +80,14 @@ fn why_nodes(mut words: Words) -> Reason
         (None, _, _) => Reason::Number {
             place: 2,
             low: 1,
-            high: MOST_NODES,
+            high: MAX_NODES,
         },
         (Some(third), Some(_), None) => Reason::Number {
             place: 4,
             low: 1,
             high: u64::MAX,
         }
-        .unless_number(2, 1, MOST_NODES, nodes)
+        .unless_number(2, 1, MAX_NODES, nodes)
         .unless_word(3, LEASE, third),
         _ => Reason::Count,
     }

@@ -1,21 +1,21 @@
-//! What is wrong with a line of a work script that is refused.
+//! Faults of refused lines of a work script.
 ghost use Rattle.std.specs.Prelude.{◌≡◌, ◌≤◌};
 ghost use Rattle.qolb_script.specs.Reasons as spec;
 ghost use Rattle.qolb_script.specs.Reading.{words_left};
-ghost use Rattle.qolb_script.specs.declared.schedule.TheConstants.{MOST_LINES};
+ghost use Rattle.qolb_script.specs.declared.schedule.TheConstants.{MAX_LINES};
 
 use crate::command_reader::LINES;
 use crate::job::{ACCOUNTS_A_LINE, WorkKind};
 use crate::job_reader::{BANK, BOARD, MOVE, PAY_IN, PAY_OUT, PUT, TAKE, WORKERS};
 use crate::reason::Reason;
-use crate::schedule::MOST_LINES;
+use crate::schedule::MAX_LINES;
 use crate::words::Words;
-use qolb_model::MOST_NODES;
+use qolb_model::MAX_NODES;
 
-/// What is wrong with a job of this kind.
+/// Returns the fault of a job of this kind.
 pub fn why_job(kind: WorkKind, workers: u64, lines: u64, line: &[u8]) -> Reason
     requires some { 1 ≤ lines }
-    requires few { lines ≤ MOST_LINES }
+    requires few { lines ≤ MAX_LINES }
     ensures { result ≡ spec.why_line (spec.why_job kind workers lines) line.now }
 {
     let Ok(mut words) = Words::of_line(line) else {
@@ -30,7 +30,7 @@ pub fn why_job(kind: WorkKind, workers: u64, lines: u64, line: &[u8]) -> Reason
     }
 }
 
-/// The same on a board, behind its first two words.
+/// Returns the fault of a board's job behind its first two words.
 fn why_board_job(workers: u64, worker: &[u8], verb: &[u8], words: Words) -> Reason
     ensures { result ≡ spec.why_board_verb workers worker.now verb.now (words_left words.entry) }
 {
@@ -43,7 +43,7 @@ fn why_board_job(workers: u64, worker: &[u8], verb: &[u8], words: Words) -> Reas
     }
 }
 
-/// The same behind `take`.
+/// Returns the fault of a job behind `take`.
 fn why_take(workers: u64, mut words: Words) -> Reason
     ensures { result ≡ spec.why_take workers (words_left words.entry) }
 {
@@ -57,7 +57,7 @@ fn why_take(workers: u64, mut words: Words) -> Reason
     }
 }
 
-/// The same behind `put`.
+/// Returns the fault of a job behind `put`.
 fn why_put(workers: u64, worker: &[u8], mut words: Words) -> Reason
     ensures { result ≡ spec.why_put workers worker.now (words_left words.entry) }
 {
@@ -67,10 +67,10 @@ fn why_put(workers: u64, worker: &[u8], mut words: Words) -> Reason
     }
 }
 
-/// The same at a bank, behind its first two words.
+/// Returns the fault of a bank's job behind its first two words.
 fn why_bank_job(workers: u64, lines: u64, worker: &[u8], verb: &[u8], words: Words) -> Reason
     requires some { 1 ≤ lines }
-    requires few { lines ≤ MOST_LINES }
+    requires few { lines ≤ MAX_LINES }
     ensures { result ≡ spec.why_bank_verb workers lines worker.now verb.now (words_left words.entry) }
 {
     if verb == PAY_IN || verb == PAY_OUT {
@@ -82,10 +82,10 @@ fn why_bank_job(workers: u64, lines: u64, worker: &[u8], verb: &[u8], words: Wor
     }
 }
 
-/// The same behind `in` or `out`.
+/// Returns the fault of a job behind `in` or `out`.
 fn why_payment(workers: u64, lines: u64, worker: &[u8], mut words: Words) -> Reason
     requires some { 1 ≤ lines }
-    requires few { lines ≤ MOST_LINES }
+    requires few { lines ≤ MAX_LINES }
     ensures { result ≡ spec.why_payment workers lines worker.now (words_left words.entry) }
 {
     match (words.next(), words.next(), words.next()) {
@@ -96,10 +96,10 @@ fn why_payment(workers: u64, lines: u64, worker: &[u8], mut words: Words) -> Rea
     }
 }
 
-/// The same behind `move`.
+/// Returns the fault of a job behind `move`.
 fn why_move(workers: u64, lines: u64, worker: &[u8], mut words: Words) -> Reason
     requires some { 1 ≤ lines }
-    requires few { lines ≤ MOST_LINES }
+    requires few { lines ≤ MAX_LINES }
     ensures { result ≡ spec.why_move workers lines worker.now (words_left words.entry) }
 {
     let last = ACCOUNTS_A_LINE * lines - 1;
@@ -115,7 +115,7 @@ fn why_move(workers: u64, lines: u64, worker: &[u8], mut words: Words) -> Reason
     }
 }
 
-/// A word that has to be any number.
+/// Returns the fault of a word that has to be any number.
 fn any_number_at(place: u64) -> Reason
     ensures { result ≡ spec.any_number_at place }
 {
@@ -126,7 +126,7 @@ fn any_number_at(place: u64) -> Reason
     }
 }
 
-/// What is wrong with the header of work of this kind.
+/// Returns the fault of the header of work of this kind.
 pub fn why_work_header(kind: WorkKind, line: &[u8]) -> Reason
     ensures { result ≡ spec.why_line (spec.why_work_header kind) line.now }
 {
@@ -142,7 +142,7 @@ pub fn why_work_header(kind: WorkKind, line: &[u8]) -> Reason
     }
 }
 
-/// The same of a board's, behind its first word.
+/// Returns the fault of a board's header behind its first word.
 fn why_board(mut words: Words) -> Reason
     ensures { result ≡ spec.why_board (words_left words.entry) }
 {
@@ -150,14 +150,14 @@ fn why_board(mut words: Words) -> Reason
         (Some(second), Some(_), None) => Reason::Number {
             place: 3,
             low: 1,
-            high: MOST_NODES,
+            high: MAX_NODES,
         }
         .unless_word(2, WORKERS, second),
         _ => Reason::Count,
     }
 }
 
-/// The same of a bank's.
+/// Returns the fault of a bank's header behind its first word.
 fn why_bank(mut words: Words) -> Reason
     ensures { result ≡ spec.why_bank (words_left words.entry) }
 {
@@ -168,9 +168,9 @@ fn why_bank(mut words: Words) -> Reason
         (Some(fourth), Some(_), None) => Reason::Number {
             place: 5,
             low: 1,
-            high: MOST_LINES,
+            high: MAX_LINES,
         }
-        .unless_number(3, 1, MOST_NODES, workers)
+        .unless_number(3, 1, MAX_NODES, workers)
         .unless_word(4, LINES, fourth)
         .unless_word(2, WORKERS, second),
         _ => Reason::Count,

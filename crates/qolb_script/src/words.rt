@@ -1,6 +1,6 @@
 use crate::text::{LineFault, is_plain_line, split_once};
 
-/// The words of a line that are left.
+/// The words of the rest of a line.
 #[derive(Drop)]
 pub struct Words<'a> {
     rest: &'a [u8],
@@ -11,14 +11,14 @@ impl<'a> Words<'a> {
     ghost use Rattle.qolb_script.specs.Text.{words_of, is_plain};
     ghost use Rattle.qolb_script.specs.Reading.{words_left, Lacks, LacksNamed, AreSome};
 
-    /// The words of a line.
+    /// Returns the words of a line.
     pub fn new(line: &'a [u8]) -> Words<'a>
         ensures { words_left result ≡ words_of line.now }
     {
         Words { rest: line }
     }
 
-    /// The same, of a line that has no byte but a script's.
+    /// Returns the words of a line that has no byte but a script's.
     pub fn of_line(line: &'a [u8]) -> Result<Words<'a>, LineFault>
         ensures { MatchResult result
             (λ words. (is_plain line.now ≡ true) × (words_left words ≡ words_of line.now))
@@ -31,7 +31,7 @@ impl<'a> Words<'a> {
         }
     }
 
-    /// The next word.
+    /// Takes the next word.
     pub fn word(&mut self) -> Result<&'a [u8], LineFault>
         ensures { MatchResult result
             (λ word. words_left self.old ≡ word.now ∷ words_left self.new)
@@ -40,7 +40,7 @@ impl<'a> Words<'a> {
         self.next().ok_or(LineFault::Bad)
     }
 
-    /// Goes past `name`, which has to come next.
+    /// Takes the next word, which has to be `name`.
     pub fn pass(&mut self, name: &[u8]) -> Result<(), LineFault>
         ensures { MatchResult result
             (λ _. words_left self.old ≡ name.now ∷ words_left self.new)
@@ -52,7 +52,7 @@ impl<'a> Words<'a> {
         }
     }
 
-    /// The word behind `name`, which has to come next.
+    /// Takes the next word, which has to be `name`, and returns the word behind it.
     pub fn named(&mut self, name: &[u8]) -> Result<&'a [u8], LineFault>
         ensures { MatchResult result
             (λ word. words_left self.old ≡ name.now ∷ word.now ∷ words_left self.new)
@@ -62,7 +62,7 @@ impl<'a> Words<'a> {
         self.word()
     }
 
-    /// No word may be left.
+    /// Checks that no word is left.
     pub fn end(mut self) -> Result<(), LineFault>
         ensures { MatchResult result
             (λ _. words_left self.entry ≡ [])

@@ -6,12 +6,12 @@ use crate::error::ScriptError;
 use crate::items::read_items;
 use crate::job::{Job, WorkKind};
 use crate::job_reader::{JobReader, WorkHeader, read_work_header};
-use crate::lines::Lines;
-use crate::schedule::MOST_LINES;
+use crate::lines::NumberedLines;
+use crate::schedule::MAX_LINES;
 use std::alloc::{Allocator, Global};
 use std::marker::Model;
 
-/// A work script that was read: its kind, the header's numbers, and the jobs in order. Nothing but `read_work` makes one.
+/// A work script that was read: its kind, the header's numbers, and the jobs in order. Only `read_work` makes it.
 #[derive(Drop)]
 pub struct Work<A: Allocator = Global> {
     kind: WorkKind,
@@ -33,18 +33,18 @@ impl<A: Allocator> Model for Work<A> {
 
 impl<A: Allocator> Work<A> {
     ghost use Rattle.std.specs.Prelude.{◌≡◌, ◌≤◌, length};
-    ghost use Rattle.qolb_script.specs.declared.schedule.TheConstants.{MOST_COMMANDS};
+    ghost use Rattle.qolb_script.specs.declared.schedule.TheConstants.{MAX_COMMANDS};
     ghost use Rattle.qolb_model.specs.Opening.{AreNodes};
     ghost use Rattle.qolb_script.specs.WorkScript.{AreOfIts};
 
-    /// What the workers share.
+    /// Returns what the workers share.
     pub fn kind(&self) -> WorkKind
         ensures { result ≡ self.now.kind }
     {
         self.kind
     }
 
-    /// How many workers there are.
+    /// Returns the number of workers.
     pub fn workers(&self) -> u64
         ensures workers { result ≡ self.now.workers }
         ensures range { AreNodes result }
@@ -52,26 +52,26 @@ impl<A: Allocator> Work<A> {
         self.workers
     }
 
-    /// How many lines there are: one for a board.
+    /// Returns the number of lines: one for a board.
     pub fn lines(&self) -> u64
         ensures lines { result ≡ self.now.lines }
-        ensures range { (1 ≤ result) × (result ≤ MOST_LINES) }
+        ensures range { (1 ≤ result) × (result ≤ MAX_LINES) }
         ensures one { self.now.kind ≡ WorkKind.Board → result ≡ 1 }
     {
         self.lines
     }
 
-    /// The jobs, in order.
+    /// Returns the jobs, in order.
     pub fn jobs(&self) -> &[Job]
         ensures jobs { result.now ≡ self.now.jobs }
         ensures range { AreOfIts self.now }
-        ensures most { length result.now ≤ MOST_COMMANDS }
+        ensures most { length result.now ≤ MAX_COMMANDS }
     {
         &self.jobs
     }
 }
 
-/// Reads a work script of this kind. The first faulty line decides what is refused; `Memory` where a growth was refused.
+/// Reads a work script of this kind. The error is the first faulty line's, or `Memory` if a growth was refused.
 pub fn read_work<A: Allocator>(
     alloc: A,
     text: &[u8],
@@ -80,7 +80,7 @@ pub fn read_work<A: Allocator>(
     ensures ok { IfOk result (λ work. work_of kind text.now ≡ Ok work) }
     ensures refused { IfErr result (λ error. error ≢ ScriptError.Memory → work_of kind text.now ≡ Err error) }
 {
-    let mut rest = Lines::new(text);
+    let mut rest = NumberedLines::new(text);
     let Some((number, line)) = rest.next() else {
         return Err(ScriptError::BadLine(1));
     };

@@ -4,16 +4,16 @@ use mathlib.Core.Logic.{dite}
 use native.Mathlib.Decide.{ℕ_discrete, dec_le}
 use Rattle.atomic_table.proofs.Lists.{one_turn}
 use Rattle.qolb_model.proofs.Updates.{put, put_here, put_else}
-use Rattle.array_line.specs.declared.words.TheConstants.{CELLS}
-use Rattle.ring_line.specs.Words.{cell_of}
-use Rattle.array_line.proofs.Taking.{Takes, StaysBehind, cells_apart}
-use Rattle.array_line.proofs.Roll.{Withdraws}
-use Rattle.array_line.proofs.Grant.{GrantsNext}
-use Rattle.ring_line.specs.declared.words.TheConstants.{WITHDRAWN}
+use Rattle.line_tickets.specs.declared.layout.TheConstants.{CELLS}
+use Rattle.ring_line.specs.Layout.{cell_of}
+use Rattle.line_tickets.proofs.Taking.{Takes, StaysBehind, cells_apart}
+use Rattle.line_tickets.proofs.Roll.{Withdraws}
+use Rattle.line_tickets.proofs.Grant.{GrantsNext}
+use Rattle.ring_line.specs.declared.layout.TheConstants.{WITHDRAWN}
 use Rattle.ring_line.specs.Ring.{RingCells}
 use Rattle.ring_line.specs.Steps.{is_blank, is_granted, seen, withdrawn_by}
 
--- a granted cell says 1, by which nobody waits, and whoever takes the line may leave it as he likes
+-- a granted cell has 1, which no node reads as waiting, and a node that takes the line may leave any word there
 pub takes_by : (waits : ℕ → ℕ → Type 0) (place n : ℕ) (change : ℕ → ℕ) → (waits place 1 → ⊥) → Takes CELLS RingCells waits place n change
 takes_by waits place n change granted cleared marks says low free c = (
   (λ w. granted (subst (waits place) (c.granted refl) w)),
@@ -28,12 +28,12 @@ pub takes : (place n : ℕ) (change : ℕ → ℕ) → Takes CELLS RingCells is_
 takes place n change = takes_by is_blank place n change (λ z. absurd (omega arith))
 
 -- behind the turn a cell with no mark is blank
-blank_behind : (ended hand place : ℕ) (cleared : Bool) (marks says : ℕ → ℕ) → ended < place → place < ended + CELLS → marks place ≡ 0 → RingCells ended hand cleared marks says → says (cell_of place) ≡ 0
-blank_behind ended hand place cleared marks says below near free c = let k : ended + (place - ended) ≡ place = omega arith in
+blank_behind : (ended holder place : ℕ) (cleared : Bool) (marks says : ℕ → ℕ) → ended < place → place < ended + CELLS → marks place ≡ 0 → RingCells ended holder cleared marks says → says (cell_of place) ≡ 0
+blank_behind ended holder place cleared marks says below near free c = let k : ended + (place - ended) ≡ place = omega arith in
     ap (λ q. says (cell_of q)) (sym k) ∙ c.later (place - ended) (omega arith) (omega arith) ∙ ap (λ q. WITHDRAWN * marks q) k ∙ ap (λ m. WITHDRAWN * m) free
 
-pub stays_by : (comes : ℕ → ℕ → Type 0) (place : ℕ) → (comes place 0 → ⊥) → StaysBehind CELLS RingCells comes place
-stays_by comes place blank ended hand cleared marks says below near free c some = blank (subst (comes place) (blank_behind ended hand place cleared marks says below near free c) some)
+pub stays_by : (shows_turn : ℕ → ℕ → Type 0) (place : ℕ) → (shows_turn place 0 → ⊥) → StaysBehind CELLS RingCells shows_turn place
+stays_by shows_turn place blank ended holder cleared marks says below near free c some = blank (subst (shows_turn place) (blank_behind ended holder place cleared marks says below near free c) some)
 
 pub stays : (place : ℕ) → StaysBehind CELLS RingCells is_granted place
 stays place = stays_by is_granted place (λ some. some refl)
@@ -44,7 +44,7 @@ added word d = (word + d) % 2 ^ 64
 
 -- a number is added to a blank cell
 pub withdraws : (place n d : ℕ) → d ≡ WITHDRAWN * n → Withdraws CELLS RingCells place n (λ w. added w d)
-withdraws place n d add ended hand cleared marks says low high below near free c = record {
+withdraws place n d add ended holder cleared marks says low high below near free c = record {
   blank = λ e. put_else says (cell_of place) (added (says (cell_of place)) d) (cell_of ended) (apart ended (omega arith) (omega arith) (λ z. omega arith)) ∙ c.blank e;
   granted = λ e. put_else says (cell_of place) (added (says (cell_of place)) d) (cell_of ended) (apart ended (omega arith) (omega arith) (λ z. omega arith)) ∙ c.granted e;
   later = λ k a b. dite (ℕ_discrete (ended + k) place)
@@ -56,11 +56,11 @@ withdraws place n d add ended hand cleared marks says low high below near free c
     apart p a b ne e = dite (dec_le p place) (λ l. ne (one_turn p place CELLS l (omega arith) e)) (λ g. ne (sym (one_turn place p CELLS (omega arith) (omega arith) (sym e))))
 
     sum : added (says (cell_of place)) d ≡ WITHDRAWN * n
-    sum = let blank = blank_behind ended hand place cleared marks says below near free c in omega arith
+    sum = let blank = blank_behind ended holder place cleared marks says below near free c in omega arith
 
 -- once the cell at its turn is cleared, the next one is granted
 pub grants : (ended : ℕ) → GrantsNext CELLS RingCells seen withdrawn_by ended true (λ w. added w 1)
-grants ended hand marks says far c = (
+grants ended holder marks says far c = (
   (λ free. (
     (let f = found in omega arith),
     record {

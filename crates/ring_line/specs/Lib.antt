@@ -1,4 +1,4 @@
-pub mod Words
+pub mod Layout
 pub mod Ring
 pub mod Steps
 pub mod Laws

@@ -1,19 +1,19 @@
--- The rule of the ring's table.
+-- The invariant of a ring's table.
 use Rattle.std.specs.Prelude.{◌≡◌, ℕ, ◌+◌, ◌*◌, ◌<◌, List, Bool, true}
-use Rattle.shared_line.specs.declared.rule.Setup.{Setup}
-use Rattle.array_line.specs.declared.words.TheConstants.{CELLS}
-use Rattle.ring_line.specs.Words.{cell_of}
-use Rattle.array_line.specs.Berths.{one_slot}
-use Rattle.array_line.specs.Array.{ArrayState, ArrayRule}
-use Rattle.ring_line.specs.declared.words.TheConstants.{WITHDRAWN}
+use Rattle.line_generic.specs.declared.table.TableKey.{TableKey}
+use Rattle.line_tickets.specs.declared.layout.TheConstants.{CELLS}
+use Rattle.ring_line.specs.Layout.{cell_of}
+use Rattle.line_tickets.specs.SlotLayout.{one_slot}
+use Rattle.line_tickets.specs.Array.{ArrayState, ArrayRule}
+use Rattle.ring_line.specs.declared.layout.TheConstants.{WITHDRAWN}
 
--- What the cells say. The one at its turn is blank once it is cleared, and granted where nobody has the line; one behind it has the mark of
--- its request.
-pub record RingCells (ended hand : ℕ) (cleared : Bool) (marks says : ℕ → ℕ) : Type 0 where
+-- The words of the cells. The cell at its turn is blank once it is cleared, and granted if no node has the line; a
+-- later one has the mark of its request.
+pub record RingCells (ended holder : ℕ) (cleared : Bool) (marks says : ℕ → ℕ) : Type 0 where
   pub blank : cleared ≡ true → says (cell_of ended) ≡ 0
-  pub granted : hand ≡ 0 → says (cell_of ended) ≡ 1
+  pub granted : holder ≡ 0 → says (cell_of ended) ≡ 1
   pub later : (k : ℕ) → 0 < k → k < CELLS → says (cell_of (ended + k)) ≡ WITHDRAWN * marks (ended + k)
 
--- that of any table of tickets and cells, over these
-abbrev pub RingRule : (List ℕ → Type 0) → (List ℕ → List ℕ → Type 0) → Setup → ArrayState → Type 0
-RingRule good allows about s = ArrayRule RingCells one_slot good allows about s
+-- the invariant of any table of tickets and cells, over these cells
+abbrev pub RingRule : (List ℕ → Type 0) → (List ℕ → List ℕ → Type 0) → TableKey → ArrayState → Type 0
+RingRule good allows key s = ArrayRule RingCells one_slot good allows key s

@@ -1,11 +1,11 @@
-//! The queue of a line over atomic words: nodes draw tickets, and each waits at a cell of its own.
+//! A queue lock over atomic words that hands over a line: nodes take tickets, and each waits on a cell of its own.
 #![tactic(auto)]
 
+mod discipline;
+mod invariant;
+mod layout;
 mod plays;
-mod queue;
 mod release;
-mod rule;
 mod steps;
-mod words;
 
-pub use rule::{Port, Ring, RingLine};
+pub use invariant::{Port, RingLine, RingQueue};

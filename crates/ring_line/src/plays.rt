@@ -1,42 +1,42 @@
-//! What each step on a cell tells.
+//! The ghost updates of the word steps on a cell.
 ghost use Rattle.ring_line.specs.Steps.{loaded, rolled, cleared, granted};
 
-use array_line::Entries;
 use atomic_table::Play;
+use line_generic::Payload;
+use line_tickets::Entries;
 use qolb_model::Keep;
-use shared_line::Parcel;
 use std::marker::PhantomData;
 
-/// The own cell is read.
+/// Loads the node's own cell.
 pub(crate) struct Load<K> {
     law: PhantomData<K>,
 }
 
-impl<K: Keep> Play<Parcel, Entries> for Load<K> {
+impl<K: Keep> Play<Payload, Entries> for Load<K> {
     ghost then = { loaded K.allows };
 }
 
-/// The own number is added to the own cell.
+/// Adds the node's number to its own cell.
 pub(crate) struct Roll<K> {
     law: PhantomData<K>,
 }
 
-impl<K: Keep> Play<Parcel, Entries> for Roll<K> {
+impl<K: Keep> Play<Payload, Entries> for Roll<K> {
     ghost then = { rolled K.allows };
 }
 
-/// The cell at its turn is cleared.
+/// Clears the cell at its turn.
 pub(crate) struct Clear;
 
-impl Play<Parcel, Entries> for Clear {
+impl Play<Payload, Entries> for Clear {
     ghost then = { cleared };
 }
 
-/// The next cell is granted.
+/// Grants the next cell.
 pub(crate) struct Grant<K> {
     law: PhantomData<K>,
 }
 
-impl<K: Keep> Play<Parcel, Entries> for Grant<K> {
+impl<K: Keep> Play<Payload, Entries> for Grant<K> {
     ghost then = { granted K.allows };
 }

@@ -1,146 +1,148 @@
-//! How a line is let go.
+//! The release of the line.
 ghost use Rattle.std.specs.Prelude.{◌≡◌, ◌≢◌, ◌+◌, ◌*◌, ◌≤◌, [], ◌∷◌, length};
 ghost use Rattle.qolb_model.specs.declared.request.Request.{Request};
 ghost use Rattle.qolb_model.specs.Requests.{AreOfOthers};
-ghost use Rattle.qolb_model.specs.declared.terms.TheConstants.{MOST_NODES};
-ghost use Rattle.qolb_model.specs.PortStates.{left_by};
-ghost use Rattle.shared_line.specs.declared.rule.Parcel.{Parcel};
-ghost use Rattle.shared_line.specs.Steps.{IsSeatOf, HasSlot, HasNoSlot};
-ghost use Rattle.ring_line.specs.Words.{word_count};
-ghost use Rattle.array_line.specs.Array.{At};
-ghost use Rattle.array_line.specs.Steps.{IsAt, entry_of, Went, CarriesNext};
-ghost use Rattle.array_line.specs.Releases.{IsRenewed, steps_to_renew, IsBare, LetsLineGo, WalksOn, AreNodesAt, FreesAll};
-ghost use Rattle.ring_line.specs.Words.{withdrawn_by};
+ghost use Rattle.qolb_model.specs.declared.config.TheConstants.{MAX_NODES};
+ghost use Rattle.qolb_model.specs.PortStates.{state_after};
+ghost use Rattle.line_generic.specs.declared.table.Payload.{Payload};
+ghost use Rattle.line_generic.specs.Steps.{IsSeatOf, HasSlot, HasNoSlot};
+ghost use Rattle.ring_line.specs.Layout.{word_count};
+ghost use Rattle.line_tickets.specs.Array.{At};
+ghost use Rattle.line_tickets.specs.Steps.{IsAt, ghost_of, SeatAdvances, CarriesNext};
+ghost use Rattle.line_tickets.specs.Releases.{IsReset, steps_to_reset, MatchesEnds, ReleasesLine, FinishesWalk, AreNodesAt, FreesAll};
+ghost use Rattle.ring_line.specs.Layout.{withdrawn_by};
 ghost use Rattle.ring_line.specs.Steps.{IsSeatOfNode, turn_cell};
-ghost use Rattle.array_line.specs.declared.own.Point.TheVariants.{Idle, Holding, Passing, Freeing, Rolled};
+ghost use Rattle.line_tickets.specs.declared.local.Point.TheVariants.{Idle, Holding, Passing, Freeing, Rolled};
 
-use crate::rule::{Ground, RingSeat};
+use crate::invariant::{RingSeat, SharedTable};
+use crate::layout::{cell_after, is_withdrawn, withdrawn_by};
 use crate::steps::{clear, free, grant, load_node, reset};
-use crate::words::{cell_after, is_withdrawn, withdrawn_by};
-use array_line::is_freed;
 use arrayvec::ArrayVec;
-use qolb_model::{Keep, MOST_NODES, PortState};
+use line_tickets::is_freed;
+use qolb_model::{Keep, MAX_NODES, PortState};
 
-/// The most requests that a release passes: those of all nodes but its own.
-const MOST_PASSED: usize = MOST_NODES as usize - 1;
+/// The maximum number of requests that a release passes: those of all nodes but its own.
+const MAX_PASSED: usize = MAX_NODES as usize - 1;
 
-/// A line that was let go: how many word steps it took, and the cell that was granted last, whose node may have to be woken.
+/// A release that is over: its word steps, and the last granted cell, whose node may have to be unparked.
 #[derive(Clone, Copy)]
-pub(crate) struct LetGo {
+pub(crate) struct Handoff {
     pub(crate) steps: u64,
     pub(crate) cell: u64,
 }
 
-/// Makes a node ready to ask, and returns how many word steps that took. A withdrawn request that still stands in the queue keeps
-/// it from asking: then `None`.
+/// Resets the node's word for a new request, and returns the word steps taken: 0 or 2.
+///
+/// Returns `None`, after one step, if the last request is withdrawn and not passed yet.
 #[inline]
-pub(crate) fn renew<K: Keep>(
-    ground: &Ground<K>,
+pub(crate) fn try_reset<K: Keep>(
+    table: &SharedTable<K>,
     seat: &mut RingSeat,
     node: u64,
     state: PortState,
 ) -> Option<u64>
-    requires seat { IsSeatOfNode ground.now.key.terms.nodes ground.now.table_id node seat.old }
+    requires seat { IsSeatOfNode table.now.key.config.nodes table.now.table_id node seat.old }
     requires rolled { state ≡ PortState.Rolled → IsAt Rolled seat.old }
     requires idle { state ≢ PortState.Rolled → IsAt Idle seat.old }
     ensures slot { seat.new.me.1 ≡ seat.old.me.1 }
-    ensures went { Went K.allows seat.old seat.new (steps_to_renew result) }
-    ensures renewed { IsRenewed state (entry_of seat.old) (entry_of seat.new) result }
+    ensures advances { SeatAdvances K.allows seat.old seat.new (steps_to_reset result) }
+    ensures is_reset { IsReset state (ghost_of seat.old) (ghost_of seat.new) result }
 {
     if state != PortState::Rolled {
         return Some(0);
     }
-    if !is_freed(load_node(ground, seat, node)) {
+    if !is_freed(load_node(table, seat, node)) {
         return None;
     }
-    reset(ground, seat, node);
+    reset(table, seat, node);
     Some(2)
 }
 
-/// Lets the line go that lies in the slot.
+/// Releases the line in the slot to the successor. Two word steps if the successor has not withdrawn, else three more for each passed
+/// request.
 #[inline]
-pub(crate) fn release<K: Keep>(ground: &Ground<K>, seat: &mut RingSeat, cell: u64) -> LetGo
-    requires table { IsSeatOf word_count ground.now.table_id seat.old }
-    requires ready { IsAt Holding seat.old }
-    requires none_passed { (entry_of seat.old).own.passed ≡ [] }
+pub(crate) fn release<K: Keep>(table: &SharedTable<K>, seat: &mut RingSeat, cell: u64) -> Handoff
+    requires table { IsSeatOf word_count table.now.table_id seat.old }
+    requires phase { IsAt Holding seat.old }
+    requires none_passed { (ghost_of seat.old).own.passed ≡ [] }
     requires cell { cell ≡ turn_cell seat.old }
-    requires nodes { 1 ≤ (entry_of seat.old).view.terms.nodes }
-    requires parcel { (y : Parcel) × HasSlot seat.old y × CarriesNext K.allows (entry_of seat.old) y }
+    requires nodes { 1 ≤ (ghost_of seat.old).view.config.nodes }
+    requires payload { (y : Payload) × HasSlot seat.old y × CarriesNext K.allows (ghost_of seat.old) y }
     ensures slot { HasNoSlot seat.new }
-    ensures went { Went K.allows seat.old seat.new result.steps }
-    ensures lets_go { (y : Parcel) → HasSlot seat.old y → LetsLineGo (entry_of seat.old) y (entry_of seat.new) }
+    ensures advances { SeatAdvances K.allows seat.old seat.new result.steps }
+    ensures releases { (y : Payload) → HasSlot seat.old y → ReleasesLine (ghost_of seat.old) y (ghost_of seat.new) }
     ensures granted { result.cell ≡ turn_cell seat.new }
-    ensures counted { result.steps + 1 + 3 * length (entry_of seat.old).view.ends ≡ 3 * length (entry_of seat.new).view.ends }
-    ensures bound { result.steps + 1 ≤ 3 * (entry_of seat.old).view.terms.nodes }
+    ensures steps { result.steps + 1 + 3 * length (ghost_of seat.old).view.ends ≡ 3 * length (ghost_of seat.new).view.ends }
+    ensures bound { result.steps + 1 ≤ 3 * (ghost_of seat.old).view.config.nodes }
 {
     // The own cell is cleared before the next is granted: once that is done, others may come round to this cell.
-    clear(ground, seat, cell);
-    let found = grant(ground, seat, cell);
+    clear(table, seat, cell);
+    let found = grant(table, seat, cell);
     if is_withdrawn(found) {
-        let walked = walk(ground, seat, cell_after(cell), found);
-        LetGo {
+        let walked = walk(table, seat, cell_after(cell), found);
+        Handoff {
             steps: 2 + walked.steps,
             cell: walked.cell,
         }
     } else {
-        LetGo {
+        Handoff {
             steps: 2,
             cell: cell_after(cell),
         }
     }
 }
 
-/// Passes withdrawn requests, up to one that is not, and frees their nodes.
+/// Passes withdrawn requests, up to the first that is not, and frees their nodes. Three word steps for each.
 ///
-/// It is apart, and cold: room for the passed nodes is cleared at its entry, which a release that meets no withdrawn request need not pay.
+/// Cold and not inlined: it has an array of the passed nodes, which a release without withdrawn successors should not set up.
 #[cold]
 #[inline(never)]
-fn walk<K: Keep>(ground: &Ground<K>, seat: &mut RingSeat, cell: u64, found: u64) -> LetGo
-    requires table { IsSeatOf word_count ground.now.table_id seat.old }
-    requires ready { IsAt Passing seat.old }
+fn walk<K: Keep>(table: &SharedTable<K>, seat: &mut RingSeat, cell: u64, found: u64) -> Handoff
+    requires table { IsSeatOf word_count table.now.table_id seat.old }
+    requires phase { IsAt Passing seat.old }
     requires cell { cell ≡ turn_cell seat.old }
     requires found { found ≢ 0 }
-    requires passed { (entry_of seat.old).own.passed ≡ length (entry_of seat.old).view.ends ∷ [] }
-    requires others { AreOfOthers (entry_of seat.old).view.node (entry_of seat.old).view.order (entry_of seat.old).own.passed }
-    requires first { (r : Request) × At (entry_of seat.old).view.order (length (entry_of seat.old).view.ends) r × (r.node ≡ withdrawn_by found) × (r.node ≤ (entry_of seat.old).view.terms.nodes) }
-    requires nodes { (2 ≤ (entry_of seat.old).view.terms.nodes) × ((entry_of seat.old).view.terms.nodes ≤ MOST_NODES) }
-    requires parcel { (y : Parcel) × HasSlot seat.old y × IsBare (entry_of seat.old) y × ((entry_of seat.old).view.state ≡ left_by y.closed) }
+    requires passed { (ghost_of seat.old).own.passed ≡ length (ghost_of seat.old).view.ends ∷ [] }
+    requires others { AreOfOthers (ghost_of seat.old).view.node (ghost_of seat.old).view.order (ghost_of seat.old).own.passed }
+    requires first { (r : Request) × At (ghost_of seat.old).view.order (length (ghost_of seat.old).view.ends) r × (r.node ≡ withdrawn_by found) × (r.node ≤ (ghost_of seat.old).view.config.nodes) }
+    requires nodes { (2 ≤ (ghost_of seat.old).view.config.nodes) × ((ghost_of seat.old).view.config.nodes ≤ MAX_NODES) }
+    requires payload { (y : Payload) × HasSlot seat.old y × MatchesEnds (ghost_of seat.old) y × ((ghost_of seat.old).view.state ≡ state_after y.closed) }
     ensures slot { HasNoSlot seat.new }
-    ensures went { Went K.allows seat.old seat.new result.steps }
-    ensures walks_on { WalksOn (entry_of seat.old) (entry_of seat.new) }
+    ensures advances { SeatAdvances K.allows seat.old seat.new result.steps }
+    ensures finishes_walk { FinishesWalk (ghost_of seat.old) (ghost_of seat.new) }
     ensures granted { result.cell ≡ turn_cell seat.new }
-    ensures counted { result.steps + 3 * length (entry_of seat.old).view.ends ≡ 3 * length (entry_of seat.new).view.ends }
-    ensures bound { result.steps + 3 ≤ 3 * (entry_of seat.old).view.terms.nodes }
+    ensures steps { result.steps + 3 * length (ghost_of seat.old).view.ends ≡ 3 * length (ghost_of seat.new).view.ends }
+    ensures bound { result.steps + 3 ≤ 3 * (ghost_of seat.old).view.config.nodes }
 {
-    let mut passed = ArrayVec::<u64, MOST_PASSED>::new();
+    let mut passed = ArrayVec::<u64, MAX_PASSED>::new();
     let mut cell = cell;
     let mut found = found;
     while is_withdrawn(found) {
         passed.push(withdrawn_by(found));
-        clear(ground, seat, cell);
-        found = grant(ground, seat, cell);
+        clear(table, seat, cell);
+        found = grant(table, seat, cell);
         cell = cell_after(cell);
     }
-    // Freed only now: a node that is freed may ask, and its new request must not be passed by this walk.
-    free_passed(ground, seat, &passed);
-    LetGo {
+    // Freed only now: a freed node may make a request, which this walk must not pass.
+    free_passed(table, seat, &passed);
+    Handoff {
         steps: 3 * passed.len() as u64,
         cell,
     }
 }
 
-/// Frees the nodes of all requests that were passed, in their order.
-fn free_passed<K: Keep>(ground: &Ground<K>, seat: &mut RingSeat, nodes: &[u64])
-    requires table { IsSeatOf word_count ground.now.table_id seat.old }
-    requires ready { IsAt Freeing seat.old }
-    requires some { (entry_of seat.old).own.passed ≢ [] }
-    requires many { length nodes.now ≡ length (entry_of seat.old).own.passed }
-    requires nodes { AreNodesAt (entry_of seat.old).view (entry_of seat.old).own.passed nodes.now }
+/// Frees the nodes of all passed requests, in their order.
+fn free_passed<K: Keep>(table: &SharedTable<K>, seat: &mut RingSeat, nodes: &[u64])
+    requires table { IsSeatOf word_count table.now.table_id seat.old }
+    requires phase { IsAt Freeing seat.old }
+    requires some { (ghost_of seat.old).own.passed ≢ [] }
+    requires many { length nodes.now ≡ length (ghost_of seat.old).own.passed }
+    requires nodes { AreNodesAt (ghost_of seat.old).view (ghost_of seat.old).own.passed nodes.now }
     ensures slot { seat.new.me.1 ≡ seat.old.me.1 }
-    ensures went { Went K.allows seat.old seat.new (length nodes.now) }
-    ensures frees { FreesAll (entry_of seat.old) (entry_of seat.new) }
+    ensures advances { SeatAdvances K.allows seat.old seat.new (length nodes.now) }
+    ensures frees { FreesAll (ghost_of seat.old) (ghost_of seat.new) }
 {
     for node in nodes {
-        free(ground, seat, *node);
+        free(table, seat, *node);
     }
 }

@@ -6,12 +6,12 @@ ghost use Rattle.line_accounts.specs.NewDesks.{IsNewPort};
 use line_accounts::{
     AccountLaw, Desk, Reply, SettleError, Unsettled, deposit, settle, take_out, transfer,
 };
-use line_rows::opened::{open_zeros, with_last};
 use link_line::LinkLine;
 use qolb_model::{LineSync, OpenLine};
 use std::alloc::Global;
+use test_programs::fixtures::{open_zeros, with_last};
 
-/// A line, and a desk over it. `None` if memory was refused.
+/// Makes a desk over one line. Returns `None` if memory is refused.
 fn desk_over<L: LineSync<AccountLaw> + Drop>(
     alloc: Global,
     line: L,
@@ -62,10 +62,10 @@ where
     }
 }
 
-/// What a day's calls answer, what the desk then says was paid in and out, and what is settled.
+/// The answers of a day's calls, what the desk then says was paid in and out, and the settled total.
 type Day = ([Reply; 3], (u128, u128), Result<u128, SettleError>);
 
-/// A day at a desk over a line of this type.
+/// Runs a day at a desk over a line of this type.
 fn day_over<L: OpenLine<AccountLaw> + Drop>(alloc: Global) -> Option<Day>
 where
     L::Port: Drop,

@@ -1,4 +1,4 @@
-//! The variants of each answer and state, all of them in their order.
+//! The variants of each answer and state, in their order.
 use line_accounts::Reply;
 use line_board::{Put, Take};
 use link_core::Place;
@@ -9,9 +9,9 @@ use qolb_script::WorkKind;
 use std::fmt::Debug;
 use std::process::Abort;
 
-/// A type of which all variants are known.
+/// A type whose variants are all known.
 trait Listed {
-    /// The variant's place among them.
+    /// The variant's place in the order.
     fn place(&self) -> usize;
 }
 
@@ -138,7 +138,7 @@ impl Listed for Got {
     }
 }
 
-// The lock that came last is another variant of these two.
+// `Lines` and `Kind` have one variant more, for the ticket line.
 impl Listed for Lines {
     fn place(&self) -> usize {
         match self {
@@ -160,7 +160,7 @@ impl Listed for Kind {
     }
 }
 
-/// These are the type's variants, in their order.
+/// Expects that `all` are the type's variants, in their order.
 fn expect<R: Abort, T: Listed + Debug>(rt: &R, all: &[T]) {
     for (place, one) in all.iter().enumerate() {
         assert_eq!(rt; one.place(), place, "{one:?}");

@@ -1,10 +1,10 @@
 //! A board of tasks in a line.
 use line_board::{BoardLaw, Put, Take, Tasks, decode, encode, put, take};
 use line_lanes::Line64;
-use line_rows::opened::{open_zeros, with_last};
 use link_line::LinkLine;
 use qolb_model::{LineSync, OpenLine};
 use std::alloc::Global;
+use test_programs::fixtures::{open_zeros, with_last};
 
 /// Puts the task, if the node may ask.
 fn puts<L: LineSync<BoardLaw>>(line: &L, port: &mut L::Port, task: u64) -> Option<Put>
@@ -30,7 +30,7 @@ fn takes<L: LineSync<BoardLaw>>(line: &L, port: &mut L::Port) -> Option<Take>
     Some(answer)
 }
 
-/// A task is put on a board of lines of this type, and taken from it, and then one more is looked for.
+/// Puts a task on a board over lines of this type, takes it, and tries to take one more.
 fn passed<L: OpenLine<BoardLaw> + Drop>(alloc: Global) -> Option<(Put, Take, Take)>
 where
     L::Port: Drop,

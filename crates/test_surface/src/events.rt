@@ -1,4 +1,4 @@
-//! The core of reversed links.
+//! The step core of the list.
 use line_lanes::Line64;
 use link_core::{Core, Entry, Event, NotEnabled, Place, Point, Told, replay};
 use std::test::Fail;

@@ -1,10 +1,9 @@
-//! Lines that nodes share: the calls of any line, written once and made by each lock, and those of a lock's own.
+//! Lines that nodes share: the calls of any line, written once and made on each lock, and those of one lock alone.
 ghost use Rattle.std.specs.Prelude.{◌≡◌, IsTrue, refl};
 ghost use Rattle.qolb_model.specs.PortStates.{may_ask};
 
-use crate::calls::{CALLS, Call, Came};
+use crate::calls::{CALLS, Call, Outcome};
 use line_lanes::{Line64, Mask};
-use line_rows::opened::{open_zeros, with_last, with_two};
 use link_line::{LinkLine, Prep};
 use qolb_model::{
     Enq, FinishError, Free, Keep, LineSync, OpenError, OpenLine, PortState, Unfinished,
@@ -13,45 +12,46 @@ use ring_line::RingLine;
 use std::alloc::Global;
 use std::process::Abort;
 use std::test::Fail;
+use test_programs::fixtures::{open_zeros, with_last, with_two};
 
 /// Makes the call by the port, if its state allows it.
-fn call<L: LineSync<Free>>(line: &L, port: &mut L::Port, call: Call) -> Came
+fn call<L: LineSync<Free>>(line: &L, port: &mut L::Port, call: Call) -> Outcome
     requires { L.belongs line.now port.old }
     ensures { L.belongs line.now port.new }
 {
     let state: PortState = L::state(port);
     match (call, state) {
-        (Call::Ask, _) if state.may_ask() => Came::Enq(line.enqolb(port)),
-        (Call::Poll, PortState::Queued) => Came::Poll(line.poll(port)),
-        (Call::Withdraw, PortState::Queued) => Came::Out(line.withdraw(port)),
+        (Call::Ask, _) if state.may_ask() => Outcome::Enq(line.enqolb(port)),
+        (Call::Poll, PortState::Queued) => Outcome::Poll(line.poll(port)),
+        (Call::Withdraw, PortState::Queued) => Outcome::Out(line.withdraw(port)),
         (Call::Write, PortState::Holding) => {
             L::write(port, Mask(1), &Line64::from_bytes([171; 64]));
-            Came::State(L::state(port))
+            Outcome::State(L::state(port))
         }
         (Call::Read, PortState::Holding) => {
             let seen: u8 = L::bytes(port).bytes[0];
-            Came::Sees(seen, line.turns_left(port))
+            Outcome::Sees(seen, line.turns_left(port))
         }
         (Call::Release, PortState::Holding) => {
             line.deqolb(port);
-            Came::State(L::state(port))
+            Outcome::State(L::state(port))
         }
         (Call::Shut, PortState::Holding) => {
             line.shut(port);
-            Came::State(L::state(port))
+            Outcome::State(L::state(port))
         }
-        _ => Came::State(state),
+        _ => Outcome::State(state),
     }
 }
 
-/// Makes the call by the port of the node, the first of two or the second.
+/// Makes the call by the port of `node`, which is one of the two.
 fn call_of<L: LineSync<Free>>(
     line: &L,
     one: &mut L::Port,
     two: &mut L::Port,
     node: u64,
     made: Call,
-) -> Came
+) -> Outcome
     requires one { L.belongs line.now one.old }
     requires two { L.belongs line.now two.old }
     ensures one { L.belongs line.now one.new }
@@ -64,7 +64,7 @@ fn call_of<L: LineSync<Free>>(
     }
 }
 
-/// The first call that comes out otherwise than is wanted, by its place among all.
+/// The place of the first call whose outcome is not the wanted one.
 fn first_difference<L: LineSync<Free>>(
     line: &L,
     one: &mut L::Port,
@@ -76,8 +76,8 @@ fn first_difference<L: LineSync<Free>>(
     ensures two { L.belongs line.now two.new }
 {
     for (at, (node, made, wanted)) in CALLS.iter().enumerate() {
-        let came = call_of(line, one, two, *node, *made);
-        if came != *wanted {
+        let outcome = call_of(line, one, two, *node, *made);
+        if outcome != *wanted {
             return Some(at);
         }
     }
@@ -112,7 +112,7 @@ where
     }
 }
 
-/// All calls, by lines of this type.
+/// Makes all calls, on lines of this type.
 fn each_call<R: Abort, L: OpenLine<Free> + Drop>(rt: &R, alloc: Global) -> Result<(), Fail>
 where
     L::Port: Drop,
@@ -203,7 +203,7 @@ impl Keep for Fixed {
     ghost allows_same = { λ bytes good. refl };
 }
 
-/// Byte 0 of the line, read in a turn.
+/// Reads byte 0 of the line in a turn.
 fn read<L: LineSync<Fixed>>(line: &L, port: &mut L::Port) -> Option<u8>
     requires belongs { L.belongs line.now port.old }
     requires state { IsTrue (may_ask (L.view port.old).state) }
@@ -218,7 +218,7 @@ fn read<L: LineSync<Fixed>>(line: &L, port: &mut L::Port) -> Option<u8>
     }
 }
 
-/// Byte 0 of a line of zeros under the law, of this type.
+/// Reads byte 0 of a new line of zeros under the law, of this type.
 fn read_zero<L: OpenLine<Fixed> + Drop>(alloc: Global) -> Option<u8>
 where
     L::Port: Drop,

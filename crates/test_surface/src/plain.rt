@@ -1,38 +1,40 @@
 //! The plain line.
 ghost use Rattle.std.specs.Prelude.{◌≡◌};
 
-use crate::calls::{CALLS, Call, Came};
+use crate::calls::{CALLS, Call, Outcome};
 use line_lanes::{Line64, Mask};
 use qolb_model::{OpenError, PlainLine, PortState, Write};
 use std::test::Fail;
 
 /// Makes the call for node 1 or 2 of a line of two, if the node's state allows it.
-fn call(line: &mut PlainLine, node: u64, call: Call) -> Came
+fn call(line: &mut PlainLine, node: u64, call: Call) -> Outcome
     requires { line.old.nodes ≡ 2 }
     ensures { line.new.nodes ≡ 2 }
 {
     let state: PortState = line.state(node);
     match (call, state) {
-        (Call::Ask, _) if state.may_ask() && 1 <= node && node <= 2 => Came::Enq(line.enqolb(node)),
-        (Call::Poll, PortState::Queued) => Came::Poll(line.poll(node)),
-        (Call::Withdraw, PortState::Queued) => Came::Out(line.withdraw(node)),
+        (Call::Ask, _) if state.may_ask() && 1 <= node && node <= 2 => Outcome::Enq(line.enqolb(
+            node,
+        )),
+        (Call::Poll, PortState::Queued) => Outcome::Poll(line.poll(node)),
+        (Call::Withdraw, PortState::Queued) => Outcome::Out(line.withdraw(node)),
         (Call::Write, PortState::Holding) => {
             line.write(node, Mask(1), &Line64::from_bytes([171; 64]));
-            Came::State(line.state(node))
+            Outcome::State(line.state(node))
         }
         (Call::Read, PortState::Holding) => {
             let seen: u8 = line.bytes(node).bytes[0];
-            Came::Sees(seen, line.turns_left(node))
+            Outcome::Sees(seen, line.turns_left(node))
         }
         (Call::Release, PortState::Holding) => {
             line.deqolb(node);
-            Came::State(line.state(node))
+            Outcome::State(line.state(node))
         }
         (Call::Shut, PortState::Holding) => {
             line.shut(node);
-            Came::State(line.state(node))
+            Outcome::State(line.state(node))
         }
-        _ => Came::State(state),
+        _ => Outcome::State(state),
     }
 }
 
@@ -40,8 +42,8 @@ fn call(line: &mut PlainLine, node: u64, call: Call) -> Came
 fn a_plain_line_is_called(rt: HostRuntime) -> Result<(), Fail> {
     let mut line: PlainLine = PlainLine::open_leased(2, Line64::zero(), 2)?;
     for (node, made, wanted) in &CALLS {
-        let came = call(&mut line, *node, *made);
-        assert_eq!(rt; came, *wanted, "{made:?} of {node}");
+        let outcome = call(&mut line, *node, *made);
+        assert_eq!(rt; outcome, *wanted, "{made:?} of {node}");
     }
     Ok(())
 }

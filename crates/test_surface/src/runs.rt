@@ -1,8 +1,7 @@
 //! Runs: a wait for a line, gates, workers and replays.
-use line_rows::opened::{open_zeros, with_last};
 use qolb_model::{Free, LineSync, OpenLine};
 use qolb_run::{
-    AlwaysOpen, Gate, Got, Kind, Lines, ReplayError, RunError, Waits, acquire, read_all,
+    AlwaysOpen, Gate, Got, Kind, Lines, ReplayError, RunError, WaitMode, acquire, read_all,
     run_schedule, run_steps, run_work,
 };
 use qolb_script::{Report, Watched, Work, WorkKind, read_work};
@@ -11,6 +10,7 @@ use std::alloc::Global;
 use std::sync::Wait;
 use std::sync::atomic::{AtomicU64, Ordering};
 use std::test::Fail;
+use test_programs::fixtures::{open_zeros, with_last};
 
 /// Waits for the line and closes it, and asks again.
 fn closed<R: Wait, L: OpenLine<Free> + Drop>(rt: &R, alloc: Global) -> Option<(Got, Got)>
@@ -37,7 +37,7 @@ fn a_line_is_acquired_until_it_is_closed(rt: HostRuntime) {
     assert_eq!(rt; found, Some((Got::Granted, Got::Closed)));
 }
 
-/// A gate that refuses whoever asks first, with no more said than `may`.
+/// A gate that refuses the first question and allows the others; it defines `may` alone.
 #[derive(Drop)]
 struct Once {
     asked: AtomicU64,
@@ -63,7 +63,7 @@ fn work_is_run(rt: HostRuntime) -> Result<(), Fail> {
     };
     let found: Result<Report, RunError> = run_work(&rt, rt.alloc(), &gate, &work, Lines::Ring);
     assert_eq!(rt; found, Ok(report));
-    assert_eq!(rt; Waits::default(), Waits::Awake);
+    assert_eq!(rt; WaitMode::default(), WaitMode::Awake);
     let always: Result<Report, RunError> = run_work(
         &rt,
         rt.alloc(),
@@ -75,7 +75,7 @@ fn work_is_run(rt: HostRuntime) -> Result<(), Fail> {
     Ok(())
 }
 
-/// What a schedule of one node without a command is answered.
+/// The output of a schedule of one node without a command.
 const NONE: &[u8] = b"line 0 served 0 withdrawn 0 told 0 left 0\n";
 
 #[test]

@@ -1,4 +1,4 @@
-//! Scripts, what is said of them, and readers and writers that remember a fault.
+//! Scripts, their output, and readers and writers that remember a fault.
 use line_lanes::{Line64, Mask};
 use link_core::{Event, Told};
 use qolb_model::{Enq, Out, Poll};
@@ -9,7 +9,7 @@ use qolb_script::{
 use std::alloc::AllocError;
 use std::test::Fail;
 
-/// The node, and the line, of a command.
+/// The node and the line of a command.
 fn node_and_line(command: &Command) -> (u64, u64) {
     match *command {
         Command::Enq { node, line } => (node, line),
@@ -27,7 +27,7 @@ fn node_and_line(command: &Command) -> (u64, u64) {
     }
 }
 
-/// The worker of a job, and the number that it names last.
+/// The worker of a job, and the last number in it.
 fn worker_and_last(job: &Job) -> (u64, u64) {
     match *job {
         Job::Put { worker, task } => (worker, task),
@@ -107,7 +107,7 @@ fn a_script_is_refused(rt: HostRuntime) {
     assert_eq!(rt; refused, Some(ScriptError::BadLine(1)));
 }
 
-/// All that can be said, but for bytes of a line.
+/// Each answer of a schedule, except the bytes of a line.
 static ALL_SAID: [Said; 10] = [
     Said::Enq(Enq::Granted),
     Said::Poll(Poll::Waiting),
@@ -127,7 +127,7 @@ static ALL_SAID: [Said; 10] = [
     },
 ];
 
-/// The word that it begins with.
+/// The text of an answer, or its first word.
 fn first_word(said: &Said) -> &'static str {
     match *said {
         Said::Enq(_) => "granted",
@@ -165,7 +165,7 @@ fn what_is_said_is_a_line_of_text(rt: HostRuntime) -> Result<(), Fail> {
     Ok(())
 }
 
-/// The numbers of a report, the first of them first.
+/// The first number of a report, and the last.
 fn first_and_last(report: &Report) -> (u128, u128) {
     match *report {
         Report::Board {

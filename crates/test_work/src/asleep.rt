@@ -1,11 +1,11 @@
-//! Workers sleep that are to, and others do not, over lines that a holder keeps until somebody has waited so.
+//! Workers sleep if they are told to, and else do not: over lines whose holder keeps the line until a waiter has waited so.
 use crate::gates::Closed;
 use line_accounts::AccountLaw;
+use line_blocking::{HookedLine, Hooks};
 use line_board::BoardLaw;
-use line_threads::{HookedLine, Hooks};
-use locks::RingLine;
-use qolb_model::{Keep, OpenLine, Sleeping};
-use qolb_run::{AlwaysOpen, Gate, RunError, Waits, run_work_over};
+use line_kinds::RingLine;
+use qolb_model::{Keep, OpenLine, ParkingLine};
+use qolb_run::{AlwaysOpen, Gate, RunError, WaitMode, run_work_over};
 use qolb_script::{Report, Work, WorkKind, read_work};
 use std::alloc::Global;
 use std::process::Abort;
@@ -25,7 +25,7 @@ fn wait_until_some(count: &AtomicU64) {
     }
 }
 
-/// Nobody lets the line go before somebody has slept at it. So work at it does not end where two ask for it, and the waiter does not sleep.
+/// Hooks by which a holder releases only after a waiter has slept. So work by two nodes does not end if the waiter does not sleep.
 #[derive(Drop)]
 struct UntilSlept {
     sleeps: AtomicU64,
@@ -40,11 +40,11 @@ impl Default for UntilSlept {
 }
 
 impl Hooks for UntilSlept {
-    fn lets_go<K: Keep, L: Sleeping<K>>(&self, _line: &L, _port: &L::Port) {
+    fn on_release<K: Keep, L: ParkingLine<K>>(&self, _line: &L, _port: &L::Port) {
         wait_until_some(&self.sleeps);
     }
 
-    fn sleep<R: Wait, K: Keep, L: Sleeping<K>>(
+    fn sleep<R: Wait, K: Keep, L: ParkingLine<K>>(
         &self,
         rt: &R,
         line: &L,
@@ -56,31 +56,31 @@ impl Hooks for UntilSlept {
     }
 }
 
-/// Nobody lets the line go before somebody has looked for it in vain, and a sleep at it does not end. So work at it does not end where two
-/// ask for it, and the waiter sleeps.
+/// Hooks by which a holder releases only after a waiter has polled without a grant, and a sleep does not end. So work by two nodes does not
+/// end if the waiter sleeps.
 #[derive(Drop)]
 struct UntilLooked {
-    looks: AtomicU64,
+    poll_count: AtomicU64,
 }
 
 impl Default for UntilLooked {
     fn default() -> UntilLooked {
         UntilLooked {
-            looks: AtomicU64::new(0),
+            poll_count: AtomicU64::new(0),
         }
     }
 }
 
 impl Hooks for UntilLooked {
-    fn looked_in_vain<K: Keep, L: Sleeping<K>>(&self, _line: &L, _port: &L::Port) {
-        self.looks.fetch_add(1, Ordering::SeqCst);
+    fn on_waiting<K: Keep, L: ParkingLine<K>>(&self, _line: &L, _port: &L::Port) {
+        self.poll_count.fetch_add(1, Ordering::SeqCst);
     }
 
-    fn lets_go<K: Keep, L: Sleeping<K>>(&self, _line: &L, _port: &L::Port) {
-        wait_until_some(&self.looks);
+    fn on_release<K: Keep, L: ParkingLine<K>>(&self, _line: &L, _port: &L::Port) {
+        wait_until_some(&self.poll_count);
     }
 
-    fn sleep<R: Wait, K: Keep, L: Sleeping<K>>(
+    fn sleep<R: Wait, K: Keep, L: ParkingLine<K>>(
         &self,
         _rt: &R,
         _line: &L,
@@ -93,7 +93,7 @@ impl Hooks for UntilLooked {
     }
 }
 
-/// A turn of such a line does not end: nobody lets it go. So work at it ends only where no job is done.
+/// Hooks by which no release ends. So work ends only if no job is done.
 #[derive(Drop)]
 struct Kept;
 
@@ -104,21 +104,21 @@ impl Default for Kept {
 }
 
 impl Hooks for Kept {
-    fn lets_go<K: Keep, L: Sleeping<K>>(&self, _line: &L, _port: &L::Port) {
+    fn on_release<K: Keep, L: ParkingLine<K>>(&self, _line: &L, _port: &L::Port) {
         for _ in 0..u64::MAX {
             yield_now();
         }
     }
 }
 
-/// The work behind this gate over lines with these hooks.
+/// Does the work behind this gate over lines with these hooks.
 fn work_hooked<
     R: Threads + Wait + Sync,
     G: Gate + Sync,
     H: Hooks + Default + Sync + Drop,
-    B: OpenLine<BoardLaw> + Sleeping<BoardLaw> + Sync + Drop,
-    A: OpenLine<AccountLaw> + Sleeping<AccountLaw> + Sync + Drop,
->(rt: &R, alloc: Global, gate: &G, work: &Work, waits: Waits) -> Result<Report, RunError>
+    B: OpenLine<BoardLaw> + ParkingLine<BoardLaw> + Sync + Drop,
+    A: OpenLine<AccountLaw> + ParkingLine<AccountLaw> + Sync + Drop,
+>(rt: &R, alloc: Global, gate: &G, work: &Work, waits: WaitMode) -> Result<Report, RunError>
 where
     B::Port: Send + Drop,
     A::Port: Send + Drop,
@@ -126,19 +126,19 @@ where
     run_work_over::<R, G, HookedLine<H, B>, HookedLine<H, A>>(rt, alloc, gate, work, waits)
 }
 
-/// The same over rings: how a worker waits is not a lock's matter, and it takes the prover a minute to see of each lock that it is a line with
-/// hooks.
+/// Does the work over rings. How a worker waits does not depend on the lock, and the prover needs a minute to see of each lock that it is a
+/// line with hooks.
 fn work_over_rings<R: Threads + Wait + Sync, G: Gate + Sync, H: Hooks + Default + Sync + Drop>(
     rt: &R,
     alloc: Global,
     gate: &G,
     work: &Work,
-    waits: Waits,
+    waits: WaitMode,
 ) -> Result<Report, RunError> {
     work_hooked::<R, G, H, RingLine<BoardLaw>, RingLine<AccountLaw>>(rt, alloc, gate, work, waits)
 }
 
-/// What two jobs come to that store, and two that find nothing.
+/// The report of two jobs that store, and below of two that find nothing.
 const TWO_STORED: Report = Report::Board {
     stored: 2,
     full: 0,
@@ -167,7 +167,7 @@ const NOTHING_PAID: Report = Report::Bank {
     total: 0,
 };
 
-/// A job of each kind for each of two workers or three, and its report. At each line two ask at least.
+/// A job of each kind for each of two or three workers, with the report. At least two workers ask for each line.
 static JOBS_OF_EACH_KIND: [(WorkKind, &str, Report); 7] = [
     (
         WorkKind::Board,
@@ -206,11 +206,11 @@ static JOBS_OF_EACH_KIND: [(WorkKind, &str, Report); 7] = [
     ),
 ];
 
-/// Workers do a job of each kind over lines with these hooks.
+/// Runs a job of each kind over lines with these hooks.
 fn expect_hooked<R: Threads + Wait + Abort + Sync, H: Hooks + Default + Sync + Drop>(
     rt: &R,
     alloc: Global,
-    waits: Waits,
+    waits: WaitMode,
 ) -> Result<(), Fail> {
     for (kind, script, report) in &JOBS_OF_EACH_KIND {
         let work = read_work(alloc, script.as_bytes(), *kind)?;
@@ -222,18 +222,24 @@ fn expect_hooked<R: Threads + Wait + Abort + Sync, H: Hooks + Default + Sync + D
 
 #[test]
 fn workers_sleep_that_are_to(rt: HostRuntime) -> Result<(), Fail> {
-    expect_hooked::<HostRuntime, UntilSlept>(&rt, rt.alloc(), Waits::Asleep)
+    expect_hooked::<HostRuntime, UntilSlept>(&rt, rt.alloc(), WaitMode::Asleep)
 }
 
 #[test]
 fn workers_stay_awake_that_are_to(rt: HostRuntime) -> Result<(), Fail> {
-    expect_hooked::<HostRuntime, UntilLooked>(&rt, rt.alloc(), Waits::Awake)
+    expect_hooked::<HostRuntime, UntilLooked>(&rt, rt.alloc(), WaitMode::Awake)
 }
 
 #[test]
 fn who_gives_up_before_a_closed_gate_does_no_job(rt: HostRuntime) -> Result<(), Fail> {
     let work = read_work(rt.alloc(), b"board workers 1\n1 put 5\n", WorkKind::Board)?;
-    let found = work_over_rings::<_, Closed, Kept>(&rt, rt.alloc(), &Closed, &work, Waits::Awake);
+    let found = work_over_rings::<_, Closed, Kept>(
+        &rt,
+        rt.alloc(),
+        &Closed,
+        &work,
+        WaitMode::Awake,
+    );
     assert_eq!(rt; found, Err(RunError::Stalled(1)));
     Ok(())
 }

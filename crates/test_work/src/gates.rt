@@ -1,7 +1,7 @@
-//! Workers before a gate.
+//! Workers at a gate.
 use crate::work::{EITHER, expect};
-use locks::{ALL, Lines};
-use qolb_run::{Gate, RunError, TaskError, Waits, report_work, run_work, run_work_with};
+use line_kinds::{ALL, Lines};
+use qolb_run::{Gate, RunError, TaskError, WaitMode, report_work, run_work, run_work_with};
 use qolb_script::{Report, Watched, WorkKind, read_work};
 use std::alloc::Global;
 use std::process::Abort;
@@ -46,7 +46,7 @@ fn a_report_of_work_says_who_gave_up(rt: HostRuntime) {
         &mut writer,
         WorkKind::Board,
         Lines::Ring,
-        Waits::Awake,
+        WaitMode::Awake,
     );
     let written = writer.into_inner();
     assert_eq!(rt; (done, written.len()), (Err(TaskError::Stalled(2)), 0));
@@ -65,7 +65,7 @@ fn a_worker_of_a_bank_gives_up_before_a_closed_gate(rt: HostRuntime) -> Result<(
     )
 }
 
-/// The work is done with this report behind a new gate, by each lock.
+/// Runs the work behind a new gate, over each lock, and expects this report.
 fn expect_behind<R: Threads + Wait + Abort + Sync, G: Gate + Default + Sync + Drop>(
     rt: &R,
     alloc: Global,
@@ -81,7 +81,7 @@ fn expect_behind<R: Threads + Wait + Abort + Sync, G: Gate + Default + Sync + Dr
     Ok(())
 }
 
-/// A gate that opens once two workers stand before it at the same time.
+/// A gate that opens when two workers wait at it at the same time.
 #[derive(Drop)]
 struct Meeting {
     first: AtomicU64,
@@ -134,7 +134,7 @@ fn workers_stand_before_a_gate_at_the_same_time(rt: HostRuntime) -> Result<(), F
     expect_behind::<_, Meeting>(&rt, rt.alloc(), script, WorkKind::Bank, report)
 }
 
-/// A gate that the second worker passes once the first has come to it, and the first once the second has done its two jobs.
+/// A gate that opens for the second worker when the first has reached it, and for the first when the second has done its two jobs.
 #[derive(Drop)]
 struct InTurn {
     came: AtomicU64,
@@ -183,14 +183,14 @@ fn no_job_is_done_before_its_gate_is_passed(rt: HostRuntime) -> Result<(), Fail>
     expect_behind::<_, InTurn>(&rt, rt.alloc(), script, WorkKind::Board, report)
 }
 
-/// A gate that opens at so many asks for a job, each time, and counts the asks for each number.
+/// A gate that opens at the `opens_at`-th question for a job. It counts the questions for each job number.
 #[derive(Drop)]
 pub(crate) struct Counting {
     opens_at: u64,
     asked: [AtomicU64; 4],
     /// The numbers that were asked for, one digit each, 1 more than the number.
     numbers: AtomicU64,
-    /// How often the gate was told that work begins, of how many jobs, and how often a worker asked before that.
+    /// How often the gate was told that work begins, of how many jobs, and how many questions came before that.
     begun: AtomicU64,
     jobs: AtomicU64,
     early: AtomicU64,
@@ -264,7 +264,7 @@ fn a_worker_asks_before_each_job_and_once_after_the_last(rt: HostRuntime) -> Res
         for lines in ALL {
             let gate = Counting::new(1);
             assert!(rt;
-                run_work_with(&rt, rt.alloc(), &gate, &work, lines, Waits::Asleep).is_ok(),
+                run_work_with(&rt, rt.alloc(), &gate, &work, lines, WaitMode::Asleep).is_ok(),
                 "{kind:?} by {lines:?}"
             );
             assert_eq!(rt;
@@ -387,7 +387,7 @@ fn a_gate_is_told_of_work_without_jobs_and_asked_once(rt: HostRuntime) -> Result
     Ok(())
 }
 
-/// An open gate that counts the asks, and those whose number is another.
+/// An open gate that counts the questions, and those whose job number is not the count before them.
 #[derive(Drop)]
 struct InOrder {
     asked: AtomicU64,

@@ -1,4 +1,4 @@
-//! Tests of workers that share lines, and of what is said of their progress.
+//! Tests of workers that share lines, and of progress messages.
 #![tactic(auto)]
 
 #[cfg(test)]

@@ -1,5 +1,5 @@
-//! What is said of the progress of work, and when.
-use line_threads::together::{Work, together};
+//! The messages about the progress of work, and their times.
+use line_blocking::scoped::{ScopedTask, run_scoped};
 use qolb_run::{Gate, Progress};
 use std::alloc::Global;
 use std::fmt::Display;
@@ -12,13 +12,13 @@ use std::test::Fail;
 use std::thread::{Threads, yield_now};
 use std::time::Duration;
 
-/// A clock whose second is set, and a standard error that expects these lines, one after another.
+/// A clock whose second is set, and a standard error that expects these lines in this order.
 #[derive(Drop)]
 struct Console<'a> {
     alloc: Global,
     second: AtomicU64,
     expected: &'a [&'a str],
-    /// How many of them have come, and how many others.
+    /// The expected lines that were written, and the others.
     came: AtomicU64,
     others: AtomicU64,
 }
@@ -66,19 +66,20 @@ fn expecting<'a>(alloc: Global, expected: &'a [&'a str]) -> Console<'a> {
     }
 }
 
-/// How many seconds two workers meet in, and how often two begin anew: on a busy machine some of them get two processors.
+/// The number of seconds in which two workers meet, and below how often two workers start anew: on a busy machine some pairs get two
+/// processors.
 const SECONDS: u64 = 200;
 
 const PAIRS: u32 = 30;
 
-/// How many pauses one of them is later than the other at most.
+/// The most pauses by which one worker is later than the other.
 const PAUSES: u64 = 64;
 
-/// A clock at which two workers meet: each reading waits for that of the other, and the n-th of each says n seconds. Before they meet it says
-/// that no second has gone by. It counts what is said.
+/// A clock at which two workers meet: each reading waits for the other worker's, and the n-th reading of each is n seconds. Before they
+/// meet it reads 0 seconds. It counts the printed lines.
 ///
-/// Whoever comes last to a meeting would go on some steps before the other, which has to see it. So it pauses, a little longer in each second,
-/// and in some of them both go on at the same time.
+/// The last worker at a meeting would go on some steps before the other, which has to see it first. So it pauses, a little longer in each
+/// second, and in some seconds both go on at the same time.
 #[derive(Drop)]
 struct Meeting {
     meets: AtomicBool,
@@ -109,7 +110,7 @@ impl Clock for Meeting {
 }
 
 impl Meeting {
-    /// Waits until both have come in this second: at first awake, so as to see it at once, and then while others have the processor.
+    /// Waits until both workers have read the clock in this second: at first by spinning, to see it at once, and then by yielding.
     fn wait_for_the_other(&self, second: u64) {
         for waits in 0..u64::MAX {
             if self.readings.load(Ordering::SeqCst) / 2 > second {
@@ -135,15 +136,15 @@ impl Eprint for Meeting {
     }
 }
 
-/// Asks once in each second that the workers meet in.
+/// Asks once in each second in which the workers meet.
 struct InEachSecond;
 
-impl<R: Wait, G: Gate> Work<R, G, u64> for InEachSecond {
-    type Back = bool;
+impl<R: Wait, G: Gate> ScopedTask<R, G, u64> for InEachSecond {
+    type Output = bool;
 
-    ghost fits = { λ _ _ _ _. Unit {0} };
+    ghost pre = { λ _ _ _ _. Unit {0} };
 
-    ghost done = { λ _ _ _ _. Unit {0} };
+    ghost post = { λ _ _ _ _. Unit {0} };
 
     fn work(&self, _rt: &R, gate: &G, _place: usize, worker: u64) -> bool {
         let mut may = true;
@@ -154,7 +155,8 @@ impl<R: Wait, G: Gate> Work<R, G, u64> for InEachSecond {
     }
 }
 
-/// How many lines two workers say that meet in each second. `None` if a thread was refused, or one of them might not do a job.
+/// The number of lines that two workers print if they meet in each second; `None` if a thread is refused, or a worker was not allowed a
+/// job.
 fn said_by_two<T: Threads + Wait + Sync>(rt: &T, alloc: Global) -> Option<u64> {
     let clock = Meeting {
         meets: AtomicBool::new(false),
@@ -165,7 +167,7 @@ fn said_by_two<T: Threads + Wait + Sync>(rt: &T, alloc: Global) -> Option<u64> {
     gate.begins(1_000);
     clock.meets.store(true, Ordering::SeqCst);
     let workers = vec![in alloc; 1, 2].ok()?;
-    let asked = together(rt, alloc, &InEachSecond, &gate, workers)?;
+    let asked = run_scoped(rt, alloc, &InEachSecond, &gate, workers)?;
     if asked.iter().all(|may| *may) {
         Some(clock.lines.load(Ordering::SeqCst))
     } else {
@@ -181,18 +183,18 @@ fn two_workers_say_each_second_once(rt: HostRuntime) -> Result<(), Fail> {
     Ok(())
 }
 
-/// How many jobs each of four workers does.
+/// The jobs of each of four workers.
 const JOBS: u64 = 20_000;
 
-/// Asks before each job but the first.
+/// Asks before each job except the first.
 struct Asking;
 
-impl<R: Wait, G: Gate> Work<R, G, u64> for Asking {
-    type Back = bool;
+impl<R: Wait, G: Gate> ScopedTask<R, G, u64> for Asking {
+    type Output = bool;
 
-    ghost fits = { λ _ _ _ _. Unit {0} };
+    ghost pre = { λ _ _ _ _. Unit {0} };
 
-    ghost done = { λ _ _ _ _. Unit {0} };
+    ghost post = { λ _ _ _ _. Unit {0} };
 
     fn work(&self, _rt: &R, gate: &G, _place: usize, worker: u64) -> bool {
         let mut may = true;
@@ -203,14 +205,14 @@ impl<R: Wait, G: Gate> Work<R, G, u64> for Asking {
     }
 }
 
-/// Whether all asks of four workers were allowed. `None` if a thread was refused.
+/// Returns `Some(true)` if all questions of four workers were allowed, and `None` if a thread is refused.
 fn asked_by_four<T: Threads + Wait + Sync, G: Gate + Sync>(
     rt: &T,
     alloc: Global,
     gate: &G,
 ) -> Option<bool> {
     let workers = vec![in alloc; 1, 2, 3, 4].ok()?;
-    let asked = together(rt, alloc, &Asking, gate, workers)?;
+    let asked = run_scoped(rt, alloc, &Asking, gate, workers)?;
     Some(asked.iter().all(|may| *may))
 }
 
@@ -234,7 +236,7 @@ fn progress_is_said_once_a_second(rt: HostRuntime) -> Result<(), Fail> {
     let console = expecting(rt.alloc(), expected.as_slice());
     let gate = Progress::new(&console)?;
     gate.begins(5);
-    // In which second which worker asks for the job at which place of its own, and how many lines have been said after it.
+    // The second, the worker, the place of the job that it asks for, and the number of lines printed after that.
     let rows = [
         (0, 1, 0, 0),
         (0, 1, 1, 0),

@@ -1,29 +1,29 @@
-//! Work in a room of memory: work that is refused was not begun twice.
+//! Work in a room of memory: refused work is not begun twice.
 use crate::gates::Counting;
-use hoard::Siege;
-use locks::Lines;
+use line_kinds::Lines;
 use qolb_run::{RunError, run_work};
 use qolb_script::{Work, WorkKind, read_work};
 use std::alloc::Global;
 use std::sync::Wait;
 use std::test::Fail;
 use std::thread::Threads;
+use test_support::MemoryLimit;
 
-/// Eight workers, each with a job.
+/// Eight workers, each with one job.
 const EIGHT: &str =
     "board workers 8\n1 put 1\n2 put 2\n3 put 3\n4 put 4\n5 take\n6 take\n7 take\n8 take\n";
 
-/// What comes of this work in a room of so many MB: its error, and how often the gate was asked for the first worker's first job and what
-/// is behind it.
+/// Does this work in a room of `room` MB. Returns its error, and how often the gate was asked for the first worker's first job and for its
+/// next.
 fn worked_in<T: Threads + Wait + Sync>(
     rt: &T,
     alloc: Global,
-    siege: &Siege,
+    limit: &MemoryLimit,
     work: &Work,
     room: usize,
 ) -> Result<(Option<RunError>, u64, u64), Fail> {
     let gate = Counting::new(1);
-    let rest = siege.leave(alloc, room << 20)?;
+    let rest = limit.leave(alloc, room << 20)?;
     let found = run_work(rt, alloc, &gate, work, Lines::Ring);
     drop(rest);
     Ok((found.err(), gate.asks_for(0), gate.asks_for(1)))
@@ -33,10 +33,10 @@ fn worked_in<T: Threads + Wait + Sync>(
 fn work_that_is_refused_is_not_done_again(rt: HostRuntime) -> Result<(), Fail> {
     let alloc = rt.alloc();
     let work = read_work(alloc, EIGHT.as_bytes(), WorkKind::Board)?;
-    let siege = Siege::begin(alloc, 1 << 28)?;
+    let limit = MemoryLimit::begin(alloc, 1 << 28)?;
     let mut half_done = 0u32;
     for room in 1..100usize {
-        let (error, first, second) = worked_in(&rt, alloc, &siege, &work, room)?;
+        let (error, first, second) = worked_in(&rt, alloc, &limit, &work, room)?;
         assert!(rt; first <= 1 && second <= 1, "in {room} MB");
         if error.is_none() {
             assert_eq!(rt; second, 1, "in {room} MB");

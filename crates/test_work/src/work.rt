@@ -1,8 +1,8 @@
 //! Workers that share lines, over lines of each kind, awake and asleep.
 ghost use Rattle.std.specs.Prelude.{◌<◌};
 
-use locks::{ALL, Lines, NAMES};
-use qolb_run::{AlwaysOpen, Gate, RunError, Waits, run_work, run_work_with};
+use line_kinds::{ALL, Lines, NAMES};
+use qolb_run::{AlwaysOpen, Gate, RunError, WaitMode, run_work, run_work_with};
 use qolb_script::{Report, WorkKind, read_work};
 use std::alloc::Global;
 use std::process::Abort;
@@ -10,10 +10,10 @@ use std::sync::Wait;
 use std::test::Fail;
 use std::thread::Threads;
 
-/// How workers may wait.
-pub(crate) static EITHER: [Waits; 2] = [Waits::Awake, Waits::Asleep];
+/// The ways in which workers wait.
+pub(crate) static EITHER: [WaitMode; 2] = [WaitMode::Awake, WaitMode::Asleep];
 
-/// The workers of the script do this behind the gate, over lines of each kind, awake and asleep.
+/// Expects this outcome of the script's workers behind the gate, over lines of each kind, awake and asleep.
 pub(crate) fn expect<R: Threads + Wait + Abort + Sync, G: Gate + Sync>(
     rt: &R,
     alloc: Global,
@@ -39,7 +39,7 @@ fn all_locks_are_these(rt: HostRuntime) -> Result<(), Fail> {
     Ok(())
 }
 
-/// A script with what its workers report.
+/// A script with the report of its workers.
 type Row = (WorkKind, &'static str, Report);
 
 /// Scripts of one worker.
@@ -97,9 +97,9 @@ fn one_worker_does_its_jobs(rt: HostRuntime) -> Result<(), Fail> {
     Ok(())
 }
 
-/// Scripts of two workers whose report is the same in whatever order they come.
+/// Scripts of two workers whose report is the same in any order of jobs.
 static OF_TWO: [Row; 2] = [
-    // a late put is no full board
+    // a late put does not find the board full
     (
         WorkKind::Board,
         "board workers 2\n1 put 1\n1 put 2\n1 put 3\n2 put 4\n2 put 5\n2 put 6\n2 put 7\n",
@@ -111,8 +111,8 @@ static OF_TWO: [Row; 2] = [
             left: 7,
         },
     ),
-    // payments that fit with all moves are all paid in: into account 0 2^48 - 110, 60 and 10, 20 of it to account 8, and 10 into account 9 and from
-    // there to account 0; 2^48 - 30 are paid in, and with the moves 2^48
+    // payments that fit after any of the moves are all made: into account 0 2^48 - 110, 60 and 10, 20 of it to account 8, and 10 into
+    // account 9 and from there to account 0; 2^48 - 30 are paid in, and with the moves 2^48
     (
         WorkKind::Bank,
         "bank workers 2 lines 2\n1 in 0 281474976710546\n2 in 0 60\n2 in 9 10\n2 move 0 8 20\n1 move 9 0 10\n1 in 0 10\n",
@@ -134,7 +134,8 @@ fn two_workers_do_theirs_in_any_order(rt: HostRuntime) -> Result<(), Fail> {
     Ok(())
 }
 
-/// A bank of so many workers and accounts, eight to a line; each worker pays in 1 so often, into one account after another; in all this much.
+/// Runs a bank with `workers` workers and `accounts` accounts, eight to a line. Each worker pays in 1 `times` times, into one account after
+/// another, in all `paid`.
 fn expect_payments<R: Threads + Wait + Abort + Sync>(
     rt: &R,
     alloc: Global,

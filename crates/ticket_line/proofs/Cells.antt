@@ -4,61 +4,61 @@ use Rattle.std.proofs.Common.{◌≡◌, ◌≢◌, ℕ, ◌+◌, ◌-◌, ◌/�
 use mathlib.Core.Logic.{dite}
 use native.Mathlib.Decide.{ℕ_discrete, dec_le}
 use Rattle.atomic_table.proofs.Lists.{one_turn}
-use Rattle.qolb_model.specs.declared.terms.TheConstants.{MOST_NODES}
+use Rattle.qolb_model.specs.declared.config.TheConstants.{MAX_NODES}
 use Rattle.qolb_model.proofs.Updates.{put, put_here, put_else}
-use Rattle.array_line.specs.Counting.{cells_for}
-use Rattle.array_line.proofs.Counting.{two_cells}
-use Rattle.array_line.specs.Words.{ticket_of}
-use Rattle.ticket_line.specs.Words.{cell_of}
-use Rattle.array_line.proofs.Taking.{Takes, StaysBehind, cells_apart}
-use Rattle.array_line.proofs.Roll.{Withdraws}
-use Rattle.array_line.proofs.Grant.{GrantsNext}
-use Rattle.ticket_line.specs.declared.words.TheConstants.{UNIT, NUMBERS}
-use Rattle.ticket_line.specs.Words.{number, granted, withdrawn}
+use Rattle.line_tickets.specs.Counting.{cells_for}
+use Rattle.line_tickets.proofs.Counting.{two_cells}
+use Rattle.line_tickets.specs.Layout.{ticket_of}
+use Rattle.ticket_line.specs.Layout.{cell_of}
+use Rattle.line_tickets.proofs.Taking.{Takes, StaysBehind, cells_apart}
+use Rattle.line_tickets.proofs.Roll.{Withdraws}
+use Rattle.line_tickets.proofs.Grant.{GrantsNext}
+use Rattle.ticket_line.specs.declared.layout.TheConstants.{NUMBER_UNIT, NUMBERS}
+use Rattle.ticket_line.specs.Layout.{number, granted, withdrawn}
 use Rattle.ticket_line.specs.Ticket.{IsLater, TicketCells}
 use Rattle.ticket_line.specs.Steps.{is_other, is_granted, is_granted_half, withdrawn_by}
 use Rattle.ticket_line.proofs.Numbers.{granted_ticket, withdrawn_ticket, not_granted, not_granted_half, number_of_granted, number_of_withdrawn, by_nobody, by_node}
 
--- a granted cell has the own ticket, by which nobody waits, and whoever takes the line leaves it that number
+-- a granted cell has the own ticket, which no node reads as waiting, and a node that takes the line leaves that number there
 pub takes_by : (nodes : ℕ) (waits : ℕ → ℕ → Type 0) (place n : ℕ) (change : ℕ → ℕ) → (waits place (granted place) → ⊥)
-    → ((word : ℕ) → word ≡ granted place → change word / UNIT ≡ number place) → Takes (cells_for nodes) (TicketCells nodes) waits place n change
-takes_by nodes waits place n change own keeps cleared marks says low free c = (
+    → ((word : ℕ) → word ≡ granted place → change word / NUMBER_UNIT ≡ number place) → Takes (cells_for nodes) (TicketCells nodes) waits place n change
+takes_by nodes waits place n change own slots_in_turn cleared marks says low free c = (
   (λ w. own (subst (waits place) (c.granted refl) w)),
   record {
     kept = refl;
-    turn = ap (λ q. q / UNIT) (put_here says (cell_of nodes place) (change (says (cell_of nodes place)))) ∙ keeps (says (cell_of nodes place)) (c.granted refl);
+    turn = ap (λ q. q / NUMBER_UNIT) (put_here says (cell_of nodes place) (change (says (cell_of nodes place)))) ∙ slots_in_turn (says (cell_of nodes place)) (c.granted refl);
     granted = λ e. absurd (omega arith);
     later = λ k a b. subst (IsLater nodes (place + k) (marks (place + k))) (sym (put_else says (cell_of nodes place) (change (says (cell_of nodes place))) (cell_of nodes (place + k)) (cells_apart (cells_for nodes) place k a b))) (c.later k a b);
   },
 )
 
-pub takes : (nodes : ℕ) (place n : ℕ) (change : ℕ → ℕ) → ((word : ℕ) → word ≡ granted place → change word / UNIT ≡ number place) → Takes (cells_for nodes) (TicketCells nodes) is_other place n change
+pub takes : (nodes : ℕ) (place n : ℕ) (change : ℕ → ℕ) → ((word : ℕ) → word ≡ granted place → change word / NUMBER_UNIT ≡ number place) → Takes (cells_for nodes) (TicketCells nodes) is_other place n change
 takes nodes place n change = takes_by nodes is_other place n change (λ other. other (sym (granted_ticket place)))
 
--- as by a look, and by a withdrawal that comes too late
-pub looked : (place word : ℕ) → word ≡ granted place → word / UNIT ≡ number place
+-- as by a poll, and by a withdrawal after the grant
+pub looked : (place word : ℕ) → word ≡ granted place → word / NUMBER_UNIT ≡ number place
 looked place word e = number_of_granted place word e
 
-pub written : (place n new : ℕ) → n ≤ MOST_NODES → new ≡ withdrawn (ticket_of place) n → new / UNIT ≡ number place
+pub written : (place n new : ℕ) → n ≤ MAX_NODES → new ≡ withdrawn (ticket_of place) n → new / NUMBER_UNIT ≡ number place
 written place n new high e = number_of_withdrawn place n new high (e ∙ withdrawn_ticket place n)
 
 -- behind the turn a cell is a later one
-later_at : (nodes : ℕ) (ended hand place : ℕ) (cleared : Bool) (marks says : ℕ → ℕ) → ended < place → place < ended + cells_for nodes → TicketCells nodes ended hand cleared marks says → IsLater nodes place (marks place) (says (cell_of nodes place))
-later_at nodes ended hand place cleared marks says below near c = let k : ended + (place - ended) ≡ place = omega arith in
+later_at : (nodes : ℕ) (ended holder place : ℕ) (cleared : Bool) (marks says : ℕ → ℕ) → ended < place → place < ended + cells_for nodes → TicketCells nodes ended holder cleared marks says → IsLater nodes place (marks place) (says (cell_of nodes place))
+later_at nodes ended holder place cleared marks says below near c = let k : ended + (place - ended) ≡ place = omega arith in
     subst (λ q. IsLater nodes q (marks q) (says (cell_of nodes q))) k (c.later (place - ended) (omega arith) (omega arith))
 
--- so it does not say that the turn has come, nor does its lower half
+-- so neither it nor its lower half shows a grant
 pub stays_half : (nodes : ℕ) (place : ℕ) → StaysBehind (cells_for nodes) (TicketCells nodes) is_granted_half place
-stays_half nodes place ended hand cleared marks says below near free c e = not_granted_half nodes place (marks place) (says (cell_of nodes place)) (later_at nodes ended hand place cleared marks says below near c) free (e ∙ ap (λ k. k % 2 ^ 32) (granted_ticket place))
+stays_half nodes place ended holder cleared marks says below near free c e = not_granted_half nodes place (marks place) (says (cell_of nodes place)) (later_at nodes ended holder place cleared marks says below near c) free (e ∙ ap (λ k. k % 2 ^ 32) (granted_ticket place))
 
 pub stays : (nodes : ℕ) (place : ℕ) → StaysBehind (cells_for nodes) (TicketCells nodes) is_granted place
-stays nodes place ended hand cleared marks says below near free c e = not_granted nodes place (marks place) (says (cell_of nodes place)) (later_at nodes ended hand place cleared marks says below near c) free (e ∙ granted_ticket place)
+stays nodes place ended holder cleared marks says below near free c e = not_granted nodes place (marks place) (says (cell_of nodes place)) (later_at nodes ended holder place cleared marks says below near c) free (e ∙ granted_ticket place)
 
 -- the own number is written into the own cell, with the node
 pub withdraws : (nodes : ℕ) (place n new : ℕ) → new ≡ withdrawn (ticket_of place) n → Withdraws (cells_for nodes) (TicketCells nodes) place n (λ _. new)
-withdraws nodes place n new add ended hand cleared marks says low high below near free c = record {
+withdraws nodes place n new add ended holder cleared marks says low high below near free c = record {
   kept = c.kept;
-  turn = ap (λ q. q / UNIT) at_turn ∙ c.turn;
+  turn = ap (λ q. q / NUMBER_UNIT) at_turn ∙ c.turn;
   granted = λ e. at_turn ∙ c.granted e;
   later = λ k a b. dite (ℕ_discrete (ended + k) place)
       (λ e. subst (λ p. IsLater nodes p (put marks place n p) (put says (cell_of nodes place) new (cell_of nodes p))) (sym e) own_cell)
@@ -80,7 +80,7 @@ withdraws nodes place n new add ended hand cleared marks says low high below nea
 
 -- the next number is written into the next cell
 pub grants : (nodes : ℕ) (ended new : ℕ) (cleared : Bool) → new ≡ granted (ticket_of (ended + 1)) → GrantsNext (cells_for nodes) (TicketCells nodes) withdrawn_by withdrawn_by ended cleared (λ _. new)
-grants nodes ended new cleared is hand marks says far c = (
+grants nodes ended new cleared is holder marks says far c = (
   (λ free. (
     by_nobody nodes (ended + 1) (marks (ended + 1)) (says (cell_of nodes (ended + 1))) found free,
     record {
@@ -115,7 +115,7 @@ grants nodes ended new cleared is hand marks says far c = (
     left : (p : ℕ) → p ≡ ended + cells_for nodes → IsLater nodes p (marks p) (says (cell_of nodes p))
     left p n = record {
       withdrawn = λ m. absurd (let z : marks p ≡ 0 = ap marks n ∙ far in omega arith);
-      before = λ _. ap (λ q. says q / UNIT) (ap (cell_of nodes) n ∙ add-mod_right ended (cells_for nodes)) ∙ c.turn ∙ ap (λ q. q % NUMBERS) (let w : ended + 1 ≡ p + 1 - cells_for nodes = omega arith in w);
+      before = λ _. ap (λ q. says q / NUMBER_UNIT) (ap (cell_of nodes) n ∙ add-mod_right ended (cells_for nodes)) ∙ c.turn ∙ ap (λ q. q % NUMBERS) (let w : ended + 1 ≡ p + 1 - cells_for nodes = omega arith in w);
     }
 
     old : (k : ℕ) → 0 < k → k < cells_for nodes → Dec (k + 1 ≡ cells_for nodes) → IsLater nodes (ended + 1 + k) (marks (ended + 1 + k)) (says (cell_of nodes (ended + 1 + k)))

@@ -1,5 +1,5 @@
 pub mod Numbers
-pub mod Berths
+pub mod SlotLayout
 pub mod Emptying
 pub mod Cells
 pub mod Stepping

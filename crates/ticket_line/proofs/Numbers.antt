@@ -3,13 +3,13 @@ use Rattle.std.proofs.Common.{◌≡◌, ◌≢◌, ℕ, ◌+◌, ◌-◌, ◌*�
 use native.Mathlib.Nat.{mod-add-mod}
 use lib.Pow.{mod-mod-pow}
 use Rattle.atomic_table.proofs.Lists.{one_turn}
-use Rattle.qolb_model.specs.declared.terms.TheConstants.{MOST_NODES}
-use Rattle.array_line.specs.Counting.{cells_for}
-use Rattle.array_line.proofs.Counting.{some_cells, few_cells, wraps}
-use Rattle.array_line.specs.Words.{ticket_of}
-use Rattle.ticket_line.specs.Words.{cell_of}
-use Rattle.ticket_line.specs.declared.words.TheConstants.{UNIT, NUMBERS}
-use Rattle.ticket_line.specs.Words.{ticket_after, number, granted, withdrawn, withdrawn_by, number_before}
+use Rattle.qolb_model.specs.declared.config.TheConstants.{MAX_NODES}
+use Rattle.line_tickets.specs.Counting.{cells_for}
+use Rattle.line_tickets.proofs.Counting.{some_cells, few_cells, wraps}
+use Rattle.line_tickets.specs.Layout.{ticket_of}
+use Rattle.ticket_line.specs.Layout.{cell_of}
+use Rattle.ticket_line.specs.declared.layout.TheConstants.{NUMBER_UNIT, NUMBERS}
+use Rattle.ticket_line.specs.Layout.{ticket_after, number, granted, withdrawn, withdrawn_by, number_before}
 use Rattle.ticket_line.specs.Ticket.{IsLater}
 
 -- a place has the cell and the number of its ticket
@@ -24,16 +24,16 @@ pub ticket_next : (p : ℕ) → ticket_after (ticket_of p) ≡ ticket_of (p + 1)
 ticket_next p = mod-add-mod p (2 ^ 64) 1
 
 pub granted_ticket : (p : ℕ) → granted (ticket_of p) ≡ granted p
-granted_ticket p = ap (λ k. UNIT * k) (number_ticket p)
+granted_ticket p = ap (λ k. NUMBER_UNIT * k) (number_ticket p)
 
 pub withdrawn_ticket : (p n : ℕ) → withdrawn (ticket_of p) n ≡ withdrawn p n
-withdrawn_ticket p n = ap (λ k. UNIT * k + n) (number_ticket p)
+withdrawn_ticket p n = ap (λ k. NUMBER_UNIT * k + n) (number_ticket p)
 
--- a cell that is granted to a place has its number, and one where a node withdrew
-pub number_of_granted : (p word : ℕ) → word ≡ granted p → word / UNIT ≡ number p
+-- a cell that is granted to a place has its number, and so has a cell where a node withdrew
+pub number_of_granted : (p word : ℕ) → word ≡ granted p → word / NUMBER_UNIT ≡ number p
 number_of_granted p word e = omega arith
 
-pub number_of_withdrawn : (p n word : ℕ) → n ≤ MOST_NODES → word ≡ withdrawn p n → word / UNIT ≡ number p
+pub number_of_withdrawn : (p n word : ℕ) → n ≤ MAX_NODES → word ≡ withdrawn p n → word / NUMBER_UNIT ≡ number p
 number_of_withdrawn p n word high e = omega arith
 
 -- the number of a place is not that of the place before with its cell
@@ -41,17 +41,17 @@ numbers_differ : (nodes p : ℕ) → number_before nodes p ≢ number p
 numbers_differ nodes p e = let some = some_cells nodes in let few = few_cells nodes in let same = one_turn (p + 1 - cells_for nodes) (p + 1) NUMBERS (omega arith) (omega arith) e in omega arith
 
 -- so a cell that is not granted yet is not taken for granted
-pub not_granted : (nodes p mark word : ℕ) → IsLater nodes p mark word → mark ≡ 0 → word ≢ granted p
-not_granted nodes p mark word l none e = numbers_differ nodes p (sym (l.before none) ∙ number_of_granted p word e)
+pub not_granted : (nodes p token word : ℕ) → IsLater nodes p token word → token ≡ 0 → word ≢ granted p
+not_granted nodes p token word l none e = numbers_differ nodes p (sym (l.before none) ∙ number_of_granted p word e)
 
 -- nor is its lower half, in which the numbers differ too
-pub not_granted_half : (nodes p mark word : ℕ) → IsLater nodes p mark word → mark ≡ 0 → word % 2 ^ 32 ≢ granted p % 2 ^ 32
-not_granted_half nodes p mark word l none e = let b = l.before none in let some = some_cells nodes in let few = few_cells nodes in absurd (omega arith)
+pub not_granted_half : (nodes p token word : ℕ) → IsLater nodes p token word → token ≡ 0 → word % 2 ^ 32 ≢ granted p % 2 ^ 32
+not_granted_half nodes p token word l none e = let b = l.before none in let some = some_cells nodes in let few = few_cells nodes in absurd (omega arith)
 
--- so a grant finds the node that had withdrawn there, and 0 where none had
-pub by_nobody : (nodes p mark word : ℕ) → IsLater nodes p mark word → mark ≡ 0 → withdrawn_by (ticket_of p) word ≡ 0
-by_nobody nodes p mark word l none = ap (λ (b : Bool). if b then word % UNIT else 0) (ne_eqb (word / UNIT) (number (ticket_of p)) (λ e. numbers_differ nodes p (sym (l.before none) ∙ e ∙ number_ticket p)))
+-- so a grant finds the node that had withdrawn there, and 0 if none had
+pub by_nobody : (nodes p token word : ℕ) → IsLater nodes p token word → token ≡ 0 → withdrawn_by (ticket_of p) word ≡ 0
+by_nobody nodes p token word l none = ap (λ (b : Bool). if b then word % NUMBER_UNIT else 0) (ne_eqb (word / NUMBER_UNIT) (number (ticket_of p)) (λ e. numbers_differ nodes p (sym (l.before none) ∙ e ∙ number_ticket p)))
 
-pub by_node : (nodes p mark word : ℕ) → IsLater nodes p mark word → 0 < mark → mark ≤ MOST_NODES → withdrawn_by (ticket_of p) word ≡ mark
-by_node nodes p mark word l some high = let is = l.withdrawn some in
-    ap (λ (b : Bool). if b then word % UNIT else 0) (eq-eqb (word / UNIT) (number (ticket_of p)) (number_of_withdrawn p mark word high is ∙ sym (number_ticket p))) ∙ (let low : word % UNIT ≡ mark = omega arith in low)
+pub by_node : (nodes p token word : ℕ) → IsLater nodes p token word → 0 < token → token ≤ MAX_NODES → withdrawn_by (ticket_of p) word ≡ token
+by_node nodes p token word l some high = let is = l.withdrawn some in
+    ap (λ (b : Bool). if b then word % NUMBER_UNIT else 0) (eq-eqb (word / NUMBER_UNIT) (number (ticket_of p)) (number_of_withdrawn p token word high is ∙ sym (number_ticket p))) ∙ (let low : word % NUMBER_UNIT ≡ token = omega arith in low)

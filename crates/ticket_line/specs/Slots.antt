@@ -1,12 +1,12 @@
--- Where a ticket line of so many nodes keeps its line: in a slot of each cell.
-use Rattle.std.specs.Prelude.{◌≡◌, ◌⊎◌, ℕ, ◌*◌, List, [], ◌∷◌, Option, slice_index}
-use Rattle.shared_line.specs.declared.rule.Parcel.{Parcel}
-use Rattle.shared_line.specs.Slots.{Slots}
-use Rattle.array_line.specs.Counting.{cells_for}
-use Rattle.array_line.specs.Words.{ticket_of, ticket_at}
-use Rattle.array_line.specs.Berths.{Berths}
-use Rattle.array_line.proofs.Counting.{some_cells}
-use Rattle.ticket_line.specs.Words.{ticket_after, cell_of}
+-- The slots of a ticket line of n nodes: one for each cell.
+use Rattle.std.specs.Prelude.{◌≡◌, ◌⊎◌, ℕ, List, [], ◌∷◌, Option, slice_index}
+use Rattle.line_generic.specs.declared.table.Payload.{Payload}
+use Rattle.line_generic.specs.Slots.{Slots}
+use Rattle.line_tickets.specs.Counting.{cells_for}
+use Rattle.line_tickets.specs.Layout.{ticket_of, ticket_at}
+use Rattle.line_tickets.specs.SlotLayout.{SlotLayout}
+use Rattle.line_tickets.proofs.Counting.{some_cells}
+use Rattle.ticket_line.specs.Layout.{ticket_after, cell_of}
 
 -- the slot of a ticket's cell
 abbrev pub slot_of : ℕ → ℕ → ℕ
@@ -15,30 +15,30 @@ slot_of nodes ticket = cell_of nodes ticket
 abbrev pub slot_count : ℕ → ℕ
 slot_count nodes = cells_for nodes
 
--- the line came to this ticket: it lies in the ticket's slot, and the node has the next one besides
-abbrev pub brings : ℕ → ℕ → Parcel → Slots → Type 0
-brings nodes ticket y slots = (z : Parcel) × (slots ≡ (slot_of nodes ticket, y) ∷ (slot_of nodes (ticket_after ticket), z) ∷ [])
+-- the line was granted to this ticket: it is in the ticket's slot, and the seat has the next slot, too
+abbrev pub slots_at_grant : ℕ → ℕ → Payload → Slots → Type 0
+slots_at_grant nodes ticket y slots = (z : Payload) × (slots ≡ (slot_of nodes ticket, y) ∷ (slot_of nodes (ticket_after ticket), z) ∷ [])
 
--- its holder has both slots, the next one in front, and nothing is said of what lies in them
-abbrev pub keeps : ℕ → ℕ → Option ℕ → Slots → Type 0
-keeps nodes ticket left slots = (z : Parcel) × (x : Parcel) × (slots ≡ (slot_of nodes (ticket_after ticket), z) ∷ (slot_of nodes ticket, x) ∷ [])
+-- the holder has both slots, the next one first, with any contents
+abbrev pub slots_in_turn : ℕ → ℕ → Option ℕ → Slots → Type 0
+slots_in_turn nodes ticket left slots = (z : Payload) × (x : Payload) × (slots ≡ (slot_of nodes (ticket_after ticket), z) ∷ (slot_of nodes ticket, x) ∷ [])
 
--- the line is laid into the next one
-abbrev pub lays : ℕ → ℕ → Parcel → Slots → Type 0
-lays nodes ticket y slots = (x : Parcel) × (slots ≡ (slot_of nodes (ticket_after ticket), y) ∷ (slot_of nodes ticket, x) ∷ [])
+-- the line is stored in the next slot
+abbrev pub slots_at_release : ℕ → ℕ → Payload → Slots → Type 0
+slots_at_release nodes ticket y slots = (x : Payload) × (slots ≡ (slot_of nodes (ticket_after ticket), y) ∷ (slot_of nodes ticket, x) ∷ [])
 
--- of all that
-abbrev pub berths : ℕ → Berths
-berths nodes = record {
+-- the slot layout of a ticket line
+abbrev pub slot_layout : ℕ → SlotLayout
+slot_layout nodes = record {
   cells = cells_for nodes;
   some_cells = some_cells nodes;
   count = slot_count nodes;
-  lies = λ ended. slot_of nodes (ticket_of ended);
+  home_slot = λ ended. slot_of nodes (ticket_of ended);
   is_out = λ ended k. (k ≡ slot_of nodes (ticket_of ended)) ⊎ (k ≡ slot_of nodes (ticket_after (ticket_of ended)));
-  brings = λ ended. brings nodes (ticket_of ended);
-  lays = λ ended. lays nodes (ticket_of ended);
+  slots_at_grant = λ ended. slots_at_grant nodes (ticket_of ended);
+  slots_at_release = λ ended. slots_at_release nodes (ticket_of ended);
 }
 
--- at the end the line lies in the slot of the ticket that is drawn next
+-- at the end the line is in the slot of the ticket that would be taken next
 abbrev pub last : ℕ → List ℕ → ℕ
 last nodes words = slot_of nodes (slice_index words ticket_at)

@@ -1,12 +1,12 @@
-//! The queue of a line over atomic words: nodes draw tickets, and each waits at a cell of its own until it says the ticket's number.
+//! A queue lock over atomic words that hands over a line: nodes take tickets, and each waits on a cell until it has the ticket's number.
 #![tactic(auto)]
 
+mod discipline;
+mod invariant;
+mod layout;
 mod plays;
-mod queue;
 mod release;
-mod rule;
 mod slots;
 mod steps;
-mod words;
 
-pub use rule::{Port, Ticket, TicketLine};
+pub use invariant::{Port, TicketLine, TicketQueue};

@@ -1,35 +1,35 @@
-//! What each step on a cell tells.
+//! The ghost updates of the word steps on a cell.
 ghost use Rattle.ticket_line.specs.Steps.{loaded, rolled, handed};
 
-use array_line::Entries;
 use atomic_table::Play;
+use line_generic::Payload;
+use line_tickets::Entries;
 use qolb_model::Keep;
-use shared_line::Parcel;
 use std::marker::PhantomData;
 
-/// The own cell is read.
+/// Loads the node's own cell.
 pub(crate) struct Load<K> {
     law: PhantomData<K>,
 }
 
-impl<K: Keep> Play<Parcel, Entries> for Load<K> {
+impl<K: Keep> Play<Payload, Entries> for Load<K> {
     ghost then = { loaded K.allows };
 }
 
-/// The own number is put into the own cell.
+/// Puts the node's number into its own cell.
 pub(crate) struct Roll<K> {
     law: PhantomData<K>,
 }
 
-impl<K: Keep> Play<Parcel, Entries> for Roll<K> {
+impl<K: Keep> Play<Payload, Entries> for Roll<K> {
     ghost then = { rolled K.allows };
 }
 
-/// The next cell is granted.
+/// Grants the next cell.
 pub(crate) struct Grant<K> {
     law: PhantomData<K>,
 }
 
-impl<K: Keep> Play<Parcel, Entries> for Grant<K> {
+impl<K: Keep> Play<Payload, Entries> for Grant<K> {
     ghost then = { handed K.allows };
 }

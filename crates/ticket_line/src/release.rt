@@ -1,162 +1,123 @@
-//! How a line is let go.
-ghost use Rattle.std.specs.Prelude.{◌≡◌, ◌≢◌, ◌+◌, ◌*◌, ◌≤◌, [], ◌∷◌, length};
-ghost use Rattle.qolb_model.specs.declared.request.Request.{Request};
-ghost use Rattle.qolb_model.specs.Requests.{AreOfOthers};
-ghost use Rattle.qolb_model.specs.declared.terms.TheConstants.{MOST_NODES};
-ghost use Rattle.qolb_model.specs.PortStates.{left_by};
-ghost use Rattle.shared_line.specs.declared.rule.Parcel.{Parcel};
-ghost use Rattle.shared_line.specs.Steps.{IsSeatOf, HasNoSlot};
-ghost use Rattle.array_line.specs.Counting.{mask_for};
-ghost use Rattle.ticket_line.specs.Words.{word_count};
-ghost use Rattle.array_line.specs.Array.{At};
-ghost use Rattle.array_line.specs.Steps.{IsAt, entry_of, Went, CarriesNext};
-ghost use Rattle.array_line.specs.Releases.{IsRenewed, steps_to_renew, IsBare, LetsLineGo, WalksOn, AreNodesAt, FreesAll};
-ghost use Rattle.ticket_line.specs.Steps.{IsSeatOfNode, IsSized, turn_ticket, HasCome, HasLaid};
-ghost use Rattle.array_line.specs.declared.own.Point.TheVariants.{Idle, Holding, Passing, Freeing, Rolled};
+//! The release of the line.
+ghost use Rattle.std.specs.Prelude.{◌≡◌, ◌≢◌, ◌+◌, ◌*◌};
+ghost use Rattle.qolb_model.specs.declared.config.TheConstants.{MAX_NODES};
+ghost use Rattle.line_tickets.specs.Steps.{IsAt, ghost_of, SeatAdvances};
+ghost use Rattle.line_tickets.specs.Releases.{IsReset, steps_to_reset};
+ghost use Rattle.ticket_line.specs.Steps.{IsSeatOfNode};
+ghost use Rattle.line_tickets.specs.declared.local.Point.TheVariants.{Idle, Rolled};
+ghost use Rattle.ticket_line.specs.Calls.{IsReleaser, HasReleased, HasPassedFirst, HasWalked, HasNodesToFree, HasFreedAll};
 
-use crate::rule::{Ground, TicketSeat};
-use crate::slots::carry;
+use crate::invariant::{SharedTable, TicketSeat};
+use crate::layout::ticket_after;
+use crate::slots::copy_to_next_slot;
 use crate::steps::{free, grant, load_node, reset};
-use crate::words::ticket_after;
-use array_line::is_freed;
 use arrayvec::ArrayVec;
-use qolb_model::{Keep, MOST_NODES, PortState};
+use line_tickets::is_freed;
+use qolb_model::{Keep, MAX_NODES, PortState};
 
-/// The most requests that a release passes: those of all nodes but its own.
-const MOST_PASSED: usize = MOST_NODES as usize - 1;
+/// The maximum number of requests that a release passes: those of all nodes but its own.
+const MAX_PASSED: usize = MAX_NODES as usize - 1;
 
-/// A line that was let go: how many word steps it took, and the ticket that was granted last, whose node may have to be woken.
+/// A release that is over: its word steps, and the last granted ticket, whose node may have to be unparked.
 #[derive(Clone, Copy)]
-pub(crate) struct LetGo {
+pub(crate) struct Handoff {
     pub(crate) steps: u64,
     pub(crate) ticket: u64,
 }
 
-/// Makes a node ready to ask, and returns how many word steps that took. A withdrawn request that still stands in the queue keeps
-/// it from asking: then `None`.
+/// Resets the node's word for a new request, and returns the word steps taken: 0 or 2.
+///
+/// Returns `None`, after one step, if the last request is withdrawn and not passed yet.
 #[inline]
-pub(crate) fn renew<K: Keep>(
-    ground: &Ground<K>,
+pub(crate) fn try_reset<K: Keep>(
+    table: &SharedTable<K>,
     seat: &mut TicketSeat,
     node: u64,
     state: PortState,
 ) -> Option<u64>
-    requires seat { IsSeatOfNode ground.now.key.terms.nodes ground.now.table_id node seat.old }
+    requires seat { IsSeatOfNode table.now.key.config.nodes table.now.table_id node seat.old }
     requires rolled { state ≡ PortState.Rolled → IsAt Rolled seat.old }
     requires idle { state ≢ PortState.Rolled → IsAt Idle seat.old }
     ensures slot { seat.new.me.1 ≡ seat.old.me.1 }
-    ensures went { Went K.allows seat.old seat.new (steps_to_renew result) }
-    ensures renewed { IsRenewed state (entry_of seat.old) (entry_of seat.new) result }
+    ensures advances { SeatAdvances K.allows seat.old seat.new (steps_to_reset result) }
+    ensures is_reset { IsReset state (ghost_of seat.old) (ghost_of seat.new) result }
 {
     if state != PortState::Rolled {
         return Some(0);
     }
-    if !is_freed(load_node(ground, seat, node)) {
+    if !is_freed(load_node(table, seat, node)) {
         return None;
     }
-    reset(ground, seat, node);
+    reset(table, seat, node);
     Some(2)
 }
 
-/// Lets the line go that is laid for the next.
+/// Releases the line in the next slot to the successor. One word step if the successor has not withdrawn, else two more for each passed
+/// request.
 #[inline]
 pub(crate) fn release<K: Keep>(
-    ground: &Ground<K>,
+    table: &SharedTable<K>,
     seat: &mut TicketSeat,
     size: u64,
     ticket: u64,
-) -> LetGo
-    requires table { IsSeatOf (word_count ground.now.key.terms.nodes) ground.now.table_id seat.old }
-    requires ready { IsAt Holding seat.old }
-    requires size { size ≡ mask_for ground.now.key.terms.nodes }
-    requires sized { IsSized ground.now.key.terms.nodes seat.old }
-    requires none_passed { (entry_of seat.old).own.passed ≡ [] }
-    requires ticket { ticket ≡ turn_ticket seat.old }
-    requires nodes { 1 ≤ (entry_of seat.old).view.terms.nodes }
-    requires parcel { (y : Parcel) × HasLaid ground.now.key.terms.nodes ticket seat.old y × CarriesNext K.allows (entry_of seat.old) y }
-    ensures slot { HasNoSlot seat.new }
-    ensures went { Went K.allows seat.old seat.new result.steps }
-    ensures lets_go { (y : Parcel) → HasLaid ground.now.key.terms.nodes ticket seat.old y → LetsLineGo (entry_of seat.old) y (entry_of seat.new) }
-    ensures granted { result.ticket ≡ turn_ticket seat.new }
-    ensures counted { result.steps + 1 + 2 * length (entry_of seat.old).view.ends ≡ 2 * length (entry_of seat.new).view.ends }
-    ensures bound { result.steps + 1 ≤ 2 * (entry_of seat.old).view.terms.nodes }
+) -> Handoff
+    requires { IsReleaser table.now K.allows size ticket seat.old }
+    ensures { HasReleased table.now K.allows ticket seat.old seat.new result }
 {
     let next = ticket_after(ticket);
-    let node = grant(ground, seat, size, next);
+    let node = grant(table, seat, size, next);
     if node != 0 {
-        let walked = walk(ground, seat, size, next, node);
-        LetGo {
+        let walked = walk(table, seat, size, next, node);
+        Handoff {
             steps: 1 + walked.steps,
             ticket: walked.ticket,
         }
     } else {
-        LetGo {
+        Handoff {
             steps: 1,
             ticket: next,
         }
     }
 }
 
-/// Passes withdrawn requests, up to one that is not, and frees their nodes.
+/// Passes withdrawn requests, up to the first that is not, and frees their nodes. Two word steps for each.
 ///
-/// It is apart, and cold: room for the passed nodes is cleared at its entry, which a release that meets no withdrawn request need not pay.
+/// Cold and not inlined: it has an array of the passed nodes, which a release without withdrawn successors should not set up.
 #[cold]
 #[inline(never)]
 fn walk<K: Keep>(
-    ground: &Ground<K>,
+    table: &SharedTable<K>,
     seat: &mut TicketSeat,
     size: u64,
     ticket: u64,
     node: u64,
-) -> LetGo
-    requires table { IsSeatOf (word_count ground.now.key.terms.nodes) ground.now.table_id seat.old }
-    requires ready { IsAt Passing seat.old }
-    requires size { size ≡ mask_for ground.now.key.terms.nodes }
-    requires sized { IsSized ground.now.key.terms.nodes seat.old }
-    requires ticket { ticket ≡ turn_ticket seat.old }
-    requires some { node ≢ 0 }
-    requires passed { (entry_of seat.old).own.passed ≡ length (entry_of seat.old).view.ends ∷ [] }
-    requires others { AreOfOthers (entry_of seat.old).view.node (entry_of seat.old).view.order (entry_of seat.old).own.passed }
-    requires first { (r : Request) × At (entry_of seat.old).view.order (length (entry_of seat.old).view.ends) r × (r.node ≡ node) × (r.node ≤ (entry_of seat.old).view.terms.nodes) }
-    requires nodes { (2 ≤ (entry_of seat.old).view.terms.nodes) × ((entry_of seat.old).view.terms.nodes ≤ MOST_NODES) }
-    requires parcel { (y : Parcel) × HasCome ground.now.key.terms.nodes ticket seat.old y × IsBare (entry_of seat.old) y × ((entry_of seat.old).view.state ≡ left_by y.closed) }
-    ensures slot { HasNoSlot seat.new }
-    ensures went { Went K.allows seat.old seat.new result.steps }
-    ensures walks_on { WalksOn (entry_of seat.old) (entry_of seat.new) }
-    ensures granted { result.ticket ≡ turn_ticket seat.new }
-    ensures counted { result.steps + 2 * length (entry_of seat.old).view.ends ≡ 2 * length (entry_of seat.new).view.ends }
-    ensures bound { result.steps + 2 ≤ 2 * (entry_of seat.old).view.terms.nodes }
+) -> Handoff
+    requires { HasPassedFirst table.now size ticket node seat.old }
+    ensures { HasWalked K.allows seat.old seat.new result }
 {
-    let mut passed = ArrayVec::<u64, MOST_PASSED>::new();
+    let mut passed = ArrayVec::<u64, MAX_PASSED>::new();
     let mut ticket = ticket;
     let mut node = node;
     while node != 0 {
         passed.push(node);
-        carry(ground, seat, size, ticket);
+        copy_to_next_slot(table, seat, size, ticket);
         ticket = ticket_after(ticket);
-        node = grant(ground, seat, size, ticket);
+        node = grant(table, seat, size, ticket);
     }
-    // Freed only now: a node that is freed may ask, and its new request must not be passed by this walk.
-    free_passed(ground, seat, &passed);
-    LetGo {
+    // Freed only now: a freed node may make a request, which this walk must not pass.
+    free_passed(table, seat, &passed);
+    Handoff {
         steps: 2 * passed.len() as u64,
         ticket,
     }
 }
 
-/// Frees the nodes of all requests that were passed, in their order.
-fn free_passed<K: Keep>(ground: &Ground<K>, seat: &mut TicketSeat, nodes: &[u64])
-    requires table { IsSeatOf (word_count ground.now.key.terms.nodes) ground.now.table_id seat.old }
-    requires ready { IsAt Freeing seat.old }
-    requires sized { IsSized ground.now.key.terms.nodes seat.old }
-    requires some { (entry_of seat.old).own.passed ≢ [] }
-    requires many { length nodes.now ≡ length (entry_of seat.old).own.passed }
-    requires nodes { AreNodesAt (entry_of seat.old).view (entry_of seat.old).own.passed nodes.now }
-    ensures slot { seat.new.me.1 ≡ seat.old.me.1 }
-    ensures went { Went K.allows seat.old seat.new (length nodes.now) }
-    ensures frees { FreesAll (entry_of seat.old) (entry_of seat.new) }
+/// Frees the nodes of all passed requests, in their order.
+fn free_passed<K: Keep>(table: &SharedTable<K>, seat: &mut TicketSeat, nodes: &[u64])
+    requires { HasNodesToFree table.now nodes.now seat.old }
+    ensures { HasFreedAll K.allows nodes.now seat.old seat.new }
 {
     for node in nodes {
-        free(ground, seat, *node);
+        free(table, seat, *node);
     }
 }

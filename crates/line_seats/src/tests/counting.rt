@@ -5,9 +5,9 @@ ghost use Rattle.line_seats.specs.Lending.{MayAsk, IsPortSetOf};
 
 use super::for_nodes;
 use crate::{PortSet, Seats};
+use line_blocking::scoped::{ScopedTask, run_scoped};
+use line_blocking::{Got, acquire};
 use line_lanes::{Mask, lane, with_lane};
-use line_threads::together::{Work, together};
-use line_threads::{Got, acquire};
 use qolb_model::{Free, LineSync, OpenLine};
 use std::alloc::Global;
 use std::marker::Brand;
@@ -17,7 +17,7 @@ use std::thread::Threads;
 /// The bytes of the first lane.
 const FIRST_LANE: Mask = Mask(0xff);
 
-/// One turn, with a port that is borrowed for it and waited with by `acquire`.
+/// Takes one turn: borrows a port, and waits by `acquire`.
 fn borrow_and_add<R: Wait, L: LineSync<Free>, S: PortSet<L::Port>>(
     rt: &R,
     seats: &Seats<Free, L, S>,
@@ -36,7 +36,7 @@ fn borrow_and_add<R: Wait, L: LineSync<Free>, S: PortSet<L::Port>>(
     seats.give_back(rt, borrowed);
 }
 
-/// The same by `enter` and `leave`.
+/// Takes one turn by `enter` and `leave`.
 fn enter_and_add<R: Wait, L: LineSync<Free>, S: PortSet<L::Port>>(
     rt: &R,
     seats: &Seats<Free, L, S>,
@@ -50,18 +50,19 @@ fn enter_and_add<R: Wait, L: LineSync<Free>, S: PortSet<L::Port>>(
     seats.leave(rt, turn);
 }
 
-/// The work of each thread: so many additions in each way.
+/// The work of each thread: this number of additions in each way.
 #[derive(Drop)]
 struct Additions {
     times: u64,
 }
 
-impl<R: Wait, L: LineSync<Free>, S: PortSet<L::Port>> Work<R, Seats<Free, L, S>, ()> for Additions {
-    type Back = ();
+impl<R: Wait, L: LineSync<Free>, S: PortSet<L::Port>> ScopedTask<R, Seats<Free, L, S>, ()>
+    for Additions {
+    type Output = ();
 
-    ghost fits = { λ _ _ _ _. Unit {0} };
+    ghost pre = { λ _ _ _ _. Unit {0} };
 
-    ghost done = { λ _ _ _ _. Unit {0} };
+    ghost post = { λ _ _ _ _. Unit {0} };
 
     fn work(&self, rt: &R, seats: &Seats<Free, L, S>, _place: usize, _part: ()) {
         for _ in 0..self.times {
@@ -71,7 +72,7 @@ impl<R: Wait, L: LineSync<Free>, S: PortSet<L::Port>> Work<R, Seats<Free, L, S>,
     }
 }
 
-/// So many threads come to the line; its first lane at the end.
+/// Has threads add at the line. Returns its first lane at the end.
 fn count_at<
     R: Threads + Wait + Sync,
     L: OpenLine<Free> + Sync + Drop,
@@ -85,12 +86,12 @@ where
 {
     let seats: Seats<Free, L, S> = Seats::new(alloc, line, ports).ok()?;
     let parts = Vec::from_elem(alloc, (), threads).ok()?;
-    together(rt, alloc, &Additions { times }, &seats, parts)?;
+    run_scoped(rt, alloc, &Additions { times }, &seats, parts)?;
     let last = seats.finish(alloc).ok()?;
     Some(lane(&last, 0))
 }
 
-/// So many threads come to a new line of so many nodes; its first lane at the end.
+/// Has threads add at a new line of `nodes` nodes. Returns its first lane at the end.
 pub(super) fn count<R: Threads + Wait + Sync, L: OpenLine<Free> + Sync + Drop>(
     rt: &R,
     alloc: Global,

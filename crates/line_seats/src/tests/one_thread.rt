@@ -1,10 +1,10 @@
-//! What one thread sees at a line of two nodes that comes to it by turns and by ports.
+//! What one thread sees at a line of two nodes, which it enters turn by turn and by both ports.
 ghost use Rattle.std.specs.Prelude.{◌<◌, All, vec_len};
 ghost use Rattle.line_seats.specs.Lending.{MayAsk, IsPortSetOf};
 
 use super::for_nodes;
 use crate::{EnterError, PortSet, Seats};
-use qolb_model::{Free, OpenLine, PortState, Sleeping};
+use qolb_model::{Free, OpenLine, ParkingLine, PortState};
 use std::alloc::Global;
 use std::marker::Brand;
 use std::process::Abort;
@@ -12,8 +12,8 @@ use std::rt::Clock;
 use std::sync::Wait;
 use std::time::Duration;
 
-/// How the thread is refused that tries for so long. A turn that it is granted it leaves at once.
-fn refusal<R: Wait + Clock, L: Sleeping<Free>, S: PortSet<L::Port>>(
+/// Returns how `enter_within` refuses the thread. A turn that it is granted is left at once.
+fn refusal<R: Wait + Clock, L: ParkingLine<Free>, S: PortSet<L::Port>>(
     rt: &R,
     seats: &Seats<Free, L, S>,
     at_most: Duration,
@@ -27,8 +27,8 @@ fn refusal<R: Wait + Clock, L: Sleeping<Free>, S: PortSet<L::Port>>(
     }
 }
 
-/// The node and the state of the port that is borrowed next, which is given back.
-fn next_port<R: Wait, L: Sleeping<Free>, S: PortSet<L::Port>>(
+/// Returns the node and the state of the port that is borrowed next, and gives that port back.
+fn next_port<R: Wait, L: ParkingLine<Free>, S: PortSet<L::Port>>(
     rt: &R,
     seats: &Seats<Free, L, S>,
 ) -> Option<(u64, PortState)> {
@@ -38,9 +38,9 @@ fn next_port<R: Wait, L: Sleeping<Free>, S: PortSet<L::Port>>(
     Some(found)
 }
 
-/// The thread has the line by node 1 and is late by node 2, whose port is back and busy until the
-/// line is shut. Then it is told so.
-fn see_at<R: Wait + Clock + Abort, L: Sleeping<Free> + Drop, S: PortSet<L::Port>>(
+/// The thread holds the line by node 1 and is late by node 2, whose port is given back and busy
+/// until the line is shut. Then the thread is told that the line is closed.
+fn see_at<R: Wait + Clock + Abort, L: ParkingLine<Free> + Drop, S: PortSet<L::Port>>(
     rt: &R,
     alloc: Global,
     line: L,
@@ -71,8 +71,8 @@ where
     Some(())
 }
 
-/// The same at a new line.
-pub(super) fn see<R: Wait + Clock + Abort, L: OpenLine<Free> + Sleeping<Free> + Drop>(
+/// Sees the same at a new line.
+pub(super) fn see<R: Wait + Clock + Abort, L: OpenLine<Free> + ParkingLine<Free> + Drop>(
     rt: &R,
     alloc: Global,
 ) -> Option<()>

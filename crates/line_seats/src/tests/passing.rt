@@ -1,12 +1,12 @@
-//! Who enters by a busy port passes it over, and stands in the order by another.
+//! A thread that enters by a busy port passes that port over, and queues by another.
 ghost use Rattle.std.specs.Prelude.{◌<◌, All, vec_len};
 ghost use Rattle.line_seats.specs.Lending.{MayAsk, IsPortSetOf};
 
 use super::for_nodes;
 use crate::{PortSet, Seats};
-use line_threads::together::{Work, together};
-use line_threads::{HookedLine, Hooks};
-use qolb_model::{Free, Keep, OpenLine, Sleeping};
+use line_blocking::scoped::{ScopedTask, run_scoped};
+use line_blocking::{HookedLine, Hooks};
+use qolb_model::{Free, Keep, OpenLine, ParkingLine};
 use std::alloc::Global;
 use std::marker::Brand;
 use std::rt::Clock;
@@ -15,7 +15,8 @@ use std::sync::atomic::{AtomicU64, Ordering};
 use std::thread::{Threads, yield_now};
 use std::time::Duration;
 
-/// How often a node was busy, how often one looked in vain, and whether node 2 is busy.
+/// How many times a node was busy, how many polls found that the request waits, and whether node 2
+/// is busy.
 #[derive(Drop)]
 struct Seen {
     busy: AtomicU64,
@@ -24,16 +25,16 @@ struct Seen {
 }
 
 impl Hooks for &Seen {
-    fn asked_in_vain<K: Keep, L: Sleeping<K>>(&self, _line: &L, _port: &L::Port) {
+    fn on_busy<K: Keep, L: ParkingLine<K>>(&self, _line: &L, _port: &L::Port) {
         self.busy.fetch_add(1, Ordering::SeqCst);
     }
 
-    fn looked_in_vain<K: Keep, L: Sleeping<K>>(&self, _line: &L, _port: &L::Port) {
+    fn on_waiting<K: Keep, L: ParkingLine<K>>(&self, _line: &L, _port: &L::Port) {
         self.waited.fetch_add(1, Ordering::SeqCst);
     }
 }
 
-/// Waits until the count is so much.
+/// Waits until the count is at least `at_least`.
 fn wait_until<R: Wait>(rt: &R, count: &AtomicU64, at_least: u64) {
     for _ in rt.forever() {
         if count.load(Ordering::SeqCst) >= at_least {
@@ -43,8 +44,8 @@ fn wait_until<R: Wait>(rt: &R, count: &AtomicU64, at_least: u64) {
     }
 }
 
-/// Gives up a request by the next port, which is busy from then on while another has the line.
-fn give_up<R: Wait + Clock, L: Sleeping<Free>, S: PortSet<L::Port>>(
+/// Gives up a request by the next port, which is then busy while another node has the line.
+fn give_up<R: Wait + Clock, L: ParkingLine<Free>, S: PortSet<L::Port>>(
     rt: &R,
     seats: &Seats<Free, L, S>,
 ) {
@@ -53,17 +54,20 @@ fn give_up<R: Wait + Clock, L: Sleeping<Free>, S: PortSet<L::Port>>(
     }
 }
 
-impl<R: Wait + Clock, L: Sleeping<Free>, S: PortSet<L::Port>> Work<R, Seats<Free, L, S>, ()>
-    for Seen {
-    type Back = u64;
+impl<R: Wait + Clock, L: ParkingLine<Free>, S: PortSet<L::Port>> ScopedTask<
+    R,
+    Seats<Free, L, S>,
+    (),
+> for Seen {
+    type Output = u64;
 
-    ghost fits = { λ _ _ _ _. Unit {0} };
+    ghost pre = { λ _ _ _ _. Unit {0} };
 
-    ghost done = { λ _ _ _ _. Unit {0} };
+    ghost post = { λ _ _ _ _. Unit {0} };
 
-    /// The first thread has the line by node 1, leaves the port of node 2 busy and at the head of
-    /// the queue, and keeps the line until the second one waits. The node by which it had the line,
-    /// or 0.
+    /// The first thread holds the line by node 1, leaves the port of node 2 busy and at the head of
+    /// the queue, and keeps the line until the second thread waits. Returns the node by which the
+    /// thread held the line, or 0.
     fn work(&self, rt: &R, seats: &Seats<Free, L, S>, place: usize, _part: ()) -> u64 {
         if place > 0 {
             wait_until(rt, &self.ready, 1);
@@ -85,10 +89,10 @@ impl<R: Wait + Clock, L: Sleeping<Free>, S: PortSet<L::Port>> Work<R, Seats<Free
     }
 }
 
-/// The nodes by which two threads have the line.
+/// Returns the nodes by which two threads held the line.
 fn two_at<
     R: Threads + Wait + Clock + Sync,
-    L: Sleeping<Free> + Sync + Drop,
+    L: ParkingLine<Free> + Sync + Drop,
     S: PortSet<L::Port> + Sync + Send,
 >(rt: &R, alloc: Global, line: L, ports: Vec<L::Port>, seen: &Seen) -> Option<[u64; 2]>
 where
@@ -99,14 +103,14 @@ where
 {
     let seats: Seats<Free, L, S> = Seats::new(alloc, line, ports).ok()?;
     let parts = Vec::from_elem(alloc, (), 2).ok()?;
-    let mut nodes = together(rt, alloc, seen, &seats, parts)?;
+    let mut nodes = run_scoped(rt, alloc, seen, &seats, parts)?;
     let (second, first) = (nodes.pop()?, nodes.pop()?);
     seats.finish(alloc).ok()?;
     Some([first, second])
 }
 
-/// The same, where it is said which ports are of the line.
-fn two<R: Threads + Wait + Clock + Sync, L: Sleeping<Free> + Sync + Drop>(
+/// Returns the same, with the set of the line's ports.
+fn two<R: Threads + Wait + Clock + Sync, L: ParkingLine<Free> + Sync + Drop>(
     rt: &R,
     alloc: Global,
     line: L,
@@ -121,10 +125,11 @@ where
     two_at::<R, L, Brand>(rt, alloc, line, ports, seen)
 }
 
-/// The nodes by which two threads have a new line of three nodes, and how often a node was busy.
+/// Returns the nodes by which two threads held a new line of three nodes, and how many times a node
+/// was busy.
 pub(super) fn pass_over<
     R: Threads + Wait + Clock + Sync,
-    L: OpenLine<Free> + Sleeping<Free> + Sync + Drop,
+    L: OpenLine<Free> + ParkingLine<Free> + Sync + Drop,
 >(rt: &R, alloc: Global) -> Option<([u64; 2], u64)>
 where
     L::Port: Send + Drop,

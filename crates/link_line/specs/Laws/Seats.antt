@@ -1,4 +1,4 @@
--- How seats begin, are cut and are joined.
+-- Seats at the opening, split and joined.
 use Rattle.std.proofs.Common.{◌≡◌, ℕ, ◌-◌, List, [], ◌∷◌, ◌++◌, length, false, inl, inr, sym, refl, ap, ◌∙◌, subst, arith}
 use Rattle.std.proofs.lemmas.List.{length-replicate}
 use Rattle.atomic_table.specs.Table.{Splits, Joins, opening}
@@ -9,75 +9,75 @@ use Rattle.qolb_model.specs.Entries.{AreMembers, front, behind}
 use Rattle.qolb_model.proofs.Lists.{at_none}
 use Rattle.qolb_model.proofs.Seats.{first_members, cut_members, blank_members, join_members}
 use Rattle.link_core.specs.declared.state.TheConstants.{PLACES}
-use Rattle.link_core.specs.declared.seat.Seat.{Seat}
+use Rattle.link_core.specs.declared.seat.NodeCall.{NodeCall}
 use Rattle.link_core.specs.State.{empty, unused, first}
 use Rattle.link_core.proofs.Open.{seat_first, entry_first}
 use Rattle.link_core.proofs.Steady.{first_shows}
-use Rattle.link_line.specs.Known.{Known}
-use Rattle.shared_line.specs.declared.rule.Setup.{Setup}
-use Rattle.shared_line.specs.declared.rule.Parcel.{Parcel}
-use Rattle.link_line.specs.Stances.{fresh}
-use Rattle.link_line.specs.Words.{home_at, entry_at, word_count, pack, AreBlank}
-use Rattle.shared_line.specs.Entries.{newcomer, newcomers, node_of}
+use Rattle.link_line.specs.Ghost.{LinkGhost}
+use Rattle.line_generic.specs.declared.table.TableKey.{TableKey}
+use Rattle.line_generic.specs.declared.table.Payload.{Payload}
+use Rattle.link_line.specs.BetweenCalls.{initial}
+use Rattle.link_line.specs.Layout.{home_at, entry_at, word_count, pack, AreBlank}
+use Rattle.line_generic.specs.Entries.{initial_node, initial_nodes, node_of}
 use Rattle.link_line.specs.Links.{MayServe, LinkRule}
 use Rattle.link_line.specs.Laws.Nodes.{St}
 
-module _ (good : List ℕ → Type 0) (allows : List ℕ → List ℕ → Type 0) (about : Setup) where
-  abbrev pub Rule : St good allows about → Type 0
-  Rule = LinkRule good allows about
+module _ (good : List ℕ → Type 0) (allows : List ℕ → List ℕ → Type 0) (key : TableKey) where
+  abbrev pub Rule : St good allows key → Type 0
+  Rule = LinkRule good allows key
 
-  -- the same views in other seats
-  reseated : (s : St good allows about) (r : Rule s) (views : List (List Known)) (owner : ℕ → ℕ × ℕ) → AreMembers node_of about.terms.nodes r.who owner views → Rule record { words = s.words; homes = s.homes; views = views }
+  -- the table with equal views in other seats
+  reseated : (s : St good allows key) (r : Rule s) (views : List (List LinkGhost)) (owner : ℕ → ℕ × ℕ) → AreMembers node_of key.config.nodes r.who owner views → Rule record { words = s.words; homes = s.homes; views = views }
   reseated s r views owner all = record {
-    past = r.past;
+    history = r.history;
     who = r.who;
     owner = owner;
     may_open = r.may_open;
     opened_good = r.opened_good;
-    fine = r.fine;
-    laid = r.laid;
+    history_inv = r.history_inv;
+    represents = r.represents;
     each = r.each;
     members = all;
   }
 
-  -- the views of a seat are cut behind the first
-  pub cuts : (me : ℕ) (vs : List Known) → Splits Rule me vs (front vs) (behind vs)
-  cuts me vs s r at = reseated s r _ _ (cut_members node_of about.terms.nodes r.who r.owner s.views r.members me vs at)
+  -- the views of a seat are split behind the first
+  pub cuts : (me : ℕ) (vs : List LinkGhost) → Splits Rule me vs (front vs) (behind vs)
+  cuts me vs s r at = reseated s r _ _ (cut_members node_of key.config.nodes r.who r.owner s.views r.members me vs at)
 
   -- a new seat with no view
-  pub blanks : (me : ℕ) (vs : List Known) → Splits Rule me vs vs []
-  blanks me vs s r at = reseated s r _ r.owner (blank_members node_of about.terms.nodes r.who r.owner s.views r.members me vs at)
+  pub blanks : (me : ℕ) (vs : List LinkGhost) → Splits Rule me vs vs []
+  blanks me vs s r at = reseated s r _ r.owner (blank_members node_of key.config.nodes r.who r.owner s.views r.members me vs at)
 
-  -- the views of two seats are put into one
-  pub joins : (me other : ℕ) (vs ws : List Known) → Joins Rule me vs other ws (vs ++ ws) []
-  joins me other vs ws s r at apart there = reseated s r _ _ (join_members node_of about.terms.nodes r.who r.owner s.views r.members me other vs ws at apart there)
+  -- the views of two seats are joined
+  pub joins : (me other : ℕ) (vs ws : List LinkGhost) → Joins Rule me vs other ws (vs ++ ws) []
+  joins me other vs ws s r at apart there = reseated s r _ _ (join_members node_of key.config.nodes r.who r.owner s.views r.members me other vs ws at apart there)
 
   -- a table has one slot
-  pub one_slot : (s : St good allows about) → Rule s → length s.homes ≡ 1
-  one_slot s r = r.laid.deep
+  pub one_slot : (s : St good allows key) → Rule s → length s.homes ≡ 1
+  one_slot s r = r.represents.deep
 
-  -- the table as it is opened
-  pub starts : (words : List ℕ) (y : Parcel) → MayOpen about.terms → length about.terms.opening.bytes ≡ 64 → good about.terms.opening.bytes → length words ≡ word_count about.terms.nodes → AreBlank about.terms.nodes words
-      → y.bytes.bytes ≡ about.terms.opening.bytes → y.closed ≡ false → y.turns_left ≡ about.terms.lease → Rule (opening words (y ∷ []) (newcomers fresh about))
-  starts words y may long fine wide blank same unclosed left = record {
-    past = record { core = first about.terms; queue = empty_queue; joined = []; early = []; late = [] };
-    who = newcomer fresh about;
+  -- a new table
+  pub starts : (words : List ℕ) (y : Payload) → MayOpen key.config → length key.config.opening.bytes ≡ 64 → good key.config.opening.bytes → length words ≡ word_count key.config.nodes → AreBlank key.config.nodes words
+      → y.bytes.bytes ≡ key.config.opening.bytes → y.closed ≡ false → y.turns_left ≡ key.config.lease → Rule (opening words (y ∷ []) (initial_nodes initial key))
+  starts words y may long history_inv wide blank same unclosed left = record {
+    history = record { core = first key.config; queue = empty_queue; joined = []; early = []; late = [] };
+    who = initial_node initial key;
     owner = λ n. (0, n - 1);
     may_open = may;
-    opened_good = fine;
-    fine = record {
+    opened_good = history_inv;
+    history_inv = record {
       entries = length-replicate PLACES empty;
       seats = length-replicate PLACES unused;
-      shown = first_shows about.terms long;
+      shown = first_shows key.config long;
       cleared = none;
       kept = tt;
       lawful = λ n a s. absurd (let z = (subst MayServe (seat_first PLACES n) s).leaves in cc z);
       joined = λ r h. absurd (cc h);
-      unjoined = λ n q a e. absurd (let z = sym (ap (λ (s : Seat). s.point) (seat_first PLACES n)) ∙ e in cc z);
-      waiting = λ n a e. absurd (let z = sym (ap (λ (s : Seat). s.point) (seat_first PLACES n)) ∙ e in cc z);
+      unjoined = λ n q a e. absurd (let z = sym (ap (λ (s : NodeCall). s.point) (seat_first PLACES n)) ∙ e in cc z);
+      waiting = λ n a e. absurd (let z = sym (ap (λ (s : NodeCall). s.point) (seat_first PLACES n)) ∙ e in cc z);
       freed = λ r h. elim h [ inl a ↦ absurd (cc a) | inr b ↦ absurd (cc b) ];
     };
-    laid = record {
+    represents = record {
       wide = wide;
       deep = refl;
       home = blank home_at (omega arith);
@@ -85,7 +85,7 @@ module _ (good : List ℕ → Type 0) (allows : List ℕ → List ℕ → Type 0
       slot = record { line = y; at = refl; bytes = λ i. record { bytes = same i }; closed = unclosed; turns = left };
     };
     each = λ n a b. record {
-      who = record { node = refl; label = refl; terms = refl };
+      who = record { node = refl; label = refl; config = refl };
       knows = record {
         orders = ([], refl);
         endings = ([], refl);
@@ -112,5 +112,5 @@ module _ (good : List ℕ → Type 0) (allows : List ℕ → List ℕ → Type 0
         ended = λ _ i p at. absurd (at_none i p at);
       };
     };
-    members = first_members node_of about.terms.nodes (newcomer fresh about) (λ n. refl);
+    members = first_members node_of key.config.nodes (initial_node initial key) (λ n. refl);
   }

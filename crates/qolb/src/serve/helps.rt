@@ -1,10 +1,10 @@
-//! What the help says is so: its lines are compared whole, and its examples are run.
+//! Tests of the help: its lines are compared whole, and its examples are run.
 use super::tests::{expect, run};
 use super::*;
 use std::process::Abort;
 use std::test::Fail;
 
-/// What `--help` says after these words.
+/// Returns the help after these words.
 fn help_of<T: Threads + Wait + Clock + Eprint + Sync>(
     rt: &T,
     alloc: Global,
@@ -19,7 +19,7 @@ fn help_of<T: Threads + Wait + Clock + Eprint + Sync>(
     Ok(help)
 }
 
-/// All that the help says of the statuses.
+/// The whole text on the statuses.
 const STATUSES: &str = "\n\nExit statuses:
   0  done
   1  the script was refused: `bad line N` or `script too long` on standard error
@@ -34,7 +34,7 @@ fn the_help_tells_each_status(rt: HostRuntime) -> Result<(), Fail> {
     Ok(())
 }
 
-/// Whole lines of each subcommand's help: its options, and what its script may have.
+/// Whole lines of each subcommand's help: its options, and the limits of its script.
 static LINES: [(&str, &[&str]); 5] = [
     (
         "replay",
@@ -111,7 +111,7 @@ fn the_help_tells_options_and_limits(rt: HostRuntime) -> Result<(), Fail> {
     Ok(())
 }
 
-/// The words that the example of a help is for, what the help says that they print, and what they print.
+/// The words of the example of each help, what the help says that they print, and what they print.
 static EXAMPLES: [(&[&str], &str, &str); 5] = [
     (
         &["replay", "--kind", "plain"],
@@ -140,7 +140,7 @@ static EXAMPLES: [(&[&str], &str, &str); 5] = [
     ),
 ];
 
-/// The example of a help: its script, and what the help says that this prints.
+/// Returns the example of a help: its script, and its output by the help.
 fn example_of<'a>(help: &'a str, told: &str) -> Result<(&'a str, &'a str), Fail> {
     let (_, example) = help.split_once("\n\nExample: with\n").ok_or("an example")?;
     Ok(example.split_once(told).ok_or("what it prints")?)
@@ -159,7 +159,7 @@ fn the_examples_of_the_help_print_what_it_says(rt: HostRuntime) -> Result<(), Fa
     Ok(())
 }
 
-/// The picture that the help shows, and what comes after it.
+/// The picture that the help shows, and the legend behind it.
 const PICTURE: &str = "line 0
 
          1234

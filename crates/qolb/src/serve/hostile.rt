@@ -31,7 +31,7 @@ const EARLY: &str = "nodes 1\nlink 1\n";
 const EARLY_DRAWN: &str =
     "1\n.  1: link 1: refused; the line lies at home\n\n. Idle   r Ready   l Linking   w Queued   H Holding   h Leaving   m Marking\ng Granting   f Freeing   L Left   x Rolled   - Shut\n";
 
-/// The words of each subcommand, a script, and what is written.
+/// The words of each subcommand, a script, and the output.
 pub(super) static RUNS: [(&[&str], &str, &str); 14] = [
     (&["replay", "--kind", "plain"], HAND_OVER, HANDED_OVER),
     (&["replay", "--kind", "ring"], HAND_OVER, HANDED_OVER),
@@ -52,7 +52,7 @@ pub(super) static RUNS: [(&[&str], &str, &str); 14] = [
 /// How many bytes a read or a write moves at most.
 static PARTS: [usize; 3] = [1, 7, 4096];
 
-/// Gives what is left in parts, but fails once, after so many reads.
+/// A reader that gives at most `part` bytes a read, and fails once, after `good` reads.
 #[derive(Drop)]
 struct FailingReader<'a> {
     rest: &'a [u8],
@@ -74,7 +74,7 @@ impl<'a> Read for FailingReader<'a> {
     }
 }
 
-/// Takes bytes in parts, but fails once, after so many writes, or then takes none.
+/// A writer that takes at most `part` bytes a write, and after `good` writes fails once, or takes none.
 #[derive(Drop)]
 struct FailingWriter {
     taken: Vec<u8>,
@@ -109,7 +109,7 @@ fn each_read_fails(rt: HostRuntime) -> Result<(), Fail> {
     for (words, script, reply) in &RUNS {
         let reply = *reply;
         for part in &PARTS {
-            // The last read tells that nothing is left.
+            // The last read finds that no byte is left.
             let reads = script.len().div_ceil(*part).saturating_add(1);
             for good in 0..reads.saturating_add(1) {
                 let mut reader = FailingReader {
@@ -149,11 +149,11 @@ static DRAWINGS: [(&[&str], &str); 4] = [
     (&["draw", "--steps", "--svg", "--explain"], LATE_LINK),
 ];
 
-/// Each read fails in turn: that is told, and no picture is written. It is once no read is left to fail.
+/// Each read fails in turn: that is reported, and no picture is written. A picture is written once no read is left to fail.
 #[test]
 fn each_read_of_a_drawing_fails(rt: HostRuntime) -> Result<(), Fail> {
     for (words, script) in &DRAWINGS {
-        // One byte a read, and the last read tells that nothing is left.
+        // One byte a read; the last read finds that no byte is left.
         let reads = script.len().saturating_add(1);
         for good in 0..reads.saturating_add(1) {
             let mut reader = FailingReader {

@@ -1,23 +1,23 @@
-//! The program in a room of memory that grows.
+//! The program in rooms of memory that grow.
 use super::hostile::RUNS;
 use super::*;
-use hoard::Siege;
 use std::process::Abort;
 use std::test::Fail;
+use test_support::MemoryLimit;
 
-/// Rooms, in bytes: the first, the one that none comes up to, and how much a room is larger than the one before. In the last of them threads
-/// find a place for their stacks.
+/// Rooms, in bytes: the first, a bound that no room reaches, and the step from one room to the next. In the last rooms threads find place
+/// for their stacks.
 static ROOMS: [(usize, usize, usize); 3] = [
     (1 << 6, 1 << 16, 1 << 6),
     (1 << 16, 1 << 18, 1 << 10),
     (1 << 20, 1 << 26, 1 << 20),
 ];
 
-/// The status of the script in a room of so many bytes, with what was written and complained.
+/// Runs the script in a room of `bytes` bytes. Returns the status, the output and the complaint.
 fn run_in<T: Threads + Wait + Clock + Eprint + Sync>(
     rt: &T,
     alloc: Global,
-    siege: &Siege,
+    limit: &MemoryLimit,
     bytes: usize,
     words: &[String],
     script: &str,
@@ -25,23 +25,23 @@ fn run_in<T: Threads + Wait + Clock + Eprint + Sync>(
     let mut reader = script.as_bytes();
     let mut out: Vec<u8> = Vec::with_capacity(alloc, 1 << 10)?;
     let mut err: Vec<u8> = Vec::with_capacity(alloc, 1 << 10)?;
-    let rest = siege.leave(alloc, bytes)?;
+    let rest = limit.leave(alloc, bytes)?;
     let status = serve(rt, alloc, words, &mut reader, &mut out, &mut err);
     drop(rest);
     Ok((status, out, err))
 }
 
-/// The script is answered in a room of so many bytes: whether it was. Else it was refused for want of memory, with nothing written.
+/// Runs the script in a room of `bytes` bytes. Returns `true` if it was answered; else it was refused for want of memory, with no output.
 fn is_answered<T: Threads + Wait + Clock + Eprint + Sync + Abort>(
     rt: &T,
     alloc: Global,
-    siege: &Siege,
+    limit: &MemoryLimit,
     bytes: usize,
     words: &[String],
     script: &str,
     reply: &str,
 ) -> Result<bool, Fail> {
-    let (status, out, err) = run_in(rt, alloc, siege, bytes, words, script)?;
+    let (status, out, err) = run_in(rt, alloc, limit, bytes, words, script)?;
     let answered = status == 0;
     let (text, complaint) = if answered {
         (reply, "")
@@ -59,7 +59,7 @@ fn is_answered<T: Threads + Wait + Clock + Eprint + Sync + Abort>(
 #[test]
 fn each_allocation_is_refused(rt: HostRuntime) -> Result<(), Fail> {
     let alloc = rt.alloc();
-    let siege = Siege::begin(alloc, 1 << 28)?;
+    let limit = MemoryLimit::begin(alloc, 1 << 28)?;
     for (words, script, reply) in &RUNS {
         let mut all = vec![in alloc; "qolb".to_string(alloc)?]?;
         for word in *words {
@@ -73,7 +73,7 @@ fn each_allocation_is_refused(rt: HostRuntime) -> Result<(), Fail> {
                     answered = is_answered(
                         &rt,
                         alloc,
-                        &siege,
+                        &limit,
                         bytes,
                         all.as_slice(),
                         *script,
@@ -88,21 +88,21 @@ fn each_allocation_is_refused(rt: HostRuntime) -> Result<(), Fail> {
     Ok(())
 }
 
-/// The kinds of lines, those that take less memory first. With 200 nodes a plain line takes 3.3 KB, a list 26 KB of words, a ring 33 KB, a
-/// ticket line as many and 33 KB of slots; and each of the last three 27 KB of ports.
+/// The kinds of lines, in the order of the memory that they take. With 200 nodes a plain line takes 3.3 KB, a list 26 KB of words, a ring
+/// 33 KB, a ticket line as many and 33 KB of slots; and each of the last three 27 KB of ports.
 static BY_SIZE: [&str; 4] = ["plain", "link", "ring", "ticket"];
 
-/// Rooms, in KB, in each of which eight lines of one kind more find place.
+/// Rooms, in KB, each of which has place for eight lines of one kind more.
 static LARGER_ROOMS: [usize; 4] = [300, 490, 650, 1_200];
 
-/// What a replay of eight lines for 200 nodes says of them.
+/// The reply of a replay of eight lines for 200 nodes.
 const EIGHT_LINES: &str =
     "line 0 served 0 withdrawn 0 told 0 left 0\nline 1 served 0 withdrawn 0 told 0 left 0\nline 2 served 0 withdrawn 0 told 0 left 0\nline 3 served 0 withdrawn 0 told 0 left 0\nline 4 served 0 withdrawn 0 told 0 left 0\nline 5 served 0 withdrawn 0 told 0 left 0\nline 6 served 0 withdrawn 0 told 0 left 0\nline 7 served 0 withdrawn 0 told 0 left 0\n";
 
 #[test]
 fn a_replay_takes_lines_of_the_kind_that_is_named(rt: HostRuntime) -> Result<(), Fail> {
     let alloc = rt.alloc();
-    let siege = Siege::begin(alloc, 1 << 22)?;
+    let limit = MemoryLimit::begin(alloc, 1 << 22)?;
     for (place, kind) in BY_SIZE.iter().enumerate() {
         let words = vec![in alloc;
             "qolb".to_string(alloc)?,
@@ -114,7 +114,7 @@ fn a_replay_takes_lines_of_the_kind_that_is_named(rt: HostRuntime) -> Result<(),
             let answered = is_answered(
                 &rt,
                 alloc,
-                &siege,
+                &limit,
                 room << 10,
                 words.as_slice(),
                 "nodes 200 lines 8\n",

@@ -1,13 +1,13 @@
-//! Runs of the program: its words and its script, with the status and what is written.
+//! Runs of the program: words and script, with the status and the output.
 use super::*;
-use locks::ALL;
+use line_kinds::ALL;
 use std::process::Abort;
 use std::test::Fail;
 
 /// The kinds of lines of a replay.
 pub(super) static KINDS: [&str; 4] = ["plain", "ring", "link", "ticket"];
 
-/// The status of a run on these words, and its standard error.
+/// Returns the status of a run on these words, and its standard error.
 pub(super) fn run<T: Threads + Wait + Clock + Eprint + Sync, R: Read, W: Write>(
     rt: &T,
     alloc: Global,
@@ -24,7 +24,7 @@ pub(super) fn run<T: Threads + Wait + Clock + Eprint + Sync, R: Read, W: Write>(
     Ok((status, String::from_utf8(err)?))
 }
 
-/// The status, standard output and standard error of a run.
+/// Returns the status, standard output and standard error of a run.
 fn told<T: Threads + Wait + Clock + Eprint + Sync>(
     rt: &T,
     alloc: Global,
@@ -37,7 +37,7 @@ fn told<T: Threads + Wait + Clock + Eprint + Sync>(
     Ok((status, String::from_utf8(out)?, err))
 }
 
-/// A run ends with this status, standard output and standard error.
+/// Checks that a run ends with this status, standard output and standard error.
 pub(super) fn expect<T: Threads + Wait + Clock + Eprint + Abort + Sync>(
     rt: &T,
     alloc: Global,
@@ -54,7 +54,7 @@ pub(super) fn expect<T: Threads + Wait + Clock + Eprint + Abort + Sync>(
     Ok(())
 }
 
-/// Scripts of schedules, with how a replay ends.
+/// Scripts of schedules, with the end of their replay.
 static SCHEDULES: [(&str, (u8, &str, &str)); 9] = [
     (
         "nodes 1 lines 1\n",
@@ -92,8 +92,8 @@ fn replays_and_refuses_scripts(rt: HostRuntime) -> Result<(), Fail> {
     Ok(())
 }
 
-/// Words with `--explain`, scripts that are refused, and what is told of them: of each thing that can be wrong with a line but that it is
-/// past the most, which takes long.
+/// Words with `--explain`, scripts that are refused, and their explanations: one for each fault of a line, except that of a line past the
+/// largest number, which takes long.
 static EXPLAINED: [(&[&str], &str, &str); 16] = [
     (
         &["replay", "--kind", "plain"],
@@ -232,7 +232,7 @@ static NOT_TAKEN: [(&[&str], &str); 31] = [
     (&["replay", "--version"], "--version"),
 ];
 
-/// What the help of each subcommand tells of, among else.
+/// Parts of the help of each subcommand.
 static HELPS: [(&str, &[&str]); 5] = [
     ("replay", &["--kind <KIND>", "nodes N lines L", "--explain"]),
     ("steps", &["prepend 1", "nodes N ", "--rank", "--explain"]),
@@ -276,7 +276,7 @@ fn refuses_command_lines(rt: HostRuntime) -> Result<(), Fail> {
     Ok(())
 }
 
-/// What `--version` says.
+/// The output of `--version`.
 const VERSION: &str =
     "qolb 1.6.0\nsources proved by rattle-kit-13f logic dac8208d650f15bf\nkinds of lines: plain, ring, link, ticket\n";
 
@@ -291,7 +291,7 @@ fn tells_its_version(rt: HostRuntime) -> Result<(), Fail> {
     Ok(())
 }
 
-/// The lines that work with this `--kind` is over.
+/// Returns the lines of work with this `--kind`.
 fn lines_of_kind(alloc: Global, name: &str) -> Result<Lines, Fail> {
     let words = vec![in alloc;
         "qolb".to_string(alloc)?,
@@ -302,9 +302,9 @@ fn lines_of_kind(alloc: Global, name: &str) -> Result<Lines, Fail> {
     match parse_args(alloc, words.as_slice())
         .ok()
         .ok_or("a request")?
-        .wish
+        .subcommand
     {
-        Wish::Answer(Task::Work(_, lines, _)) => Ok(lines),
+        Subcommand::Answer(Task::Work(_, lines, _)) => Ok(lines),
         _ => Err(Fail::from("no work")),
     }
 }
@@ -363,7 +363,7 @@ fn refuses_a_script_of_more_than_100_000_commands(rt: HostRuntime) -> Result<(),
     expect(&rt, rt.alloc(), words.as_slice(), script.as_str(), refused)
 }
 
-/// Words, and whether they ask to be told how far work is.
+/// Words, and whether they ask for progress.
 static TOLD_OF_PROGRESS: [(&[&str], bool); 4] = [
     (&["qolb", "board"], false),
     (&["qolb", "board", "--progress"], true),
@@ -385,8 +385,8 @@ fn progress_is_told_where_it_is_asked_for(rt: HostRuntime) -> Result<(), Fail> {
     Ok(())
 }
 
-/// What may follow the name of work: it ends in the same way by each kind of lines, by workers that sleep, and with its progress told, of which
-/// there is none within a second.
+/// What may follow the name of work. Work ends in the same way by each kind of lines, by workers that sleep, and with its progress
+/// reported, of which there is none within a second.
 static MANNERS: [&[&str]; 8] = [
     &[],
     &["--progress"],
@@ -398,7 +398,7 @@ static MANNERS: [&[&str]; 8] = [
     &["--kind", "ticket", "--sleep"],
 ];
 
-/// Work of this name ends so, in each manner.
+/// Checks that work of this name ends so, in each manner.
 fn expect_work<T: Threads + Wait + Clock + Eprint + Abort + Sync>(
     rt: &T,
     alloc: Global,
@@ -414,7 +414,7 @@ fn expect_work<T: Threads + Wait + Clock + Eprint + Abort + Sync>(
     Ok(())
 }
 
-/// Scripts of work, with what is reported.
+/// Scripts of work, with their reports.
 static WORK: [(&str, &str, &str); 6] = [
     (
         "board",
@@ -442,7 +442,7 @@ static WORK: [(&str, &str, &str); 6] = [
         "bank workers 3 lines 8\n1 in 0 1\n2 in 63 2\n",
         "in 3\nout 0\ntotal 3\n",
     ),
-    // nothing is lost, though no order between the workers is said
+    // no task is lost, though the order between the workers is open
     (
         "bank",
         "bank workers 2 lines 1\n1 in 0 281474976710656\n2 in 1 281474976710656\n1 in 0 1\n2 in 1 1\n",
@@ -472,13 +472,13 @@ fn no_payment_of_four_workers_is_lost(rt: HostRuntime) -> Result<(), Fail> {
     expect_work(&rt, alloc, "bank", script.as_str(), (0, report, ""))
 }
 
-/// Scripts that are none of this work, with the complaint.
+/// Scripts that are not of this work, with the complaint.
 static NO_WORK: [(&str, &str, &str); 11] = [
     ("board", "", "bad line 1\n"),
     ("board", "board workers 201", "bad line 1\n"),
     ("board", "board workers 0", "bad line 1\n"),
     ("board", "board workers 1 lines 1", "bad line 1\n"),
-    // a board's script is none of a bank's, and the other way round
+    // a board's script is not a bank's, and the other way round
     ("board", "bank workers 1 lines 1", "bad line 1\n"),
     ("bank", "board workers 1", "bad line 1\n"),
     ("board", "board workers 1\n\n2 take", "bad line 3\n"),
@@ -642,7 +642,7 @@ fn a_failed_complaint_changes_no_status(rt: HostRuntime) -> Result<(), Fail> {
     Ok(())
 }
 
-/// Step scripts and what is answered, with `, ` for each line's end; and the last line of the answer.
+/// Step scripts with their answers, `, ` for each line's end; and the last line of the answer.
 static STEPS: [(&str, &str, &str); 11] = [
     // no event
     ("nodes 2", "", "line 0 served 0 withdrawn 0 told 0 left 0"),

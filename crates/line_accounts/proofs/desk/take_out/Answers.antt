@@ -19,7 +19,7 @@ pay_out-requires-clause-belongs g c =
     let over = subst (λ (d : DeskOf g.row.L-Port.Denot). IsDeskOver g.L.LineSync.belongs g.L.LineSync.view c.args.lines.now d) (sym c.desk.view_is) c.requires.over in
     let there : c.in-Some.i < length c.args.lines.now = omega (arith, c.in-Some.ensures.0, c.in-Some.ensures.1) in
     let at = at_place g.L.LineSync.belongs g.L.LineSync.view c.args.lines.now _ c.in-Some.i c.index-lines-i.result c.index_mut.result.now over there c.index-lines-i.is c.index_mut.ensures.value in
-    over.over.belong c.in-Some.i c.index-lines-i.result c.index_mut.result.now at.0 at.1
+    over.over.each_belongs c.in-Some.i c.index-lines-i.result c.index_mut.result.now at.0 at.1
 
 pub returns-clause-over : goal.returns-clause-over
 returns-clause-over g c =

@@ -2,64 +2,64 @@ use Rattle.std.proofs.Common.{◌≡◌, ◌+◌, ◌≤◌, ◌<◌, ◌^◌, �
 use Rattle.line_lanes.specs.Lane.{lane_of}
 use Rattle.std.proofs.lemmas.Bool.{cases_lt}
 use Rattle.qolb_model.specs.Views.{bytes_of}
-use Rattle.line_accounts.specs.Accounts.{StayBalances, lowered}
+use Rattle.line_accounts.specs.Accounts.{StayBalances, debited}
 use Rattle.line_accounts.specs.Moves.{TakesTurn}
 use Rattle.line_accounts.proofs.Visits.{took, balances_known}
-use Rattle.line_accounts.proofs.Totals.{lowered_stays, long-lowered, paid_out}
+use Rattle.line_accounts.proofs.Totals.{debited_stays, long-debited, paid_out}
 use Rattle.line_accounts.proofs.Replies.{done_not_late, short_not_late, over_not_late}
 use Rattle.line_accounts.proofs.turn.pay_out.Goals as goal
 
-pub returns-in_default-lowered-clause-pays : goal.returns-in_default-lowered-clause-pays
-returns-in_default-lowered-clause-pays g c =
+pub returns-in_default-debited-clause-pays : goal.returns-in_default-debited-clause-pays
+returns-in_default-debited-clause-pays g c =
     let v = g.L.LineSync.view c.ask.new.port in
     let h = c.in_default.ensures.holds in
-    let held : c.held-found.result.bytes ≡ bytes_of v = c.held-found.ensures.bytes ∙ h.granted.bytes in
-    (bytes_of v, took _ _ _ _ _ h c.leave.ensures.leaves, subst (λ (b : List ℕ). lane_of b c.args.k < c.args.amount) held c.in_default-lowered.ensures, refl)
+    let held_line : c.held_line-found.result.bytes ≡ bytes_of v = c.held_line-found.ensures.bytes ∙ h.granted.bytes in
+    (bytes_of v, took _ _ _ _ _ h c.release_unchanged.ensures.leaves, subst (λ (b : List ℕ). lane_of b c.args.k < c.args.amount) held_line c.in_default-debited.ensures, refl)
 
 pub returns-in_default-checked_add-clause-pays : goal.returns-in_default-checked_add-clause-pays
 returns-in_default-checked_add-clause-pays g c =
     let v = g.L.LineSync.view c.ask.new.port in
     let h = c.in_default.ensures.holds in
-    let held : c.held-found.result.bytes ≡ bytes_of v = c.held-found.ensures.bytes ∙ h.granted.bytes in
+    let held_line : c.held_line-found.result.bytes ≡ bytes_of v = c.held_line-found.ensures.bytes ∙ h.granted.bytes in
     let over : 2 ^ 128 ≤ c.args.paid_out.now + c.args.amount = elim (cases_lt (c.args.paid_out.now + c.from.result) (2 ^ 128)) [ inl lt ↦ absurd (c.in_default-checked_add.ensures lt) | inr ge ↦ omega (arith, ge, c.from.ensures) ] in
-    (bytes_of v, took _ _ _ _ _ h c.leave-in_default-checked_add.ensures.leaves, subst (λ (b : List ℕ). c.args.amount ≤ lane_of b c.args.k) held c.in-Some.ensures.0, over, refl)
+    (bytes_of v, took _ _ _ _ _ h c.release_unchanged-in_default-checked_add.ensures.leaves, subst (λ (b : List ℕ). c.args.amount ≤ lane_of b c.args.k) held_line c.in-Some.ensures.0, over, refl)
 
-pub leave_with-requires-clause-long : goal.leave_with-requires-clause-long
-leave_with-requires-clause-long g c =
-    ap length c.in-Some.ensures.1 ∙ long-lowered _ _ _ c.held-found.ensures.long c.requires.lane
+pub write_and_release-requires-clause-long : goal.write_and_release-requires-clause-long
+write_and_release-requires-clause-long g c =
+    ap length c.in-Some.ensures.1 ∙ long-debited _ _ _ c.held_line-found.ensures.long c.requires.lane
 
-pub leave_with-requires-clause-allowed : goal.leave_with-requires-clause-allowed
-leave_with-requires-clause-allowed g c =
+pub write_and_release-requires-clause-allowed : goal.write_and_release-requires-clause-allowed
+write_and_release-requires-clause-allowed g c =
     let v = g.L.LineSync.view c.ask.new.port in
     let h = c.in_default.ensures.holds in
-    let held : c.held-found.result.bytes ≡ bytes_of v = c.held-found.ensures.bytes ∙ h.granted.bytes in
+    let held_line : c.held_line-found.result.bytes ≡ bytes_of v = c.held_line-found.ensures.bytes ∙ h.granted.bytes in
     let good = balances_known _ _ _ (g.met.L.LineSync.sound c.args.line.now c.ask.new.port c.ask.ensures.belongs) in
-    let next : c.in-Some.next.bytes ≡ lowered (bytes_of v) c.args.k c.args.amount = c.in-Some.ensures.1 ∙ ap (λ (b : List ℕ). lowered b c.args.k c.args.amount) held in
+    let next : c.in-Some.next.bytes ≡ debited (bytes_of v) c.args.k c.args.amount = c.in-Some.ensures.1 ∙ ap (λ (b : List ℕ). debited b c.args.k c.args.amount) held_line in
     subst (λ (b : List ℕ). StayBalances (bytes_of v) b) (sym next)
-    (lowered_stays (bytes_of v) c.args.k c.args.amount (ap length (sym held) ∙ c.held-found.ensures.long) c.requires.lane good)
+    (debited_stays (bytes_of v) c.args.k c.args.amount (ap length (sym held_line) ∙ c.held_line-found.ensures.long) c.requires.lane good)
 
 pub returns-clause-pays : goal.returns-clause-pays
 returns-clause-pays g c =
     let v = g.L.LineSync.view c.ask.new.port in
     let h = c.in_default.ensures.holds in
-    let held : c.held-found.result.bytes ≡ bytes_of v = c.held-found.ensures.bytes ∙ h.granted.bytes in
-    let next : c.in-Some.next.bytes ≡ lowered (bytes_of v) c.args.k c.args.amount = c.in-Some.ensures.1 ∙ ap (λ (b : List ℕ). lowered b c.args.k c.args.amount) held in
+    let held_line : c.held_line-found.result.bytes ≡ bytes_of v = c.held_line-found.ensures.bytes ∙ h.granted.bytes in
+    let next : c.in-Some.next.bytes ≡ debited (bytes_of v) c.args.k c.args.amount = c.in-Some.ensures.1 ∙ ap (λ (b : List ℕ). debited b c.args.k c.args.amount) held_line in
     let sum : c.in-Some-checked_add.sum ≡ c.args.paid_out.now + c.args.amount = omega (arith, c.in-Some-checked_add.ensures.1, c.from.ensures) in
     let good = balances_known _ _ _ (g.met.L.LineSync.sound c.args.line.now c.ask.new.port c.ask.ensures.belongs) in
-    let enough = subst (λ (b : List ℕ). c.args.amount ≤ lane_of b c.args.k) held c.in-Some.ensures.0 in
-    let turn = subst (λ (b : List ℕ). TakesTurn (g.L.LineSync.view c.args.port.now) (g.L.LineSync.view c.leave_with.new.port) (bytes_of v) b) next (took _ _ _ _ _ h c.leave_with.ensures.leaves) in (
+    let enough = subst (λ (b : List ℕ). c.args.amount ≤ lane_of b c.args.k) held_line c.in-Some.ensures.0 in
+    let turn = subst (λ (b : List ℕ). TakesTurn (g.L.LineSync.view c.args.port.now) (g.L.LineSync.view c.write_and_release.new.port) (bytes_of v) b) next (took _ _ _ _ _ h c.write_and_release.ensures.leaves) in (
       bytes_of v,
       turn,
       enough,
-      paid_out (bytes_of v) c.args.k c.args.amount (ap length (sym held) ∙ c.held-found.ensures.long) c.requires.lane good enough turn.pays,
+      paid_out (bytes_of v) c.args.k c.args.amount (ap length (sym held_line) ∙ c.held_line-found.ensures.long) c.requires.lane good enough turn.pays,
       sum,
     )
 
 pub returns-clause-late : goal.returns-clause-late
 returns-clause-late g c late = absurd (done_not_late late)
 
-pub returns-in_default-lowered-clause-late : goal.returns-in_default-lowered-clause-late
-returns-in_default-lowered-clause-late g c late = absurd (short_not_late late)
+pub returns-in_default-debited-clause-late : goal.returns-in_default-debited-clause-late
+returns-in_default-debited-clause-late g c late = absurd (short_not_late late)
 
 pub returns-in_default-checked_add-clause-late : goal.returns-in_default-checked_add-clause-late
 returns-in_default-checked_add-clause-late g c late = absurd (over_not_late late)

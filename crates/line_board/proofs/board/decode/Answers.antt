@@ -3,7 +3,7 @@ use Rattle.line_lanes.specs.Lane.{lane_of}
 use Rattle.line_board.specs.Board.{count_of}
 use Rattle.line_board.proofs.Boards.{stand-laid, not_few, not_blank, not_unused}
 use Rattle.line_board.proofs.board.decode.Goals as goal
-use Rattle.line_board.proofs.board.decode.Goals.{then-count-gt-MOST_TASKS-via-then-count-gt-MOST_TASKS, then-count-gt-MOST_TASKS-via-else-count-gt-MOST_TASKS+then-not-are_zeros}
+use Rattle.line_board.proofs.board.decode.Goals.{then-count-gt-MAX_TASKS-via-then-count-gt-MAX_TASKS, then-count-gt-MAX_TASKS-via-else-count-gt-MAX_TASKS+then-not-are_zeros}
 
 pub returns-then-task-ne0 : goal.returns-then-task-ne0
 returns-then-task-ne0 c =
@@ -26,10 +26,10 @@ returns c =
       unused = λ j above below. c.loop-k.invariant.unused j (omega arith) (omega arith);
     }
 
-pub returns-then-count-gt-MOST_TASKS : goal.returns-then-count-gt-MOST_TASKS
-returns-then-count-gt-MOST_TASKS c =
+pub returns-then-count-gt-MAX_TASKS : goal.returns-then-count-gt-MAX_TASKS
+returns-then-count-gt-MAX_TASKS c =
     let bytes = c.args.line.now.bytes in
-    elim c.then-count-gt-MOST_TASKS.branch [
-      | then-count-gt-MOST_TASKS-via-then-count-gt-MOST_TASKS w ↦ not_few bytes (subst (λ (n : ℕ). 7 < n) c.from-count.ensures w.if-count-gt-MOST_TASKS.true)
-      | then-count-gt-MOST_TASKS-via-else-count-gt-MOST_TASKS+then-not-are_zeros w ↦ not_blank bytes (sym w.are_zeros.ensures ∙ w.if-not-are_zeros.true)
+    elim c.then-count-gt-MAX_TASKS.branch [
+      | then-count-gt-MAX_TASKS-via-then-count-gt-MAX_TASKS w ↦ not_few bytes (subst (λ (n : ℕ). 7 < n) c.from-count.ensures w.if-count-gt-MAX_TASKS.true)
+      | then-count-gt-MAX_TASKS-via-else-count-gt-MAX_TASKS+then-not-are_zeros w ↦ not_blank bytes (sym w.are_zeros.ensures ∙ w.if-not-are_zeros.true)
     ]

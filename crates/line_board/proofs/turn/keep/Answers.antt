@@ -6,7 +6,7 @@ use Rattle.line_board.proofs.turn.keep.Goals as goal
 pub release-requires-clause-allowed : goal.release-requires-clause-allowed
 release-requires-clause-allowed g c =
     let sound = g.met.L.LineSync.sound c.args.line.now c.args.port.now c.requires.belongs in
-    let board = board_known (g.L.LineSync.view c.args.port.now) (rw sound.terms_are sound.opened_good) sound.kept in
+    let board = board_known (g.L.LineSync.view c.args.port.now) (rw sound.config_is sound.opened_good) sound.kept in
     rw c.requires.granted.bytes (same_board _ board)
 
 pub returns-clause-found : goal.returns-clause-found

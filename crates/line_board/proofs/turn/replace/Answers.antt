@@ -3,7 +3,7 @@ use Rattle.line_lanes.specs.Mask.{changed_mask}
 use Rattle.qolb_model.specs.declared.view.View.{View}
 use Rattle.qolb_model.specs.Counting.{Counters}
 use Rattle.qolb_model.specs.Sound.{Continues}
-use Rattle.qolb_model.proofs.OwnTurns.{quiet_after, may_ask-left_by}
+use Rattle.qolb_model.proofs.OwnTurns.{quiet_after, may_ask-state_after}
 use Rattle.line_board.specs.Board.{Stand}
 use Rattle.line_board.specs.Law.{Changes}
 use Rattle.line_board.proofs.Turns.{had_turn, new_bytes, new_mask}
@@ -46,8 +46,8 @@ returns-clause-continues g c =
 pub returns-clause-count : goal.returns-clause-count
 returns-clause-count g c = c.release.ensures.releases.ends_turn.count ∙ ap (λ (v : View). v.count) c.write.ensures.view
 
-pub returns-clause-looks : goal.returns-clause-looks
-returns-clause-looks g c = c.release.ensures.looks ∙ ap (λ (counters : Counters). counters.poll_count) c.write.ensures.counters
+pub returns-clause-poll_count : goal.returns-clause-poll_count
+returns-clause-poll_count g c = c.release.ensures.poll_count ∙ ap (λ (counters : Counters). counters.poll_count) c.write.ensures.counters
 
 pub returns-clause-state : goal.returns-clause-state
-returns-clause-state g c = quiet_after _ _ (g.L.LineSync.view c.release.new.port) (may_ask-left_by _) c.release.ensures.releases.ends_turn.lets_go
+returns-clause-state g c = quiet_after _ _ (g.L.LineSync.view c.release.new.port) (may_ask-state_after _) c.release.ensures.releases.ends_turn.releases

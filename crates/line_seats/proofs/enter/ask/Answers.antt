@@ -1,6 +1,6 @@
 use Rattle.std.proofs.Common.{refl}
 use Rattle.qolb_model.proofs.Going.{extends_self}
-use Rattle.line_threads.proofs.Acquiring.{granted_at_once, told_at_once, acquired_waiting, soon_at_once, soon_waiting, closed_ungranted}
+use Rattle.line_blocking.proofs.Acquiring.{granted_at_once, told_at_once, acquired_waiting, soon_at_once, soon_waiting, closed_ungranted}
 use Rattle.line_seats.proofs.enter.ask.Goals as goal
 
 pub returns-in-Granted-clause-acquires : goal.returns-in-Granted-clause-acquires

@@ -1,34 +1,34 @@
 use Rattle.std.proofs.Common.{refl, ◌∙◌, arith}
-use Rattle.link_line.specs.Steps.{known_of}
+use Rattle.link_line.specs.Steps.{ghost_of}
 use Rattle.link_line.proofs.Stepping.{goes_none}
 use Rattle.link_line.proofs.Freed.{frees_none, frees_all, freeing_which, freeing_next, freed_steps}
 use Rattle.link_line.proofs.release.free_passed.Goals as goal
 
 pub loop-node-init : goal.loop-node-init
 loop-node-init g c = record {
-  same = (refl, refl);
+  seat = (refl, refl);
   carried = refl;
-  goes_on = goes_none g.K.Keep.allows c.args.seat.now.me c.requires.ready.0;
+  advances = goes_none g.K.Keep.allows c.args.seat.now.me c.requires.phase.0;
   within = omega arith;
-  frees = frees_none (known_of c.args.seat.now) c.requires.ready.1 c.requires.some;
+  frees = frees_none (ghost_of c.args.seat.now) c.requires.phase.1 c.requires.some;
 }
 
 pub free-requires : goal.free-requires
 free-requires g c =
     let next = freeing_which c.args.seat.now c.loop-node.seat c.args.nodes.now c.loop-node.node-index c.loop-node.invariant c.requires.many c.requires.nodes c.loop-node-test.true in
     record {
-      table = (c.loop-node.invariant.same.0 ∙ c.requires.table.0, c.requires.table.1, c.requires.table.2);
-      ready = (c.loop-node.invariant.goes_on.alone, next.0);
+      table = (c.loop-node.invariant.seat.0 ∙ c.requires.table.0, c.requires.table.1, c.requires.table.2);
+      phase = (c.loop-node.invariant.advances.is_single, next.0);
       high = (next.1.0, omega (arith, next.1.1, c.requires.size));
       next = next.2;
     }
 
 pub loop-node-preserved : goal.loop-node-preserved
-loop-node-preserved g c = freeing_next g.K.Keep.allows c.args.seat.now c.loop-node.seat c.free.new.seat c.args.nodes.now c.loop-node.node-index c.loop-node.invariant c.requires.many c.requires.nodes c.loop-node-test.true c.free.ensures.went.same c.free.ensures.slot c.free.ensures.went.goes c.free.ensures.frees
+loop-node-preserved g c = freeing_next g.K.Keep.allows c.args.seat.now c.loop-node.seat c.free.new.seat c.args.nodes.now c.loop-node.node-index c.loop-node.invariant c.requires.many c.requires.nodes c.loop-node-test.true c.free.ensures.advances.seat c.free.ensures.slot c.free.ensures.advances.advances c.free.ensures.frees
 
 pub returns : goal.returns
 returns g c = let done = c.loop-node.invariant in record {
-  went = record { same = done.same; goes = freed_steps g.K.Keep.allows c.args.seat.now c.loop-node.seat c.args.nodes.now c.loop-node.node-index done c.requires.many (omega (arith, c.loop-node-test.false)) };
+  advances = record { seat = done.seat; advances = freed_steps g.K.Keep.allows c.args.seat.now c.loop-node.seat c.args.nodes.now c.loop-node.node-index done c.requires.many (omega (arith, c.loop-node-test.false)) };
   slot = done.carried;
-  frees = frees_all (known_of c.args.seat.now) (known_of c.loop-node.seat) c.loop-node.node-index done.frees (omega (arith, c.requires.many, c.loop-node-test.false));
+  frees = frees_all (ghost_of c.args.seat.now) (ghost_of c.loop-node.seat) c.loop-node.node-index done.frees (omega (arith, c.requires.many, c.loop-node-test.false));
 }

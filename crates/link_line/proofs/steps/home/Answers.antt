@@ -2,7 +2,7 @@ use Rattle.std.proofs.Common.{rules, arith, ◌≡◌, ◌≢◌, ℕ, true, fal
 use mathlib.Core.Logic.{dite}
 use native.Mathlib.Decide.{ℕ_discrete}
 use Rattle.qolb_model.proofs.Lists.{never}
-use Rattle.link_line.specs.Steps.{known_of}
+use Rattle.link_line.specs.Steps.{ghost_of}
 use Rattle.link_line.proofs.Homing.{homes_next}
 use Rattle.link_line.proofs.steps.home.Goals as goal
 
@@ -13,15 +13,15 @@ miss : (a b : ℕ) → eqb a b ≡ false → a ≢ b
 miss a b e same = never (eq-eqb a b same) e
 
 pub compare_exchange-requires : goal.compare_exchange-requires
-compare_exchange-requires g c = let y = c.requires.parcel in (search rules, omega arith, homes_next g.K.Keep.good g.K.Keep.allows c.args.ground.now.key (known_of c.args.seat.now) y.0 _ y.2 _ _ c.args.seat.now.me (λ i. (c.requires.alone i, y.1 i)))
+compare_exchange-requires g c = let y = c.requires.payload in (search rules, omega arith, homes_next g.K.Keep.good g.K.Keep.allows c.args.table.now.key (ghost_of c.args.seat.now) y.0 _ y.2 _ _ c.args.seat.now.me (λ i. (c.requires.is_single i, y.1 i)))
 
 pub returns-clause-home : goal.returns-clause-home
-returns-clause-home g c = λ is. let y = c.requires.parcel in let told = c.compare_exchange.ensures.2.1 in let same = hit c.compare_exchange.result c.args.at is in
+returns-clause-home g c = λ is. let y = c.requires.payload in let told = c.compare_exchange.ensures.2.1 in let same = hit c.compare_exchange.result c.args.at is in
     (((told y.0 y.1).0 same).0, λ z has. (((told z has).0 same).1, ((told z has).0 same).2))
 
 pub returns-clause-names : goal.returns-clause-names
-returns-clause-names g c = λ is. let y = c.requires.parcel in ((c.compare_exchange.ensures.2.1 y.0 y.1).0 (hit c.compare_exchange.result c.args.at is)).3
+returns-clause-names g c = λ is. let y = c.requires.payload in ((c.compare_exchange.ensures.2.1 y.0 y.1).0 (hit c.compare_exchange.result c.args.at is)).3
 
 pub returns-clause-on : goal.returns-clause-on
-returns-clause-on g c = λ is. let y = c.requires.parcel in let told = c.compare_exchange.ensures.2.1 in let other = miss c.compare_exchange.result c.args.at is in
+returns-clause-on g c = λ is. let y = c.requires.payload in let told = c.compare_exchange.ensures.2.1 in let other = miss c.compare_exchange.result c.args.at is in
     (((told y.0 y.1).1 other).0, ((told y.0 y.1).1 other).2, λ z has. ((told z has).1 other).1)

@@ -1,11 +1,11 @@
 use Rattle.std.proofs.Common.{rules, arith, ap, ◌∙◌, sym}
-use Rattle.link_line.specs.Words.{entry_at}
-use Rattle.link_line.specs.Steps.{known_of}
+use Rattle.link_line.specs.Layout.{entry_at}
+use Rattle.link_line.specs.Steps.{ghost_of}
 use Rattle.link_line.proofs.Polling.{rolls_next}
 use Rattle.link_line.proofs.steps.roll.Goals as goal
 
 pub fetch_add-requires : goal.fetch_add-requires
-fetch_add-requires g c = (search rules, omega arith, rolls_next g.K.Keep.good g.K.Keep.allows c.args.ground.now.key (known_of c.args.seat.now) c.requires.ready.1 _ _ _ c.args.seat.now.me c.requires.ready.0 (c.entry_word.ensures ∙ ap entry_at c.requires.seat.1.0))
+fetch_add-requires g c = (search rules, omega arith, rolls_next g.K.Keep.good g.K.Keep.allows c.args.table.now.key (ghost_of c.args.seat.now) c.requires.phase.1 _ _ _ c.args.seat.now.me c.requires.phase.0 (c.entry_word.ensures ∙ ap entry_at c.requires.seat.1.0))
 
 pub returns-clause-withdrawn : goal.returns-clause-withdrawn
 returns-clause-withdrawn g c = λ no'. let e = c.fetch_add.ensures.2.3 (sym c.is_granted.ensures ∙ no') in (e.0 ∙ c.requires.slot, e.1)

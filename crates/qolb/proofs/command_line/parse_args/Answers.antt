@@ -9,8 +9,8 @@ returns-in_err-matches-clause-usage c = let command = c.in_ok-command.ensures in
     refused_words command.0 (app_of c.in_ok-command.field-0) command.1 (map string_bytes c.args.words.now) c.in_err-matches.field-0.0 c.in_err-matches.ensures.passes
     c.from_residual-in_err-matches.result c.from_residual-in_err-matches.ensures.1
 
-pub returns-clause-wish : goal.returns-clause-wish
-returns-clause-wish c =
+pub returns-clause-subcommand : goal.returns-clause-subcommand
+returns-clause-subcommand c =
     let names = c.in_ok-command.ensures.0 in
     let is : app_of c.in_ok-command.field-0 ≡ the_command names = c.in_ok-command.ensures.1 in
     let simple : is_simple (app_of c.in_ok-command.field-0) ≡ true = ap is_simple is in

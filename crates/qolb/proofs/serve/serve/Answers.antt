@@ -11,7 +11,7 @@ returns-in-Err-2-clause-usage g c = λ _.
 
 pub returns-in-Err-answer_or_refuse-clause-refused : goal.returns-in-Err-answer_or_refuse-clause-refused
 returns-in-Err-answer_or_refuse-clause-refused g c one = (
-  c.in-Ok.request.wish,
-  c.in-Ok.ensures.wish,
-  known_denied c.in-Ok.request.wish c.in-Err-answer_or_refuse.refusal.error (g.R.Read.remaining c.args.reader.now) (rw c.new-input.ensures.inner at c.in-Err-answer_or_refuse.ensures.denied) (sym c.refuse.ensures ∙ one),
+  c.in-Ok.request.subcommand,
+  c.in-Ok.ensures.subcommand,
+  known_denied c.in-Ok.request.subcommand c.in-Err-answer_or_refuse.refusal.error (g.R.Read.remaining c.args.reader.now) (rw c.new-input.ensures.inner at c.in-Err-answer_or_refuse.ensures.err) (sym c.refuse.ensures ∙ one),
 )

@@ -1,7 +1,7 @@
 use Rattle.std.proofs.Common.{◌≡◌, ◌+◌}
 use Rattle.qolb_model.specs.declared.answer.PortState.TheVariants.{Queued}
 use Rattle.qolb_model.specs.Views.{Extends}
-use Rattle.shared_line.specs.Ports.{BelongsTo}
+use Rattle.line_generic.specs.Ports.{BelongsTo}
 use Rattle.qolb_c.specs.Nodes.{any_bytes, anything}
 use Rattle.qolb_c.proofs.node.poll_on.Given as goal
 
@@ -11,5 +11,5 @@ invariant-loop-look g l = record {
   state : l.port.view.state ≡ Queued;
   extends : Extends l.initial.port.view l.port.view;
   count : l.port.view.count ≡ l.initial.port.view.count;
-  looks : l.port.counters.poll_count + 1 ≡ l.initial.port.counters.poll_count + l._look;
+  poll_count : l.port.counters.poll_count + 1 ≡ l.initial.port.counters.poll_count + l._look;
 }

@@ -8,7 +8,7 @@ use Rattle.qolb_c.proofs.opening.new_nodes.Goals as goal
 
 pub loop-port-init : goal.loop-port-init
 loop-port-init g c = record {
-  belong = all_belong g.L.LineSync.belongs c.in_ok-line.line (arc_value c.in-Ok.line) c.in_ok-line.ports.items _ c.in-Ok.ensures.ok c.into_iter-port-iterator.ensures.into_iter_gives.0 c.in_ok-line.ensures.opens.belong;
+  each_belongs = all_belong g.L.LineSync.belongs c.in_ok-line.line (arc_value c.in-Ok.line) c.in_ok-line.ports.items _ c.in-Ok.ensures.ok c.into_iter-port-iterator.ensures.into_iter_gives.0 c.in_ok-line.ensures.opens.each_belongs;
   made =
       ap (λ (ns : List (NodeOf g.row.L.Denot g.row.L-Port.Denot)). ns ++ map (node_at (arc_value c.in-Ok.line)) (into_iter_items c.into_iter-port-iterator.result)) c.in-Ok-with_capacity.ensures.items;
 }
@@ -17,13 +17,13 @@ pub new-requires-in-loop-port : goal.new-requires-in-loop-port
 new-requires-in-loop-port g c =
     subst (λ (l : g.row.L.Denot). g.L.LineSync.belongs l c.in-Some.port) (sym c.in-Ok-try_clone.ensures)
     (All-head (g.L.LineSync.belongs (arc_value c.in-Ok.line)) c.in-Some.port (into_iter_items c.next.new.self)
-    (subst (λ (ps : List g.row.L-Port.Denot). All (g.L.LineSync.belongs (arc_value c.in-Ok.line)) ps) c.in-Some.ensures.steps.0 c.loop-port.invariant.belong))
+    (subst (λ (ps : List g.row.L-Port.Denot). All (g.L.LineSync.belongs (arc_value c.in-Ok.line)) ps) c.in-Some.ensures.steps.0 c.loop-port.invariant.each_belongs))
 
 pub loop-port-preserved : goal.loop-port-preserved
 loop-port-preserved g c = record {
-  belong =
+  each_belongs =
       All-rest (g.L.LineSync.belongs (arc_value c.in-Ok.line)) c.in-Some.port (into_iter_items c.next.new.self) (into_iter_items c.loop-port.port-iterator) c.in-Some.ensures.steps.0
-      c.loop-port.invariant.belong;
+      c.loop-port.invariant.each_belongs;
   made =
       made_more (arc_value c.in-Ok.line) c.loop-port.nodes.items c.push.new.self.items c.new-in-loop-port.result c.in-Some.port (into_iter_items c.loop-port.port-iterator) (into_iter_items c.next.new.self) _
       c.in-Ok-push.ensures.items (c.new-in-loop-port.ensures ∙ ap (λ (l : g.row.L.Denot). node_at l c.in-Some.port) c.in-Ok-try_clone.ensures) c.in-Some.ensures.steps.0 c.loop-port.invariant.made;

@@ -6,6 +6,6 @@ use Rattle.qolb_c.proofs.opening.new_nodes.Given as goal
 
 abbrev pub invariant-loop-port : goal.invariant-loop-port
 invariant-loop-port g l = record {
-  belong : All (λ port. g.L.LineSync.belongs (arc_value l.line) port) (into_iter_items l.port-iterator);
+  each_belongs : All (λ port. g.L.LineSync.belongs (arc_value l.line) port) (into_iter_items l.port-iterator);
   made : l.nodes.items ++ map (node_at (arc_value l.line)) (into_iter_items l.port-iterator) ≡ map (node_at (arc_value l.line)) (into_iter_items l.initial.port-iterator);
 }

@@ -1,15 +1,15 @@
 use Rattle.std.proofs.Common.{◌≡◌, ℕ, ◌≤◌, ◌+◌, ◌-◌, List, length, length-drop, take, take_all, drop, get_or, sym, ap, ◌∙◌, subst, arith, rules}
-use Rattle.qolb_model.specs.declared.terms.TheConstants.{MOST_NODES}
+use Rattle.qolb_model.specs.declared.config.TheConstants.{MAX_NODES}
 use Rattle.link_core.specs.declared.event.Event.{Event}
 use Rattle.link_core.specs.declared.event.Event.TheVariants.{Reset}
 use Rattle.link_core.specs.declared.state.State.{State}
 use Rattle.qolb_draw.proofs.Watching.{entry_count, node_there, nodes_kept, shapes_end, shapes_on, shapes_start}
 use Rattle.qolb_draw.proofs.steps.push_shapes.Goals as goal
 
-few : (n m k : ℕ) → n ≡ m → k ≡ m → k ≤ MOST_NODES → n ≤ MOST_NODES
+few : (n m k : ℕ) → n ≡ m → k ≡ m → k ≤ MAX_NODES → n ≤ MAX_NODES
 few n m k e f le = omega arith
 
--- what is left of a list behind a place
+-- the rest of a list behind a place
 rest_is : (events : List Event) (i : ℕ) → take (length events - (i + 1)) (drop (i + 1) events) ≡ drop (i + 1) events
 rest_is events i = take_all (length events - (i + 1)) (drop (i + 1) events) (omega (arith, length-drop (i + 1) events))
 

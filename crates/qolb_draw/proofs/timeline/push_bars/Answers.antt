@@ -1,6 +1,6 @@
 use Rattle.std.proofs.Common.{◌≡◌, ◌<◌, ℕ, ◌+◌, ◌-◌, ◌*◌, ◌∷◌, ◌++◌, length, sym, ap, ◌∙◌, subst, arith}
 use Rattle.std.proofs.lemmas.List.{get_or_default}
-use Rattle.qolb_draw.specs.declared.mark.Mark.TheVariants as mark
+use Rattle.qolb_draw.specs.declared.symbol.Symbol.TheVariants as symbol
 use Rattle.qolb_draw.specs.Grids.{bars_out_of, stands_out_of}
 use Rattle.qolb_draw.specs.Svg.{texts}
 use Rattle.qolb_draw.specs.Timelines.{stand_of}
@@ -22,7 +22,7 @@ loop-column-preserved g c =
     let there : c.loop-column.column * nodes + (c.args.node - 1) < length c.args.grid.now.marks.items = subst (λ (n : ℕ). c.loop-column.column * nodes + (c.args.node - 1) < n) (sym c.requires.size) (place_within _ _ _ _ below c.requires.first c.requires.last) in
     let now = stands_next nodes c.args.grid.now.marks.items c.args.node c.loop-column.column c.len-end.result lt
     ∙ ap (λ s. s ∷ stands_out_of nodes c.args.grid.now.marks.items c.args.node (c.loop-column.column + 1) (c.len-end.result - (c.loop-column.column + 1)))
-    (sym (c.of-next.ensures ∙ ap stand_of (c.index.ensures ∙ get_or_default _ _ _ mark.Idle there))) in
+    (sym (c.of-next.ensures ∙ ap stand_of (c.index.ensures ∙ get_or_default _ _ _ symbol.Idle there))) in
     elim c.if-differs.branch [
       | then-differs+in_ok-push_stand w ↦
           bars_are _ _ _ _ _ _ _ _ _ _ _ (bar_ends _ _ _ _ _ _ _ _ _ _ _ _ c.loop-column.invariant now (sym c.differs.ensures ∙ w.if-differs.true) (ap (λ v. v.items) w.svg-is ∙ w.in_ok-push_stand.ensures)) w.stand-is w.start-is

@@ -1,7 +1,7 @@
 use Rattle.std.proofs.Common.{◌≡◌, ◌≤◌, ◌++◌, ℕ, List, length, get_or, sym, ap, ◌∙◌, subst, arith}
 use Rattle.std.specs.Prelude.{codes}
 use Rattle.std.specs.List.{All, flat_map, range_with_len}
-use Rattle.qolb_model.specs.declared.terms.TheConstants.{MOST_NODES}
+use Rattle.qolb_model.specs.declared.config.TheConstants.{MAX_NODES}
 use Rattle.qolb_draw.specs.declared.event.Event.{Event}
 use Rattle.qolb_draw.specs.Grids.{row_shapes_out_of, shown_out_of}
 use Rattle.qolb_draw.specs.Svg.{line_begin, texts}
@@ -13,7 +13,7 @@ use Rattle.qolb_draw.proofs.timeline.push_timeline.Goals as goal
 pub push_rows-requires-clause-shown : goal.push_rows-requires-clause-shown
 push_rows-requires-clause-shown g c =
     let few = length-shown c.args.grid.now.nodes c.args.grid.now.callers.items in
-    subst (λ (xs : List ℕ). length xs ≤ MOST_NODES) (sym (c.deref.ensures.value ∙ c.in_ok-nodes.ensures)) (omega (arith, few, c.requires.nodes))
+    subst (λ (xs : List ℕ). length xs ≤ MAX_NODES) (sym (c.deref.ensures.value ∙ c.in_ok-nodes.ensures)) (omega (arith, few, c.requires.nodes))
 
 pub push_rows-requires-clause-nodes : goal.push_rows-requires-clause-nodes
 push_rows-requires-clause-nodes g c = subst (λ (xs : List ℕ). All (λ n. (1 ≤ n) × (n ≤ c.args.grid.now.nodes)) xs) (sym (c.deref.ensures.value ∙ c.in_ok-nodes.ensures)) (shown_within c.args.grid.now.nodes c.args.grid.now.callers.items)
@@ -21,7 +21,7 @@ push_rows-requires-clause-nodes g c = subst (λ (xs : List ℕ). All (λ n. (1 �
 pub push_columns-requires-clause-shown : goal.push_columns-requires-clause-shown
 push_columns-requires-clause-shown g c =
     let few = length-shown c.args.grid.now.nodes c.args.grid.now.callers.items in
-    subst (λ (xs : List ℕ). length xs ≤ MOST_NODES) (sym (c.deref-3.ensures.value ∙ c.in_ok-nodes.ensures)) (omega (arith, few, c.requires.nodes))
+    subst (λ (xs : List ℕ). length xs ≤ MAX_NODES) (sym (c.deref-3.ensures.value ∙ c.in_ok-nodes.ensures)) (omega (arith, few, c.requires.nodes))
 
 pub returns-clause-few : goal.returns-clause-few
 returns-clause-few g c =

@@ -2,8 +2,8 @@ use Rattle.std.proofs.Common.{◌≡◌, ◌≤◌, ◌+◌, length, false, is_e
 use Rattle.qolb_script.proofs.CommandLemmas.{placed_at-long, decoded, placed_at-fits}
 use Rattle.qolb_script.proofs.command_reader.placed_at.Goals as goal
 
-pub returns-then-len-gt-MOST_BYTES : goal.returns-then-len-gt-MOST_BYTES
-returns-then-len-gt-MOST_BYTES c = placed_at-long c.args.off c.args.hex.now (omega arith)
+pub returns-then-len-gt-MAX_BYTES : goal.returns-then-len-gt-MAX_BYTES
+returns-then-len-gt-MAX_BYTES c = placed_at-long c.args.off c.args.hex.now (omega arith)
 
 pub returns : goal.returns
 returns c =

@@ -5,12 +5,12 @@ use Rattle.std.proofs.lemmas.Iterator.{YieldsList-from_slice}
 use Rattle.std.proofs.lemmas.Iterator.Search.{all_from_yields_List}
 use Rattle.qolb_script.proofs.NumberLemmas.{all_digits, number_of-long, number_of-other, number_parsed, text_read, text_same}
 use Rattle.qolb_script.proofs.number.number.Goals as goal
-use Rattle.qolb_script.proofs.number.number.Goals.{After-ok, then-word-gt-MOST_DIGITS-via-then-word-gt-MOST_DIGITS, then-word-gt-MOST_DIGITS-via-else-word-gt-MOST_DIGITS+then-not-all}
+use Rattle.qolb_script.proofs.number.number.Goals.{After-ok, then-word-gt-MAX_DIGITS-via-then-word-gt-MAX_DIGITS, then-word-gt-MAX_DIGITS-via-else-word-gt-MAX_DIGITS+then-not-all}
 
-pub returns-then-word-gt-MOST_DIGITS : goal.returns-then-word-gt-MOST_DIGITS
-returns-then-word-gt-MOST_DIGITS c = elim c.then-word-gt-MOST_DIGITS.branch [
-  | then-word-gt-MOST_DIGITS-via-then-word-gt-MOST_DIGITS w ↦ number_of-long c.args.word.now (search rules)
-  | then-word-gt-MOST_DIGITS-via-else-word-gt-MOST_DIGITS+then-not-all w ↦ (
+pub returns-then-word-gt-MAX_DIGITS : goal.returns-then-word-gt-MAX_DIGITS
+returns-then-word-gt-MAX_DIGITS c = elim c.then-word-gt-MAX_DIGITS.branch [
+  | then-word-gt-MAX_DIGITS-via-then-word-gt-MAX_DIGITS w ↦ number_of-long c.args.word.now (search rules)
+  | then-word-gt-MAX_DIGITS-via-else-word-gt-MAX_DIGITS+then-not-all w ↦ (
       let all = all_from_yields_List is_ascii_digit _ _ w.all.result w.all.ensures.ran (YieldsList-from_slice c.args.word.now cc) (λ x b q k. search (rules, tests)) in
       let not_all : w.all.result ≡ false = search rules in
       number_of-other c.args.word.now (sym (all_digits c.args.word.now) ∙ sym all ∙ not_all))

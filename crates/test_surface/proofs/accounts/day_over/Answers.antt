@@ -1,4 +1,4 @@
-use Rattle.line_rows.proofs.NewPorts.{no_money}
+use Rattle.test_programs.proofs.NewPorts.{no_money}
 use Rattle.test_surface.proofs.accounts.day_over.Goals as goal
 
 pub open_zeros-requires : goal.open_zeros-requires

@@ -1,7 +1,7 @@
-use Rattle.std.proofs.Common.{rules, ℕ, subst, ◌∙◌, ◌≤◌}
-use Rattle.ticket_line.specs.Words.{withdrawn}
-use Rattle.qolb_model.specs.declared.terms.TheConstants.{MOST_NODES}
-use Rattle.array_line.specs.Steps.{entry_of}
+use Rattle.std.proofs.Common.{rules, subst, ◌∙◌, ◌≤◌}
+use Rattle.ticket_line.specs.Layout.{withdrawn}
+use Rattle.qolb_model.specs.declared.config.TheConstants.{MAX_NODES}
+use Rattle.line_tickets.specs.Steps.{ghost_of}
 use Rattle.ticket_line.proofs.Stepping.{ticket_rolls}
 use Rattle.ticket_line.proofs.steps.roll.Goals as goal
 
@@ -9,6 +9,6 @@ pub swap-found-requires : goal.swap-found-requires
 swap-found-requires g c = let own = c.requires.seat.1 in (
   search rules,
   search rules,
-  ticket_rolls g.K.Keep.good g.K.Keep.allows c.args.ground.now.key (entry_of c.args.seat.now) _ _ _ c.args.seat.now.me own.3 c.requires.ready.1 (λ i. (c.requires.ready.0 i, c.requires.slot i)) c.args.ticket c.requires.ticket c.cell_word.ensures.cell
-      c.withdrawn.result (subst (λ n. n ≤ MOST_NODES) own.0 own.1) (c.withdrawn.ensures ∙ (λ j. withdrawn (c.requires.ticket j) (own.0 j))),
+  ticket_rolls g.K.Keep.good g.K.Keep.allows c.args.table.now.key (ghost_of c.args.seat.now) _ _ _ c.args.seat.now.me own.3 c.requires.phase.1 (λ i. (c.requires.phase.0 i, c.requires.slot i)) c.args.ticket c.requires.ticket c.cell_word.ensures.cell
+      c.withdrawn.result (subst (λ n. n ≤ MAX_NODES) own.0 own.1) (c.withdrawn.ensures ∙ (λ j. withdrawn (c.requires.ticket j) (own.0 j))),
 )

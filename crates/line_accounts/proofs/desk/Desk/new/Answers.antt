@@ -11,4 +11,4 @@ returns-clause-over g c = λ lines over.
     let h = c.requires i port (slice_get_within _ _ _ at) in
     let is = get_or_from_slice_get c.args.ports.items i port port at in
     (ap may_ask (ap (λ p. (g.L.LineSync.view p).state) (sym is) ∙ h.0), ap (λ p. (g.L.LineSync.view p).count) (sym is) ∙ h.1))
-    (λ i line port at_line at_port. (g.met.L.LineSync.sound line port (over.belong i line port at_line at_port)).history)
+    (λ i line port at_line at_port. (g.met.L.LineSync.sound line port (over.each_belongs i line port at_line at_port)).history)

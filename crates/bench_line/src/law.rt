@@ -1,0 +1,17 @@
+//! The law of the benchmark's lines.
+ghost use Rattle.bench_line.specs.NonDecreasing.{Rises, rises_by_nothing};
+
+use qolb_model::Keep;
+
+/// The law that the first lane never falls.
+pub struct NonDecreasing;
+
+impl Keep for NonDecreasing {
+    ghost good = { λ _. Unit {0} };
+
+    ghost allows = { Rises };
+
+    ghost stays_good = { λ _ _ _ _. tt };
+
+    ghost allows_same = { λ bytes _. rises_by_nothing bytes };
+}

@@ -1,0 +1,298 @@
+//! Times a line, or puts it under stress.
+#![tactic(auto)]
+
+ghost use Rattle.std.specs.Prelude.{All, IsTrue};
+ghost use Rattle.qolb_model.specs.PortStates.{may_ask};
+
+mod enqueue;
+mod law;
+mod pace;
+mod rounds;
+mod run;
+mod stress;
+mod workers;
+
+use clap::{Arg, ArgAction, ArgMatches, Command};
+use enqueue::{AtOnce, EnqueueStrategy, OnList};
+use law::NonDecreasing;
+use line_kinds::{Lines, LinkLine, NAMES, RingLine, TicketLine};
+use line_lanes::lane;
+use pace::Pace;
+use qolb_model::{LineSync, OpenLine};
+use rounds::Rounds;
+use run::{RunError, open, run_task};
+use std::alloc::{AllocError, Global};
+use std::rt::Clock;
+use std::sync::Wait;
+use std::thread::Threads;
+use std::time::{Duration, Instant};
+use stress::Stress;
+
+/// The numbers of threads that are timed, and below those that are put under stress.
+static THREADS: [u64; 5] = [1, 2, 3, 4, 8];
+
+static STRESSED: [u64; 3] = [4, 8, 32];
+
+/// The rounds of each thread if `--rounds` is not given: enough to show that no addition is lost.
+const FEW_ROUNDS: u64 = 100;
+
+/// What the command line asks for.
+#[derive(Clone, Copy)]
+enum Wanted {
+    /// Runs a few rounds and prints the lane, to show that no addition is lost.
+    Sums,
+    /// Times this many rounds of each thread.
+    Times(u64),
+    /// Puts the line under stress for this many seconds.
+    Stress(u64),
+}
+
+/// The kind of line, and how a list's nodes ask under stress.
+#[derive(Clone, Copy)]
+enum Kind {
+    Ring,
+    /// A list. With `apart` its nodes ask by two calls.
+    List { apart: bool },
+    Ticket,
+}
+
+fn main(rt: HostRuntime) -> anyhow::Result<()> {
+    let alloc = rt.alloc();
+    let mut words = Vec::new(alloc);
+    for word in std::env::args(&rt)? {
+        words.push(word)?;
+    }
+    let matches = command(alloc)?.try_get_matches_from(words.as_slice())?;
+    let wanted = wanted_of(&matches);
+    let kind = kind_of(&matches);
+    if let Some(threads) = matches.get_one::<u64>("threads") {
+        return run_kind(&rt, alloc, kind, threads, wanted);
+    }
+    let counts = match wanted {
+        Wanted::Stress(_) => STRESSED.as_slice(),
+        _ => THREADS.as_slice(),
+    };
+    for &threads in counts {
+        run_kind(&rt, alloc, kind, threads, wanted)?;
+    }
+    Ok(())
+}
+
+/// The command line.
+fn command<'a>(alloc: Global) -> Result<Command<'a>, AllocError> {
+    let command = Command::new(alloc, "bench_line").about(
+        "Times rounds of ask, add 1 to a lane, release, by 1, 2, 3, 4 and 8 threads",
+    );
+    let command = with_number(
+        alloc,
+        command,
+        "rounds",
+        "ROUNDS",
+        "Rounds of each thread; with it times are printed",
+    )?;
+    let command = with_number(
+        alloc,
+        command,
+        "stress",
+        "SECONDS",
+        "Ask, withdraw and release at random for this time, and then close the line",
+    )?;
+    let command = with_kind(alloc, command)?;
+    let command = with_apart(alloc, command)?;
+    with_number(
+        alloc,
+        command,
+        "threads",
+        "THREADS",
+        "So many threads, and no others",
+    )
+}
+
+/// Adds an option that takes a number of at least 1.
+fn with_number<'a>(
+    alloc: Global,
+    command: Command<'a>,
+    name: &'a str,
+    value: &'a str,
+    help: &'a str,
+) -> Result<Command<'a>, AllocError> {
+    let number = Arg::new(alloc, name)
+        .long(name)
+        .value_name(value)
+        .help(help)
+        .value_parser(clap::value_parser!(u64).range(1..));
+    command.arg(number)
+}
+
+/// Adds the option that names the kind of line.
+fn with_kind<'a>(alloc: Global, command: Command<'a>) -> Result<Command<'a>, AllocError> {
+    let kind = Arg::new(alloc, "kind")
+        .long("kind")
+        .value_name("KIND")
+        .help("The kind of line: a ring, where the words name none, a list, or a ticket line")
+        .value_parser(NAMES.as_slice());
+    command.arg(kind)
+}
+
+/// Adds the option to ask by two calls.
+fn with_apart<'a>(alloc: Global, command: Command<'a>) -> Result<Command<'a>, AllocError> {
+    let apart = Arg::new(alloc, "apart")
+        .long("apart")
+        .help("Under stress on a list, ask by two calls with a pause at random between them")
+        .action(ArgAction::SetTrue)
+        .requires_arg("stress")?;
+    command.arg(apart)
+}
+
+/// What the command line asks for.
+fn wanted_of(matches: &ArgMatches) -> Wanted {
+    match (
+        matches.get_one::<u64>("stress"),
+        matches.get_one::<u64>("rounds"),
+    ) {
+        (Some(seconds), _) => Wanted::Stress(seconds),
+        (None, Some(rounds)) => Wanted::Times(rounds),
+        (None, None) => Wanted::Sums,
+    }
+}
+
+/// The kind of line; a ring if `--kind` is not given.
+fn kind_of(matches: &ArgMatches) -> Kind {
+    if matches.get_flag("apart") {
+        return Kind::List { apart: true };
+    }
+    match matches.get_str("kind").and_then(Lines::named) {
+        Some(Lines::Link) => Kind::List { apart: false },
+        Some(Lines::Ticket) => Kind::Ticket,
+        Some(Lines::Ring) | None => Kind::Ring,
+    }
+}
+
+/// Runs what the command line asks for, on a line of this kind.
+///
+/// Each lock is named once in the program, here, because the prover takes long for each naming.
+fn run_kind<R: Threads + Wait + Clock + Print + Sync>(
+    rt: &R,
+    alloc: Global,
+    kind: Kind,
+    threads: u64,
+    wanted: Wanted,
+) -> anyhow::Result<()> {
+    match kind {
+        Kind::Ring => bench::<R, AtOnce, RingLine<NonDecreasing>>(
+            rt, alloc, AtOnce, threads, wanted,
+        ),
+        Kind::List { apart } => {
+            bench::<R, OnList, LinkLine<NonDecreasing>>(
+                rt,
+                alloc,
+                OnList::new(apart),
+                threads,
+                wanted,
+            )
+        }
+        Kind::Ticket => bench::<R, AtOnce, TicketLine<NonDecreasing>>(
+            rt, alloc, AtOnce, threads, wanted,
+        ),
+    }
+}
+
+/// Opens a line of `threads` nodes, and runs what is asked for on it.
+fn bench<
+    R: Threads + Wait + Clock + Print + Sync,
+    A: EnqueueStrategy<L> + Sync + Drop,
+    L: OpenLine<NonDecreasing> + Sync + Drop,
+>(rt: &R, alloc: Global, asking: A, threads: u64, wanted: Wanted) -> anyhow::Result<()>
+where
+    L::Port: Send + Drop,
+{
+    let (line, ports) = open::<L>(alloc, threads)?;
+    match wanted {
+        Wanted::Sums => show(rt, alloc, line, ports, threads),
+        Wanted::Times(rounds) => measure(rt, alloc, line, ports, threads, rounds),
+        Wanted::Stress(seconds) => {
+            put_under_stress(rt, alloc, line, ports, asking, threads, seconds)
+        }
+    }
+}
+
+/// Runs a few rounds, and prints the first lane.
+fn show<R: Threads + Wait + Clock + Print + Sync, L: LineSync<NonDecreasing> + Sync + Drop>(
+    rt: &R,
+    alloc: Global,
+    line: L,
+    ports: Vec<L::Port>,
+    threads: u64,
+) -> anyhow::Result<()>
+where
+    L::Port: Send + Drop,
+    requires ports { All (λ port. L.belongs line port) ports.items }
+    requires state { All (λ port. IsTrue (may_ask (L.view port).state)) ports.items }
+{
+    let task = Rounds { rounds: FEW_ROUNDS };
+    let last = run_task(rt, alloc, line, ports, &task)?;
+    println!(rt; "threads {threads} lane sum {}", lane(&last, 0))?;
+    Ok(())
+}
+
+/// Runs and prints the time of `rounds` rounds.
+fn measure<R: Threads + Wait + Clock + Print + Sync, L: LineSync<NonDecreasing> + Sync + Drop>(
+    rt: &R,
+    alloc: Global,
+    line: L,
+    ports: Vec<L::Port>,
+    threads: u64,
+    rounds: u64,
+) -> anyhow::Result<()>
+where
+    L::Port: Send + Drop,
+    requires ports { All (λ port. L.belongs line port) ports.items }
+    requires state { All (λ port. IsTrue (may_ask (L.view port).state)) ports.items }
+{
+    let start = Instant::now(rt)?;
+    let last = run_task(rt, alloc, line, ports, &Rounds { rounds })?;
+    let pace = Pace::of(threads, rounds, start.elapsed(rt)?);
+    println!(rt;
+        "threads {threads} rounds {} lane sum {} ns a round {}.{} rounds a second {}",
+        pace.rounds,
+        lane(&last, 0),
+        pace.tenths / 10,
+        pace.tenths % 10,
+        pace.each_second
+    )?;
+    Ok(())
+}
+
+/// Puts the line under stress, and prints what the nodes did and how many additions were lost, which is an error.
+fn put_under_stress<
+    R: Threads + Wait + Clock + Print + Sync,
+    L: LineSync<NonDecreasing> + Sync + Drop,
+    A: EnqueueStrategy<L> + Sync + Drop,
+>(
+    rt: &R,
+    alloc: Global,
+    line: L,
+    ports: Vec<L::Port>,
+    asking: A,
+    threads: u64,
+    seconds: u64,
+) -> anyhow::Result<()>
+where
+    L::Port: Send + Drop,
+    requires ports { All (λ port. L.belongs line port) ports.items }
+    requires state { All (λ port. IsTrue (may_ask (L.view port).state)) ports.items }
+{
+    let task = Stress::new(asking, Instant::now(rt)?, Duration::from_secs(seconds));
+    let last = run_task(rt, alloc, line, ports, &task)?;
+    let counts = task.counts();
+    let late = task.asking().late_links();
+    let lost = counts.lost(lane(&last, 0));
+    println!(rt;
+        "threads {threads} rounds {} grants {} withdrawals {} busy {} late links {late} told {} lost {lost}",
+        counts.rounds, counts.grants, counts.withdrawals, counts.busy, counts.told
+    )?;
+    if lost > 0 {
+        return Err(RunError::Lost(lost).into());
+    }
+    Ok(())
+}

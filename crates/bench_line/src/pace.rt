@@ -1,0 +1,31 @@
+//! The speed of rounds.
+ghost use Rattle.std.specs.Prelude.{◌≡◌, ◌*◌, ◌-◌, ◌/◌, ◌^◌, max, min};
+ghost use Rattle.std.specs.Duration.{as_nanos};
+
+use std::time::Duration;
+
+/// The number of rounds, and their speed. Figures are rounded down.
+#[derive(Clone, Copy)]
+pub struct Pace {
+    pub rounds: u128,
+    /// Tenths of a nanosecond a round.
+    pub tenths: u128,
+    pub each_second: u128,
+}
+
+impl Pace {
+    /// The speed of `rounds` rounds by each of `threads` threads in `time`.
+    pub fn of(threads: u64, rounds: u64, time: Duration) -> Pace
+        ensures rounds { result.rounds ≡ threads * rounds }
+        ensures tenths { result.tenths ≡ as_nanos time * 10 / max result.rounds 1 }
+        ensures each_second { result.each_second ≡ min (result.rounds * 1_000_000_000) (2 ^ 128 - 1) / max (as_nanos time) 1 }
+    {
+        let all = u128::from(threads) * u128::from(rounds);
+        let nanos = time.as_nanos();
+        Pace {
+            rounds: all,
+            tenths: nanos * 10 / all.max(1),
+            each_second: all.saturating_mul(1_000_000_000) / nanos.max(1),
+        }
+    }
+}

@@ -1,0 +1,137 @@
+//! Compares the output of a script with the stored answer.
+ghost use Rattle.std.specs.Prelude.{◌≡◌, ◌↔◌, IsOk};
+
+use anyhow::{bail, ensure};
+use qolb_run::{AlwaysOpen, Kind, Lines, WaitMode, report_work, run_schedule, run_steps};
+use qolb_script::{Watched, WorkKind};
+use std::alloc::Global;
+use std::sync::Wait;
+use std::thread::Threads;
+
+/// The form of a script.
+#[derive(Clone, Copy)]
+pub enum Form {
+    /// A schedule. Lines of each kind give the same answers.
+    Schedule,
+    /// A step script.
+    Steps,
+    /// A work script whose report is the same in every schedule, over lines of each kind.
+    Work(WorkKind),
+}
+
+/// The kinds of line that run a schedule.
+static KINDS: [Kind; 4] = [Kind::Plain, Kind::Ring, Kind::Link, Kind::Ticket];
+
+/// The kinds that workers share.
+static LINES: [Lines; 3] = [Lines::Ring, Lines::Link, Lines::Ticket];
+
+/// Runs the script in each way that there is for it, and compares.
+///
+/// # Errors
+///
+/// The output differs from the answer, or the script is refused.
+pub fn compare<R: Threads + Wait + Sync>(
+    rt: &R,
+    alloc: Global,
+    form: Form,
+    script: &[u8],
+    wanted: &[u8],
+) -> anyhow::Result<()> {
+    match form {
+        Form::Schedule => {
+            for kind in KINDS {
+                let said = replay(alloc, script, kind)?;
+                expect(said.as_slice(), wanted)?;
+            }
+        }
+        Form::Steps => {
+            let said = steps(alloc, script)?;
+            expect(said.as_slice(), wanted)?;
+        }
+        Form::Work(kind) => {
+            for lines in LINES {
+                let said = report(rt, alloc, script, kind, lines)?;
+                expect(said.as_slice(), wanted)?;
+            }
+        }
+    }
+    Ok(())
+}
+
+/// Returns an error if `said` is not `wanted`.
+fn expect(said: &[u8], wanted: &[u8]) -> anyhow::Result<()>
+    ensures { IsOk result ↔ (said.now ≡ wanted.now) }
+{
+    ensure!(said == wanted, "it is answered otherwise");
+    Ok(())
+}
+
+/// The output of the schedule over lines of the kind.
+fn replay(alloc: Global, script: &[u8], kind: Kind) -> anyhow::Result<Vec<u8>> {
+    let mut said = Vec::new(alloc);
+    let done = run_schedule(
+        alloc,
+        &mut Watched::new(script),
+        &mut Watched::new(&mut said),
+        kind,
+    );
+    match done {
+        Ok(()) => Ok(said),
+        Err(why) => bail!("it is refused: {why}"),
+    }
+}
+
+/// The output of the step script.
+fn steps(alloc: Global, script: &[u8]) -> anyhow::Result<Vec<u8>> {
+    let mut said = Vec::new(alloc);
+    let done = run_steps(
+        alloc,
+        &mut Watched::new(script),
+        &mut Watched::new(&mut said),
+    );
+    match done {
+        Ok(()) => Ok(said),
+        Err(why) => bail!("it is refused: {why}"),
+    }
+}
+
+/// The report of the work over lines of the kind.
+fn report<R: Threads + Wait + Sync>(
+    rt: &R,
+    alloc: Global,
+    script: &[u8],
+    kind: WorkKind,
+    lines: Lines,
+) -> anyhow::Result<Vec<u8>> {
+    let mut said = Vec::new(alloc);
+    let done = report_work(
+        rt,
+        alloc,
+        &AlwaysOpen,
+        &mut Watched::new(script),
+        &mut Watched::new(&mut said),
+        kind,
+        lines,
+        WaitMode::Awake,
+    );
+    match done {
+        Ok(()) => Ok(said),
+        Err(why) => bail!("it is refused: {why}"),
+    }
+}
+
+#[cfg(test)]
+mod tests {
+    use super::*;
+
+    #[test]
+    fn another_answer_is_an_error(rt: HostRuntime) {
+        let alloc = rt.alloc();
+        let script = b"nodes 1 lines 1\nenq 1 0\n";
+        let right = b"granted\nline 0 served 0 withdrawn 0 told 0 left 1\n";
+        let wrong = b"queued\nline 0 served 0 withdrawn 0 told 0 left 1\n";
+        assert!(rt; compare(&rt, alloc, Form::Schedule, script, right).is_ok());
+        assert!(rt; compare(&rt, alloc, Form::Schedule, script, wrong).is_err());
+        assert!(rt; compare(&rt, alloc, Form::Steps, script, right).is_err());
+    }
+}

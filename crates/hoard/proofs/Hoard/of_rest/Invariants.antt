@@ -1,8 +1,0 @@
-use Rattle.std.proofs.Common.{◌≤◌, length}
-use Rattle.hoard.proofs.Hoard.of_rest.Given as goal
-
-abbrev pub invariant-loop-power : goal.invariant-loop-power
-invariant-loop-power l = length l.hoard.blocks.items ≤ l.most
-
-abbrev pub invariant-loop-grains : goal.invariant-loop-grains
-invariant-loop-grains l = length l.hoard.blocks.items ≤ l.most

@@ -1,0 +1,6 @@
+-- A property of each element of a list at its place. (Of this project.)
+use Rattle.std.specs.Prelude.{ℕ, ◌<◌, List, length, slice_index_or}
+
+-- P holds of each place, counted from 0, and the element at that place
+abbrev pub AllAt : {X : Type 0} → (ℕ → X → Type 0) → List X → Type 0
+AllAt {X} P xs = (place : ℕ) (d : X) → place < length xs → P place (slice_index_or xs place d)

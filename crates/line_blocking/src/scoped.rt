@@ -1,0 +1,112 @@
+//! Scoped threads that share a value, each with an owned part.
+ghost use Rattle.std.specs.Prelude.{◌≡◌, ◌+◌, ◌^◌, ◌<◌, ℕ, IfSome, vec_len};
+ghost use Rattle.std.specs.Thread.{IsSync, IsSend};
+ghost use Rattle.line_blocking.specs.Places.{AllAt};
+
+use std::alloc::Global;
+use std::marker::PhantomData;
+use std::snapshot::Snapshot;
+use std::sync::Wait;
+use std::thread;
+use std::thread::{Promise, PromisedHandle, Threads, join_promised};
+
+/// The work of each thread of `run_scoped`: what it takes, does and returns.
+pub trait ScopedTask<R: Wait, S, P> {
+    /// What the work of one thread returns.
+    type Output;
+
+    /// `pre task shared place part`: the part fits the task, the shared value, and its place.
+    ghost pre: { Self → S → ℕ → P → Type 0 };
+
+    /// `post task shared place output`: the work on the part at this place may return `output`.
+    ghost post: { Self → S → ℕ → Self.Output → Type 0 };
+
+    /// Does the work of one thread on `part`. Places are counted from 0, and there are fewer than 2^64.
+    fn work(&self, rt: &R, shared: &S, place: usize, part: P) -> Self::Output
+        requires pre { pre self.now shared.now place part }
+        requires place { place + 1 < 2 ^ 64 }
+        ensures { post self.now shared.now place result };
+}
+
+/// The promise of one thread: it returns what `post` allows at its place.
+struct Done<R, S, P, W> {
+    work: Snapshot<W>,
+    shared: Snapshot<S>,
+    place: usize,
+    of: PhantomData<(R, P)>,
+}
+
+impl<R, S, P, W> Drop for Done<R, S, P, W> {
+    fn drop(self) {
+        let Self {
+            work: _,
+            shared: _,
+            place: _,
+            of: _,
+        } = self;
+    }
+}
+
+impl<R: Wait, S, P, W: ScopedTask<R, S, P>> Promise<W::Output> for Done<R, S, P, W> {
+    ghost kept_by = { λ promise back. W.post promise.work.value promise.shared.value promise.place back };
+}
+
+/// Runs a thread for each part, joins them all, and returns their outputs. The outputs are in the order of the parts. Allocates a list of
+/// handles, and blocks until all threads have ended.
+///
+/// Returns `None` if memory or a thread was refused; all threads that were started have ended then.
+pub fn run_scoped<R: Threads + Wait + Sync, S: Sync, P: Send + Drop, W: ScopedTask<R, S, P> + Sync>(
+    rt: &R,
+    alloc: Global,
+    work: &W,
+    shared: &S,
+    parts: Vec<P>,
+) -> Option<Vec<W::Output>>
+where
+    W::Output: Send + Drop,
+    requires fit { AllAt (W.pre work.now shared.now) parts.items }
+    ensures len { IfSome result (λ back. vec_len back ≡ vec_len parts) }
+    ensures post { IfSome result (λ all. AllAt (W.post work.now shared.now) all.items) }
+{
+    thread::scope(
+        thread::scope_env(),
+        rt,
+        |scope| -> Option<Vec<W::Output>>
+            requires shared { IsSync S.row }
+            requires work { IsSync W.row }
+            requires part { IsSend P.row }
+            requires back { IsSend W.Output.row }
+            requires fit { AllAt (W.pre work.now shared.now) parts.items }
+            ensures len { IfSome result (λ back. vec_len back ≡ vec_len parts) }
+            ensures post { IfSome result (λ all. AllAt (W.post work.entry.now shared.entry.now) all.items) }
+        {
+            let mut handles: Vec<PromisedHandle<W::Output, Done<R, S, P, W>>> = Vec::with_capacity(
+                alloc,
+                parts.len(),
+            ).ok()?;
+            for part in parts {
+                let place = handles.len();
+                let promise = Done {
+                    work: Snapshot::of(work),
+                    shared: Snapshot::of(shared),
+                    place,
+                    of: PhantomData,
+                };
+                let Ok(handle) = scope.spawn_with(
+                    promise,
+                    move || -> W::Output
+                        requires pre { W.pre work.now shared.now place part }
+                        requires place { place + 1 < 2 ^ 64 }
+                        ensures { W.post work.entry.now shared.entry.now place result }
+                    { work.work(rt, shared, place, part) },
+                ) else {
+                    return None;
+                };
+                if handles.push(handle).is_err() {
+                    return None;
+                }
+            }
+            join_promised(rt, handles).ok()
+        },
+    )
+}

@@ -1,0 +1,98 @@
+//! Waiting for a line until it is granted or closed, by polls with pauses.
+ghost use Rattle.std.specs.Prelude.{◌≡◌, IsTrue};
+ghost use Rattle.qolb_model.specs.PortStates.{may_ask};
+ghost use Rattle.qolb_model.specs.Sound.{Continues};
+ghost use Rattle.qolb_model.specs.AtTurn.{IsGranted};
+ghost use Rattle.qolb_model.specs.Releasing.{IsTold};
+ghost use Rattle.line_blocking.specs.Acquiring.{Acquires, ComesSoon};
+
+use crossbeam_utils::Backoff;
+use qolb_model::{Enq, Keep, LineSync, Poll, PortState};
+use std::sync::Wait;
+use std::thread::yield_now;
+
+/// How many polls a waiter makes with a single pause behind each, before it yields its processor between polls.
+pub(crate) const SPIN_LIMIT: u32 = 64;
+
+/// How a wait without a time limit ended.
+#[derive(Clone, Copy, Debug, PartialEq, Eq)]
+pub enum Got {
+    /// The node holds the line.
+    Granted,
+    /// The line is closed, and the node was told.
+    Closed,
+}
+
+/// The pauses that a waiter makes between two polls.
+#[derive(Drop)]
+struct Pauses {
+    short: u32,
+}
+
+impl Pauses {
+    fn new() -> Pauses {
+        Pauses { short: SPIN_LIMIT }
+    }
+
+    /// Pauses: `SPIN_LIMIT` times by one pause of the processor, then by a yield to other threads.
+    fn pause(&mut self) {
+        if self.short > 0 {
+            self.short -= 1;
+            short_pause();
+        } else {
+            yield_now();
+        }
+    }
+}
+
+/// Makes a single pause of the processor.
+pub(crate) fn short_pause() {
+    // A fresh backoff pauses once; one that is kept pauses twice as long each time, which costs a third of the speed.
+    Backoff::new().spin();
+}
+
+/// Acquires the line: asks until the port is not busy, then polls until the request ends. Blocks: between two polls the caller pauses, and
+/// after `SPIN_LIMIT` pauses yields its processor. Does not allocate.
+///
+/// Returns `Granted` if the port holds the line, `Closed` if the line is closed.
+pub fn acquire<R: Wait, K: Keep, L: LineSync<K>>(rt: &R, line: &L, port: &mut L::Port) -> Got
+    requires belongs { L.belongs line.now port.old }
+    requires state { IsTrue (may_ask (L.view port.old).state) }
+    ensures belongs { L.belongs line.now port.new }
+    ensures acquires { Acquires K.allows (L.view port.old) (L.view port.new) (L.turn port.new) result }
+    ensures soon { result ≡ Got.Granted → ComesSoon L.view L.counters port.old port.new }
+{
+    let mut pauses = Pauses::new();
+    for _ in rt.forever() {
+        match line.enqolb(port) {
+            Enq::Granted => return Got::Granted,
+            Enq::Closed => return Got::Closed,
+            Enq::Queued => return wait(rt, line, port),
+            Enq::Busy => pauses.pause(),
+        }
+    }
+    unreachable!()
+}
+
+/// Polls until the request is granted or told. This is the wait of `acquire`, for a port that has asked already.
+///
+/// Returns `Granted` if the port holds the line, `Closed` if the line is closed.
+pub fn wait<R: Wait, K: Keep, L: LineSync<K>>(rt: &R, line: &L, port: &mut L::Port) -> Got
+    requires belongs { L.belongs line.now port.old }
+    requires state { (L.view port.old).state ≡ PortState.Queued }
+    ensures belongs { L.belongs line.now port.new }
+    ensures continues { Continues K.allows (L.view port.old) (L.view port.new) }
+    ensures count { (L.view port.new).count ≡ (L.view port.old).count }
+    ensures granted { result ≡ Got.Granted → IsGranted (L.view port.new) (L.turn port.new) }
+    ensures told { result ≡ Got.Closed → IsTold (L.view port.new) }
+{
+    let mut pauses = Pauses::new();
+    for _ in rt.forever() {
+        match line.poll(port) {
+            Poll::Granted => return Got::Granted,
+            Poll::Closed => return Got::Closed,
+            Poll::Waiting => pauses.pause(),
+        }
+    }
+    unreachable!()
+}

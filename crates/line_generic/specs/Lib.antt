@@ -1,0 +1,11 @@
+pub mod Entries
+pub mod Slots
+pub mod PortPhases
+pub mod Steps
+pub mod Ports
+pub mod Answers
+pub mod Finish
+pub mod AtTurn
+pub mod Laws
+pub mod Calls
+pub mod PortCalls

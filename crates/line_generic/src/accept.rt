@@ -1,0 +1,80 @@
+//! Accepts a line that has reached its turn.
+ghost use Rattle.std.specs.Prelude.{◌≡◌, ◌≢◌, ℕ, ◌+◌, ◌-◌, ◌≤◌};
+ghost use Rattle.qolb_model.specs.Calls.{IsGrantedOrTold};
+ghost use Rattle.line_generic.specs.Steps.{ghost_of, SeatAdvances};
+ghost use Rattle.line_generic.specs.Ports.{write_in, IsPort, IsSeated};
+ghost use Rattle.line_generic.specs.Answers.{HasGrant};
+ghost use Rattle.line_generic.specs.Calls.{IsForwarder, HasForwarded};
+ghost use Rattle.line_generic.specs.AtTurn.{Names};
+
+use crate::discipline::{Discipline, Released};
+use crate::line::Line;
+use crate::table::{LineSeat, LocalCopy, SharedTable};
+use crate::wake::WakePolicy;
+use qolb_model::{Keep, PortState};
+
+impl<K: Keep, Q: Discipline<K>, W: WakePolicy> Line<K, Q, W> {
+    /// Accepts the line at the request's turn: copies it to `payload`, or forwards it if it is closed.
+    ///
+    /// An open line leaves the port `Holding`, costs no word step and returns `granted`. A closed line is forwarded at once, its steps are
+    /// added to `steps`, and `closed` is returned.
+    #[inline(always)]
+    pub(crate) fn accept<A: Copy>(
+        &self,
+        seat: &mut LineSeat<Q::Local>,
+        payload: &mut LocalCopy,
+        state: &mut PortState,
+        steps: &mut u64,
+        note: &mut W::Note,
+        node: u64,
+        token: u64,
+        granted: A,
+        closed: A,
+    ) -> A
+        requires seat { IsSeated K.good K.allows self.now.table.shared.key self.now.table.shared.table_id Q.phases.initial node seat.old }
+        requires at_turn { HasGrant Q.phases self.now.table.shared.key.config.nodes token seat.old }
+        requires few { steps.old ≤ 4 }
+        ensures seat { IsSeated K.good K.allows self.now.table.shared.key self.now.table.shared.table_id Q.phases.initial node seat.new }
+        ensures port { (label : ℕ) → (ghost_of Q.phases.initial seat.old).view.label ≡ label → IsPort Q.phases label node seat.new payload.new token state.new }
+        ensures more { steps.old ≤ steps.new }
+        ensures advances { SeatAdvances K.allows Q.phases.initial seat.old seat.new (steps.new - steps.old) }
+        ensures count { (ghost_of Q.phases.initial seat.new).view.count ≡ (ghost_of Q.phases.initial seat.old).view.count }
+        ensures at_turn { IsGrantedOrTold granted closed result (ghost_of Q.phases.initial seat.new).view (write_in payload.new) }
+        ensures steps { result ≢ closed → steps.new ≡ steps.old }
+        ensures bound { steps.new + 1 ≤ steps.old + Q.max_steps self.now.table.shared.key.config.nodes }
+        ensures went_to { granted ≢ closed → result ≡ closed → Names (Q.turn_word (ghost_of Q.phases.initial seat.new).view) (W.went_to note.new) }
+    {
+        let table = &self.table.shared;
+        let size = self.width.size;
+        Q::take(table, seat, size, token, payload);
+        if !payload.closed {
+            *state = PortState::Holding;
+            return granted;
+        }
+        let Released {
+            state: left,
+            steps: more,
+            unpark,
+        } = forward_closed(table, seat, size, node, token);
+        *state = left;
+        *steps += more;
+        self.wake(note, unpark);
+        closed
+    }
+}
+
+/// Forwards a closed line to the successor. Cold and not inlined, as most turns are of an open line.
+#[cold]
+#[inline(never)]
+fn forward_closed<K: Keep, Q: Discipline<K>>(
+    table: &SharedTable<K, Q>,
+    seat: &mut LineSeat<Q::Local>,
+    size: u64,
+    node: u64,
+    token: u64,
+) -> Released
+    requires { IsForwarder Q.phases Q.word_count Q.size_for table.now size node token seat.old }
+    ensures { HasForwarded Q.DisciplineSpec Q.word_count table.now K.allows seat.old seat.new result }
+{
+    Q::release(table, seat, size, node, token, true)
+}

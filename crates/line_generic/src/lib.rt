@@ -1,0 +1,28 @@
+//! A queue lock over atomic words, generic over its queue discipline: what all locks share.
+#![tactic(auto)]
+
+mod accept;
+mod calls;
+mod discipline;
+mod elsewhere;
+mod finish;
+mod line;
+mod meeting;
+mod open;
+mod plays;
+mod port;
+mod single_slot;
+mod split_enqueue;
+mod table;
+mod wake;
+
+pub use discipline::{
+    Discipline, DisciplineInvariant, DisciplineSpec, EnqueueResult, Enqueued, Released, Rested,
+    SplitEnqueue,
+};
+pub use elsewhere::{NO_WORD, SleepersElsewhere, WentTo};
+pub use line::{Line, TableWidth};
+pub use port::Port;
+pub use single_slot::{load_from_slot, store_to_slot, take_from_closed};
+pub use table::{LineSeat, LineTable, LocalCopy, NodeGhost, Payload, Rule, SharedTable, TableKey};
+pub use wake::{Parking, SpinOnly, UnparkHandle, WakePolicy};

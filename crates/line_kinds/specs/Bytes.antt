@@ -1,0 +1,27 @@
+-- The memory of a line's table.
+use Rattle.std.specs.Prelude.{ℕ, ◌+◌, ◌*◌}
+use Rattle.line_tickets.specs.Counting.{cells_for}
+use Rattle.ring_line.specs.Layout as ring
+use Rattle.link_line.specs.Layout as link
+use Rattle.ticket_line.specs.Layout as ticket
+use Rattle.ticket_line.specs.Slots as slots
+use Rattle.line_kinds.specs.declared.Lines.{Lines}
+use Rattle.line_kinds.specs.declared.Lines.TheVariants as lines
+
+-- the numbers of words and slots of the table of a line of n nodes, as its lock says
+abbrev pub words_of : Lines → ℕ → ℕ
+words_of lines.Ring nodes = ring.word_count
+words_of lines.Link nodes = link.word_count nodes
+words_of lines.Ticket nodes = ticket.word_count nodes
+
+abbrev pub slots_of : Lines → ℕ → ℕ
+slots_of lines.Ring nodes = 1
+slots_of lines.Link nodes = 1
+slots_of lines.Ticket nodes = slots.slot_count nodes
+
+-- the number of bytes of these together: for 2 nodes 32,896 in a ring, 512 in a list, 1,024 in a ticket line; for 200 nodes as many in a
+-- ring, 25,856 in a list, 65,536 in a ticket line
+abbrev pub bytes_of : Lines → ℕ → ℕ
+bytes_of lines.Ring nodes = 32896
+bytes_of lines.Link nodes = 128 * (nodes + 2)
+bytes_of lines.Ticket nodes = 256 * cells_for nodes

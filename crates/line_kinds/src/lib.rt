@@ -1,0 +1,83 @@
+//! The locks by name: the one place where a lock is registered.
+#![tactic(auto)]
+
+ghost use Rattle.std.specs.Prelude.{◌≡◌, ◌+◌, ◌*◌};
+ghost use Rattle.qolb_model.specs.Opening.{AreNodes};
+ghost use Rattle.line_kinds.specs.Names.{lock_named};
+ghost use Rattle.line_kinds.specs.Bytes.{words_of, slots_of, bytes_of};
+
+use line_generic::Payload;
+use line_tickets::{CELLS, cell_count, word_count};
+pub use link_line::LinkLine;
+pub use ring_line::RingLine;
+pub use ticket_line::TicketLine;
+
+/// The kind of lock that shares a line.
+#[derive(Clone, Copy, Debug, PartialEq, Eq)]
+pub enum Lines {
+    /// Rings: an array queue of tickets and cells.
+    Ring,
+    /// Lists: a home word and reversed links.
+    Link,
+    /// Ticket lines: tickets, and cells that are granted by a number.
+    Ticket,
+}
+
+/// The number of bytes of a word of a table.
+const WORD: u64 = size_of::<u64>() as u64;
+
+/// The number of bytes of a slot of a table.
+const SLOT: u64 = size_of::<Payload>() as u64;
+
+/// All locks.
+pub static ALL: [Lines; 3] = [Lines::Ring, Lines::Link, Lines::Ticket];
+
+/// The locks' names on command lines, in the order of `ALL`.
+pub static NAMES: [&str; 3] = ["ring", "link", "ticket"];
+
+impl Lines {
+    /// Returns the lock of this name, if there is one.
+    pub fn named(name: &str) -> Option<Lines>
+        ensures { result ≡ lock_named name.now }
+    {
+        match name {
+            "ring" => Some(Lines::Ring),
+            "link" => Some(Lines::Link),
+            "ticket" => Some(Lines::Ticket),
+            _ => None,
+        }
+    }
+
+    /// Returns the number of bytes of a table for `nodes` nodes: its words and its slots.
+    ///
+    /// A port takes 136 more. Opening takes the table's bytes twice for a moment.
+    pub fn bytes_for(self, nodes: u64) -> u64
+        requires { AreNodes nodes }
+        ensures bytes { result ≡ bytes_of self nodes }
+        ensures parts { result ≡ WORD * words_of self nodes + SLOT * slots_of self nodes }
+    {
+        match self {
+            Lines::Ring => WORD * word_count(CELLS) as u64 + SLOT,
+            Lines::Link => WORD * link_line::word_count(nodes) as u64 + SLOT,
+            Lines::Ticket => {
+                let cells = cell_count(nodes);
+                WORD * word_count(cells) as u64 + SLOT * cells
+            }
+        }
+    }
+}
+
+/// Calls a generic function with a kind's line types, one for each law.
+///
+/// The line types are its last type parameters: `for_kind!(lines, f, [R], [Free], (a, b))` is `f::<R, RingLine<Free>>(a, b)` if `lines` is
+/// `Ring`.
+#[macro_export]
+macro_rules! for_kind {
+    ($lines:expr, $work:ident, [$($other:ty),*], [$($law:ty),*], $given:tt) => {
+        match $lines {
+            $crate::Lines::Ring => $work::<$($other,)* $($crate::RingLine<$law>),*> $given,
+            $crate::Lines::Link => $work::<$($other,)* $($crate::LinkLine<$law>),*> $given,
+            $crate::Lines::Ticket => $work::<$($other,)* $($crate::TicketLine<$law>),*> $given,
+        }
+    };
+}

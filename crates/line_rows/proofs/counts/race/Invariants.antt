@@ -1,5 +1,0 @@
-use Rattle.line_rows.specs.Ports.{MayAskFor}
-use Rattle.line_rows.proofs.counts.race.Given as goal
-
-abbrev pub invariant-loop : goal.invariant-loop
-invariant-loop g l = MayAskFor g.L.LineSync.belongs g.L.LineSync.view l.line l.one × MayAskFor g.L.LineSync.belongs g.L.LineSync.view l.line l.two

@@ -1,5 +1,0 @@
-use Rattle.line_rows.proofs.NewPorts.{no_money}
-use Rattle.line_rows.proofs.tests.desks.shared_accounts.Goals as goal
-
-pub open_zeros-requires : goal.open_zeros-requires
-open_zeros-requires g c = no_money

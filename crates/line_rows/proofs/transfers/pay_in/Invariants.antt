@@ -1,5 +1,0 @@
-use Rattle.line_accounts.specs.Desks.{IsDeskOver}
-use Rattle.line_rows.proofs.transfers.pay_in.Given as goal
-
-abbrev pub invariant-loop : goal.invariant-loop
-invariant-loop g l = IsDeskOver g.L.LineSync.belongs g.L.LineSync.view l.lines l.desk

@@ -1,5 +1,0 @@
-pub mod Acquiring
-pub mod Places
-pub mod Stances
-pub mod Meetings
-pub mod Spans

@@ -1,6 +1,0 @@
--- What holds of elements where they stand. (Of this project.)
-use Rattle.std.specs.Prelude.{ℕ, ◌<◌, List, length, slice_index_or}
-
--- it holds of each place, counted from 0, and the element that stands there
-abbrev pub AllAt : {X : Type 0} → (ℕ → X → Type 0) → List X → Type 0
-AllAt {X} P xs = (place : ℕ) (d : X) → place < length xs → P place (slice_index_or xs place d)

@@ -1,0 +1,30 @@
+//! The ghost state of a node of a table of tickets.
+use std::collections::LinkedList;
+
+/// The progress of a node in its calls.
+pub enum Point {
+    /// The node has no request, or its last one has ended and is clear.
+    Idle,
+    /// The node has made a request, and has not found its cell granted.
+    Queued,
+    /// The node has the line, and its request is at its turn.
+    Holding,
+    /// The node is in a release, and the request at its turn is withdrawn.
+    Passing,
+    /// The node is in a release, and the cell at its turn is cleared. Only a lock that clears its cells uses this.
+    Cleared,
+    /// The node has released the line, and has still to free nodes that it passed.
+    Freeing,
+    /// The node's request is withdrawn.
+    Rolled,
+}
+
+/// The invariant's knowledge of a node beside its port's view. Ghost state, of which no value is made.
+pub struct Local {
+    /// The node's progress in its calls.
+    pub point: Point,
+    /// The place of the node's last request in the order.
+    pub place: u64,
+    /// The places of the withdrawn requests that the node has passed and not freed yet.
+    pub passed: LinkedList<u64>,
+}

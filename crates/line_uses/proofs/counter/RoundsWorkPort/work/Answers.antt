@@ -1,7 +1,0 @@
-use Rattle.line_uses.proofs.Counting.{all_added}
-use Rattle.line_uses.proofs.counter.RoundsWorkPort.work.Goals as goal
-
-pub returns : goal.returns
-returns g c =
-    let sound = g.met.L.LineSync.sound c.args.line.now c.args.port c.requires.fits.0 in
-    (c.add.ensures.belongs, c.add.ensures.state, all_added c.args.self.now.rounds (g.L.LineSync.view c.args.port) (g.L.LineSync.view c.add.new.port) sound.history c.requires.fits.2 c.add.ensures.adds)

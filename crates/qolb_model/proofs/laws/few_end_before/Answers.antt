@@ -1,7 +1,0 @@
-use Rattle.std.proofs.Common.{arith}
-use Rattle.std.proofs.lemmas.Option.{slice_get_within}
-use Rattle.qolb_model.specs.Views.{own}
-use Rattle.qolb_model.proofs.laws.few_end_before.Goals as goal
-
-pub returns : goal.returns
-returns c asked later p near at goes unended = omega (arith, slice_get_within asked.order p (own asked) at)

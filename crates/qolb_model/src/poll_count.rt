@@ -1,0 +1,40 @@
+//! The number of a port's polls: ghost state, which only proofs read.
+ghost use Rattle.std.specs.Prelude.{◌≡◌, ℕ, ◌+◌};
+ghost use Rattle.std.specs.Borrow.{ftrue};
+
+use std::marker::Model;
+
+/// A ghost counter of polls. It has no bytes, and its methods do nothing at run time.
+///
+/// Each port has one, which `poll` increments. So a contract over any line can bound a caller's polls: by its patience, and by exactly that
+/// if the answer is late.
+#[derive(Drop)]
+pub struct PollCount {
+    /// The number of polls.
+    pub ghost count: { ℕ },
+}
+
+impl Model for PollCount {
+    ghost also_owns = { λ _. ftrue };
+}
+
+// It owns nothing, so it can be sent.
+unsafe impl Send for PollCount {}
+
+impl PollCount {
+    /// Returns a counter of no polls.
+    #[inline(always)]
+    pub fn none() -> PollCount
+        ensures { result.count ≡ 0 }
+    {
+        PollCount {}
+    }
+
+    /// Returns the counter with one poll more.
+    #[inline(always)]
+    pub fn and_one(&self) -> PollCount
+        ensures { result.count ≡ self.now.count + 1 }
+    {
+        PollCount {}
+    }
+}

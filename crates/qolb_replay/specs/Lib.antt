@@ -1,0 +1,4 @@
+pub mod Tallies
+pub mod Outcome
+pub mod StepRuns
+pub mod Calls

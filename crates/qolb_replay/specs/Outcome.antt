@@ -1,0 +1,58 @@
+-- How a replay of some bytes ends.
+use Rattle.std.specs.Prelude.{◌≡◌, ◌≢◌, ◌<◌, ◌≤◌, ◌⊎◌, ℕ, List, length, Ok, Err}
+use Rattle.qolb_replay.specs.declared.replay.ReplayError.{ReplayError}
+use Rattle.qolb_replay.specs.declared.replay.ReplayError.TheVariants as error
+use Rattle.qolb_replay.specs.declared.input.TheConstants.{MAX_BYTES}
+use Rattle.qolb_replay.specs.declared.input.InputError.{InputError}
+use Rattle.qolb_replay.specs.declared.input.InputError.TheVariants as input
+use Rattle.qolb_replay.specs.declared.steps.Detail.{Detail}
+use Rattle.qolb_script.specs.declared.error.ScriptError.{ScriptError}
+use Rattle.qolb_script.specs.declared.error.ScriptError.TheVariants as script
+use Rattle.qolb_script.specs.Reply.{reply_to}
+use Rattle.qolb_script.specs.StepScript.{steps_of}
+use Rattle.qolb_replay.specs.StepRuns.{IsStepReplyTo}
+
+-- the bytes are a script, and this is its reply
+pub record IsReply (input text : List ℕ) : Type 0 where
+  pub fits : length input ≤ MAX_BYTES
+  pub reply : reply_to input ≡ Ok text
+
+-- the first fault in the bytes is this one, as a schedule and as a step script
+abbrev pub HasReplayFault : List ℕ → ScriptError → Type 0
+HasReplayFault input fault = reply_to input ≡ Err fault
+
+abbrev pub HasStepFault : List ℕ → ScriptError → Type 0
+HasStepFault input fault = steps_of input ≡ Err fault
+
+-- when each error may come, by which texts answer bytes and which first faults they have: Long where the bytes are too many, Script where they
+-- are not and the first fault in them is that one, Write only where they have a reply
+abbrev pub MayFailBy : (List ℕ → List ℕ → Type 0) → (List ℕ → ScriptError → Type 0) → List ℕ → ReplayError → Type 0
+MayFailBy IsAnswer HasFault input error.Memory = Unit {0}
+MayFailBy IsAnswer HasFault input error.Read = Unit {0}
+MayFailBy IsAnswer HasFault input error.Long = MAX_BYTES < length input
+MayFailBy IsAnswer HasFault input (error.Script fault) = (length input ≤ MAX_BYTES) × HasFault input fault
+MayFailBy IsAnswer HasFault input error.Write = (text : List ℕ) × IsAnswer input text
+
+-- with a schedule, and with a step script
+abbrev pub ReplayMayFail : List ℕ → ReplayError → Type 0
+ReplayMayFail input error = MayFailBy IsReply HasReplayFault input error
+
+abbrev pub StepsMayFail : Detail → List ℕ → ReplayError → Type 0
+StepsMayFail detail input error = MayFailBy (IsStepReplyTo detail) HasStepFault input error
+
+-- why a schedule, whose bytes are not too many, has no reply: memory was refused, or the bytes are no schedule
+abbrev pub HasNoReply : List ℕ → ReplayError → Type 0
+HasNoReply input why = (why ≡ error.Memory) ⊎ ((fault : ScriptError) × (why ≡ error.Script fault) × (reply_to input ≡ Err fault) × (fault ≢ script.Memory))
+
+-- the error of a replay whose input could not be read
+abbrev pub as_replay_error : InputError → ReplayError
+as_replay_error input.Memory = error.Memory
+as_replay_error input.Read = error.Read
+as_replay_error input.Long = error.Long
+
+-- the error of a replay whose input is no script, or for which memory was refused
+abbrev pub script_error : ScriptError → ReplayError
+script_error script.Memory = error.Memory
+script_error (script.BadLine n) = error.Script (script.BadLine n)
+script_error (script.Number n) = error.Script (script.Number n)
+script_error (script.TooMany n) = error.Script (script.TooMany n)

@@ -1,0 +1,77 @@
+-- The run of a step script on the list's core, and its reply. (Of this project.)
+use Rattle.std.specs.Prelude.{◌≡◌, ◌≤◌, ℕ, Bool, true, false, List, [], ◌∷◌, ◌++◌, length, map, flat_map, count_by, Option, Some, None, Ok}
+use Rattle.std.specs.List.{range_with_len}
+use Rattle.line_lanes.specs.Line.{zeros}
+use Rattle.qolb_model.specs.declared.config.LineConfig.{LineConfig}
+use Rattle.link_core.specs.declared.event.Event.{Event}
+use Rattle.link_core.specs.declared.told.Told.{Told}
+use Rattle.link_core.specs.declared.told.NotEnabled.{NotEnabled}
+use Rattle.link_core.specs.declared.point.Point.{Point}
+use Rattle.link_core.specs.declared.point.Point.TheVariants as point
+use Rattle.link_core.specs.declared.state.State.{State}
+use Rattle.link_core.specs.State.{first}
+use Rattle.link_core.specs.State as state
+use Rattle.link_core.specs.Steps.{Step, IsRefused}
+use Rattle.link_core.specs.Progress.{rank}
+use Rattle.qolb_script.specs.Said.{said_text}
+use Rattle.qolb_script.specs.StepScript.{StepScript, steps_of}
+use Rattle.qolb_script.specs.declared.reply_text.Said.{Said}
+use Rattle.qolb_script.specs.StepReply.{step_said, step_summary, ranked_text}
+use Rattle.qolb_replay.specs.declared.input.TheConstants.{MAX_BYTES}
+use Rattle.qolb_replay.specs.declared.steps.Detail.{Detail}
+use Rattle.qolb_replay.specs.declared.steps.Detail.TheVariants.{Words, Ranks}
+
+-- what an event told, or that it was refused; and the rank of the state after it
+pub record Heard : Type 0 where
+  pub told : Option Told
+  pub rank : ℕ
+
+abbrev pub said_by : Heard → Said
+said_by heard = step_said heard.told
+
+-- These events were tried one after another, from the core `from` to the last core. An event that was enabled told a word; an event
+-- that was not is refused, tells none and changes nothing.
+pub data Tells (from : State) : List Event → List Heard → State → Type 0 where
+  nothing : Tells from [] [] from
+  told : {events : List Event} {all : List Heard} {before after : State} (event : Event) (what : Told) → Tells from events all before → Step before event what after → Tells from (events ++ event ∷ []) (all ++ record { told = Some what; rank = rank after } ∷ []) after
+  refused : {events : List Event} {all : List Heard} {before : State} (event : Event) (why : NotEnabled) → Tells from events all before → IsRefused before event why → Tells from (events ++ event ∷ []) (all ++ record { told = None; rank = rank before } ∷ []) before
+
+-- a node at this point is in a call, waits or holds
+abbrev pub is_busy : Point → Bool
+is_busy point.Idle = false
+is_busy point.Ready = false
+is_busy point.Left = false
+is_busy point.Rolled = false
+is_busy point.Shut = false
+is_busy p = true
+
+-- how many of the nodes 1 to `nodes` are in a call, wait or hold
+abbrev pub nodes_busy : ℕ → State → ℕ
+nodes_busy nodes c = count_by (λ n. is_busy (state.point c n)) (range_with_len 1 nodes)
+
+-- the text of an event: a line with its word, and with the rank after it if `Ranks` are asked for
+abbrev pub heard_text : Detail → Heard → List ℕ
+heard_text Words heard = said_text (said_by heard)
+heard_text Ranks heard = ranked_text heard.told heard.rank
+
+-- the reply: what each event told, and then the summary of the line
+abbrev pub step_text : Detail → List Heard → State → List ℕ
+step_text detail all last = flat_map (heard_text detail) all ++ said_text (step_summary (map said_by all) (nodes_busy last.nodes last))
+
+-- the configuration of a step script's line: zeros, the script's nodes and its lease
+abbrev pub line_of : StepScript → LineConfig
+line_of script = record { nodes = script.nodes; opening = record { bytes = zeros }; lease = script.lease }
+
+-- the text is the reply of a run of the script
+pub record IsStepReply (detail : Detail) (script : StepScript) (text : List ℕ) : Type 0 where
+  pub all : List Heard
+  pub last : State
+  pub runs : Tells (first (line_of script)) script.events all last
+  pub text_is : text ≡ step_text detail all last
+
+-- the bytes are a step script, and this is its reply
+pub record IsStepReplyTo (detail : Detail) (input text : List ℕ) : Type 0 where
+  pub fits : length input ≤ MAX_BYTES
+  pub script : StepScript
+  pub read : steps_of input ≡ Ok script
+  pub reply : IsStepReply detail script text

@@ -1,0 +1,150 @@
+//! Runs of step scripts on the list's core: what each event tells, and then the line's counts.
+ghost use Rattle.std.specs.Prelude.{◌≡◌, ◌≢◌, ◌↔◌, ℕ, List, Option, true, false, Ok, Err, OnOk, OnErr, IfOk, IfErr, IfSome, ◌++◌};
+ghost use Rattle.std.specs.Io.KnownBytes.{Appends};
+ghost use Rattle.qolb_script.specs.Watched.{inner_of, has_failed};
+ghost use Rattle.qolb_script.specs.StepReply.{step_said};
+ghost use Rattle.link_core.specs.Progress.{rank};
+ghost use Rattle.qolb_replay.specs.Outcome.{StepsMayFail};
+ghost use Rattle.qolb_replay.specs.declared.steps.Detail.TheVariants as detail;
+ghost use Rattle.qolb_replay.specs.StepRuns.{IsStepReply, IsStepReplyTo, Heard, heard_text, is_busy, nodes_busy};
+
+use crate::counts::Counts;
+use crate::input::read_input;
+use crate::replay::ReplayError;
+use line_lanes::Line64;
+use link_core::{Core, Point, Told};
+use qolb_model::LineConfig;
+use qolb_script::{Said, ScriptError, Steps, Watched, push_ranked, push_said, read_steps};
+use std::alloc::{AllocError, Allocator};
+use std::io::{Read, Write};
+
+/// What is written of each event of a step script.
+#[derive(Clone, Copy, Debug, PartialEq, Eq)]
+pub enum Detail {
+    /// The word that it told.
+    Words,
+    /// The word, and then the core's rank after the event: how many productive events can follow each other from there.
+    Ranks,
+}
+
+/// Runs the step script that the reader gives on a core of reversed links, and writes the word that each event told.
+///
+/// Reads the whole input first, and builds the whole reply before it writes the first byte. So with every error but `Write` no byte was
+/// written.
+pub fn run_steps<A: Allocator, R: Read, W: Write>(
+    alloc: A,
+    reader: &mut Watched<R>,
+    writer: &mut Watched<W>,
+) -> Result<(), ReplayError>
+    ensures ok { OnOk result (IfSome (R.remaining (inner_of reader.old)) (λ input. (text : List ℕ) × IsStepReplyTo detail.Words input text × Appends (W.contents (inner_of writer.old)) (W.contents (inner_of writer.new)) text)) }
+    ensures refused { IfErr result (λ error. IfSome (R.remaining (inner_of reader.old)) (λ input. StepsMayFail detail.Words input error)) }
+    ensures unwritten { IfErr result (λ error. error ≢ ReplayError.Write → writer.new ≡ writer.old) }
+    ensures read_fault { (result ≡ Err ReplayError.Read) ↔ (has_failed reader.new ≡ true) }
+    ensures write_fault { result ≡ Err ReplayError.Write → has_failed writer.new ≡ true }
+    ensures written { OnOk result (has_failed writer.new ≡ false) }
+    ensures memory { result ≢ Err (ReplayError.Script ScriptError.Memory) }
+{
+    run_steps_with(alloc, reader, writer, Detail::Words)
+}
+
+/// Runs a step script as `run_steps` does, and writes of each event what `detail` names.
+///
+/// Reads the whole input first, and builds the whole reply before it writes the first byte. So with every error but `Write` no byte was
+/// written.
+pub fn run_steps_with<A: Allocator, R: Read, W: Write>(
+    alloc: A,
+    reader: &mut Watched<R>,
+    writer: &mut Watched<W>,
+    detail: Detail,
+) -> Result<(), ReplayError>
+    ensures ok { OnOk result (IfSome (R.remaining (inner_of reader.old)) (λ input. (text : List ℕ) × IsStepReplyTo detail input text × Appends (W.contents (inner_of writer.old)) (W.contents (inner_of writer.new)) text)) }
+    ensures refused { IfErr result (λ error. IfSome (R.remaining (inner_of reader.old)) (λ input. StepsMayFail detail input error)) }
+    ensures unwritten { IfErr result (λ error. error ≢ ReplayError.Write → writer.new ≡ writer.old) }
+    ensures read_fault { (result ≡ Err ReplayError.Read) ↔ (has_failed reader.new ≡ true) }
+    ensures write_fault { result ≡ Err ReplayError.Write → has_failed writer.new ≡ true }
+    ensures written { OnOk result (has_failed writer.new ≡ false) }
+    ensures memory { result ≢ Err (ReplayError.Script ScriptError.Memory) }
+{
+    let input = read_input(&alloc, reader)?;
+    let steps = read_steps(&alloc, input.as_slice())?;
+    let text = reply(&alloc, &steps, detail)?;
+    writer.write_all(text.as_slice())?;
+    Ok(())
+}
+
+/// Returns the reply of a step script.
+fn reply<A: Allocator + Clone>(
+    alloc: A,
+    steps: &Steps<A>,
+    detail: Detail,
+) -> Result<Vec<u8, A>, AllocError>
+    ensures { IfOk result (λ text. IsStepReply detail steps.now text.items) }
+{
+    let config = LineConfig {
+        nodes: steps.nodes(),
+        opening: Line64::zero(),
+        lease: steps.lease(),
+    };
+    let Some(mut core) = Core::with_config(config) else {
+        unreachable!();
+    };
+    let mut counts = Counts::none();
+    let mut text = Vec::new(alloc);
+    for event in steps.events() {
+        let told = core.step(*event).ok();
+        counts.add(&said_of(told));
+        push_heard(&mut text, told, &core, detail)?;
+    }
+    let summary = counts.summary(0, nodes_left(&core));
+    push_said(&mut text, &summary)?;
+    Ok(text)
+}
+
+/// Appends the text of an event that told this and left this core. If memory is refused the text is unchanged.
+fn push_heard<A: Allocator>(
+    text: &mut Vec<u8, A>,
+    told: Option<Told>,
+    core: &Core,
+    detail: Detail,
+) -> Result<(), AllocError>
+    ensures ok { let heard : Heard = record { told = told; rank = rank core.now } in OnOk result (text.new.items ≡ text.old.items ++ heard_text detail heard) }
+    ensures err { OnErr result (text.new.items ≡ text.old.items) }
+{
+    match detail {
+        Detail::Words => push_said(text, &said_of(told)),
+        Detail::Ranks => push_ranked(text, told, core.rank()),
+    }
+}
+
+/// Returns the answer of an event: the word that it told, or that it was refused.
+fn said_of(told: Option<Told>) -> Said
+    ensures { result ≡ step_said told }
+{
+    match told {
+        Some(told) => Said::Told(told),
+        None => Said::Refused,
+    }
+}
+
+/// Returns `true` if a node at this point is in a call, waits or holds.
+fn is_busy_at(point: Point) -> bool
+    ensures { result ≡ is_busy point }
+{
+    !matches!(
+        point,
+        Point::Idle | Point::Ready | Point::Left | Point::Rolled | Point::Shut
+    )
+}
+
+/// Returns how many nodes are in a call, wait or hold.
+fn nodes_left(core: &Core) -> u64
+    ensures { result ≡ nodes_busy core.now.nodes core.now }
+{
+    let mut left = 0;
+    for before in 0..core.nodes() {
+        if is_busy_at(core.point(before + 1)) {
+            left += 1;
+        }
+    }
+    left
+}

@@ -1,5 +1,0 @@
-use Rattle.qolb_run.proofs.Summing.{sums_small}
-use Rattle.qolb_run.proofs.board.sum_up.Goals as goal
-
-pub add-requires-clause-mine : goal.add-requires-clause-mine
-add-requires-clause-mine g c = sums_small c.args.hands.now c.loop-hand.hand-index c.loop-hand.all c.requires.few c.requires.small c.loop-hand-test.true c.loop-hand.invariant

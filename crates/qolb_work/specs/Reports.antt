@@ -1,0 +1,41 @@
+-- What a report tells of the work that was done. (Of this project.)
+use Rattle.std.specs.Prelude.{◌≡◌, ◌≤◌, ℕ, ◌+◌, List}
+use Rattle.line_accounts.specs.declared.law.TheConstants.{MAX_BALANCE}
+use Rattle.qolb_script.specs.declared.job.Job.{Job}
+use Rattle.qolb_script.specs.declared.job.WorkKind.TheVariants as kind
+use Rattle.qolb_script.specs.declared.report.Report.{Report}
+use Rattle.qolb_script.specs.declared.report.Report.TheVariants.{Board, Bank}
+use Rattle.qolb_script.specs.WorkScript.{WorkScript}
+use Rattle.qolb_work.specs.Jobs.{puts_in, takes_in, IsInterleaving}
+use Rattle.qolb_work.specs.BankRuns.{ComesTo, payments_in, amounts_in}
+use Rattle.qolb_work.specs.BankRuns as bank
+use Rattle.qolb_work.specs.BoardRuns.{after_jobs, empty_board, report_of}
+
+-- Some interleaving of the workers' jobs gives this report. The jobs are done one after another by one owner of an empty board.
+pub record IsDoneInTurn (work : WorkScript) (report : Report) : Type 0 where
+  pub sequence : List Job
+  pub interleaves : IsInterleaving work.jobs sequence
+  pub report_is : report ≡ report_of (after_jobs empty_board sequence)
+
+-- the report is that of one owner who did all jobs in some interleaving. So each task that was stored was taken or is left, each put
+-- stored its task or found the board full, and each take had a task or found none
+pub record IsOfBoard (work : WorkScript) (stored full taken empty left : ℕ) : Type 0 where
+  pub of_board : work.kind ≡ kind.Board
+  pub in_turn : IsDoneInTurn work (Board stored full taken empty left)
+  pub kept : stored ≡ taken + left
+  pub puts : stored + full ≡ puts_in work.jobs
+  pub takes : taken + empty ≡ takes_in work.jobs
+
+-- the report of a bank: each job has one outcome, and what was paid in and out is the sum of the payments that were done; what was paid
+-- in was paid out or is there. If all payments in and all moves together fit one balance, each payment in was done: what was paid in is
+-- the sum of them all. With one worker the report is that of one owner of empty accounts who does the jobs one after another
+pub record IsOfBank (work : WorkScript) (paid_in paid_out total : ℕ) : Type 0 where
+  pub of_bank : work.kind ≡ kind.Bank
+  pub comes_to : ComesTo 1 work.workers work.jobs paid_in paid_out
+  pub kept : paid_in ≡ paid_out + total
+  pub in_full : amounts_in work.jobs ≤ MAX_BALANCE → paid_in ≡ payments_in work.jobs
+  pub alone : work.workers ≡ 1 → Bank paid_in paid_out total ≡ bank.report_of (bank.after_jobs bank.empty_bank work.jobs)
+
+abbrev pub IsReportOf : WorkScript → Report → Type 0
+IsReportOf work (Board stored full taken empty left) = IsOfBoard work stored full taken empty left
+IsReportOf work (Bank paid_in paid_out total) = IsOfBank work paid_in paid_out total

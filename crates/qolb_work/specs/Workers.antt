@@ -1,0 +1,46 @@
+-- Workers whose threads have ended. (Of this project.)
+use Rattle.std.specs.Prelude.{◌≡◌, ◌⊎◌, ℕ, ◌+◌, ◌<◌, ◌≤◌, List, [], length, Option, Some, None, slice_get}
+use Rattle.qolb_script.specs.declared.job.Job.{Job}
+use Rattle.qolb_script.specs.declared.schedule.TheConstants.{MAX_COMMANDS}
+use Rattle.qolb_script.specs.WorkScript.{WorkScript, AreOfIts}
+use Rattle.qolb_model.specs.declared.config.TheConstants.{MAX_NODES}
+use Rattle.qolb_work.specs.Jobs.{jobs_of}
+use Rattle.qolb_work.specs.declared.work.RunError.{RunError}
+use Rattle.qolb_work.specs.declared.work.RunError.TheVariants.{Memory, Stalled}
+
+-- a worker has ended: it has done its jobs, or was told that its line is closed
+abbrev pub HasEnded : {JobTarget WorkerState : Type 0} → (JobTarget → ℕ → WorkerState → List Job → Type 0) → (JobTarget → ℕ → WorkerState → Type 0) → JobTarget → ℕ → WorkerState → List Job → Type 0
+HasEnded has_done was_told site worker hand jobs = has_done site worker hand jobs ⊎ was_told site worker hand
+
+-- worker k + 1, at place k, has done its jobs, unless it gave up
+abbrev pub AreBack : {JobTarget WorkerState : Type 0} → (JobTarget → ℕ → WorkerState → List Job → Type 0) → JobTarget → List Job → List (Option WorkerState) → Type 0
+AreBack {JobTarget} {WorkerState} has_done site jobs back = (k : ℕ) (hand : WorkerState) → slice_get back k ≡ Some (Some hand) → has_done site (k + 1) hand (jobs_of (k + 1) jobs)
+
+-- all workers have done all their jobs
+abbrev pub AreDone : {JobTarget WorkerState : Type 0} → (JobTarget → ℕ → WorkerState → List Job → Type 0) → JobTarget → List Job → List WorkerState → Type 0
+AreDone {JobTarget} {WorkerState} has_done site jobs hands = (k : ℕ) (hand : WorkerState) → slice_get hands k ≡ Some hand → has_done site (k + 1) hand (jobs_of (k + 1) jobs)
+
+-- no worker has begun
+abbrev pub AreFresh : {JobTarget WorkerState : Type 0} → (JobTarget → ℕ → WorkerState → List Job → Type 0) → JobTarget → List WorkerState → Type 0
+AreFresh {JobTarget} {WorkerState} has_done site hands = (k : ℕ) (hand : WorkerState) → slice_get hands k ≡ Some hand → has_done site (k + 1) hand []
+
+-- why not all are done: the first worker that gave up, and nothing else
+abbrev pub IsFirstGone : {WorkerState : Type 0} → List (Option WorkerState) → RunError → Type 0
+IsFirstGone back Memory = ⊥
+IsFirstGone {WorkerState} back (Stalled worker) =
+    (k : ℕ) × (worker ≡ k + 1) × (slice_get back k ≡ Some None) × ((j : ℕ) → j < k → (hand : WorkerState) × (slice_get back j ≡ Some (Some hand)))
+
+-- each worker that gave up is one that its gate may refuse
+abbrev pub AreRefused : {WorkerState : Type 0} → (ℕ → Type 0) → List (Option WorkerState) → Type 0
+AreRefused {WorkerState} may_refuse back = (k : ℕ) → slice_get back k ≡ Some None → may_refuse (k + 1)
+
+-- why there is no report: want of memory, or one of the workers gave up
+abbrev pub MayStop : WorkScript → RunError → Type 0
+MayStop work Memory = Unit {0}
+MayStop work (Stalled worker) = (1 ≤ worker) × (worker ≤ work.workers)
+
+-- the work has at most the largest numbers of workers and jobs. Each job is of one of the workers
+pub record IsWithinLimits (work : WorkScript) : Type 0 where
+  pub few : work.workers ≤ MAX_NODES
+  pub most : length work.jobs ≤ MAX_COMMANDS
+  pub its : AreOfIts work

@@ -1,0 +1,87 @@
+//! Runs of work scripts: workers share a board, or the lines of a bank.
+ghost use Rattle.std.specs.Prelude.{◌≡◌, ℕ, Err, IfOk, IfErr};
+ghost use Rattle.qolb_work.specs.declared.work.RunError.TheVariants.{Memory};
+ghost use Rattle.qolb_work.specs.Workers.{MayStop};
+ghost use Rattle.qolb_work.specs.Reports.{IsReportOf};
+ghost use Rattle.qolb_work.specs.BankWork.{IsBankedOver};
+ghost use Rattle.qolb_work.specs.BoardWork.{IsBoardedOver};
+
+use crate::bank::run_bank;
+use crate::board::run_board;
+use crate::gate::Gate;
+use line_accounts::AccountLaw;
+use line_board::BoardLaw;
+use qolb_model::{OpenLine, ParkingLine};
+use qolb_script::{Report, Work, WorkKind};
+use std::alloc::{AllocError, Global};
+use std::sync::Wait;
+use std::thread::Threads;
+use thiserror::Error;
+
+/// Why there is no report of the work.
+#[derive(Clone, Copy, Debug, PartialEq, Eq, Error)]
+pub enum RunError {
+    /// A growth of memory was refused, or a thread could not be started.
+    #[error("out of memory")]
+    Memory,
+    /// This worker gave up, and none before it: the gate refused it `MAX_REFUSALS` times before one job.
+    #[error("stalled {0}")]
+    Stalled(u64),
+}
+
+impl RunError {
+    /// The error's number.
+    pub fn number(&self) -> u8
+        ensures memory { self.now ≡ RunError.Memory → result ≡ 1 }
+        ensures stalled { (worker : ℕ) → self.now ≡ RunError.Stalled worker → result ≡ 2 }
+    {
+        match self {
+            RunError::Memory => 1,
+            RunError::Stalled(_) => 2,
+        }
+    }
+}
+
+impl From<AllocError> for RunError {
+    ghost from_gives = { λ _ error. error ≡ Memory };
+
+    fn from(_error: AllocError) -> RunError {
+        RunError::Memory
+    }
+}
+
+/// How a worker waits for its turn at a line.
+#[derive(Clone, Copy, Debug, Default, PartialEq, Eq)]
+pub enum WaitMode {
+    /// The worker polls again and again, and yields its processor at times.
+    #[default]
+    Awake,
+    /// The worker sleeps between two polls, until a release wakes it.
+    Asleep,
+}
+
+/// Does the work over lines of these types: a board in a line `B`, the accounts of a bank in lines `A`.
+///
+/// Each worker is a node with a thread of its own, and waits for its turns as `waits` says. Every line is opened with zeros, and finished
+/// when all workers are done.
+pub fn run_work_over<
+    R: Threads + Wait + Sync,
+    G: Gate + Sync,
+    B: OpenLine<BoardLaw> + ParkingLine<BoardLaw> + Sync + Drop,
+    A: OpenLine<AccountLaw> + ParkingLine<AccountLaw> + Sync + Drop,
+>(rt: &R, alloc: Global, gate: &G, work: &Work, waits: WaitMode) -> Result<Report, RunError>
+where
+    B::Port: Send + Drop,
+    A::Port: Send + Drop,
+    ensures report { IfOk result (IsReportOf work.now) }
+    ensures boarded { IfOk result (IsBoardedOver B.belongs B.view B.config_of work.now) }
+    ensures banked { IfOk result (IsBankedOver A.belongs A.view A.config_of work.now) }
+    ensures stalled { IfErr result (MayStop work.now) }
+    ensures by_gate { (worker : ℕ) → result ≡ Err (RunError.Stalled worker) → G.may_refuse gate.now worker }
+{
+    gate.begins(work.jobs().len());
+    match work.kind() {
+        WorkKind::Board => run_board::<R, G, B>(rt, alloc, gate, work, waits),
+        WorkKind::Bank => run_bank::<R, G, A>(rt, alloc, gate, work, waits),
+    }
+}

@@ -1,0 +1,25 @@
+use Rattle.std.proofs.Common.{rules, ◌∙◌}
+use Rattle.qolb_model.proofs.Going.{asks_from, asks_goes}
+use Rattle.line_tickets.specs.Steps.{ghost_of}
+use Rattle.line_tickets.proofs.Turning.{goes_trans}
+use Rattle.ring_line.proofs.discipline.RingQueueDiscipline.ask.Goals as goal
+
+pub returns : goal.returns
+returns g c = record {
+  advances = record {
+    seat = (c.load.ensures.advances.seat.0 ∙ c.take_ticket-cell.ensures.advances.seat.0 ∙ c.in-Some.ensures.advances.seat.0, c.load.ensures.advances.seat.1 ∙ c.take_ticket-cell.ensures.advances.seat.1 ∙ c.in-Some.ensures.advances.seat.1);
+    advances = goes_trans g.K.Keep.allows c.args.seat.now.me c.try_reset.new.seat.me c.load.new.seat.me c.in-Some.renewing 2 c.in-Some.ensures.advances.advances
+        (goes_trans g.K.Keep.allows c.try_reset.new.seat.me c.take_ticket-cell.new.seat.me c.load.new.seat.me 1 1 c.take_ticket-cell.ensures.advances.advances c.load.ensures.advances.advances);
+  };
+  request = record {
+    stays = search rules;
+    busy = search rules;
+    asks = λ _.
+        let asked = asks_from (ghost_of c.args.seat.now).view (ghost_of c.try_reset.new.seat).view (ghost_of c.take_ticket-cell.new.seat).view c.in-Some.ensures.advances.advances.extends c.in-Some.ensures.is_reset.1 c.take_ticket-cell.ensures.takes_ticket.asks in
+        asks_goes (ghost_of c.args.seat.now).view (ghost_of c.take_ticket-cell.new.seat).view (ghost_of c.load.new.seat).view asked c.load.ensures.advances.advances.extends c.load.ensures.count;
+    joined = search rules;
+    queued = search rules;
+    at_turn = search rules;
+  };
+  steps = search rules;
+}

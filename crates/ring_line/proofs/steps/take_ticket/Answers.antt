@@ -1,0 +1,9 @@
+use Rattle.std.proofs.Common.{rules}
+use Rattle.line_tickets.specs.Steps.{ghost_of}
+use Rattle.line_tickets.proofs.Ask.{asks_next}
+use Rattle.line_tickets.specs.SlotLayout.{one_slot}
+use Rattle.ring_line.specs.Ring.{RingCells}
+use Rattle.ring_line.proofs.steps.take_ticket.Goals as goal
+
+pub fetch_add-requires : goal.fetch_add-requires
+fetch_add-requires g c = (search rules, search rules, asks_next RingCells one_slot g.K.Keep.good g.K.Keep.allows c.args.table.now.key (ghost_of c.args.seat.now) c.requires.phase.1 _ _ c.args.seat.now.me c.requires.phase.0)

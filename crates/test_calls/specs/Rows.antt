@@ -1,0 +1,12 @@
+-- Ports in tests, some of which may be another line's. (Of this project.)
+use Rattle.std.specs.Prelude.{◌≡◌, ℕ, List}
+use Rattle.std.specs.List.{All}
+use Rattle.qolb_model.specs.declared.view.View.{View}
+
+-- the port belongs to the line if it has the line's label
+abbrev pub IsTheirs : {Line Port : Type 0} → (Line → Port → Type 0) → (Port → View) → (Line → ℕ) → Line → Port → Type 0
+IsTheirs belongs view label_of line port = (view port).label ≡ label_of line → belongs line port
+
+-- each of the ports belongs to the line if it has the line's label
+abbrev pub AreTheirs : {Line Port : Type 0} → (Line → Port → Type 0) → (Port → View) → (Line → ℕ) → Line → List Port → Type 0
+AreTheirs belongs view label_of line ports = All (IsTheirs belongs view label_of line) ports

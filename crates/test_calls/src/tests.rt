@@ -1,0 +1,147 @@
+//! Each call of each lock. The answers are written once, over any line, and each lock is named once, because the prover needs some seconds
+//! to see that a lock is a line, wherever it is named.
+
+mod asleep;
+mod did;
+mod elsewhere;
+mod late;
+mod lines;
+mod named;
+mod script;
+
+use crate::checked_line::Instrumented;
+use link_line::{LinkLine, LinkQueue};
+use qolb_model::{Free, ParkingLine};
+use ring_line::{RingLine, RingQueue};
+use std::alloc::Global;
+use std::process::Abort;
+use std::sync::Wait;
+use std::test::Fail;
+use ticket_line::{TicketLine, TicketQueue};
+
+/// What differs between the locks: the word steps of a release that passes two withdrawn nodes of three, and of one that passes 199 of 200;
+/// and the bytes of the table of a line with four nodes.
+#[derive(Drop)]
+struct Known {
+    few: u64,
+    many: u64,
+    table: usize,
+}
+
+/// The parts of the tests.
+#[derive(Clone, Copy)]
+enum Part {
+    Calls,
+    /// The answers of opening while memory is refused. It takes all memory of the process.
+    OpeningWithoutMemory,
+}
+
+/// Runs `part` over lines of this type.
+fn try_part<R: Wait + Abort, L: Instrumented + ParkingLine<Free> + Drop>(
+    rt: &R,
+    alloc: Global,
+    known: &Known,
+    part: Part,
+) -> Result<(), Fail>
+where
+    L::Port: Drop,
+{
+    match part {
+        Part::Calls => each_call::<R, L>(rt, alloc, known),
+        Part::OpeningWithoutMemory => lines::each_allocation_of_opening_is_refused::<R, L>(
+            rt,
+            alloc,
+            known.table,
+        ),
+    }
+}
+
+/// Makes each call over lines of this type.
+fn each_call<R: Wait + Abort, L: Instrumented + ParkingLine<Free> + Drop>(
+    rt: &R,
+    alloc: Global,
+    known: &Known,
+) -> Result<(), Fail>
+where
+    L::Port: Drop,
+{
+    asleep::a_waiter_that_has_slept_is_counted_no_more::<R, L>(rt, alloc);
+    lines::lines_have_nodes_and_turns::<R, L>(rt, alloc);
+    script::each_script::<R, L>(rt, alloc);
+    lines::a_release_passes_those_who_withdrew::<R, L>(rt, alloc, known.few)?;
+    lines::one_node_takes_300_turns::<R, L>(rt, alloc)?;
+    lines::a_release_passes_all_other_nodes_of_200::<R, L>(rt, alloc, known.many)?;
+    lines::finish_wants_a_port_of_each_node::<R, L>(rt, alloc);
+    lines::finish_wants_no_other_port::<R, L>(rt, alloc);
+    lines::each_growth_of_finish_is_refused::<R, L>(rt, alloc)?;
+    lines::a_line_is_handed_over_with_its_bytes::<R, L>(rt, alloc)?;
+    lines::any_line_is_handed_over::<R, L>(rt, alloc)
+}
+
+fn over_rings<R: Wait + Abort>(rt: &R, alloc: Global, part: Part) -> Result<(), Fail> {
+    // 256 cells, each with a node's word in 128 bytes, and a slot: as for 200 nodes.
+    let known = Known {
+        few: 8,
+        many: 599,
+        table: 257 * 128,
+    };
+    try_part::<_, RingLine<Free>>(rt, alloc, &known, part)
+}
+
+fn over_lists<R: Wait + Abort>(rt: &R, alloc: Global, part: Part) -> Result<(), Fail> {
+    // An entry of 128 bytes for each node, as much for the home word, and a slot.
+    let known = Known {
+        few: 9,
+        many: 797,
+        table: 6 * 128,
+    };
+    try_part::<_, LinkLine<Free>>(rt, alloc, &known, part)
+}
+
+fn over_ticket_lines<R: Wait + Abort>(rt: &R, alloc: Global, part: Part) -> Result<(), Fail> {
+    // Eight cells, each with a node's word in 128 bytes, and with a slot.
+    let known = Known {
+        few: 5,
+        many: 399,
+        table: 8 * 256,
+    };
+    try_part::<_, TicketLine<Free>>(rt, alloc, &known, part)
+}
+
+#[test]
+fn a_ring_answers_each_call(rt: HostRuntime) -> Result<(), Fail> {
+    over_rings(&rt, rt.alloc(), Part::Calls)
+}
+
+#[test]
+fn a_list_answers_each_call(rt: HostRuntime) -> Result<(), Fail> {
+    over_lists(&rt, rt.alloc(), Part::Calls)
+}
+
+#[test]
+fn a_ticket_line_answers_each_call(rt: HostRuntime) -> Result<(), Fail> {
+    over_ticket_lines(&rt, rt.alloc(), Part::Calls)
+}
+
+#[test]
+fn a_line_tells_to_whom_it_went(rt: HostRuntime) {
+    assert_eq!(rt;
+        elsewhere::each_names_the_next::<elsewhere::Told<RingQueue>>(rt.alloc()),
+        Some(true)
+    );
+    assert_eq!(rt;
+        elsewhere::each_names_the_next::<elsewhere::Told<LinkQueue>>(rt.alloc()),
+        Some(true)
+    );
+    assert_eq!(rt;
+        elsewhere::each_names_the_next::<elsewhere::Told<TicketQueue>>(rt.alloc()),
+        Some(true)
+    );
+}
+
+#[test]
+fn each_allocation_of_opening_is_refused(rt: HostRuntime) -> Result<(), Fail> {
+    over_rings(&rt, rt.alloc(), Part::OpeningWithoutMemory)?;
+    over_lists(&rt, rt.alloc(), Part::OpeningWithoutMemory)?;
+    over_ticket_lines(&rt, rt.alloc(), Part::OpeningWithoutMemory)
+}

@@ -1,0 +1,230 @@
+//! The answers of a line on which nodes ask by two calls (the list): a release does not wait for the link.
+
+use crate::checked_line::{CheckedLine, SplitCalls};
+use crate::tests::did::{CallOutcome, expect_by_halves};
+use line_lanes::Line64;
+use link_line::LinkLine;
+use qolb_model::{Enq, FinishError, Free, LineConfig, Out, Poll, PortState, Prep};
+use std::alloc::Global;
+use std::process::Abort;
+use std::test::Fail;
+
+/// Node 2 links after the release.
+static LATE: [(u64, CallOutcome); 12] = [
+    (1, CallOutcome::Ask(Enq::Granted)),
+    (1, CallOutcome::Write(0xab)),
+    (2, CallOutcome::Prepend(Prep::Linking)),
+    (1, CallOutcome::Release),
+    (1, CallOutcome::State(PortState::Left)),
+    (1, CallOutcome::Clear(false)),
+    (1, CallOutcome::Ask(Enq::Busy)),
+    (2, CallOutcome::Link(Enq::Granted)),
+    (2, CallOutcome::Sees(0xab)),
+    (1, CallOutcome::Clear(true)),
+    (1, CallOutcome::State(PortState::Idle)),
+    (1, CallOutcome::Ask(Enq::Queued)),
+];
+
+fn a_late_linker_finds_the_line_in_the_mailbox_before_it<R: Abort, L: SplitCalls + Drop>(
+    rt: &R,
+    alloc: Global,
+) -> Result<(), Fail>
+where
+    L::Port: Drop,
+{
+    let mut row = CheckedLine::<L>::of_zeros(alloc, 2)?;
+    expect_by_halves(rt, &mut row, &LATE);
+    Ok(())
+}
+
+/// Node 3 asks behind node 2, which links last.
+static BEHIND: [(u64, CallOutcome); 10] = [
+    (1, CallOutcome::Ask(Enq::Granted)),
+    (2, CallOutcome::Prepend(Prep::Linking)),
+    (3, CallOutcome::Ask(Enq::Queued)),
+    (1, CallOutcome::Release),
+    (1, CallOutcome::State(PortState::Left)),
+    (3, CallOutcome::Poll(Poll::Waiting)),
+    (2, CallOutcome::Link(Enq::Granted)),
+    (2, CallOutcome::Release),
+    (2, CallOutcome::State(PortState::Idle)),
+    (3, CallOutcome::Poll(Poll::Granted)),
+];
+
+fn those_behind_a_late_linker_wait_for_it<R: Abort, L: SplitCalls + Drop>(
+    rt: &R,
+    alloc: Global,
+) -> Result<(), Fail>
+where
+    L::Port: Drop,
+{
+    let mut row = CheckedLine::<L>::of_zeros(alloc, 3)?;
+    expect_by_halves(rt, &mut row, &BEHIND);
+    Ok(())
+}
+
+/// Node 2 has not linked yet, and may not poll.
+static LINKING: [(u64, CallOutcome); 3] = [
+    (1, CallOutcome::Prepend(Prep::Granted)),
+    (2, CallOutcome::Prepend(Prep::Linking)),
+    (2, CallOutcome::State(PortState::Linking)),
+];
+
+/// Node 2 links, and is granted the line at the release.
+static LINKED: [(u64, CallOutcome); 4] = [
+    (2, CallOutcome::Link(Enq::Queued)),
+    (1, CallOutcome::Release),
+    (1, CallOutcome::State(PortState::Idle)),
+    (2, CallOutcome::Poll(Poll::Granted)),
+];
+
+fn one_who_links_before_the_release_waits<R: Abort, L: SplitCalls + Drop>(
+    rt: &R,
+    alloc: Global,
+) -> Result<(), Fail>
+where
+    L::Port: Drop,
+{
+    let mut row = CheckedLine::<L>::of_zeros(alloc, 2)?;
+    expect_by_halves(rt, &mut row, &LINKING);
+    assert_eq!(rt; row.poll(2), None);
+    expect_by_halves(rt, &mut row, &LINKED);
+    Ok(())
+}
+
+/// Two nodes withdraw before one that links last.
+static CHAIN: [(u64, CallOutcome); 15] = [
+    (1, CallOutcome::Ask(Enq::Granted)),
+    (2, CallOutcome::Ask(Enq::Queued)),
+    (3, CallOutcome::Ask(Enq::Queued)),
+    (2, CallOutcome::Withdraw(Out::Withdrawn)),
+    (3, CallOutcome::Withdraw(Out::Withdrawn)),
+    (4, CallOutcome::Prepend(Prep::Linking)),
+    (1, CallOutcome::Release),
+    (1, CallOutcome::Steps(10)),
+    (1, CallOutcome::State(PortState::Idle)),
+    (3, CallOutcome::Ask(Enq::Busy)),
+    (2, CallOutcome::Ask(Enq::Queued)),
+    (4, CallOutcome::Link(Enq::Granted)),
+    (3, CallOutcome::Ask(Enq::Queued)),
+    (4, CallOutcome::Release),
+    (2, CallOutcome::Poll(Poll::Granted)),
+];
+
+fn a_chain_of_withdrawn_nodes_ends_at_a_late_linker<R: Abort, L: SplitCalls + Drop>(
+    rt: &R,
+    alloc: Global,
+) -> Result<(), Fail>
+where
+    L::Port: Drop,
+{
+    let mut row = CheckedLine::<L>::of_zeros(alloc, 4)?;
+    expect_by_halves(rt, &mut row, &CHAIN);
+    Ok(())
+}
+
+/// A line that node 1 left behind for node 2, which has not linked yet; node 3 is idle.
+fn left_behind<L: SplitCalls + Drop>(alloc: Global) -> Option<CheckedLine<L>>
+where
+    L::Port: Drop,
+{
+    let mut row = CheckedLine::<L>::of_zeros(alloc, 3).ok()?;
+    row.ask(1);
+    row.prepend(2);
+    row.release(1);
+    Some(row)
+}
+
+/// Node 1 has left the line, and node 2 has still to link.
+static LEFT: [(u64, CallOutcome); 2] = [
+    (1, CallOutcome::State(PortState::Left)),
+    (2, CallOutcome::State(PortState::Linking)),
+];
+
+/// Node 2 links, and releases the line.
+static AT_REST: [(u64, CallOutcome); 2] = [
+    (2, CallOutcome::Link(Enq::Granted)),
+    (2, CallOutcome::Release),
+];
+
+fn finish_waits_for_a_late_linker<R: Abort, L: SplitCalls + Drop>(
+    rt: &R,
+    alloc: Global,
+) -> Result<(), Fail>
+where
+    L::Port: Drop,
+{
+    let mut row = left_behind::<L>(alloc).ok_or("opened")?;
+    expect_by_halves(rt, &mut row, &LEFT);
+    let (why, mut row) = row.finish(alloc).err().ok_or("one is linking")?;
+    assert_eq!(rt; why, FinishError::Unquiet(2));
+    expect_by_halves(rt, &mut row, &AT_REST);
+    assert!(rt; row.finish(alloc).is_ok());
+    Ok(())
+}
+
+/// Puts a port of another line in. Returns `None` if this line owns it.
+fn put_a_stranger<L: SplitCalls + Drop>(alloc: Global, row: &mut CheckedLine<L>) -> Option<bool>
+where
+    L::Port: Drop,
+{
+    let config = LineConfig {
+        nodes: 3,
+        opening: Line64::zero(),
+        lease: None,
+    };
+    let mut other = CheckedLine::<L>::open(alloc, 8, config).ok()?;
+    let stranger = other.take(1)?;
+    if row.owns(&stranger) {
+        return None;
+    }
+    Some(row.put(stranger))
+}
+
+/// The ports that `finish` returns, place by place, with one of another line: the node, its state, and whether the port is the line's.
+static BESIDE: [(u64, PortState, bool); 3] = [
+    (1, PortState::Left, true),
+    (2, PortState::Linking, true),
+    (1, PortState::Idle, false),
+];
+
+fn finish_names_the_first_cause<R: Abort, L: SplitCalls + Drop>(
+    rt: &R,
+    alloc: Global,
+) -> Result<(), Fail>
+where
+    L::Port: Drop,
+{
+    let mut row = left_behind::<L>(alloc).ok_or("opened")?;
+    let three = row.take(3).ok_or("a port of node 3")?;
+    drop(three);
+    let (why, mut row) = row.finish(alloc).err().ok_or("node 3 has no port")?;
+    assert_eq!(rt; why, FinishError::Missing(3));
+    assert_eq!(rt; put_a_stranger(alloc, &mut row), Some(true));
+    let (why, mut row) = row.finish(alloc).err().ok_or("one is a stranger")?;
+    assert_eq!(rt; why, FinishError::Missing(0));
+    for (place, port) in BESIDE.iter().enumerate() {
+        assert_eq!(rt; row.at(place), Some(*port), "at {place}");
+    }
+    assert_eq!(rt; row.at(3), None);
+    expect_by_halves(rt, &mut row, &AT_REST);
+    Ok(())
+}
+
+/// Runs each of these tests over lines of this type.
+fn each_half<R: Abort, L: SplitCalls + Drop>(rt: &R, alloc: Global) -> Result<(), Fail>
+where
+    L::Port: Drop,
+{
+    a_late_linker_finds_the_line_in_the_mailbox_before_it::<R, L>(rt, alloc)?;
+    those_behind_a_late_linker_wait_for_it::<R, L>(rt, alloc)?;
+    one_who_links_before_the_release_waits::<R, L>(rt, alloc)?;
+    a_chain_of_withdrawn_nodes_ends_at_a_late_linker::<R, L>(rt, alloc)?;
+    finish_waits_for_a_late_linker::<R, L>(rt, alloc)?;
+    finish_names_the_first_cause::<R, L>(rt, alloc)
+}
+
+#[test]
+fn a_list_is_asked_by_two_calls(rt: HostRuntime) -> Result<(), Fail> {
+    each_half::<_, LinkLine<Free>>(&rt, rt.alloc())
+}

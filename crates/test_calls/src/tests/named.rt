@@ -1,0 +1,60 @@
+//! Lines that are opened by a lock's own calls, and not as an `OpenLine`.
+
+use line_generic::{Discipline, Line, Payload};
+use line_lanes::Line64;
+use link_line::LinkQueue;
+use qolb_model::{Free, LineSync, OpenError, PortState};
+use ring_line::RingQueue;
+use std::alloc::Global;
+use std::mem::size_of;
+use std::process::Abort;
+use std::test::Fail;
+use ticket_line::TicketQueue;
+
+fn a_line_is_opened<R: Abort, Q: Discipline<Free>>(rt: &R, alloc: Global) -> Result<(), Fail> {
+    let (line, ports) = Line::<Free, Q>::open(alloc, 3, 2, Line64::zero())?;
+    assert_eq!(rt; (line.label(), line.nodes(), ports.len()), (3, 2, 2));
+    for (at, port) in ports.iter().enumerate() {
+        let node = Line::<Free, Q>::node(port);
+        let state = Line::<Free, Q>::state(port);
+        let found = (node, state, line.steps(port), line.owns(port));
+        assert_eq!(rt; found, (at as u64 + 1, PortState::Idle, 0, true));
+    }
+    let refused = Line::<Free, Q>::open(alloc, 3, 201, Line64::zero()).err();
+    assert_eq!(rt; refused, Some(OpenError::Nodes));
+    Ok(())
+}
+
+fn a_line_is_opened_with_a_lease<R: Abort, Q: Discipline<Free>>(
+    rt: &R,
+    alloc: Global,
+) -> Result<(), Fail> {
+    let zero = Line64::zero();
+    let (line, ports) = Line::<Free, Q>::open_leased(alloc, 4, 1, zero, 2)?;
+    assert_eq!(rt; (line.label(), line.nodes(), ports.len()), (4, 1, 1));
+    let no_nodes = Line::<Free, Q>::open_leased(alloc, 4, 0, zero, 0).err();
+    assert_eq!(rt; no_nodes, Some(OpenError::Nodes));
+    let no_turn = Line::<Free, Q>::open_leased(alloc, 4, 1, zero, 0).err();
+    assert_eq!(rt; no_turn, Some(OpenError::Lease));
+    Ok(())
+}
+
+/// Opens lines by each of a lock's own calls.
+fn each_opening<R: Abort, Q: Discipline<Free>>(rt: &R, alloc: Global) -> Result<(), Fail> {
+    a_line_is_opened::<R, Q>(rt, alloc)?;
+    a_line_is_opened_with_a_lease::<R, Q>(rt, alloc)
+}
+
+#[test]
+fn lines_are_opened(rt: HostRuntime) -> Result<(), Fail> {
+    each_opening::<_, RingQueue>(&rt, rt.alloc())?;
+    each_opening::<_, TicketQueue>(&rt, rt.alloc())?;
+    each_opening::<_, LinkQueue>(&rt, rt.alloc())
+}
+
+/// A slot takes two cache lines, so that no two slots share one.
+#[test]
+fn a_slot_has_128_bytes(rt: HostRuntime) -> Result<(), Fail> {
+    assert_eq!(rt; size_of::<Payload>(), 128);
+    Ok(())
+}

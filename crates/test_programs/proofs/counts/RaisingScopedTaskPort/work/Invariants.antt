@@ -1,0 +1,5 @@
+use Rattle.test_programs.specs.Ports.{MayAskFor}
+use Rattle.test_programs.proofs.counts.RaisingScopedTaskPort.work.Given as goal
+
+abbrev pub invariant-loop : goal.invariant-loop
+invariant-loop g l = MayAskFor g.L.LineSync.belongs g.L.LineSync.view l.line l.port

@@ -1,0 +1,9 @@
+use Rattle.std.proofs.Common.{IsTrue}
+use Rattle.qolb_model.specs.PortStates.{may_ask}
+use Rattle.test_programs.proofs.producers.produce.Given as goal
+
+abbrev pub invariant-loop : goal.invariant-loop
+invariant-loop g l = g.L.LineSync.belongs l.line l.port × IsTrue (may_ask (g.L.LineSync.view l.port).state)
+
+abbrev pub invariant-loop-task : goal.invariant-loop-task
+invariant-loop-task g l = g.L.LineSync.belongs l.line l.port × IsTrue (may_ask (g.L.LineSync.view l.port).state)

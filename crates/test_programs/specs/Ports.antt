@@ -1,0 +1,13 @@
+-- Ports between calls. (Of this project.)
+use Rattle.std.specs.Prelude.{◌≡◌, ◌⊎◌, IsTrue}
+use Rattle.qolb_model.specs.declared.answer.PortState.TheVariants.{Queued, Holding}
+use Rattle.qolb_model.specs.declared.view.View.{View}
+use Rattle.qolb_model.specs.PortStates.{may_ask}
+
+-- a port of the line that may ask
+abbrev pub MayAskFor : {Line Port : Type 0} → (Line → Port → Type 0) → (Port → View) → Line → Port → Type 0
+MayAskFor belongs view line port = belongs line port × IsTrue (may_ask (view port).state)
+
+-- a port of the line that holds the line or waits for it
+abbrev pub HoldsOrWaits : {Line Port : Type 0} → (Line → Port → Type 0) → (Port → View) → Line → Port → Type 0
+HoldsOrWaits belongs view line port = belongs line port × (((view port).state ≡ Holding) ⊎ ((view port).state ≡ Queued))

@@ -1,0 +1,167 @@
+//! Each test over each lock. The answers are written once, over any line.
+
+mod boards;
+mod counts;
+mod desks;
+
+use line_accounts::AccountLaw;
+use line_board::BoardLaw;
+use link_line::LinkLine;
+use qolb_model::{Free, OpenLine, ParkingLine};
+use ring_line::RingLine;
+use std::alloc::Global;
+use std::process::Abort;
+use std::sync::Wait;
+use std::test::Fail;
+use std::thread::Threads;
+use ticket_line::TicketLine;
+
+/// Runs each test of the board over lines of this type.
+fn each_board<
+    R: Threads + Wait + Sync + Abort,
+    L: OpenLine<BoardLaw> + ParkingLine<BoardLaw> + Sync + Drop,
+>(rt: &R, alloc: Global) -> Result<(), Fail>
+where
+    L::Port: Send + Drop,
+{
+    boards::tasks_are_taken_in_their_order::<R, L>(rt, alloc)?;
+    boards::tasks_lie_in_the_line::<R, L>(rt, alloc);
+    boards::a_late_node_is_busy_until_it_is_passed::<R, L>(rt, alloc);
+    boards::a_busy_node_asks_once::<R, L>(rt, alloc);
+    boards::a_lease_ends_a_board::<R, L>(rt, alloc);
+    boards::each_task_is_taken_once::<R, L>(rt, alloc)
+}
+
+/// The parts of the tests of desks.
+#[derive(Clone, Copy)]
+enum Part {
+    Rows,
+    /// The answers of settling while memory is refused. It takes all memory of the process.
+    SettlingWithoutMemory,
+}
+
+/// Runs `part` over lines of this type.
+fn try_desks<
+    R: Threads + Wait + Sync + Abort,
+    L: OpenLine<AccountLaw> + ParkingLine<AccountLaw> + Sync + Drop,
+>(rt: &R, alloc: Global, part: Part) -> Result<(), Fail>
+where
+    L::Port: Send + Drop,
+{
+    match part {
+        Part::Rows => each_desk::<R, L>(rt, alloc),
+        Part::SettlingWithoutMemory => {
+            desks::settling_is_refused_for_want_of_memory::<R, L>(rt, alloc)
+        }
+    }
+}
+
+/// Runs each test of desks over lines of this type.
+fn each_desk<
+    R: Threads + Wait + Sync + Abort,
+    L: OpenLine<AccountLaw> + ParkingLine<AccountLaw> + Sync + Drop,
+>(rt: &R, alloc: Global) -> Result<(), Fail>
+where
+    L::Port: Send + Drop,
+{
+    desks::a_day_is_settled::<R, L>(rt, alloc);
+    desks::a_balance_has_a_limit::<R, L>(rt, alloc);
+    desks::a_full_balance_lies_in_its_lane::<R, L>(rt, alloc)?;
+    desks::a_transfer_leaves_six_and_brings_four::<R, L>(rt, alloc)?;
+    desks::a_transfer_goes_over_two_lines::<R, L>(rt, alloc);
+    desks::a_transfer_keeps_the_limit::<R, L>(rt, alloc);
+    desks::a_lease_closes_the_line::<R, L>(rt, alloc);
+    desks::a_late_transfer_moves_nothing::<R, L>(rt, alloc);
+    desks::a_busy_desk_asks_once::<R, L>(rt, alloc);
+    desks::the_lower_line_is_asked_for_first::<R, L>(rt, alloc, 0, 9);
+    desks::the_lower_line_is_asked_for_first::<R, L>(rt, alloc, 9, 0);
+    desks::what_was_paid_in_is_settled::<R, L>(rt, alloc)
+}
+
+/// Runs each program of threads that count, over lines of this type.
+fn each_count<R: Threads + Wait + Sync + Abort, L: OpenLine<Free> + Sync + Drop>(
+    rt: &R,
+    alloc: Global,
+) -> Result<(), Fail>
+where
+    L::Port: Send + Drop,
+{
+    counts::four_threads_raise_one_count::<R, L>(rt, alloc)?;
+    counts::a_withdrawal_and_a_release_race::<R, L>(rt, alloc)
+}
+
+fn desks_of_rings<R: Threads + Wait + Sync + Abort>(
+    rt: &R,
+    alloc: Global,
+    part: Part,
+) -> Result<(), Fail> {
+    try_desks::<_, RingLine<AccountLaw>>(rt, alloc, part)
+}
+
+fn desks_of_lists<R: Threads + Wait + Sync + Abort>(
+    rt: &R,
+    alloc: Global,
+    part: Part,
+) -> Result<(), Fail> {
+    try_desks::<_, LinkLine<AccountLaw>>(rt, alloc, part)
+}
+
+fn desks_of_ticket_lines<R: Threads + Wait + Sync + Abort>(
+    rt: &R,
+    alloc: Global,
+    part: Part,
+) -> Result<(), Fail> {
+    try_desks::<_, TicketLine<AccountLaw>>(rt, alloc, part)
+}
+
+#[test]
+fn boards_over_rings(rt: HostRuntime) -> Result<(), Fail> {
+    each_board::<_, RingLine<BoardLaw>>(&rt, rt.alloc())
+}
+
+#[test]
+fn desks_over_rings(rt: HostRuntime) -> Result<(), Fail> {
+    desks_of_rings(&rt, rt.alloc(), Part::Rows)
+}
+
+#[test]
+fn counts_over_rings(rt: HostRuntime) -> Result<(), Fail> {
+    each_count::<_, RingLine<Free>>(&rt, rt.alloc())
+}
+
+#[test]
+fn boards_over_lists(rt: HostRuntime) -> Result<(), Fail> {
+    each_board::<_, LinkLine<BoardLaw>>(&rt, rt.alloc())
+}
+
+#[test]
+fn desks_over_lists(rt: HostRuntime) -> Result<(), Fail> {
+    desks_of_lists(&rt, rt.alloc(), Part::Rows)
+}
+
+#[test]
+fn counts_over_lists(rt: HostRuntime) -> Result<(), Fail> {
+    each_count::<_, LinkLine<Free>>(&rt, rt.alloc())
+}
+
+#[test]
+fn boards_over_ticket_lines(rt: HostRuntime) -> Result<(), Fail> {
+    each_board::<_, TicketLine<BoardLaw>>(&rt, rt.alloc())
+}
+
+#[test]
+fn desks_over_ticket_lines(rt: HostRuntime) -> Result<(), Fail> {
+    desks_of_ticket_lines(&rt, rt.alloc(), Part::Rows)
+}
+
+#[test]
+fn counts_over_ticket_lines(rt: HostRuntime) -> Result<(), Fail> {
+    each_count::<_, TicketLine<Free>>(&rt, rt.alloc())
+}
+
+#[test]
+fn settling_is_refused_without_memory(rt: HostRuntime) -> Result<(), Fail> {
+    desks_of_rings(&rt, rt.alloc(), Part::SettlingWithoutMemory)?;
+    desks_of_lists(&rt, rt.alloc(), Part::SettlingWithoutMemory)?;
+    desks_of_ticket_lines(&rt, rt.alloc(), Part::SettlingWithoutMemory)
+}

@@ -1,0 +1,120 @@
+-- What each step of a release requires and ensures of the holder's seat: one record for each, by the table `t` and the law `allows`.
+use Rattle.std.specs.Prelude.{◌≡◌, ◌≢◌, ◌⊎◌, ℕ, ◌+◌, ◌*◌, ◌≤◌, List, [], ◌∷◌, length}
+use Rattle.qolb_model.specs.declared.config.TheConstants.{MAX_NODES}
+use Rattle.qolb_model.specs.declared.request.Request.{Request}
+use Rattle.qolb_model.specs.Requests.{AreOfOthers}
+use Rattle.qolb_model.specs.PortStates.{state_after}
+use Rattle.line_generic.specs.declared.table.Payload.{Payload}
+use Rattle.line_generic.specs.Calls.{LineTable}
+use Rattle.line_generic.specs.PortPhases.{PortPhases}
+use Rattle.line_generic.specs.Steps.{IsSameSeat, IsSeatOf, HasNoSlot}
+use Rattle.line_tickets.specs.declared.local.Local.{Local}
+use Rattle.line_tickets.specs.declared.local.Point.TheVariants.{Holding, Passing, Freeing}
+use Rattle.line_tickets.specs.Array.{At}
+use Rattle.line_tickets.specs.BetweenCalls as between_calls
+use Rattle.line_tickets.specs.Counting.{mask_for}
+use Rattle.line_tickets.specs.Layout.{IsWithin, ticket_of}
+use Rattle.line_tickets.specs.Releases.{MatchesEnds, ReleasesLine, FinishesWalk, AreNodesAt, FreesAll}
+use Rattle.line_tickets.specs.Steps.{ArraySeat, IsAt, ghost_of, SeatAdvances, CarriesNext, Ended, GoesHome, Passes, Frees}
+use Rattle.ticket_line.specs.declared.release.Handoff.{Handoff}
+use Rattle.ticket_line.specs.Layout.{word_count}
+use Rattle.ticket_line.specs.Slots.{slots_at_grant, slots_in_turn, slots_at_release}
+use Rattle.ticket_line.specs.Steps.{IsSized, turn_ticket, next_ticket, SlotsAtGrant, SlotsAtRelease}
+
+-- the phases of a node, with the slots that it has in each
+abbrev pub phases : PortPhases Local
+phases = between_calls.phases ticket_of slots_at_grant slots_in_turn slots_at_release
+
+module _ {P : Type 0} (t : LineTable Local P) where
+  -- the seat of a holder that has not passed any request
+  pub record IsReleaser (allows : List ℕ → List ℕ → Type 0) (mask turn : ℕ) (s : ArraySeat) : Type 0 where
+    pub table : IsSeatOf (word_count t.key.config.nodes) t.table_id s
+    pub phase : IsAt Holding s
+    pub size : mask ≡ mask_for t.key.config.nodes
+    pub sized : IsSized t.key.config.nodes s
+    pub none_passed : (ghost_of s).own.passed ≡ []
+    pub ticket : turn ≡ turn_ticket s
+    pub nodes : 1 ≤ (ghost_of s).view.config.nodes
+    pub payload : (y : Payload) × SlotsAtRelease t.key.config.nodes turn s y × CarriesNext allows (ghost_of s) y
+
+  -- the seat of a holder whose successor had withdrawn as this node
+  pub record HasPassedFirst (mask turn node : ℕ) (s : ArraySeat) : Type 0 where
+    pub table : IsSeatOf (word_count t.key.config.nodes) t.table_id s
+    pub phase : IsAt Passing s
+    pub size : mask ≡ mask_for t.key.config.nodes
+    pub sized : IsSized t.key.config.nodes s
+    pub ticket : turn ≡ turn_ticket s
+    pub some : node ≢ 0
+    pub passed : (ghost_of s).own.passed ≡ length (ghost_of s).view.ends ∷ []
+    pub others : AreOfOthers (ghost_of s).view.node (ghost_of s).view.order (ghost_of s).own.passed
+    pub first : (r : Request) × At (ghost_of s).view.order (length (ghost_of s).view.ends) r × (r.node ≡ node) × (r.node ≤ (ghost_of s).view.config.nodes)
+    pub nodes : (2 ≤ (ghost_of s).view.config.nodes) × ((ghost_of s).view.config.nodes ≤ MAX_NODES)
+    pub payload : (y : Payload) × SlotsAtGrant t.key.config.nodes turn s y × MatchesEnds (ghost_of s) y × ((ghost_of s).view.state ≡ state_after y.closed)
+
+  -- the seat has passed requests of these nodes, none of them freed yet
+  pub record HasNodesToFree (passed : List ℕ) (s : ArraySeat) : Type 0 where
+    pub table : IsSeatOf (word_count t.key.config.nodes) t.table_id s
+    pub phase : IsAt Freeing s
+    pub sized : IsSized t.key.config.nodes s
+    pub some : (ghost_of s).own.passed ≢ []
+    pub many : length passed ≡ length (ghost_of s).own.passed
+    pub nodes : AreNodesAt (ghost_of s).view (ghost_of s).own.passed passed
+
+  -- the seat has this node to free, of the first passed request
+  pub record HasNodeToFree (node : ℕ) (s : ArraySeat) : Type 0 where
+    pub table : IsSeatOf (word_count t.key.config.nodes) t.table_id s
+    pub phase : IsAt Freeing s
+    pub high : IsWithin t.key.config.nodes node
+    pub next : (q : ℕ) × (ps : List ℕ) × (r : Request) × ((ghost_of s).own.passed ≡ q ∷ ps) × At (ghost_of s).view.order q r × (r.node ≡ node)
+
+  -- the seat has the line stored for the successor with this ticket
+  pub record HasSuccessor (allows : List ℕ → List ℕ → Type 0) (mask ticket : ℕ) (s : ArraySeat) : Type 0 where
+    pub table : IsSeatOf (word_count t.key.config.nodes) t.table_id s
+    pub phase : IsAt Holding s ⊎ IsAt Passing s
+    pub size : mask ≡ mask_for t.key.config.nodes
+    pub nodes : IsSized t.key.config.nodes s
+    pub next : ticket ≡ next_ticket s
+    pub payload : (y : Payload) × SlotsAtRelease t.key.config.nodes (turn_ticket s) s y × CarriesNext allows (ghost_of s) y
+
+  -- after `grant`: the turn has ended, and the line is home or passes a request
+  pub record HasGranted (allows : List ℕ → List ℕ → Type 0) (ticket : ℕ) (old new : ArraySeat) (node : ℕ) : Type 0 where
+    pub advances : SeatAdvances allows old new 1
+    pub ended : (y : Payload) → SlotsAtRelease t.key.config.nodes (turn_ticket old) old y → Ended (ghost_of old) (ghost_of new) y
+    pub home : node ≡ 0 → HasNoSlot new × GoesHome (ghost_of old) (ghost_of new)
+    pub passes : node ≢ 0 → ((y : Payload) → SlotsAtRelease t.key.config.nodes (turn_ticket old) old y → SlotsAtGrant t.key.config.nodes ticket new y) × Passes (ghost_of old) node (ghost_of new)
+
+  -- after `copy_to_next_slot`: the granted line is in the successor's slot, too
+  pub record HasCopied (ticket : ℕ) (old new : ArraySeat) : Type 0 where
+    pub seat : IsSameSeat old new × (new.me.0 ≡ old.me.0)
+    pub stored : (y : Payload) → SlotsAtGrant t.key.config.nodes ticket old y → SlotsAtRelease t.key.config.nodes ticket new y
+
+  -- after `release`: the line is released, by this handoff
+  pub record HasReleased (allows : List ℕ → List ℕ → Type 0) (ticket : ℕ) (old new : ArraySeat) (handoff : Handoff) : Type 0 where
+    pub slot : HasNoSlot new
+    pub advances : SeatAdvances allows old new handoff.steps
+    pub releases : (y : Payload) → SlotsAtRelease t.key.config.nodes ticket old y → ReleasesLine (ghost_of old) y (ghost_of new)
+    pub granted : handoff.ticket ≡ turn_ticket new
+    pub steps : handoff.steps + 1 + 2 * length (ghost_of old).view.ends ≡ 2 * length (ghost_of new).view.ends
+    pub bound : handoff.steps + 1 ≤ 2 * (ghost_of old).view.config.nodes
+
+module _ (allows : List ℕ → List ℕ → Type 0) where
+  -- after `walk`: the withdrawn requests are passed, by this handoff
+  pub record HasWalked (old new : ArraySeat) (handoff : Handoff) : Type 0 where
+    pub slot : HasNoSlot new
+    pub advances : SeatAdvances allows old new handoff.steps
+    pub finishes_walk : FinishesWalk (ghost_of old) (ghost_of new)
+    pub granted : handoff.ticket ≡ turn_ticket new
+    pub steps : handoff.steps + 2 * length (ghost_of old).view.ends ≡ 2 * length (ghost_of new).view.ends
+    pub bound : handoff.steps + 2 ≤ 2 * (ghost_of old).view.config.nodes
+
+  -- after `free_passed`: the nodes of all passed requests are freed
+  pub record HasFreedAll (passed : List ℕ) (old new : ArraySeat) : Type 0 where
+    pub slot : new.me.1 ≡ old.me.1
+    pub advances : SeatAdvances allows old new (length passed)
+    pub frees : FreesAll (ghost_of old) (ghost_of new)
+
+  -- after `free`: the node of the first passed request is freed
+  pub record HasFreed (old new : ArraySeat) : Type 0 where
+    pub slot : new.me.1 ≡ old.me.1
+    pub advances : SeatAdvances allows old new 1
+    pub frees : (q : ℕ) (ps : List ℕ) (r : Request) → (ghost_of old).own.passed ≡ q ∷ ps → At (ghost_of old).view.order q r → Frees (ghost_of old) ps r (ghost_of new)

@@ -1,0 +1,209 @@
+//! Partitioned tickets as a queue discipline.
+ghost use Rattle.std.specs.Prelude.{◌≡◌};
+ghost use Rattle.qolb_model.specs.PortStates as states;
+ghost use Rattle.line_tickets.specs.Counting.{mask_for};
+ghost use Rattle.line_tickets.specs.Layout.{ticket_of};
+ghost use Rattle.ticket_line.specs.Layout.{word_count};
+ghost use Rattle.line_tickets.proofs.Seats as seats;
+ghost use Rattle.line_tickets.proofs.Meets as meeting;
+ghost use Rattle.line_tickets.proofs.Lasting as lasting;
+ghost use Rattle.ticket_line.specs.Layout as layout;
+ghost use Rattle.ticket_line.specs.Slots as slots;
+ghost use Rattle.ticket_line.specs.Slots.{slot_layout, last};
+ghost use Rattle.ticket_line.specs.Ticket.{TicketCells};
+ghost use Rattle.ticket_line.specs.Laws.{first_cells, first_slot, enough, holder_returns, is_last};
+
+use crate::invariant::{SharedTable, TicketQueue, TicketSeat};
+use crate::layout::{cell_word, first_words, is_granted_half, slot_count, ticket_after};
+use crate::release::{release, try_reset};
+use crate::slots::{put, take, take_final};
+use crate::steps::{load, load_node, roll, take_ticket};
+use atomic_table::Closed;
+use line_generic::{
+    Discipline, EnqueueResult, Enqueued, LocalCopy, Payload, Released, Rested, UnparkHandle,
+};
+use line_tickets::{cell_count, is_freed};
+use qolb_model::{Keep, PortState};
+use std::alloc::{AllocError, Global};
+
+impl<K: Keep> Discipline<K> for TicketQueue {
+    ghost word_count = { word_count };
+
+    ghost are_first = { layout.AreFirst };
+
+    fn first_words(alloc: Global, nodes: u64) -> Result<Vec<u64>, AllocError> {
+        first_words(alloc, nodes)
+    }
+
+    ghost slot_count = { slots.slot_count };
+
+    ghost last = { last };
+
+    fn slot_count(nodes: u64) -> usize {
+        slot_count(nodes)
+    }
+
+    ghost size_for = { mask_for };
+
+    fn size_for(nodes: u64) -> u64 {
+        cell_count(nodes) - 1
+    }
+
+    #[inline]
+    fn take(
+        table: &SharedTable<K>,
+        seat: &mut TicketSeat,
+        size: u64,
+        token: u64,
+        payload: &mut LocalCopy,
+    ) {
+        take(table, seat, size, token, payload);
+    }
+
+    #[inline]
+    fn put(
+        table: &SharedTable<K>,
+        seat: &mut TicketSeat,
+        size: u64,
+        token: u64,
+        payload: &LocalCopy,
+        closed: bool,
+    ) {
+        put(table, seat, size, token, payload, closed);
+    }
+
+    fn take_final(closed: Closed<Payload, Global>, nodes: u64) -> Payload {
+        take_final(closed, nodes)
+    }
+
+    /// Takes a ticket and loads its cell: two word steps; four after a withdrawal; one if busy.
+    #[inline]
+    fn ask(
+        table: &SharedTable<K>,
+        seat: &mut TicketSeat,
+        size: u64,
+        node: u64,
+        state: PortState,
+    ) -> EnqueueResult {
+        let Some(renewing) = try_reset(table, seat, node, state) else {
+            return EnqueueResult {
+                answer: Enqueued::Busy,
+                token: 0,
+                steps: 1,
+            };
+        };
+        let ticket = take_ticket(table, seat);
+        let answer = if load(table, seat, size, ticket) {
+            Enqueued::AtTurn
+        } else {
+            Enqueued::Queued
+        };
+        EnqueueResult {
+            answer,
+            token: ticket,
+            steps: renewing + 2,
+        }
+    }
+
+    /// Returns `true` unless the node's last request was withdrawn and is not passed yet.
+    #[inline]
+    fn look_at_rest(
+        table: &SharedTable<K>,
+        seat: &mut TicketSeat,
+        node: u64,
+        state: PortState,
+    ) -> Rested {
+        if state != PortState::Rolled {
+            return Rested {
+                clear: true,
+                state,
+                steps: 0,
+            };
+        }
+        Rested {
+            clear: is_freed(load_node(table, seat, node)),
+            state,
+            steps: 1,
+        }
+    }
+
+    #[inline]
+    fn look(
+        table: &SharedTable<K>,
+        seat: &mut TicketSeat,
+        size: u64,
+        _node: u64,
+        token: u64,
+    ) -> bool {
+        load(table, seat, size, token)
+    }
+
+    #[inline]
+    fn roll(
+        table: &SharedTable<K>,
+        seat: &mut TicketSeat,
+        size: u64,
+        node: u64,
+        token: u64,
+    ) -> bool {
+        roll(table, seat, size, token, node)
+    }
+
+    #[inline]
+    fn release(
+        table: &SharedTable<K>,
+        seat: &mut TicketSeat,
+        size: u64,
+        _node: u64,
+        token: u64,
+        closed: bool,
+    ) -> Released {
+        let released = release(table, seat, size, token);
+        Released {
+            state: state_after(closed),
+            steps: released.steps,
+            unpark: UnparkHandle::at(
+                cell_word(table, size, released.ticket),
+                cell_word(table, size, ticket_after(released.ticket)),
+            ),
+        }
+    }
+
+    #[inline]
+    fn wait_word(table: &SharedTable<K>, size: u64, _node: u64, token: u64) -> usize {
+        cell_word(table, size, token)
+    }
+
+    #[inline]
+    fn signals_turn(token: u64, low: u32) -> bool {
+        is_granted_half(low, token)
+    }
+
+    ghost cuts = { λ key. seats.cuts (TicketCells key.config.nodes) (slot_layout key.config.nodes) K.good K.allows key };
+
+    ghost blanks = { λ key. seats.blanks (TicketCells key.config.nodes) (slot_layout key.config.nodes) K.good K.allows key };
+
+    ghost joins = { λ key. seats.joins (TicketCells key.config.nodes) (slot_layout key.config.nodes) K.good K.allows key };
+
+    ghost slots = { λ key. seats.slot_count (TicketCells key.config.nodes) (slot_layout key.config.nodes) K.good K.allows key };
+
+    ghost starts = { λ key. seats.starts (TicketCells key.config.nodes) (slot_layout key.config.nodes) K.good K.allows key (layout.granted 0) (enough key) (first_slot key.config.nodes) (first_cells key.config.nodes) };
+
+    ghost meets = { λ key. meeting.meets_next (TicketCells key.config.nodes) (slot_layout key.config.nodes) K.good K.allows key };
+
+    ghost return_slots_law = { λ key id slots i m v token left is holds_open kept. meeting.return_slots_next (TicketCells key.config.nodes) (slot_layout key.config.nodes) K.good K.allows key id slots i m v is holds_open (holder_returns key v.view token left m.1 kept) };
+
+    ghost finishes = { λ key es id words xs at_rest. lasting.final_line (TicketCells key.config.nodes) (slot_layout key.config.nodes) K.good K.allows key es ticket_of at_rest (last key.config.nodes) (is_last key.config.nodes) id words xs };
+}
+
+/// The state of a port after its turn, if that closed the line or not.
+#[inline]
+fn state_after(closed: bool) -> PortState
+    ensures { result ≡ states.state_after closed }
+{
+    if closed {
+        PortState::Shut
+    } else {
+        PortState::Idle
+    }
+}
