@@ -30,6 +30,8 @@ enum { US = 1000, MS = 1000000 };
 static uint64_t now, clocks, yields, sleeps, longest, asks, spins, spun, looks, names, wakes, wrong;
 
 /* The words of the first sleeps and wakes since then, in their order. */
+/* How often a waiter yields before it sleeps, as qolb.h says. */
+enum { YIELDS = 16 };
 enum { NOTED = 8 };
 static const void *slept_at[NOTED], *woken_at[NOTED];
 
@@ -153,20 +155,20 @@ static void shuts(void) {
 
 /* Without a grant, while the first node holds the line. */
 static int late(qolb_node *n) {
-    /* For 20 ms, while it waits and while it is busy: late to the nanosecond. Waiting, it polls 64 times, 8 times more and yields before each of
-     * these, polls once more, and sleeps as long as it may. Busy, it requests again 8 times, and then every 200 us. */
+    /* For 20 ms, while it waits and while it is busy: late to the nanosecond. Waiting, it polls 64 times, 16 times more and yields before each of
+     * these, polls once more, and sleeps as long as it may. Busy, it requests again 16 times, and then every 200 us. */
     for (unsigned busy = 0; busy < 2; busy++) {
         uint64_t since = now;
         begins(NULL);
         WANT(qolb_acquire_within(&n[1], 20 * MS), QOLB_LATE);
         WANT(now - since, 20 * MS);
-        WANT(yields, 8);
+        WANT(yields, YIELDS);
         WANT(sleeps, busy ? 100 : 1);
         WANT(longest, busy ? 200 * US : 20 * MS);
-        WANT(asks, busy ? 1 + 8 + 100 : 1);
+        WANT(asks, busy ? 1 + YIELDS + 100 : 1);
         WANT(spins, !busy);
         WANT(spun, busy ? 0 : 64);
-        WANT(looks, busy ? 0 : 8 + 1);
+        WANT(looks, busy ? 0 : YIELDS + 1);
         WANT(qolb_state(&n[1]), QOLB_STATE_ROLLED);
     }
     /* For less than a nap; and for no time at all: it still makes a request, and polls if it waits. */
@@ -191,13 +193,13 @@ static int sleeps_on(qolb_node *n, int limited) {
     event.at_sleep = 3;
     WANT(limited ? qolb_acquire_within(&n[1], UINT64_MAX) : qolb_acquire(&n[1]), QOLB_GRANTED);
     WANT(clocks, 0);
-    WANT(yields, 3 * 8);
+    WANT(yields, 3 * YIELDS);
     WANT(sleeps, 3);
     WANT(longest, NEVER);
     WANT(asks, 1);
     WANT(spins, 4);
     WANT(spun, 4 * 64);
-    WANT(looks, 3 * 9);
+    WANT(looks, 3 * (YIELDS + 1));
     WANT(wakes, 1);
     WANT(qolb_deqolb(&n[1]), QOLB_DONE);
     WANT(qolb_acquire(&n[0]), QOLB_GRANTED);
@@ -225,10 +227,10 @@ static int granted(qolb_node *n) {
     begins(releases);
     event.at_sleep = 1000;
     WANT(qolb_acquire(&n[1]), QOLB_GRANTED);
-    WANT(yields, 8);
+    WANT(yields, YIELDS);
     WANT(sleeps, 1000);
     WANT(longest, 200 * US);
-    WANT(asks, 1 + 8 + 1000);
+    WANT(asks, 1 + YIELDS + 1000);
     WANT(spins + looks + wakes + clocks, 0);
     WANT(qolb_deqolb(&n[1]), QOLB_DONE);
     return 0;
@@ -582,12 +584,12 @@ static int late_for_lock(qolb_lock *lock, unsigned has_seat) {
     begins(NULL);
     WANT(qolb_lock_enter_within(lock, 20 * MS), QOLB_LATE);
     WANT(now - since, 20 * MS);
-    WANT(yields, 8);
+    WANT(yields, YIELDS);
     WANT(sleeps, 1);
     WANT(longest, 20 * MS);
     WANT(asks, has_seat);
     WANT(spun, has_seat ? 64 : 0);
-    WANT(looks, has_seat ? 8 + 1 : 0);
+    WANT(looks, has_seat ? YIELDS + 1 : 0);
     return 0;
 }
 
@@ -626,7 +628,7 @@ static int lock_rests(uint32_t kind) {
     event.at_sleep = 2;
     WANT(qolb_lock_enter(&lock), QOLB_GRANTED);
     WANT(clocks, 0);
-    WANT(yields, 2 * 8);
+    WANT(yields, 2 * YIELDS);
     WANT(sleeps, 2);
     WANT(longest, NEVER);
     WANT(spun, 3 * 64);
