@@ -33,6 +33,12 @@ class Crate:
         return sum(it.read_bytes().count(b"\n") for it in self.files())
 
 
+def locks():
+    """The crates of locks: those of crates.txt below a line that begins with `# lock:`."""
+    lines = (ROOT / "crates.txt").read_text().splitlines()
+    return [line.split(":")[0].split()[0] for about, line in zip(lines, lines[1:]) if about.startswith("# lock:")]
+
+
 def read_crates():
     """The crates by name, lowest first."""
     lines = [it.partition("#")[0].strip() for it in (ROOT / "crates.txt").read_text().splitlines()]
