@@ -62,8 +62,8 @@ static void enter(struct port *p) {
     if (qolb_acquire(&p->node) != QOLB_GRANTED) abort();
 }
 static void change(struct port *p) {
-    uint64_t held;
-    if (qolb_read_lane(&p->node, 0, &held) != QOLB_DONE || qolb_write_lane(&p->node, 0, held + 1) != QOLB_DONE) abort();
+    uint64_t was;
+    if (qolb_add_lane(&p->node, 0, 1, &was) != QOLB_DONE) abort();
 }
 static void leave(struct port *p) {
     if (qolb_deqolb(&p->node) != QOLB_DONE) abort();

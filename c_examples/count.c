@@ -5,11 +5,10 @@
 
 static void *add(void *handle) {
     qolb_node node = qolb_move(handle); /* a thread keeps its node on its own stack */
-    uint64_t count;
+    uint64_t was;
     for (int round = 0; round < 1000; round++) {
         if (qolb_acquire(&node) != QOLB_GRANTED) break; /* waits for the thread's turn */
-        qolb_read_lane(&node, 0, &count);
-        qolb_write_lane(&node, 0, count + 1);
+        qolb_add_lane(&node, 0, 1, &was);
         qolb_deqolb(&node); /* hands lock and bytes to the next thread in the queue */
     }
     qolb_close(&node);

@@ -6,7 +6,7 @@
 static void add(qolb::Node node) {
     for (int round = 0; round < 1000; round++) {
         qolb::Guard turn(node); // waits for the thread's turn
-        turn.set_lane(0, turn.lane(0) + 1);
+        turn.add_to_lane(0, 1);
     } // the guard releases the line at the end of its scope
 }
 

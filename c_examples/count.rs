@@ -8,8 +8,7 @@ use std::thread;
 fn add(mut node: Node) -> Result<(), Stopped> {
     for _ in 0..1000 {
         let mut turn = node.lock()?; // waits for the thread's turn
-        let count = turn.lane(0);
-        turn.set_lane(0, count + 1);
+        turn.add_to_lane(0, 1);
     } // the guard releases the line at the end of its scope
     Ok(())
 }

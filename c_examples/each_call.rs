@@ -95,7 +95,7 @@ const STAYS: [State; 7] = STATES;
 const NO: &str = "Misuse";
 
 #[rustfmt::skip]
-const ROWS: [Row; 25] = [
+const ROWS: [Row; 27] = [
     ("enqolb", |l| told(l.node.enqolb()), ["Granted", NO, NO, NO, "Busy", "Busy", "Closed"], [Holding, Linking, Queued, Holding, Left, Rolled, Shut]),
     ("clear", |l| told(l.node.clear()), ["Done", NO, NO, NO, "Busy", "Busy", "Done"], STAYS),
     ("poll", |l| told(l.node.poll()), [NO, NO, "Waiting", NO, NO, NO, NO], STAYS),
@@ -109,6 +109,8 @@ const ROWS: [Row; 25] = [
     ("read_lane of none", |l| format!("{:?}", l.node.read_lane(8)), ["None"; 7], STAYS),
     ("write_lane", |l| told(l.node.write_lane(7, 1)), [NO, NO, NO, "Done", NO, NO, NO], STAYS),
     ("write_lane of none", |l| told(l.node.write_lane(8, 1)), [NO; 7], STAYS),
+    ("add_lane", |l| format!("{:?}", l.node.add_lane(7, 1)), ["None", "None", "None", "Some(0)", "None", "None", "None"], STAYS),
+    ("add_lane of none", |l| format!("{:?}", l.node.add_lane(8, 1)), ["None"; 7], STAYS),
     ("deqolb", |l| told(l.node.deqolb()), [NO, NO, NO, "Done", NO, NO, NO], [Idle, Linking, Queued, Idle, Left, Rolled, Shut]),
     ("shut", |l| told(l.node.shut()), [NO, NO, NO, "Done", NO, NO, NO], [Idle, Linking, Queued, Shut, Left, Rolled, Shut]),
     ("turns_left", |l| l.node.turns_left().to_string(), ["0", "0", "0", "9", "0", "0", "0"], STAYS),

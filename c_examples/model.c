@@ -179,7 +179,7 @@ static void reads_and_writes(unsigned n) {
     qolb_bytes line, seen;
     for (int k = 0; k < 64; k++) line.byte[k] = (uint8_t)draw(256);
     memset(seen.byte, 0x5a, 64);
-    switch (draw(4)) {
+    switch (draw(5)) {
     case 0:
         SAME(qolb_write(&handle[n], mask, &line), n, told);
         for (int k = 0; k < 64; k++)
@@ -192,6 +192,15 @@ static void reads_and_writes(unsigned n) {
     case 2:
         SAME(qolb_read(&handle[n], &seen), n, told);
         for (int k = 0; k < 64; k++) SAME(seen.byte[k], n, holds ? model.byte[k] : 0x5a);
+        break;
+    case 3:
+        SAME(qolb_add_lane(&handle[n], lane, value, &out), n, of_lane);
+        for (int k = 0; k < 8; k++) SAME(out >> 8 * k & 0xff, n, may ? model.byte[8 * lane + k] : k ? 0 : 77);
+        for (unsigned k = 0, carry = 0; may && k < 8; k++) {
+            carry += model.byte[8 * lane + k] + (uint8_t)(value >> 8 * k);
+            model.byte[8 * lane + k] = (uint8_t)carry;
+            carry >>= 8;
+        }
         break;
     default:
         SAME(qolb_read_lane(&handle[n], lane, &out), n, of_lane);
@@ -324,7 +333,9 @@ static void lock_is_read_and_written(void) {
     SAME(qolb_read_lane(turn, lane, &out), 0, QOLB_DONE);
     for (int k = 0; k < 8; k++) SAME(out >> 8 * k & 0xff, 0, locked.byte[8 * lane + k]);
     SAME(qolb_write_lane(turn, lane, value), 0, QOLB_DONE);
-    for (int k = 0; k < 8; k++) locked.byte[8 * lane + k] = (uint8_t)(value >> 8 * k);
+    SAME(qolb_add_lane(turn, lane, 1, &out), 0, QOLB_DONE);
+    SAME(out, 0, value);
+    for (int k = 0; k < 8; k++) locked.byte[8 * lane + k] = (uint8_t)((value + 1) >> 8 * k);
     SAME(qolb_label(turn), 0, locked.label);
     SAME(qolb_deqolb(turn), 0, QOLB_MISUSE);
     SAME(qolb_withdraw(turn), 0, QOLB_MISUSE);

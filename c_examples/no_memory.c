@@ -73,7 +73,8 @@ static int calls_take_none(uint32_t kind) {
     taken = given_back = 0;
     if (qolb_enqolb(one) != QOLB_GRANTED || qolb_turns_left(one) != 9) return puts("not granted"), 1;
     if (qolb_write(one, 1, &bytes) != QOLB_DONE || qolb_write_lane(one, 1, 7) != QOLB_DONE) return puts("not written"), 1;
-    if (qolb_read(one, &bytes) != QOLB_DONE || qolb_read_lane(one, 1, &number) != QOLB_DONE || number != 7) return puts("not read"), 1;
+    if (qolb_add_lane(one, 1, 2, &number) != QOLB_DONE || number != 7) return puts("not added"), 1;
+    if (qolb_read(one, &bytes) != QOLB_DONE || qolb_read_lane(one, 1, &number) != QOLB_DONE || number != 9) return puts("not read"), 1;
     if (qolb_enqolb(two) != QOLB_QUEUED || qolb_poll(two) != QOLB_WAITING || qolb_wait(two, 3) != QOLB_WAITING) return puts("does not wait"), 1;
     if (qolb_number(two) != 2 || qolb_label(two) != 1 || qolb_state(two) != QOLB_STATE_QUEUED) return puts("not node 2"), 1;
     if (qolb_memory(kind, 2) == 0) return puts("no memory is told"), 1;
@@ -102,7 +103,7 @@ static int puts_the_same_back(uint32_t kind) {
 #define SAME(call) ((call), one->own == was[0] && two->own == was[1])
     int same = SAME(qolb_enqolb_proved_(one)) && SAME(qolb_enqolb_proved_(one)) && SAME(qolb_turns_left_proved_(one)) && SAME(qolb_state_proved_(one));
     same = same && SAME(qolb_write_proved_(one, 1, &bytes)) && SAME(qolb_write_lane_proved_(one, 1, 7)) && SAME(qolb_read_proved_(one, &bytes));
-    same = same && SAME(qolb_read_lane_proved_(one, 1, &lane)) && SAME(qolb_number_proved_(one)) && SAME(qolb_label_proved_(one));
+    same = same && SAME(qolb_add_lane_proved_(one, 1, 2, &lane)) && SAME(qolb_read_lane_proved_(one, 1, &lane)) && SAME(qolb_number_proved_(one)) && SAME(qolb_label_proved_(one));
     same = same && SAME(qolb_enqolb_proved_(two)) && SAME(qolb_poll_proved_(two)) && SAME(qolb_wait_proved_(two, 3)) && SAME(qolb_withdraw_proved_(two));
     same = same && SAME(qolb_clear_proved_(two)) && SAME(qolb_clear_proved_(one)) && SAME(qolb_waits_at_proved_(one)) && SAME(qolb_enqolb_proved_(two));
     same = same && SAME(qolb_deqolb_proved_(one)) && SAME(qolb_went_to_proved_(one)) && SAME(qolb_went_ahead_proved_(one));

@@ -28,27 +28,28 @@ static void acquire(qolb_node *node) {
     if (qolb_acquire(node) != QOLB_GRANTED) abort();
 }
 
-static void add_one(qolb_node *node) {
+static void add_one(qolb_node *node, int lines) {
     uint64_t lane;
-    if (by_lines) {
+    if (lines) {
         qolb_bytes line;
         if (qolb_read(node, &line) != QOLB_DONE) abort();
         memcpy(&lane, line.byte, 8);
         lane++;
         memcpy(line.byte, &lane, 8);
         if (qolb_write(node, 0xff, &line) != QOLB_DONE) abort();
-    } else {
-        if (qolb_read_lane(node, 0, &lane) != QOLB_DONE) abort();
-        if (qolb_write_lane(node, 0, lane + 1) != QOLB_DONE) abort();
+    } else if (qolb_add_lane(node, 0, 1, &lane) != QOLB_DONE) {
+        abort();
     }
 }
 
 static void *work(void *argument) {
     qolb_node *node = argument;
+    uint64_t many = rounds;
+    int lines = by_lines;
     pthread_barrier_wait(&gate);
-    for (uint64_t k = 0; k < rounds; k++) {
+    for (uint64_t k = 0; k < many; k++) {
         acquire(node);
-        add_one(node);
+        add_one(node, lines);
         if (qolb_deqolb(node) != QOLB_DONE) abort();
     }
     return NULL;

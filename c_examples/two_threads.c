@@ -23,13 +23,15 @@ struct adder {
     _Alignas(QOLB_NODE_ALIGN) qolb_node node;
 };
 
-/* A thread adds 1 to lane 3, half of its rounds by lanes and half by whole lines. The node is the thread's alone. */
+/* A thread adds 1 to lane 3: a third of its rounds by one call, a third by lanes, and a third by whole lines. The node is the thread's alone. */
 static void *add(void *argument) {
     qolb_node *node = &((struct adder *)argument)->node;
     for (int round = 0; round < ROUNDS; round++) {
         if (qolb_acquire(node) != QOLB_GRANTED) return "not granted";
         uint64_t count;
-        if (round % 2) {
+        if (round % 3 == 0) {
+            if (qolb_add_lane(node, 3, 1, &count) != QOLB_DONE) return "not added to a lane";
+        } else if (round % 3 == 1) {
             if (qolb_read_lane(node, 3, &count) != QOLB_DONE) return "lane not read";
             if (qolb_write_lane(node, 3, count + 1) != QOLB_DONE) return "lane not written";
         } else {
@@ -133,6 +135,8 @@ static int empty_handle(void) {
     WANT(qolb_read_lane(&node, 0, &lane), QOLB_MISUSE);
     WANT(lane, 5);
     WANT(qolb_write_lane(&node, 0, 1), QOLB_MISUSE);
+    WANT(qolb_add_lane(&node, 0, 1, &lane), QOLB_MISUSE);
+    WANT(lane, 5);
     WANT(qolb_deqolb(&node), QOLB_MISUSE);
     WANT(qolb_shut(&node), QOLB_MISUSE);
     WANT(qolb_close(&node), QOLB_MISUSE);
@@ -165,6 +169,8 @@ static int misuse(uint32_t kind) {
     WANT(qolb_read_lane(&n[0], 8, &lane), QOLB_MISUSE);
     WANT(lane, 5);
     WANT(qolb_write_lane(&n[0], 8, 1), QOLB_MISUSE);
+    WANT(qolb_add_lane(&n[0], 8, 1, &lane), QOLB_MISUSE);
+    WANT(lane, 5);
     WANT(qolb_read_lane(&n[0], 0, &lane), QOLB_DONE);
     WANT(lane, 9);
     WANT(qolb_enqolb(&n[1]), QOLB_QUEUED);
@@ -181,6 +187,10 @@ static int misuse(uint32_t kind) {
     WANT(qolb_deqolb(&n[0]), QOLB_DONE);
     WANT(qolb_poll(&n[2]), QOLB_GRANTED);
     WANT(qolb_write_lane(&n[2], 7, UINT64_MAX), QOLB_DONE);
+    WANT(qolb_add_lane(&n[2], 7, 2, &lane), QOLB_DONE);
+    WANT(lane, UINT64_MAX);
+    WANT(qolb_add_lane(&n[2], 7, UINT64_MAX - 1, &lane), QOLB_DONE);
+    WANT(lane, 1);
     WANT(qolb_read(&n[2], &line), QOLB_DONE);
     for (int k = 0; k < 64; k++) WANT(line.byte[k], k / 8 == 7 ? 255 : k == 0 ? 9 : 0);
     WANT(qolb_shut(&n[2]), QOLB_DONE);

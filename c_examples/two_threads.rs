@@ -166,5 +166,5 @@ fn main() {
         guards(kind);
         waiter_is_dropped(kind);
     }
-    assert_eq!(qolb::version(), 10600);
+    assert_eq!(qolb::version(), 10700);
 }

@@ -1,6 +1,6 @@
 /* The calls on nodes, as the library exports them: each is the proved one, but for a node that a lock has lent (qolb_lock_turn). With a lent node its
- * holder reads and writes the line, and every call that would change the node's state is misuse: its lock would not know of it.
- * holder reads and writes the line, and every call that would move the node on is misuse: its lock would not know of it.
+ * holder reads and writes the line, and every call that would change the node's state is misuse: its lock would not know of it. Only opening and
+ * closing write to a handle, so threads may have theirs side by side, as qolb_open writes them.
  *
  * The calls that wait for a turn are here, too, and all that release a line ring its bells (bells.h). This is tested, not proved. So is the memory
  * of an open line beside its table. */
@@ -10,11 +10,6 @@
 
 /* The longest sleep of a busy node in nanoseconds: no call rings for it. */
 enum { NAP = 200000 };
-
-/* ---- The caller's handle ----
- *
- * A proved call takes the node out of its handle, and puts the same one back. So it gets a copy, on the stack, and the caller's handle is only
- * read. Else threads whose handles are side by side, as qolb_open writes them, would all write to one cache line. */
 
 /* ---- Opening ---- */
 
@@ -52,9 +47,7 @@ static inline uint32_t told(qolb_node *node, uint32_t got) { return got == QOLB_
 
 #define MOVES(call, then)                                                                          \
     uint32_t call(qolb_node *node) {                                                               \
-        if (qolb_is_lent_(node)) return QOLB_MISUSE;                                               \
-        qolb_node copy = *node;                                                                    \
-        return then(&copy, call##_proved_(&copy));                                                 \
+        return qolb_is_lent_(node) ? (uint32_t)QOLB_MISUSE : then(node, call##_proved_(node));     \
     }
 
 MOVES(qolb_enqolb, told)
@@ -66,16 +59,10 @@ MOVES(qolb_deqolb, let_go)
 MOVES(qolb_shut, let_go)
 
 uint32_t qolb_wait(qolb_node *node, uint64_t polls) {
-    if (qolb_is_lent_(node)) return QOLB_MISUSE;
-    qolb_node copy = *node;
-    return told(&copy, qolb_wait_proved_(&copy, polls));
+    return qolb_is_lent_(node) ? (uint32_t)QOLB_MISUSE : told(node, qolb_wait_proved_(node, polls));
 }
 
-uint32_t qolb_clear(qolb_node *node) {
-    if (qolb_is_lent_(node)) return QOLB_MISUSE;
-    qolb_node copy = *node;
-    return qolb_clear_proved_(&copy);
-}
+uint32_t qolb_clear(qolb_node *node) { return qolb_is_lent_(node) ? (uint32_t)QOLB_MISUSE : qolb_clear_proved_(node); }
 
 uint32_t qolb_close(qolb_node *node) { return qolb_is_lent_(node) ? (uint32_t)QOLB_MISUSE : qolb_close_proved_(node); }
 
@@ -148,9 +135,8 @@ __attribute__((noinline)) static uint32_t acquired(qolb_node *node, uint32_t got
 static inline uint32_t acquire(qolb_node *node, uint64_t nanoseconds) {
     if (qolb_is_lent_(node)) return QOLB_MISUSE;
     struct limit limit = from_now(nanoseconds);
-    qolb_node copy = *node;
-    uint32_t got = qolb_enqolb_proved_(&copy);
-    return got == QOLB_GRANTED ? got : acquired(&copy, got, limit);
+    uint32_t got = qolb_enqolb_proved_(node);
+    return got == QOLB_GRANTED ? got : acquired(node, got, limit);
 }
 
 uint32_t qolb_acquire(qolb_node *node) { return acquire(node, FOR_EVER); }
@@ -164,34 +150,34 @@ static inline qolb_node *meant(qolb_node *node) { return qolb_is_lent_(node) ? q
 
 uint32_t qolb_read(qolb_node *node, qolb_bytes *out) {
     if (!(node = meant(node))) return QOLB_MISUSE;
-    qolb_node copy = *node;
-    return qolb_read_proved_(&copy, out);
+    return qolb_read_proved_(node, out);
 }
 
 uint32_t qolb_write(qolb_node *node, uint64_t mask, const qolb_bytes *bytes) {
     if (!(node = meant(node))) return QOLB_MISUSE;
-    qolb_node copy = *node;
-    return qolb_write_proved_(&copy, mask, bytes);
+    return qolb_write_proved_(node, mask, bytes);
 }
 
 uint32_t qolb_read_lane(qolb_node *node, uint64_t lane, uint64_t *out) {
     if (!(node = meant(node))) return QOLB_MISUSE;
-    qolb_node copy = *node;
-    return qolb_read_lane_proved_(&copy, lane, out);
+    return qolb_read_lane_proved_(node, lane, out);
 }
 
 uint32_t qolb_write_lane(qolb_node *node, uint64_t lane, uint64_t value) {
     if (!(node = meant(node))) return QOLB_MISUSE;
-    qolb_node copy = *node;
-    return qolb_write_lane_proved_(&copy, lane, value);
+    return qolb_write_lane_proved_(node, lane, value);
+}
+
+uint32_t qolb_add_lane(qolb_node *node, uint64_t lane, uint64_t by, uint64_t *was) {
+    if (!(node = meant(node))) return QOLB_MISUSE;
+    return qolb_add_lane_proved_(node, lane, by, was);
 }
 
 /* 0 for a node by which the caller does not hold, as for an empty handle. */
 #define SAYS(result, call)                                                                 \
     result call(qolb_node *node) {                                                         \
         if (!(node = meant(node))) return 0;                                               \
-        qolb_node copy = *node;                                                            \
-        return call##_proved_(&copy);                                                      \
+        return call##_proved_(node);                                                       \
     }
 
 SAYS(uint64_t, qolb_turns_left)

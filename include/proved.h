@@ -16,6 +16,7 @@ uint32_t qolb_read_proved_(qolb_node *node, qolb_bytes *out);
 uint32_t qolb_write_proved_(qolb_node *node, uint64_t mask, const qolb_bytes *bytes);
 uint32_t qolb_read_lane_proved_(qolb_node *node, uint64_t lane, uint64_t *out);
 uint32_t qolb_write_lane_proved_(qolb_node *node, uint64_t lane, uint64_t value);
+uint32_t qolb_add_lane_proved_(qolb_node *node, uint64_t lane, uint64_t by, uint64_t *was);
 uint64_t qolb_turns_left_proved_(qolb_node *node);
 uint32_t qolb_clear_proved_(qolb_node *node);
 uint32_t qolb_deqolb_proved_(qolb_node *node);

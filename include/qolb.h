@@ -16,9 +16,8 @@
  *         // each thread has a node of its own: qolb_move(&node[0]), qolb_move(&node[1])
  *         uint32_t got = qolb_acquire_within(&node[0], 1000000);   // at most 1 ms; qolb_acquire waits as long as it takes
  *         if (got == QOLB_GRANTED) {
- *             uint64_t count;
- *             qolb_read_lane(&node[0], 0, &count);                 // what the last holder left
- *             qolb_write_lane(&node[0], 0, count + 1);
+ *             uint64_t was;
+ *             qolb_add_lane(&node[0], 0, 1, &was);                 // what the last holder left, and one more
  *             qolb_deqolb(&node[0]);                               // lock and bytes go to the oldest request
  *         } else {
  *             puts(qolb_answer_name(got));                         // QOLB_LATE or QOLB_CLOSED
@@ -207,7 +206,7 @@
 /* The version of this header. QOLB_VERSION is one number, 10000 for each major version, 100 for each minor one; qolb_version() returns that of the
  * library that the program runs with. */
 #define QOLB_VERSION_MAJOR 1
-#define QOLB_VERSION_MINOR 6
+#define QOLB_VERSION_MINOR 7
 #define QOLB_VERSION_PATCH 0
 #define QOLB_VERSION (QOLB_VERSION_MAJOR * 10000 + QOLB_VERSION_MINOR * 100 + QOLB_VERSION_PATCH)
 
@@ -323,8 +322,7 @@ uint32_t qolb_withdraw(qolb_node *node) QOLB_LOOK;
 
 /* The two halves of qolb_enqolb, only of a list: prepend takes the place in the queue, and link tells the predecessor its successor. Until then the
  * line stays with the predecessor. On a line of another kind MISUSE.
- * prepend, if the node may ask: GRANTED, LINKING, CLOSED, BUSY. link, in the state LINKING: GRANTED, QUEUED, CLOSED.
- * prepend, where the node may ask: GRANTED, LINKING, CLOSED, BUSY. link, in the state LINKING: GRANTED, QUEUED, CLOSED. */
+ * prepend, if the node may ask: GRANTED, LINKING, CLOSED, BUSY. link, in the state LINKING: GRANTED, QUEUED, CLOSED. */
 uint32_t qolb_prepend(qolb_node *node) QOLB_LOOK;
 uint32_t qolb_link(qolb_node *node) QOLB_LOOK;
 
@@ -337,6 +335,10 @@ uint32_t qolb_write(qolb_node *node, uint64_t mask, const qolb_bytes *bytes);
 /* Read and write one lane, 0 to 7, for the holder. In the state HOLDING, with lane below 8: DONE. Else MISUSE, and `out` is unchanged. */
 uint32_t qolb_read_lane(qolb_node *node, uint64_t lane, uint64_t *out);
 uint32_t qolb_write_lane(qolb_node *node, uint64_t lane, uint64_t value);
+
+/* Adds `by` to one lane modulo 2^64, for the holder, and writes to `was` what the lane had before. In the state HOLDING, with lane below 8: DONE.
+ * Else MISUSE, and `was` is unchanged. */
+uint32_t qolb_add_lane(qolb_node *node, uint64_t lane, uint64_t by, uint64_t *was);
 
 /* Returns the number of turns left, with the holder's own: QOLB_NO_LEASE without a lease. 0 if the node does not hold the line. */
 uint64_t qolb_turns_left(qolb_node *node);
@@ -401,8 +403,8 @@ uint32_t qolb_lock_shut(qolb_lock *lock);
  * DONE, also if it was unopened; MISUSE, and nothing changed, if a thread holds it, or waits for it or at a condition of it. */
 uint32_t qolb_lock_close(qolb_lock *lock);
 
-/* The holder's node, lent until the holder leaves, for qolb_read, qolb_write, qolb_read_lane, qolb_write_lane, qolb_turns_left, qolb_number,
- * qolb_label and qolb_state. For every other call, and for any other thread, it is MISUSE. NULL if the calling thread does not hold the lock. */
+/* The holder's node, lent until the holder leaves, for qolb_read, qolb_write, qolb_read_lane, qolb_write_lane, qolb_add_lane, qolb_turns_left,
+ * qolb_number, qolb_label and qolb_state. For every other call, and for any other thread, it is MISUSE. NULL if the calling thread does not hold the lock. */
 qolb_node *qolb_lock_turn(qolb_lock *lock);
 
 /* A number of the thread that holds the lock; 0 if none does, and for the moment of a handoff. */

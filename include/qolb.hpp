@@ -117,6 +117,7 @@ class Node {
     qolb_answer write(std::uint64_t mask, const qolb_bytes &bytes) { return answer(qolb_write(&node_, mask, &bytes)); }
     qolb_answer read_lane(std::uint64_t lane, std::uint64_t &out) { return answer(qolb_read_lane(&node_, lane, &out)); }
     qolb_answer write_lane(std::uint64_t lane, std::uint64_t value) { return answer(qolb_write_lane(&node_, lane, value)); }
+    qolb_answer add_lane(std::uint64_t lane, std::uint64_t by, std::uint64_t &was) { return answer(qolb_add_lane(&node_, lane, by, &was)); }
     qolb_answer deqolb() { return answer(qolb_deqolb(&node_)); }
     qolb_answer shut() { return answer(qolb_shut(&node_)); }
     qolb_answer close() { return answer(qolb_close(&node_)); }
@@ -228,6 +229,13 @@ class Guard {
     }
 
     void set_lane(std::uint64_t lane, std::uint64_t value) { did(node_ ? node_->write_lane(lane, value) : QOLB_MISUSE); }
+
+    // Adds to a lane modulo 2^64, and returns what it had before.
+    std::uint64_t add_to_lane(std::uint64_t lane, std::uint64_t by) {
+        std::uint64_t was = 0;
+        did(node_ ? node_->add_lane(lane, by, was) : QOLB_MISUSE);
+        return was;
+    }
 
     // Releases the line before the scope ends; and closes it. Any later call of the guard throws Misuse.
     void release() { ended(node_ ? node_->deqolb() : QOLB_MISUSE); }

@@ -172,6 +172,7 @@ unsafe extern "C" {
     fn qolb_write(node: &mut Handle, mask: u64, bytes: *const Bytes) -> u32;
     fn qolb_read_lane(node: &mut Handle, lane: u64, out: &mut u64) -> u32;
     fn qolb_write_lane(node: &mut Handle, lane: u64, value: u64) -> u32;
+    fn qolb_add_lane(node: &mut Handle, lane: u64, by: u64, was: &mut u64) -> u32;
     fn qolb_turns_left(node: &mut Handle) -> u64;
     fn qolb_deqolb(node: &mut Handle) -> u32;
     fn qolb_shut(node: &mut Handle) -> u32;
@@ -305,6 +306,15 @@ impl Node {
         told(unsafe { qolb_write_lane(self.0.get_mut(), lane, value) })
     }
 
+    /// Adds to a lane modulo 2^64, and returns what it had before, if the node holds the line and the lane is below 8.
+    pub fn add_lane(&mut self, lane: u64, by: u64) -> Option<u64> {
+        let mut was = 0;
+        match told(unsafe { qolb_add_lane(self.0.get_mut(), lane, by, &mut was) }) {
+            Answer::Done => Some(was),
+            _ => None,
+        }
+    }
+
     pub fn deqolb(&mut self) -> Answer {
         told(unsafe { qolb_deqolb(self.0.get_mut()) })
     }
@@ -426,6 +436,15 @@ impl Guard<'_> {
     /// If `k` is not below 8.
     pub fn set_lane(&mut self, k: u64, value: u64) {
         assert_eq!(self.0.write_lane(k, value), Answer::Done, "a line has eight lanes");
+    }
+
+    /// Adds to lane k of the line modulo 2^64, and returns what it had before.
+    ///
+    /// # Panics
+    ///
+    /// If `k` is not below 8.
+    pub fn add_to_lane(&mut self, k: u64, by: u64) -> u64 {
+        self.0.add_lane(k, by).expect("a line has eight lanes")
     }
 
     /// Returns the number of turns left, with this one: `None` without a lease.

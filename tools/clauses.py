@@ -25,9 +25,8 @@ BODY = "crates/line_generic/src/"
 # The functions from the C call to the atomic step, by file. A name that a commit does not have counts as nothing.
 RELEASE = {
     "crates/qolb_c/src/lib.rt": ["qolb_deqolb"],
-    "crates/qolb_c/src/handle.rt": ["take", "put", "of", "of_parts", "into_parts"],
-    "crates/qolb_c/src/handle/parts.rt": ["of", "into_box"],
-    "crates/qolb_c/src/any_node.rt": ["deqolb", "release"],
+    "crates/qolb_c/src/handle.rt": ["get_mut"],
+    "crates/qolb_c/src/any_node.rt": ["release"],
     "crates/qolb_c/src/answer.rt": ["of_done", "number"],
     "crates/qolb_c/src/node.rt": ["release", "deqolb", "state"],
     "crates/qolb_model/src/sync.rt": ["deqolb", "state"],
@@ -39,7 +38,7 @@ RELEASE = {
     "crates/line_generic/src/discipline.rt": ["put", "release"],
     "crates/ticket_line/src/discipline.rt": ["put", "release", "state_after"],
     "crates/ticket_line/src/slots.rt": ["put", "copy_to_next_slot"],
-    "crates/ticket_line/src/release.rt": ["release", "walk", "free_passed"],
+    "crates/ticket_line/src/release.rt": ["release", "walk", "copy_to_next_slot", "free_passed"],
     "crates/ticket_line/src/steps.rt": ["grant", "free"],
     "crates/ticket_line/src/layout.rt": ["slot_of", "cell_word", "ticket_after", "number", "granted", "withdrawn_by"],
     "crates/line_tickets/src/layout.rt": ["cell_word", "node_word"],

@@ -1,5 +1,5 @@
 /* A program that is linked with the library of one release, and runs with that of another. With -DCALLS_OF_1_1 it makes calls that came with 1.1, and so
- * with -DCALLS_OF_1_3 to -DCALLS_OF_1_6. */
+ * with -DCALLS_OF_1_3 to -DCALLS_OF_1_7. */
 #include <qolb.h>
 #include <stdio.h>
 
@@ -8,9 +8,9 @@ int main(void) {
     qolb_node node = {0};
     puts("begins");
     fflush(stdout);
-    if (qolb_open(QOLB_RING, 7, 1, 3, &zeros, &node, 1) != QOLB_DONE || qolb_enqolb(&node) != QOLB_GRANTED) return 2;
+    if (qolb_open(QOLB_RING, 7, 1, 9, &zeros, &node, 1) != QOLB_DONE || qolb_enqolb(&node) != QOLB_GRANTED) return 2;
 #ifdef CALLS_OF_1_1
-    if (qolb_turns_left(&node) != 3 || qolb_label(&node) != 7 || qolb_version() < 10100) return 3;
+    if (qolb_turns_left(&node) != 9 || qolb_label(&node) != 7 || qolb_version() < 10100) return 3;
 #endif
 #ifdef CALLS_OF_1_3
     static qolb_lock lock = QOLB_LOCK_INIT(2);
@@ -26,6 +26,10 @@ int main(void) {
 #ifdef CALLS_OF_1_6
     if (qolb_clear(&node) != QOLB_MISUSE || qolb_deqolb(&node) != QOLB_DONE || qolb_clear(&node) != QOLB_DONE) return 9;
     if (qolb_enqolb(&node) != QOLB_GRANTED || qolb_version() < 10600) return 10;
+#endif
+#ifdef CALLS_OF_1_7
+    uint64_t was;
+    if (qolb_add_lane(&node, 0, 5, &was) != QOLB_DONE || was != 0 || qolb_version() < 10700) return 11;
 #endif
     if (qolb_deqolb(&node) != QOLB_DONE || qolb_close(&node) != QOLB_DONE) return 4;
     puts("ends");

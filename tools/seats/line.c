@@ -126,6 +126,7 @@ uint32_t qolb_read_proved_(qolb_node *node, qolb_bytes *out) { return (void)node
 uint32_t qolb_write_proved_(qolb_node *node, uint64_t mask, const qolb_bytes *bytes) { return (void)node, (void)mask, (void)bytes, MUST(0), 0; }
 uint32_t qolb_read_lane_proved_(qolb_node *node, uint64_t lane, uint64_t *out) { return (void)node, (void)lane, (void)out, MUST(0), 0; }
 uint32_t qolb_write_lane_proved_(qolb_node *node, uint64_t lane, uint64_t value) { return (void)node, (void)lane, (void)value, MUST(0), 0; }
+uint32_t qolb_add_lane_proved_(qolb_node *node, uint64_t lane, uint64_t by, uint64_t *was) { return (void)node, (void)lane, (void)by, (void)was, MUST(0), 0; }
 uint64_t qolb_turns_left_proved_(qolb_node *node) { return (void)node, MUST(0), 0; }
 uint64_t qolb_number_proved_(qolb_node *node) { return (void)node, MUST(0), 0; }
 uint64_t qolb_label_proved_(qolb_node *node) { return (void)node, 1; }

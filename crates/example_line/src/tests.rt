@@ -15,7 +15,7 @@ use crate::mailbox::Acquired;
 use crate::{capacity, counter, fair, mailbox};
 use capacity::SeatLimit;
 use counted::Counting;
-use held::for_nodes;
+use held::{expect, expect_at, for_nodes};
 use line_blocking::{Got, HookedLine, acquire};
 use line_kinds::{ALL, Lines, for_kind};
 use parked::NoHooks;
@@ -67,15 +67,25 @@ where
                 (Got::Granted, PortState::Shut),
                 (Got::Closed, PortState::Shut),
             ]);
-            assert_eq!(rt; granted_and_then_told::<R, L>(rt, alloc), wanted);
+            expect(
+                rt,
+                "granted and told",
+                granted_and_then_told::<R, L>(rt, alloc),
+                wanted,
+            );
         }
         Row::Fairness => {
             let wanted = Some([Got::Granted, Got::Closed]);
-            assert_eq!(rt; one_after_the_other::<R, L>(rt, alloc), wanted);
+            expect(
+                rt,
+                "one after the other",
+                one_after_the_other::<R, L>(rt, alloc),
+                wanted,
+            );
         }
         Row::Patience => {
             let wanted = Some([Acquired::Late, Acquired::Late, Acquired::Granted]);
-            assert_eq!(rt; late::<L>(alloc), wanted);
+            expect(rt, "late", late::<L>(alloc), wanted);
         }
         Row::Waits => asleep::each_wait::<R, L>(rt, alloc),
         Row::Sleeps => noted::each_sleep::<R, L>(rt, alloc),
@@ -125,7 +135,7 @@ where
 {
     for (nodes, rounds, wanted) in [(3, 1_000, Some(3_000)), (0, 1, None), (201, 1, None)] {
         let counted = counter::count::<R, L>(rt, alloc, nodes, rounds);
-        assert_eq!(rt; counted, wanted, "by {nodes} nodes");
+        expect_at(rt, nodes, counted, wanted);
     }
 }
 
@@ -139,7 +149,7 @@ where
 {
     for (clerks, customers, sold) in [(4, 40, Some(100)), (4, 20, Some(80)), (201, 1, None)] {
         let found = capacity::sell::<R, H>(rt, alloc, clerks, customers);
-        assert_eq!(rt; found, sold, "by {clerks} clerks to {customers} each");
+        expect_at(rt, customers, found, sold);
     }
 }
 

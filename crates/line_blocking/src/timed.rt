@@ -19,7 +19,7 @@ use std::thread::yield_now;
 use std::time::{Duration, Instant};
 
 /// How many times a waiter yields its processor after `SPIN_LIMIT` pauses, before it sleeps.
-const YIELDS: u32 = 8;
+const YIELDS: u32 = 32;
 
 /// The longest nap of a busy port, in microseconds. No release wakes a busy port.
 const NAP_MICROS: u64 = 200;

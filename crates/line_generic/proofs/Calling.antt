@@ -1,5 +1,7 @@
 -- What a port's fields, and what its contract shows of them, are after a call.
-use Rattle.std.proofs.Common.{◌≡◌, ◌≢◌, ℕ, length, List, Option, true, false, sym, ap, ◌∙◌, subst, Bool, ◌||◌, bit_or}
+use Rattle.std.proofs.Common.{◌≡◌, ◌≢◌, ℕ, length, List, Option, None, Some, refl, true, false, sym, ap, ◌∙◌, subst, Bool, ◌||◌, bit_or}
+use lib.Dec.{eqb}
+use Rattle.std.specs.Option.{option_eq}
 use Rattle.line_lanes.specs.Line.{merged}
 use Rattle.atomic_table.specs.Seated.{TableId}
 use Rattle.qolb_model.specs.declared.answer.PortState.{PortState}
@@ -32,6 +34,11 @@ use Rattle.line_generic.specs.Steps.{IsSameSeat, ghost_of, nodes_of, single, Hol
 use Rattle.line_generic.specs.Ports.{PortModel, port_model, write_in, Holds, IsPort, BelongsTo, IsSeated, IsStored}
 use Rattle.line_generic.specs.AtTurn.{SeesTurn}
 use Rattle.line_generic.proofs.Releasing.{carries_served, holds_written}
+
+-- whether a lease's last turn is left, as the code compares it
+pub equal-is_one : (left : Option ℕ) → option_eq eqb left (Some 1) ≡ is_one left
+equal-is_one None = refl
+equal-is_one (Some _) = refl
 
 -- a request at its turn, or behind another, was not busy
 pub came_asked : {answer : Enqueued} → answer ≡ enqueued.AtTurn → answer ≢ enqueued.Busy

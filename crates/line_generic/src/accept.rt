@@ -33,7 +33,7 @@ impl<K: Keep, Q: Discipline<K>, W: WakePolicy> Line<K, Q, W> {
     ) -> A
         requires seat { IsSeated K.good K.allows self.now.table.shared.key self.now.table.shared.table_id Q.phases.initial node seat.old }
         requires at_turn { HasGrant Q.phases self.now.table.shared.key.config.nodes token seat.old }
-        requires few { steps.old ≤ 4 }
+        requires no_overflow { steps.old ≤ 4 }
         ensures seat { IsSeated K.good K.allows self.now.table.shared.key self.now.table.shared.table_id Q.phases.initial node seat.new }
         ensures port { (label : ℕ) → (ghost_of Q.phases.initial seat.old).view.label ≡ label → IsPort Q.phases label node seat.new payload.new token state.new }
         ensures more { steps.old ≤ steps.new }
@@ -58,7 +58,7 @@ impl<K: Keep, Q: Discipline<K>, W: WakePolicy> Line<K, Q, W> {
         } = forward_closed(table, seat, size, node, token);
         *state = left;
         *steps += more;
-        self.wake(note, unpark);
+        self.sleepers.wake(&self.table, note, unpark);
         closed
     }
 }

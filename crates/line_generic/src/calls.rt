@@ -237,7 +237,7 @@ impl<K: Keep, Q: Discipline<K>, W: WakePolicy> Line<K, Q, W> {
     {
         let table = &self.table.shared;
         let size = self.width.size;
-        let closed = port.payload.closes(shut);
+        let closed = shut | (port.payload.turns_left == Some(1));
         Q::put(
             table,
             &mut port.seat,
@@ -254,6 +254,6 @@ impl<K: Keep, Q: Discipline<K>, W: WakePolicy> Line<K, Q, W> {
         } = released;
         port.steps = steps;
         port.state = state;
-        self.wake(&mut port.note, unpark);
+        self.sleepers.wake(&self.table, &mut port.note, unpark);
     }
 }

@@ -9,7 +9,7 @@ use crate::discipline::Discipline;
 use crate::line::Line;
 use crate::port::Port;
 use crate::table::LineTable;
-use crate::wake::WakePolicy;
+use crate::wake::{UnparkHandle, WakePolicy};
 use qolb_model::Keep;
 
 /// A number that is no word of any line: no node waits there.
@@ -53,9 +53,9 @@ impl WakePolicy for SleepersElsewhere {
         &self,
         _: &LineTable<K, Q>,
         note: &mut WentTo,
-        word: usize,
-        ahead: usize,
+        unpark: UnparkHandle,
     ) {
+        let UnparkHandle { word, ahead } = unpark;
         *note = WentTo { word, ahead };
     }
 }

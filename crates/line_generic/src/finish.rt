@@ -56,7 +56,7 @@ fn gather<K: Keep, Q: Discipline<K>, W: WakePolicy, A: Allocator>(
     requires words { 0 < table.now.table_id.words }
     requires table { All (λ port. port.table ≡ table.now.table_id) ports.items }
     requires quiet { All (λ port. may_ask port.view.state ≡ true) ports.items }
-    requires some { 0 < length ports.items }
+    requires not_empty { 0 < length ports.items }
     ensures { IsGathered Q.phases.in_state table.now.table_id ports.items result }
 {
     let mut seats = ports.into_iter();

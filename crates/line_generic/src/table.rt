@@ -1,6 +1,4 @@
 //! The table of a line: its words and slots. If no node holds the line, its bytes are in a slot.
-ghost use Rattle.std.specs.Prelude.{◌≡◌, ◌||◌};
-ghost use Rattle.qolb_model.specs.Steps.{is_one};
 
 use crate::discipline::{DisciplineInvariant, DisciplineSpec};
 use atomic_table::{Seat, Shared, Table, TableRule};
@@ -37,16 +35,6 @@ pub struct LocalCopy {
     pub mask: Mask,
     pub turns_left: Option<u64>,
     pub closed: bool,
-}
-
-impl LocalCopy {
-    /// Returns `true` if the line is closed after this turn: `shut` is set, or the turn is the lease's last.
-    #[inline]
-    pub(crate) fn closes(&self, shut: bool) -> bool
-        ensures { result ≡ (shut || is_one self.now.turns_left) }
-    {
-        shut || self.turns_left == Some(1)
-    }
 }
 
 /// What the table's invariant knows of a node: ghost state, of which no value is made.

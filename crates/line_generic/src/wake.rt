@@ -18,11 +18,11 @@ use std::time::Duration;
 /// The duty to unpark the next holder, and one turn ahead the waiter behind it.
 ///
 /// `word` is the word on which the node that was granted the line may be parked, and `ahead` that of the waiter behind it; any number if
-/// there is no such node. A linear token: the type is not `Drop` and its fields are private, so a release can only get rid of it by
-/// `Line::wake`.
+/// there is no such node. A linear token: the type is not `Drop` and its fields are private to this crate, so a lock can only return it, and
+/// a call can only pass it to the `WakePolicy`.
 pub struct UnparkHandle {
-    word: usize,
-    ahead: usize,
+    pub(crate) word: usize,
+    pub(crate) ahead: usize,
 }
 
 impl UnparkHandle {
@@ -49,18 +49,14 @@ pub trait WakePolicy: Drop {
     /// The note of a new port, without a release so far.
     fn blank() -> Self::Note;
 
-    /// Unparks the waiters on `word` and `ahead`, or notes both words.
-    ///
-    /// `ahead` may be no word of the table: then it is ignored.
+    /// Unparks the waiters on the granted word and on the word ahead, or notes both. What is no word of the table is ignored.
     fn wake<K: Keep, Q: Discipline<K>>(
         &self,
         table: &LineTable<K, Q>,
         note: &mut Self::Note,
-        word: usize,
-        ahead: usize,
+        unpark: UnparkHandle,
     )
-        requires word { word < table.now.shared.table_id.words }
-        ensures notes { Names word (went_to note.new) };
+        ensures { Names unpark.word (went_to note.new) };
 }
 
 /// A wake policy without parking: waiters spin, and a release calls nothing. For a lock that may not call the system.
@@ -84,9 +80,10 @@ impl WakePolicy for SpinOnly {
         &self,
         _: &LineTable<K, Q>,
         _note: &mut (),
-        _word: usize,
-        _ahead: usize,
-    ) {}
+        unpark: UnparkHandle,
+    ) {
+        let UnparkHandle { word: _, ahead: _ } = unpark;
+    }
 }
 
 /// The number of groups of parked waiters, counted by their word.
@@ -139,14 +136,11 @@ impl Parking {
         table: &LineTable<K, Q>,
         word: usize,
         ahead: usize,
-    )
-        requires word { word < table.now.shared.table_id.words }
-    {
-        if self.groups[group_of(word)].load(Ordering::SeqCst) != 0 {
-            table.shared.wake_all(word);
-        }
-        if ahead < table.word_count() && self.groups[group_of(ahead)].load(Ordering::SeqCst) != 0 {
-            table.shared.wake_all(ahead);
+    ) {
+        for at in [word, ahead] {
+            if at < table.word_count() && self.groups[group_of(at)].load(Ordering::SeqCst) != 0 {
+                table.shared.wake_all(at);
+            }
         }
     }
 }
@@ -171,9 +165,9 @@ impl WakePolicy for Parking {
         &self,
         table: &LineTable<K, Q>,
         _note: &mut (),
-        word: usize,
-        ahead: usize,
+        unpark: UnparkHandle,
     ) {
+        let UnparkHandle { word, ahead } = unpark;
         if self.all.load(Ordering::SeqCst) != 0 {
             self.wake_both(table, word, ahead);
         }
@@ -226,17 +220,5 @@ impl<K: Keep, Q: Discipline<K>> ParkingLine<K> for Line<K, Q> {
             self.park(rt, &port.seat, port.node, port.token, low, at_most);
         }
         self.sleepers.leave(word);
-    }
-}
-
-impl<K: Keep, Q: Discipline<K>, W: WakePolicy> Line<K, Q, W> {
-    /// Unparks the waiters on the granted word and on the word ahead, or notes both.
-    #[inline(always)]
-    pub(crate) fn wake(&self, note: &mut W::Note, unpark: UnparkHandle)
-        requires { unpark.word < Q.word_count self.now.table.shared.key.config.nodes }
-        ensures { Names unpark.word (W.went_to note.new) }
-    {
-        let UnparkHandle { word, ahead } = unpark;
-        self.sleepers.wake(&self.table, note, word, ahead);
     }
 }

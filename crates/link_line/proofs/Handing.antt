@@ -85,8 +85,8 @@ module _ (allows : List ℕ → List ℕ → Type 0) (s t u : LinkSeat) (y : Pay
     both : KeepsPayload (ghost_of s) (ghost_of u) y (Granting next)
     both = carried_on (ghost_of s) (ghost_of t) (ghost_of u) y (Marking at) c (Granting next) d
 
-    pub hands_out : HasNoSlot w → Ended (ghost_of u) (ghost_of w) (ghost_of u).own.line → LeavesNode (ghost_of u) (ghost_of w) (ghost_of u).own.line → HandsOff s y w 3 handoff.On
-    hands_out slot ended out = (
+    pub hands_out : (word behind : ℕ) → HasNoSlot w → Ended (ghost_of u) (ghost_of w) (ghost_of u).own.line → LeavesNode (ghost_of u) (ghost_of w) (ghost_of u).own.line → HandsOff s y w 3 (handoff.HandedOn word behind)
+    hands_out word behind slot ended out = (
       slot,
       carried_ended (ghost_of s) (ghost_of u) (ghost_of w) y (Granting next) both ended,
       carried_out (ghost_of s) (ghost_of u) (ghost_of w) y (Granting next) both out,

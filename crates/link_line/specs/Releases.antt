@@ -20,7 +20,7 @@ use Rattle.link_line.specs.BetweenCalls.{steps_to_ask, turn_word}
 use Rattle.link_line.specs.declared.release.Handoff.{Handoff}
 use Rattle.link_line.specs.declared.release.Handoff.TheVariants as handoff
 use Rattle.link_line.specs.Links.{At}
-use Rattle.link_line.specs.Layout.{IsWithin}
+use Rattle.link_line.specs.Layout.{IsWithin, home_at}
 use Rattle.link_line.specs.Steps.{LinkSeat, ghost_of, point_by, IsReady, IsOneLeft, Ended, LeavesNode, IsLeft, Passes}
 
 -- no call has taken more word steps before it has handed over the line
@@ -44,11 +44,17 @@ abbrev pub IsReset : PortState → LinkGhost → LinkGhost → Option ℕ → Ty
 IsReset state v w (Some steps) = IsReady v w × (steps ≤ 2) × (steps + 1 ≡ steps_to_ask state)
 IsReset state v w None = ((state ≡ port_state.Left) ⊎ (state ≡ port_state.Rolled)) × (w.own.seat.point ≡ v.own.seat.point) × (w.view.state ≡ v.view.state) × (w.view.count ≡ v.view.count) × Lacks w.view.clear (own w.view)
 
--- unless the next request was passed, this is the word of the turn
-abbrev pub NamesTurn : LinkGhost → ℕ → Handoff → Type 0
-NamesTurn w word handoff.On = word ≡ turn_word w.view
-NamesTurn w word handoff.Left = word ≡ turn_word w.view
-NamesTurn w word (handoff.Passed next) = Unit {0}
+-- the word of the granted entry, or the home word if none was granted
+abbrev pub granted_word : Handoff → ℕ
+granted_word (handoff.HandedOn word behind) = word
+granted_word handoff.Left = home_at
+granted_word (handoff.Passed next) = home_at
+
+-- unless the next request was passed, the handoff names the word of the turn
+abbrev pub NamesTurn : LinkGhost → Handoff → Type 0
+NamesTurn w (handoff.HandedOn word behind) = word ≡ turn_word w.view
+NamesTurn w handoff.Left = home_at ≡ turn_word w.view
+NamesTurn w (handoff.Passed next) = Unit {0}
 
 -- the node, with the line y
 abbrev pub with_line : LinkGhost → Payload → LinkGhost
@@ -58,7 +64,7 @@ with_line v y = record v { own = record v.own { line = y } }
 -- there, for a late linker; or the next request is withdrawn, and the node still has the line. More than one step is taken only if another
 -- node is left.
 abbrev pub HandsOff : LinkSeat → Payload → LinkSeat → ℕ → Handoff → Type 0
-HandsOff s y t steps handoff.On = HasNoSlot t × Ended (ghost_of s) (ghost_of t) y × LeavesNode (ghost_of s) (ghost_of t) y × ((steps ≡ 1) ⊎ ((steps ≡ 3) × IsOneLeft (ghost_of s)))
+HandsOff s y t steps (handoff.HandedOn word behind) = HasNoSlot t × Ended (ghost_of s) (ghost_of t) y × LeavesNode (ghost_of s) (ghost_of t) y × ((steps ≡ 1) ⊎ ((steps ≡ 3) × IsOneLeft (ghost_of s)))
 HandsOff s y t steps handoff.Left = HasNoSlot t × Ended (ghost_of s) (ghost_of t) y × IsLeft (ghost_of s) (ghost_of t) y × (steps ≡ 2) × IsOneLeft (ghost_of s)
 HandsOff s y t steps (handoff.Passed next) = HasSlot t y × Ended (ghost_of s) (ghost_of t) y × Passes (with_line (ghost_of s) y) (ghost_of t) next × (steps ≡ 3) × IsWithin (ghost_of t).view.config.nodes next
 

@@ -33,7 +33,7 @@ pub(crate) fn request<K: Keep>(
     ensures busy { result.answer ≡ Enqueued.Busy → IsBusy (ghost_of seat.old).view (ghost_of seat.new).view }
     ensures asks { result.answer ≢ Enqueued.Busy → Asks (ghost_of seat.old).view (ghost_of seat.new).view }
     ensures joined { result.answer ≡ Enqueued.AtTurn → IsJoined (ghost_of seat.new).view }
-    ensures links { result.answer ≡ Enqueued.Queued → HasNoSlot seat.new × LinksTo result.token (ghost_of seat.new) }
+    ensures must_link { result.answer ≡ Enqueued.Queued → HasNoSlot seat.new × LinksTo result.token (ghost_of seat.new) }
     ensures at_turn { result.answer ≡ Enqueued.AtTurn → (y : Payload) × HasSlot seat.new y × IsAtTurn (ghost_of seat.new) y }
     ensures steps_if_busy { result.answer ≡ Enqueued.Busy → result.steps ≡ 1 }
     ensures steps { result.answer ≢ Enqueued.Busy → result.steps ≡ steps_to_ask state }

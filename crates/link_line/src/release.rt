@@ -1,6 +1,6 @@
 //! The release of the line: one handoff, or a walk past withdrawn successors.
 //!
-//! The releasing node's request ends at the step that hands the line on or passes a successor: a `home` that finds no successor, a `done`
+//! The releasing node's request ends at the step that gives the line up or passes a successor: a `home` that finds no successor, a `done`
 //! that finds no link, or the first `grant`.
 ghost use Rattle.std.specs.Prelude.{◌≡◌, ◌≢◌, ℕ, ◌+◌, ◌*◌, ◌<◌, ◌≤◌, [], ◌∷◌, length};
 ghost use Rattle.qolb_model.specs.declared.request.Request.{Request};
@@ -14,7 +14,7 @@ ghost use Rattle.link_line.specs.Links.{At};
 ghost use Rattle.link_line.specs.BetweenCalls.{release_steps, turn_word};
 ghost use Rattle.link_line.specs.Layout as layout;
 ghost use Rattle.link_line.specs.Steps.{IsSeatOf, IsAt, IsSeatOfNode, IsSized, IsSingle, ghost_of, Advances, SeatAdvances, MayHandOff};
-ghost use Rattle.link_line.specs.Releases.{AreFew, HandsOff, NamesTurn, ReleasesLine, FinishesWalk, AreNodesAt, FreesAll};
+ghost use Rattle.link_line.specs.Releases.{AreFew, HandsOff, granted_word, NamesTurn, ReleasesLine, FinishesWalk, AreNodesAt, FreesAll};
 
 use crate::invariant::{LinkSeat, SharedTable};
 use crate::layout::{HOME, entry_word, linked_word};
@@ -26,21 +26,44 @@ use qolb_model::{Keep, MAX_NODES, PortState};
 /// The maximum number of requests that a release passes: those of all nodes but its own.
 const MAX_PASSED: usize = MAX_NODES as usize - 1;
 
-/// The result of a handoff at an entry.
+/// The result of one attempt to hand the line off from an entry.
 #[derive(Clone, Copy)]
 pub(crate) enum Handoff {
-    /// The line is handed on: it is at home, or granted to the successor.
-    On,
+    /// The line is handed on: granted to the successor, or at home if there is none.
+    HandedOn {
+        /// The word of the granted entry, or `HOME`.
+        granted: usize,
+        /// The node that is linked to the granted entry by now, or 0.
+        behind: u64,
+    },
     /// The line is left in the entry, for a late linker.
     Left,
     /// The successor, this node, has withdrawn. Its request is passed, and the releasing node still has the line.
     Passed(u64),
 }
 
-/// Releases the line that this seat has; `closed` is the line's own mark. Never waits for a link.
+impl Handoff {
+    /// Returns the words whose waiters are to be unparked, the granted node's and that of the node behind it.
+    ///
+    /// `HOME`, where no node waits, unless the line was granted.
+    #[inline]
+    fn unpark_handle(self) -> UnparkHandle
+        ensures { result.word ≡ granted_word self }
+    {
+        match self {
+            Handoff::HandedOn { granted, behind } => {
+                UnparkHandle::at(granted, linked_word(behind))
+            }
+            Handoff::Left | Handoff::Passed(_) => UnparkHandle::at(HOME, HOME),
+        }
+    }
+}
+
+/// Releases the line that this seat has. Never waits for a link.
 ///
-/// At most `4 * nodes - 3` word steps: one to three for each handoff, and one to free each passed node. The line is handed on before the
-/// first node is freed. Returns the port's state, the word steps, and the words whose waiters are to be unparked.
+/// `closed`: the line is closed, by this turn or an earlier one. At most `4 * nodes - 3` word steps: three for each passed node and one to
+/// free it, and one to three for the last attempt, but one if all other nodes were passed. The line is given up before the first node is
+/// freed. Returns the port's state, the word steps, and the words whose waiters are to be unparked.
 #[inline]
 pub(crate) fn release<K: Keep>(
     table: &SharedTable<K>,
@@ -62,62 +85,52 @@ pub(crate) fn release<K: Keep>(
     ensures bound { result.steps + 3 ≤ 4 * (ghost_of seat.old).view.config.nodes }
 {
     let mut steps = 0;
-    let mut granted = HOME;
-    let mut behind = 0;
-    match try_handoff(table, seat, &mut steps, &mut granted, &mut behind, node) {
-        Handoff::On => Released {
+    let handoff = try_handoff(table, seat, &mut steps, node);
+    match handoff {
+        Handoff::HandedOn { .. } => Released {
             state: state_after(closed),
             steps,
-            unpark: UnparkHandle::at(granted, linked_word(behind)),
+            unpark: handoff.unpark_handle(),
         },
         Handoff::Left => Released {
             state: PortState::Left,
             steps,
-            unpark: UnparkHandle::at(granted, HOME),
+            unpark: handoff.unpark_handle(),
         },
-        // Never `Left`: a walk can leave the line in the entry of a passed node alone.
-        Handoff::Passed(first) => {
-            let mut last = HOME;
-            let steps = walk(table, seat, steps, &mut last, &mut behind, first);
-            Released {
-                state: state_after(closed),
-                steps,
-                unpark: UnparkHandle::at(last, linked_word(behind)),
-            }
-        }
+        Handoff::Passed(first) => walk(table, seat, steps, closed, first),
     }
 }
 
 /// Tries to hand the line to the successor of node `at`.
 ///
 /// If there is none, the line returns to the home slot. If the successor has not linked yet, the line is left in `at`'s entry. A withdrawn
-/// successor is passed, and the caller goes on from it. One to three word steps, added to `steps`. Sets `granted` to the word of the entry
-/// that was granted or passed, or to `HOME`. Sets `behind` only with a grant.
+/// successor is passed, and the caller goes on from it. One to three word steps, added to `steps`.
 #[inline]
 fn try_handoff<K: Keep>(
     table: &SharedTable<K>,
     seat: &mut LinkSeat,
     steps: &mut u64,
-    granted: &mut usize,
-    behind: &mut u64,
     at: u64,
 ) -> Handoff
     requires table { IsSeatOf table.now.key.config.nodes table.now.table_id seat.old }
     requires is_single { IsSingle seat.old.me }
-    requires high { layout.IsWithin table.now.key.config.nodes at }
+    requires in_range { layout.IsWithin table.now.key.config.nodes at }
     requires size { IsSized table.now.key.config.nodes seat.old }
-    requires few { AreFew steps.old }
+    requires no_overflow { AreFew steps.old }
     requires payload { (y : Payload) × HasSlot seat.old y × MayHandOff K.allows (ghost_of seat.old) y at }
     ensures seat { IsSameSeat seat.old seat.new }
-    ensures handed { (n : ℕ) × (steps.new ≡ steps.old + n) × Advances K.allows seat.old.me seat.new.me n × ((y : Payload) → HasSlot seat.old y → HandsOff seat.old y seat.new n result) }
-    ensures within { granted.new < layout.word_count table.now.key.config.nodes }
-    ensures names { NamesTurn (ghost_of seat.new) granted.new result }
+    ensures outcome { (n : ℕ) × (steps.new ≡ steps.old + n) × Advances K.allows seat.old.me seat.new.me n × ((y : Payload) → HasSlot seat.old y → HandsOff seat.old y seat.new n result) }
+    ensures within { granted_word result < layout.word_count table.now.key.config.nodes }
+    ensures wakes { NamesTurn (ghost_of seat.new) result }
 {
-    *granted = HOME;
-    // `home` first: if it fails there is a successor, so a missing link is a late linker's, which takes the line as it links.
+    // `home` first, though a look at the link would save its step where there is a successor: if it fails there is one, so a missing link is
+    // a late linker's, which takes the line as it links, and no release waits for a link.
     *steps += 1;
     if home(table, seat, at) {
-        return Handoff::On;
+        return Handoff::HandedOn {
+            granted: HOME,
+            behind: 0,
+        };
     }
     *steps += 1;
     let next = done(table, seat, at);
@@ -125,18 +138,21 @@ fn try_handoff<K: Keep>(
         return Handoff::Left;
     }
     *steps += 1;
-    *granted = entry_word(next);
-    if grant(table, seat, behind, next) {
+    let mut behind = 0;
+    if grant(table, seat, &mut behind, next) {
         Handoff::Passed(next)
     } else {
-        Handoff::On
+        Handoff::HandedOn {
+            granted: entry_word(next),
+            behind,
+        }
     }
 }
 
 /// Hands the line on from the passed node `first`, past each withdrawn request, and then frees all passed nodes.
 ///
-/// Returns `steps` plus the word steps taken. Sets `granted` to the word that was granted last, or to `HOME` if the line is at home or
-/// left.
+/// `steps` are the word steps before the walk; the result counts them, too. The port is never `Left` after it: a walk can leave the line
+/// only in the entry of a passed node, never in its own.
 ///
 /// Cold and not inlined: it has an array of the passed nodes, which a release without withdrawn successors should not set up.
 #[cold]
@@ -145,50 +161,53 @@ fn walk<K: Keep>(
     table: &SharedTable<K>,
     seat: &mut LinkSeat,
     steps: u64,
-    granted: &mut usize,
-    behind: &mut u64,
+    closed: bool,
     first: u64,
-) -> u64
+) -> Released
     requires table { IsSeatOf table.now.key.config.nodes table.now.table_id seat.old }
     requires phase { IsAt (Leaving first) seat.old }
-    requires high { layout.IsWithin table.now.key.config.nodes first }
+    requires in_range { layout.IsWithin table.now.key.config.nodes first }
     requires passed { (ghost_of seat.old).own.passed ≡ length (ghost_of seat.old).view.ends ∷ [] }
     requires others { AreOfOthers (ghost_of seat.old).view.node (ghost_of seat.old).view.order (ghost_of seat.old).own.passed }
     requires first { (r : Request) × At (ghost_of seat.old).view.order (length (ghost_of seat.old).view.ends) r × (r.node ≡ first) }
     requires nodes { (2 ≤ (ghost_of seat.old).view.config.nodes) × ((ghost_of seat.old).view.config.nodes ≤ MAX_NODES) }
     requires size { IsSized table.now.key.config.nodes seat.old }
-    requires few { steps ≤ 6 }
-    requires within { granted.old < layout.word_count table.now.key.config.nodes }
+    requires no_overflow { steps ≤ 6 }
     requires payload { HasSlot seat.old (ghost_of seat.old).own.line }
     requires state { (ghost_of seat.old).view.state ≡ states.state_after (ghost_of seat.old).own.line.closed }
     ensures seat { IsSameSeat seat.old seat.new }
     ensures slot { HasNoSlot seat.new }
-    ensures advances { (n : ℕ) × (result ≡ steps + n) × Advances K.allows seat.old.me seat.new.me n }
+    ensures advances { (n : ℕ) × (result.steps ≡ steps + n) × Advances K.allows seat.old.me seat.new.me n }
     ensures finishes_walk { FinishesWalk (ghost_of seat.old) (ghost_of seat.new) }
-    ensures steps { (n : ℕ) × (result ≡ steps + n) × (4 * length (ghost_of seat.new).view.ends ≤ 4 * length (ghost_of seat.old).view.ends + n + 2) × (n + 4 * length (ghost_of seat.old).view.ends ≤ 4 * length (ghost_of seat.new).view.ends) }
-    ensures within { granted.new < layout.word_count table.now.key.config.nodes }
-    ensures names { granted.new ≡ turn_word (ghost_of seat.new).view }
-    ensures bound { result + 6 ≤ steps + 4 * (ghost_of seat.old).view.config.nodes }
+    ensures state { result.state ≡ states.state_after closed }
+    ensures steps { (n : ℕ) × (result.steps ≡ steps + n) × (4 * length (ghost_of seat.new).view.ends ≤ 4 * length (ghost_of seat.old).view.ends + n + 2) × (n + 4 * length (ghost_of seat.old).view.ends ≤ 4 * length (ghost_of seat.new).view.ends) }
+    ensures within { result.unpark.word < layout.word_count table.now.key.config.nodes }
+    ensures wakes { result.unpark.word ≡ turn_word (ghost_of seat.new).view }
+    ensures bound { result.steps + 6 ≤ steps + 4 * (ghost_of seat.old).view.config.nodes }
 {
     let mut steps = steps;
     let mut passed = ArrayVec::<u64, MAX_PASSED>::new();
-    let mut handed = Handoff::Passed(first);
-    while let Handoff::Passed(node) = handed {
+    let mut handoff = Handoff::Passed(first);
+    while let Handoff::Passed(node) = handoff {
         passed.push(node);
-        handed = try_handoff(table, seat, &mut steps, granted, behind, node);
+        handoff = try_handoff(table, seat, &mut steps, node);
     }
     // Freed only now: a freed node may make a request, which this walk must not pass.
     free_passed(table, seat, &passed);
-    steps + passed.len() as u64
+    Released {
+        state: state_after(closed),
+        steps: steps + passed.len() as u64,
+        unpark: handoff.unpark_handle(),
+    }
 }
 
-/// Frees the nodes of all passed requests, in their order.
+/// Frees the nodes of all passed requests, in their order. One word step for each.
 fn free_passed<K: Keep>(table: &SharedTable<K>, seat: &mut LinkSeat, nodes: &[u64])
     requires table { IsSeatOf table.now.key.config.nodes table.now.table_id seat.old }
     requires phase { IsAt Freeing seat.old }
     requires size { IsSized table.now.key.config.nodes seat.old }
-    requires some { (ghost_of seat.old).own.passed ≢ [] }
-    requires many { length nodes.now ≡ length (ghost_of seat.old).own.passed }
+    requires not_empty { (ghost_of seat.old).own.passed ≢ [] }
+    requires same_length { length nodes.now ≡ length (ghost_of seat.old).own.passed }
     requires nodes { AreNodesAt (ghost_of seat.old).view (ghost_of seat.old).own.passed nodes.now }
     ensures slot { seat.new.me.1 ≡ seat.old.me.1 }
     ensures advances { SeatAdvances K.allows seat.old seat.new (length nodes.now) }
@@ -199,7 +218,7 @@ fn free_passed<K: Keep>(table: &SharedTable<K>, seat: &mut LinkSeat, nodes: &[u6
     }
 }
 
-/// The state of a port after its turn: `Shut` if the line is closed, by this turn or an earlier one, else `Idle`.
+/// The state of a port that did not leave the line in its own entry: `Shut` if the line is closed, by this turn or an earlier one, else `Idle`.
 #[inline]
 fn state_after(closed: bool) -> PortState
     ensures { result ≡ states.state_after closed }

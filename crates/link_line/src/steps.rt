@@ -1,9 +1,12 @@
-//! The word steps: each is one atomic operation on one word. Its type in `plays` is the ghost transition, which counts the step.
+//! The word steps: each is one atomic operation on one word. Its type argument, from `plays`, is the ghost transition, which counts the step.
 //!
-//! A seat is a node's side of the shared table: its ghost state, and the line while the seat has it. The home word names the last node of
-//! the queue, as MCS's tail does, and is 0 if the line is at home. A late linker is a node that has swapped the home word and has not
-//! linked to its predecessor yet. "At its turn" is not yet "holds": the line may come closed. Each mark is added to an entry at most once
-//! between two resets, so an addition carries into no other mark. All steps are sequentially consistent.
+//! A node is a participant and no queue record; it has one entry, which is one word. A seat is a node's side of the shared table: its ghost
+//! state, and the line while the seat has it. The home word names the last node of the queue, as MCS's tail does, and is 0 if the line is at
+//! home. A late linker is a node that has swapped the home word and has not linked to its predecessor yet. The current request is that of
+//! the releasing node, or in a walk the withdrawn one that was passed last. A request at its turn has the line, but its port holds it only
+//! if the line is not closed. A node's last request is clear if no other node will use its entry any more, so that the node may ask again.
+//! Each mark, and the link, is added to an entry at most once between two resets, so no addition carries into another field. All steps are
+//! sequentially consistent.
 ghost use Rattle.std.specs.Prelude.{◌≡◌, ◌≢◌, ◌⊎◌, ℕ, ◌≤◌, ◌∷◌, [], List, true, false};
 ghost use Rattle.qolb_model.specs.declared.request.Request.{Request};
 ghost use Rattle.qolb_model.specs.Enqueueing.{Asks, IsJoined};
@@ -38,7 +41,7 @@ pub(crate) fn reset<K: Keep>(table: &SharedTable<K>, seat: &mut LinkSeat, node: 
 /// Puts the request at the queue's end by a swap of the home word (MCS): the linearization point.
 ///
 /// Returns the word's old value: 0 if the request is at its turn, else the predecessor's node. The swap puts the request into the order;
-/// the link is made later and changes no order.
+/// the link is made later and does not affect the order. SCI calls this step prepend, as its list begins with the newest request.
 pub(crate) fn prepend<K: Keep>(table: &SharedTable<K>, seat: &mut LinkSeat, node: u64) -> u64
     requires seat { IsSeatOfNode table.now.key.config.nodes table.now.table_id node seat.old }
     requires phase { IsAt Ready seat.old }
@@ -47,7 +50,7 @@ pub(crate) fn prepend<K: Keep>(table: &SharedTable<K>, seat: &mut LinkSeat, node
     ensures asks { Asks (ghost_of seat.old).view (ghost_of seat.new).view }
     ensures joined { result ≡ 0 → IsJoined (ghost_of seat.new).view }
     ensures at_turn { result ≡ 0 → (y : Payload) × HasSlot seat.new y × IsAtTurn (ghost_of seat.new) y }
-    ensures links { result ≢ 0 → HasNoSlot seat.new × LinksTo result (ghost_of seat.new) }
+    ensures must_link { result ≢ 0 → HasNoSlot seat.new × LinksTo result (ghost_of seat.new) }
 {
     table.swap::<Prepend<K>>(seat, HOME, node)
 }
@@ -62,7 +65,7 @@ pub(crate) fn link<K: Keep>(
     requires seat { IsSeatOfNode table.now.key.config.nodes table.now.table_id node seat.old }
     requires phase { IsAt (Linking predecessor) seat.old }
     requires slot { HasNoSlot seat.old }
-    requires high { layout.IsWithin table.now.key.config.nodes predecessor }
+    requires in_range { layout.IsWithin table.now.key.config.nodes predecessor }
     ensures advances { SeatAdvances K.allows seat.old seat.new 1 }
     ensures links { Links (ghost_of seat.old).view (ghost_of seat.new).view }
     ensures queued { result ≡ false → HasNoSlot seat.new × IsStillQueued (ghost_of seat.new) }
@@ -84,7 +87,9 @@ pub(crate) fn load<K: Keep>(table: &SharedTable<K>, seat: &mut LinkSeat, node: u
     is_granted(table.load::<Load<K>>(seat, entry_word(node)))
 }
 
-/// Adds the withdrawn mark to the entry. Returns `true` if it was granted before: then the mark means nothing.
+/// Adds the withdrawn mark to the node's own entry.
+///
+/// Returns `true` if it was granted before: then the mark is ignored, and the request is at its turn.
 pub(crate) fn roll<K: Keep>(table: &SharedTable<K>, seat: &mut LinkSeat, node: u64) -> bool
     requires seat { IsSeatOfNode table.now.key.config.nodes table.now.table_id node seat.old }
     requires phase { IsAt Queued seat.old }
@@ -110,10 +115,10 @@ pub(crate) fn look_left<K: Keep>(table: &SharedTable<K>, seat: &mut LinkSeat, no
     link_of(table.load::<Look<K>>(seat, entry_word(node))) != 0
 }
 
-/// Loads the node's own entry after its request was withdrawn. Returns `true` if it is clear.
+/// Loads the node's own entry after its request was withdrawn. Returns `true` if the request is clear.
 ///
-/// It is clear if it is freed, and not done without a link: a release that passed this node may have left the line in this entry, for a
-/// late linker.
+/// It is clear if the entry is freed, and not done without a link: a release that passed this node may have left the line in this entry,
+/// for a late linker.
 pub(crate) fn look_rolled<K: Keep>(table: &SharedTable<K>, seat: &mut LinkSeat, node: u64) -> bool
     requires seat { IsSeatOfNode table.now.key.config.nodes table.now.table_id node seat.old }
     requires phase { IsAt Rolled seat.old }
@@ -125,42 +130,44 @@ pub(crate) fn look_rolled<K: Keep>(table: &SharedTable<K>, seat: &mut LinkSeat, 
     is_freed(word) && !(is_done(word) && link_of(word) == 0)
 }
 
-/// Tries to return the line to the home slot from the entry of node `at`. Returns `true` if home names `at`, so that it has no successor.
+/// Tries to return the line to the home slot from the entry of node `at`, which ends the current request if it succeeds.
 ///
-/// A compare-exchange, so that a concurrent request finds either the line at home or a predecessor to link to. If `false`, `at` has a
-/// successor, linked or late, and the seat still has the line.
+/// A compare-exchange, so that a concurrent request finds either the line at home or a predecessor to link to. `true`: home named `at`,
+/// which had no successor, and is 0 now. `false`: `at` has a successor, linked or late, and the seat still has the line.
 pub(crate) fn home<K: Keep>(table: &SharedTable<K>, seat: &mut LinkSeat, at: u64) -> bool
     requires table { IsSeatOf table.now.key.config.nodes table.now.table_id seat.old }
     requires is_single { IsSingle seat.old.me }
     requires payload { (y : Payload) × HasSlot seat.old y × MayHandOff K.allows (ghost_of seat.old) y at }
     ensures advances { SeatAdvances K.allows seat.old seat.new 1 }
     ensures home { result ≡ true → HasNoSlot seat.new × ((y : Payload) → HasSlot seat.old y → Ended (ghost_of seat.old) (ghost_of seat.new) y × LeavesNode (ghost_of seat.old) (ghost_of seat.new) y) }
-    ensures names { result ≡ true → turn_word (ghost_of seat.new).view ≡ layout.home_at }
-    ensures on { result ≡ false → (seat.new.me.1 ≡ seat.old.me.1) × IsOneLeft (ghost_of seat.new) × ((y : Payload) → HasSlot seat.old y → KeepsPayload (ghost_of seat.old) (ghost_of seat.new) y (Marking at)) }
+    ensures wakes { result ≡ true → turn_word (ghost_of seat.new).view ≡ layout.home_at }
+    ensures keeps { result ≡ false → (seat.new.me.1 ≡ seat.old.me.1) × IsOneLeft (ghost_of seat.new) × ((y : Payload) → HasSlot seat.old y → KeepsPayload (ghost_of seat.old) (ghost_of seat.new) y (Marking at)) }
 {
     table.compare_exchange::<Home<K>>(seat, HOME, at, 0) == at
 }
 
 /// Marks the entry of node `at` as done. Returns the linked successor; or 0, and then the line is left there for a late linker.
 ///
-/// One addition both marks the entry and reads it, as `link` does on the other side: the later of the two finds the other's mark, and it
-/// alone has the line.
+/// If it is left, the current request ends. One addition both marks the entry and reads it, as `link` does on the other side: the later of
+/// the two sees the earlier, and has the line.
 pub(crate) fn done<K: Keep>(table: &SharedTable<K>, seat: &mut LinkSeat, at: u64) -> u64
     requires table { IsSeatOf table.now.key.config.nodes table.now.table_id seat.old }
     requires phase { IsAt (Marking at) seat.old }
-    requires high { layout.IsWithin table.now.key.config.nodes at }
+    requires in_range { layout.IsWithin table.now.key.config.nodes at }
     requires payload { HasSlot seat.old (ghost_of seat.old).own.line }
     ensures advances { SeatAdvances K.allows seat.old seat.new 1 }
     ensures left { result ≡ 0 → HasNoSlot seat.new × Ended (ghost_of seat.old) (ghost_of seat.new) (ghost_of seat.old).own.line × IsLeft (ghost_of seat.old) (ghost_of seat.new) (ghost_of seat.old).own.line }
-    ensures names { result ≡ 0 → turn_word (ghost_of seat.new).view ≡ layout.home_at }
-    ensures on { result ≢ 0 → (seat.new.me.1 ≡ seat.old.me.1) × layout.IsWithin (ghost_of seat.new).view.config.nodes result × KeepsPayload (ghost_of seat.old) (ghost_of seat.new) (ghost_of seat.old).own.line (Granting result) }
+    ensures wakes { result ≡ 0 → turn_word (ghost_of seat.new).view ≡ layout.home_at }
+    ensures keeps { result ≢ 0 → (seat.new.me.1 ≡ seat.old.me.1) × layout.IsWithin (ghost_of seat.new).view.config.nodes result × KeepsPayload (ghost_of seat.old) (ghost_of seat.new) (ghost_of seat.old).own.line (Granting result) }
 {
     link_of(table.fetch_add::<Done<K>>(seat, entry_word(at), DONE))
 }
 
-/// Ends the current request and grants node `next`. Returns `true` if that has withdrawn: it is passed, and the seat keeps the line.
+/// Ends the current request and adds the granted mark to the entry of node `next`.
 ///
-/// Sets `behind` to the node that is linked to that entry by now, or to 0 if none is yet. A hint, which no contract uses.
+/// `false`: `next` has the line. `true`: `next` had withdrawn; it is passed, and the seat keeps the line. Sets `behind` to the node that is
+/// linked to that entry by now, or to 0 if none is yet: its waiter is unparked one turn ahead, so that it is awake at its turn. No
+/// contract uses it.
 pub(crate) fn grant<K: Keep>(
     table: &SharedTable<K>,
     seat: &mut LinkSeat,
@@ -169,12 +176,12 @@ pub(crate) fn grant<K: Keep>(
 ) -> bool
     requires table { IsSeatOf table.now.key.config.nodes table.now.table_id seat.old }
     requires phase { IsAt (Granting next) seat.old }
-    requires high { layout.IsWithin table.now.key.config.nodes next }
+    requires in_range { layout.IsWithin table.now.key.config.nodes next }
     requires payload { HasSlot seat.old (ghost_of seat.old).own.line }
     ensures advances { SeatAdvances K.allows seat.old seat.new 1 }
     ensures ended { Ended (ghost_of seat.old) (ghost_of seat.new) (ghost_of seat.old).own.line }
-    ensures out { result ≡ false → HasNoSlot seat.new × LeavesNode (ghost_of seat.old) (ghost_of seat.new) (ghost_of seat.old).own.line }
-    ensures names { result ≡ false → turn_word (ghost_of seat.new).view ≡ layout.entry_at next }
+    ensures handed_on { result ≡ false → HasNoSlot seat.new × LeavesNode (ghost_of seat.old) (ghost_of seat.new) (ghost_of seat.old).own.line }
+    ensures wakes { result ≡ false → turn_word (ghost_of seat.new).view ≡ layout.entry_at next }
     ensures passes { result ≡ true → (seat.new.me.1 ≡ seat.old.me.1) × Passes (ghost_of seat.old) (ghost_of seat.new) next }
 {
     let found = table.fetch_add::<Grant<K>>(seat, entry_word(next), GRANTED);
@@ -186,7 +193,7 @@ pub(crate) fn grant<K: Keep>(
 pub(crate) fn free<K: Keep>(table: &SharedTable<K>, seat: &mut LinkSeat, node: u64)
     requires table { IsSeatOf table.now.key.config.nodes table.now.table_id seat.old }
     requires phase { IsAt Freeing seat.old }
-    requires high { layout.IsWithin table.now.key.config.nodes node }
+    requires in_range { layout.IsWithin table.now.key.config.nodes node }
     requires next { (p : ℕ) × (ps : List ℕ) × (r : Request) × ((ghost_of seat.old).own.passed ≡ p ∷ ps) × At (ghost_of seat.old).view.order p r × (r.node ≡ node) }
     ensures slot { seat.new.me.1 ≡ seat.old.me.1 }
     ensures advances { SeatAdvances K.allows seat.old seat.new 1 }

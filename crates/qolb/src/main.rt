@@ -1,11 +1,8 @@
 //! Replays scripts of calls on queued lines, and runs scripts of work over them.
 #![tactic(auto)]
 
-mod command_line;
-mod serve;
-
 use qolb_run::{ReplayError, TaskError};
-pub use serve::serve;
+use qolb_serve::{fail, serve};
 use std::env;
 use std::io::{self, ErrorKind};
 use std::process::ExitCode;
@@ -31,7 +28,7 @@ fn main(rt: HostRuntime) -> ExitCode {
         )),
         Err(error) if error.kind() == ErrorKind::OutOfMemory => {
             let memory = TaskError::Replay(ReplayError::Memory);
-            ExitCode::from(serve::fail(&mut rt.stderr(), memory))
+            ExitCode::from(fail(&mut rt.stderr(), memory))
         }
         Err(_) => {
             let _ = eprintln!(rt; "error: the arguments are no UTF-8 text");

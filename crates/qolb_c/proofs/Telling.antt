@@ -1,5 +1,5 @@
 -- From a node's call to what is told of it.
-use Rattle.std.proofs.Common.{◌≡◌, ◌∙◌, ℕ, ap, sym, subst, arith}
+use Rattle.std.proofs.Common.{◌≡◌, ℕ, refl, ap, sym, subst, arith}
 use Rattle.std.specs.Prelude.{Option, Some, Result, Ok, Err, MatchResult}
 use Rattle.qolb_c.specs.declared.answer.Answer.{Answer}
 use Rattle.qolb_c.specs.declared.answer.Answer.TheVariants as answer
@@ -20,10 +20,9 @@ told make Allowed tell Promise was now (Err e) a line call is = record { misuse 
 
 -- a call of a handle that has a node, by what its node did
 pub called :
-    (Does : AnyNode → AnyNode → Answer → Type 0) (old new : Option AnyNode) (held was now : AnyNode) (a : Answer) (n : ℕ)
-    → old ≡ Some held → was ≡ held → new ≡ Some now → n ≡ number_of a → Does was now a → Calls Does old new n
-called Does old new held was now a n had same has tells does =
-    subst (λ (o : Option AnyNode). Calls Does o new n) (sym (had ∙ ap (λ (node : AnyNode). Some node) (sym same))) (now, a, has, tells, does)
+    (Does : AnyNode → AnyNode → Answer → Type 0) (held : Option AnyNode) (was now : AnyNode) (a : Answer) (n : ℕ)
+    → held ≡ Some was → n ≡ number_of a → Does was now a → Calls Does held (Some now) n
+called Does held was now a n had tells does = subst (λ (o : Option AnyNode). Calls Does o (Some now) n) (sym had) (now, a, refl, tells, does)
 
 -- one look is a wait of one look
 pub poll_of_wait : (was now : AnyNode) (a : Answer) → Waits 1 was now a → Polls was now a

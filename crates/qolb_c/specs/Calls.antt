@@ -1,7 +1,6 @@
 -- The promise of each call from C for the handle's node. `was` and `now` are the node before and after. (Of this project.)
-use Rattle.std.specs.Prelude.{◌≡◌, ◌≢◌, ℕ, ◌+◌, ◌*◌, ◌<◌, ◌≤◌, List, Bool, true, false, Option, Some, None}
-use Rattle.line_lanes.specs.Lane.{lane_of, with_lane_of}
-use Rattle.line_lanes.specs.Mask.{placed_mask}
+use Rattle.std.specs.Prelude.{◌≡◌, ◌≢◌, ℕ, ◌+◌, ◌<◌, ◌≤◌, List, Bool, true, false, Option, Some, None}
+use Rattle.line_lanes.specs.Lane.{lane_of}
 use Rattle.qolb_model.specs.declared.answer.Enq.{Enq}
 use Rattle.qolb_model.specs.declared.answer.Enq.TheVariants as enq
 use Rattle.qolb_model.specs.declared.answer.Prep.{Prep}
@@ -23,7 +22,7 @@ use Rattle.qolb_c.specs.declared.answer.Answer.{Answer}
 use Rattle.qolb_c.specs.declared.answer.Answer.TheVariants as answer
 use Rattle.qolb_c.specs.declared.any_node.AnyNode.{AnyNode}
 use Rattle.qolb_c.specs.declared.any_node.AnyNode.TheVariants as kind
-use Rattle.qolb_c.specs.Nodes.{anything, PollsWithin}
+use Rattle.qolb_c.specs.Nodes.{anything, PollsWithin, with_lane, with_added}
 use Rattle.qolb_c.specs.Numbers.{number_of, state_number, turns_number}
 use Rattle.qolb_c.specs.Waits.{nowhere, wait_word_of, turn_word_of, went_to_of}
 
@@ -141,14 +140,20 @@ Reads out_was out_now was now a = IsDone (state_of was ≡ Holding) (out_now ≡
 abbrev pub Writes : ℕ → List ℕ → AnyNode → AnyNode → Answer → Type 0
 Writes mask bytes was now a = IsDone (state_of was ≡ Holding) ((view_of now ≡ view_of was) × (turn_of now ≡ turn_after (turn_of was) mask bytes)) was now a
 
--- `read_lane` and `write_lane`: as `read` and `write`, for one lane of the eight. A lane is written by a write of its bytes.
+-- `read_lane` and `write_lane`: as `read` and `write`, for one lane of the eight.
 abbrev pub ReadsLane : ℕ → ℕ → ℕ → AnyNode → AnyNode → Answer → Type 0
 ReadsLane k out_was out_now was now a =
     IsDone ((state_of was ≡ Holding) × (k < 8)) (out_now ≡ lane_of (turn_of was).bytes.bytes k) was now a × (now ≡ was) × (((state_of was ≡ Holding) × (k < 8) → ⊥) → out_now ≡ out_was)
 
 abbrev pub WritesLane : ℕ → ℕ → AnyNode → AnyNode → Answer → Type 0
 WritesLane k value was now a =
-    IsDone ((state_of was ≡ Holding) × (k < 8)) ((view_of now ≡ view_of was) × (turn_of now ≡ turn_after (turn_of was) (placed_mask (8 * k) 8) (with_lane_of (turn_of was).bytes.bytes k value))) was now a
+    IsDone ((state_of was ≡ Holding) × (k < 8)) ((view_of now ≡ view_of was) × (turn_of now ≡ with_lane (turn_of was) k value)) was now a
+
+-- `add_lane`: if the node holds, `by` is added to a lane modulo 2^64, and what the lane had before is written to `out`; else `out` is unchanged
+abbrev pub AddsLane : ℕ → ℕ → ℕ → ℕ → AnyNode → AnyNode → Answer → Type 0
+AddsLane k by out_was out_now was now a =
+    IsDone ((state_of was ≡ Holding) × (k < 8)) ((view_of now ≡ view_of was) × (turn_of now ≡ with_added (turn_of was) k by) × (out_now ≡ lane_of (turn_of was).bytes.bytes k)) was now a
+    × (((state_of was ≡ Holding) × (k < 8) → ⊥) → out_now ≡ out_was)
 
 -- `deqolb`, and `shut` with true: allowed if the node holds. The node has noted the next holder's word.
 abbrev pub Releases : Bool → AnyNode → AnyNode → Answer → Type 0

@@ -1,7 +1,11 @@
 -- A node as its callers see it, for any kind of line. (Of this project.)
-use Rattle.std.specs.Prelude.{◌≡◌, ℕ, ◌+◌, ◌<◌, ◌≤◌, List}
+use Rattle.std.specs.Prelude.{◌≡◌, ℕ, ◌+◌, ◌*◌, ◌%◌, ◌^◌, ◌<◌, ◌≤◌, List}
+use Rattle.line_lanes.specs.Lane.{lane_of, with_lane_of}
+use Rattle.line_lanes.specs.Mask.{placed_mask}
 use Rattle.qolb_model.specs.declared.answer.Poll.{Poll}
 use Rattle.qolb_model.specs.declared.answer.Poll.TheVariants.{Waiting}
+use Rattle.qolb_model.specs.declared.write.Write.{Write}
+use Rattle.qolb_model.specs.OneOwner.{turn_after}
 
 -- the node's line, and its port of that line
 pub record NodeOf (Line Port : Type 0) : Type 0 where
@@ -21,3 +25,10 @@ pub record PollsWithin (polls was now : ℕ) (answer : Poll) : Type 0 where
   pub some : was < now
   pub at_most : now ≤ was + polls
   pub all : answer ≡ Waiting → now ≡ was + polls
+
+-- a turn after `value` is written to lane k, and after `by` is added to it modulo 2^64. A lane is written by a write of its bytes.
+abbrev pub with_lane : Write → ℕ → ℕ → Write
+with_lane turn k value = turn_after turn (placed_mask (8 * k) 8) (with_lane_of turn.bytes.bytes k value)
+
+abbrev pub with_added : Write → ℕ → ℕ → Write
+with_added turn k by = with_lane turn k ((lane_of turn.bytes.bytes k + by) % 2 ^ 64)

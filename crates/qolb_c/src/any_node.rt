@@ -1,7 +1,7 @@
 //! A node of a line of any kind.
 ghost use Rattle.std.specs.Prelude.{◌≡◌, ◌≢◌, ℕ, true, false, Some, MatchOption, MatchResult};
 ghost use Rattle.qolb_model.specs.PortStates.{may_ask};
-ghost use Rattle.qolb_c.specs.Calls.{view_of, turn_of, state_of, Enqolbs, Polls, Waits, Prepends, LinksUp, Withdraws, LooksIfClear, Reads, ReadsLane, Writes, WritesLane, Releases, TellsTurns, TellsWord};
+ghost use Rattle.qolb_c.specs.Calls.{view_of, turn_of, state_of, Enqolbs, Polls, Waits, Prepends, LinksUp, Withdraws, LooksIfClear, Reads, ReadsLane, Writes, WritesLane, AddsLane, Releases, TellsTurns, TellsWord};
 ghost use Rattle.qolb_c.specs.Waits.{went_to_of};
 ghost use Rattle.qolb_c.specs.declared.any_node.AnyNode.{AnyNode};
 
@@ -37,36 +37,17 @@ macro_rules! of_any {
 }
 
 impl AnyNode {
-    /// Returns the node's number, label, state and turns left.
+    /// Returns what the node is, and where it waits.
     #[inline(always)]
-    fn shown(&self) -> Shown
+    pub fn shown(&self) -> Shown
         ensures number { result.number ≡ (view_of self.now).node }
         ensures label { result.label ≡ (view_of self.now).label }
         ensures state { result.state ≡ state_of self.now }
         ensures turns { TellsTurns self.now result.turns_left }
+        ensures word { TellsWord self.now result.wait_word }
+        ensures went_to { went_to_of self.now ≡ Some result.went_to }
     {
         of_any!(self, node => node.shown())
-    }
-
-    /// Returns the node's number.
-    pub fn number(&self) -> u64
-        ensures { result ≡ (view_of self.now).node }
-    {
-        self.shown().number
-    }
-
-    /// Returns the label of the node's line.
-    pub fn label(&self) -> u64
-        ensures { result ≡ (view_of self.now).label }
-    {
-        self.shown().label
-    }
-
-    /// Returns the state after the node's last call.
-    pub fn state(&self) -> PortState
-        ensures { result ≡ state_of self.now }
-    {
-        self.shown().state
     }
 
     /// Requests the line, and answers at once.
@@ -136,32 +117,6 @@ impl AnyNode {
         of_any!(self, node => node.bytes().ok())
     }
 
-    /// Returns C's number of the turns left; 0 if the node does not hold the line.
-    pub fn turns_left(&self) -> u64
-        ensures { TellsTurns self.now result }
-    {
-        self.shown().turns_left
-    }
-
-    /// Returns the word on which the node waits, if it does.
-    pub fn wait_word(&self) -> u64
-        ensures { TellsWord self.now result }
-    {
-        of_any!(self, node => node.wait_word())
-    }
-
-    /// Returns the word of the next holder, as the node noted it at its last release.
-    pub fn went_to(&self) -> u64
-        ensures { went_to_of self.now ≡ Some result }
-    {
-        of_any!(self, node => node.went_to())
-    }
-
-    /// Returns the word of the waiter behind the next holder, as the node noted it.
-    pub fn went_ahead(&self) -> u64 {
-        of_any!(self, node => node.went_ahead())
-    }
-
     /// Copies the holder's line to `out`.
     pub fn read(&self, out: &mut [u8; 64]) -> Answer
         ensures { Reads out.old out.new self.now self.now result }
@@ -201,6 +156,16 @@ impl AnyNode {
         of_any!(self, node => Answer::of_done(node.write_lane(k as usize, value)))
     }
 
+    /// Adds `by` modulo 2^64 to lane `k`, for the holder. `was` gets what the lane had before.
+    pub fn add_lane(&mut self, k: u64, by: u64, was: &mut u64) -> Answer
+        ensures { AddsLane k by was.old was.new self.old self.new result }
+    {
+        if k >= LANES {
+            return Answer::Misuse;
+        }
+        of_any!(self, node => Answer::of_done(node.add_lane(k as usize, by, was)))
+    }
+
     /// Writes the bytes of the mask, for the holder.
     #[inline(always)]
     pub fn write(&mut self, mask: Mask, bytes: &Line64) -> Answer
@@ -209,23 +174,9 @@ impl AnyNode {
         of_any!(self, node => Answer::of_done(node.write(mask, bytes)))
     }
 
-    /// Releases the line.
-    pub fn deqolb(&mut self) -> Answer
-        ensures { Releases false self.old self.new result }
-    {
-        self.release(false)
-    }
-
-    /// Releases the line, and closes it.
-    pub fn shut(&mut self) -> Answer
-        ensures { Releases true self.old self.new result }
-    {
-        self.release(true)
-    }
-
     /// Releases the line, and closes it if `shut`.
     #[inline(always)]
-    fn release(&mut self, shut: bool) -> Answer
+    pub fn release(&mut self, shut: bool) -> Answer
         ensures { Releases shut self.old self.new result }
     {
         of_any!(self, node => Answer::of_done(node.release(shut)))

@@ -28,6 +28,9 @@ impl Model for Handle {
 }
 
 impl Handle {
+    ghost use Rattle.std.specs.Borrow.{sem};
+    ghost use Rattle.qolb_c.specs.Lent.{LendsNode};
+
     /// Returns a handle without a node.
     fn empty() -> Handle
         ensures { result.held ≡ None }
@@ -35,11 +38,17 @@ impl Handle {
         Handle { at: null_mut() }
     }
 
-    /// Returns the handle of a node.
-    fn of(node: Box<AnyNode>) -> Handle
-        ensures { result.held ≡ Some node.value }
+    /// Borrows the handle's node, if it has one.
+    pub fn get_mut(&mut self) -> Option<&mut AnyNode>
+        ensures* writes_back { sem 𝓛 (LendsNode self.entry result) }
+        ensures node { MatchOption result (self.old.held ≡ None) (λ node. self.old.held ≡ Some node.now) }
     {
-        Handle::of_parts(Parts::of(node))
+        let at = self.at;
+        if at.is_null() {
+            None
+        } else {
+            Some(unsafe { &mut *(at as *mut AnyNode) })
+        }
     }
 
     /// Takes the node out of the handle, if it has one.
@@ -58,21 +67,18 @@ impl Handle {
         requires { self.old.held ≡ None }
         ensures { self.new.held ≡ Some node.value }
     {
-        *self = Handle::of(node);
+        *self = Handle::of_parts(Parts::of(node));
     }
 
     /// Returns `true` if the handle has no node.
-    pub fn is_empty(&mut self, alloc: Global) -> bool
+    pub fn is_empty(&mut self) -> bool
         ensures same { self.new.held ≡ self.old.held }
         ensures empty { result ≡ true → self.old.held ≡ None }
         ensures node { result ≡ false → (node : AnyNode) × (self.old.held ≡ Some node) }
     {
-        match self.take(alloc) {
+        match self.get_mut() {
             None => true,
-            Some(node) => {
-                self.put(node);
-                false
-            }
+            Some(_) => false,
         }
     }
 

@@ -1,7 +1,7 @@
 //! A node of a shared line, for any kind of line.
 ghost use Rattle.std.specs.Prelude.{◌≡◌, ◌≢◌, ℕ, ◌+◌, ◌*◌, ◌<◌, ◌≤◌, true, false, Some, MatchResult};
 ghost use Rattle.std.specs.Arc.{arc_value};
-ghost use Rattle.line_lanes.specs.Lane.{with_lane_of};
+ghost use Rattle.line_lanes.specs.Lane.{lane_of, with_lane_of};
 ghost use Rattle.line_lanes.specs.Mask.{placed_mask};
 ghost use Rattle.qolb_model.specs.Calls.{Enqueues, Prepends, LinksUp, Polls, Withdraws, LooksIfClear, Releases, MergesViews};
 ghost use Rattle.qolb_model.specs.Leases.{turns_left};
@@ -10,20 +10,20 @@ ghost use Rattle.qolb_model.specs.PortStates.{may_ask};
 ghost use Rattle.qolb_model.specs.declared.view.View.{View};
 ghost use Rattle.line_generic.specs.AtTurn.{Names, SeesTurn};
 ghost use Rattle.link_line.specs.BetweenCalls as list;
-ghost use Rattle.qolb_c.specs.Nodes.{anything, PollsWithin};
+ghost use Rattle.qolb_c.specs.Nodes.{anything, PollsWithin, with_added};
 ghost use Rattle.qolb_c.specs.Numbers.{turns_number};
 
 use crate::answer::{Misuse, turns_number};
 use crate::kinds::{LineFor, List};
 use line_generic::{Discipline, Port, SleepersElsewhere};
-use line_lanes::{Line64, Mask};
+use line_lanes::{Line64, Mask, lane};
 use qolb_model::{Enq, Free, LineSync, Out, Poll, PortState, Prep};
 use std::alloc::Global;
 use std::hint::spin_loop;
 use std::marker::Model;
 use std::sync::Arc;
 
-/// The number, label, state and turns left of a node.
+/// What a node is, and where it waits.
 #[derive(Clone, Copy)]
 pub struct Shown {
     /// The node's number.
@@ -34,6 +34,12 @@ pub struct Shown {
     pub state: PortState,
     /// C's number of the turns left; 0 if the node does not hold the line.
     pub turns_left: u64,
+    /// The word on which the node waits, if it does.
+    pub wait_word: u64,
+    /// The word of the next holder, as the node noted it at its last release.
+    pub went_to: u64,
+    /// The word of the waiter behind the next holder, as the node noted it.
+    pub went_ahead: u64,
 }
 
 /// A node: a share of a line, and a port of it.
@@ -61,24 +67,6 @@ impl<L: LineSync<Free>> Node<L> {
         ensures { result ≡ record { line = arc_value line; port = port } }
     {
         Node { line, port }
-    }
-
-    /// Returns the node's number, label, state and turns left.
-    #[inline(always)]
-    pub fn shown(&self) -> Shown
-        ensures number { result.number ≡ (L.view self.now.port).node }
-        ensures label { result.label ≡ (L.view self.now.port).label }
-        ensures state { result.state ≡ (L.view self.now.port).state }
-        ensures turns { (L.view self.now.port).state ≡ PortState.Holding → result.turns_left ≡ turns_number (turns_left (L.view self.now.port).config.lease (L.view self.now.port).ends) }
-        ensures some { (L.view self.now.port).state ≡ PortState.Holding → 1 ≤ result.turns_left }
-        ensures none { (L.view self.now.port).state ≢ PortState.Holding → result.turns_left ≡ 0 }
-    {
-        Shown {
-            number: L::node(&self.port),
-            label: self.line.label(),
-            state: self.state(),
-            turns_left: turns_number(self.turns_left()),
-        }
     }
 
     /// Returns the state after the node's last call.
@@ -163,6 +151,30 @@ impl<L: LineSync<Free>> Node<L> {
 }
 
 impl<Q: Discipline<Free>> Node<LineFor<Q>> {
+    /// Returns what the node is, and where it waits.
+    #[inline(always)]
+    pub fn shown(&self) -> Shown
+        ensures number { result.number ≡ self.now.port.view.node }
+        ensures label { result.label ≡ self.now.port.view.label }
+        ensures state { result.state ≡ self.now.port.view.state }
+        ensures turns { self.now.port.view.state ≡ PortState.Holding → result.turns_left ≡ turns_number (turns_left self.now.port.view.config.lease self.now.port.view.ends) }
+        ensures some { self.now.port.view.state ≡ PortState.Holding → 1 ≤ result.turns_left }
+        ensures none { self.now.port.view.state ≢ PortState.Holding → result.turns_left ≡ 0 }
+        ensures word { result.wait_word ≡ Q.wait_word self.now.port.view.config.nodes self.now.port.view.node self.now.port.token }
+        ensures turn { self.now.port.view.state ≡ PortState.Holding → (u : View) → SeesTurn u self.now.port.view → result.wait_word ≡ Q.turn_word u }
+        ensures went_to { self.now.port.went_to ≡ Some result.went_to }
+    {
+        Shown {
+            number: LineFor::<Q>::node(&self.port),
+            label: self.line.label(),
+            state: self.state(),
+            turns_left: turns_number(self.turns_left()),
+            wait_word: self.wait_word(),
+            went_to: self.went_to(),
+            went_ahead: self.went_ahead(),
+        }
+    }
+
     /// Requests the line, and answers at once.
     ///
     /// # Errors
@@ -228,6 +240,26 @@ impl<Q: Discipline<Free>> Node<LineFor<Q>> {
         Ok(())
     }
 
+    /// Adds `by` modulo 2^64 to lane `k`, for the holder. `was` gets what the lane had before.
+    ///
+    /// # Errors
+    ///
+    /// `Misuse` if the node does not hold the line.
+    pub fn add_lane(&mut self, k: usize, by: u64, was: &mut u64) -> Result<(), Misuse>
+        requires { k < 8 }
+        ensures line { self.new.line ≡ self.old.line }
+        ensures view { self.new.port.view ≡ self.old.port.view }
+        ensures adds { MatchResult result (λ _. (self.old.port.view.state ≡ PortState.Holding) × (was.new ≡ lane_of self.old.port.turn.bytes.bytes k) × (self.new.port.turn ≡ with_added self.old.port.turn k by)) (λ _. (self.old.port.view.state ≢ PortState.Holding) × (was.new ≡ was.old) × (self.new ≡ self.old)) }
+    {
+        if self.state() != PortState::Holding {
+            return Err(Misuse);
+        }
+        let now = lane(LineFor::<Q>::bytes(&self.port), k);
+        LineFor::<Q>::write_lane(&mut self.port, k, now.wrapping_add(by));
+        *was = now;
+        Ok(())
+    }
+
     /// Releases the line, and closes it if `shut`.
     ///
     /// # Errors
@@ -252,7 +284,7 @@ impl<Q: Discipline<Free>> Node<LineFor<Q>> {
     /// Returns the word on which the node waits.
     ///
     /// If the node holds, this is the word on which it was granted.
-    pub fn wait_word(&self) -> u64
+    fn wait_word(&self) -> u64
         ensures word { result ≡ Q.wait_word self.now.port.view.config.nodes self.now.port.view.node self.now.port.token }
         ensures turn { self.now.port.view.state ≡ PortState.Holding → (u : View) → SeesTurn u self.now.port.view → result ≡ Q.turn_word u }
     {
@@ -260,14 +292,14 @@ impl<Q: Discipline<Free>> Node<LineFor<Q>> {
     }
 
     /// Returns the word of the next holder, as the node noted it at its last release.
-    pub fn went_to(&self) -> u64
+    fn went_to(&self) -> u64
         ensures { self.now.port.went_to ≡ Some result }
     {
         self.line.went_to(&self.port) as u64
     }
 
     /// Returns the word of the waiter behind the next holder, as the node noted it.
-    pub fn went_ahead(&self) -> u64 {
+    fn went_ahead(&self) -> u64 {
         self.line.went_ahead(&self.port) as u64
     }
 }

@@ -38,7 +38,7 @@ pub fn open(alloc: Global, kind: u32, label: u64, config: LineConfig, out: &mut 
     if (out.len() as u64) < config.nodes {
         return Answer::TooFew;
     }
-    if !are_empty(alloc, out, config.nodes as usize) {
+    if !are_empty(out, config.nodes as usize) {
         return Answer::Occupied;
     }
     match nodes_of_kind(alloc, kind, label, config) {
@@ -77,14 +77,14 @@ fn refusal(error: OpenError) -> Answer
 }
 
 /// Returns `true` if the first `many` of the handles are empty.
-fn are_empty(alloc: Global, handles: &mut [Handle], many: usize) -> bool
+fn are_empty(handles: &mut [Handle], many: usize) -> bool
     requires { many ≤ length handles.old }
     ensures same { held_by handles.new ≡ held_by handles.old }
     ensures empty { result ≡ true → AreEmpty many handles.old }
     ensures occupied { result ≡ false → HasNode many handles.old }
 {
     for place in 0..many {
-        if !handles[place].is_empty(alloc) {
+        if !handles[place].is_empty() {
             return false;
         }
     }

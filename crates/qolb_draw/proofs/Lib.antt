@@ -8,8 +8,4 @@ pub mod Lines
 pub mod Refusing
 pub mod SameRuns
 pub mod Covering
-pub mod StepCovering
 pub mod Within
-pub mod StepsWithin
-pub mod StepTexts
-pub mod Watching

@@ -5,8 +5,4 @@ pub mod Timelines
 pub mod Following
 pub mod Grids
 pub mod Svg
-pub mod StepShapes
-pub mod StepSvg
-pub mod StepPictures
 pub mod Laws
-pub mod StepLaws

@@ -1,4 +1,4 @@
-//! Pictures of replays: the state of each node after each command on a line; and of step scripts: the state of the list after each event.
+//! Pictures of replays: the state of each node after each command on a line.
 #![tactic(auto)]
 
 mod bar;
@@ -8,15 +8,10 @@ mod event;
 mod follow;
 mod grid;
 pub mod laws;
-mod step_event;
-mod step_svg;
-mod step_text;
-mod step_words;
-mod steps;
+pub mod pieces;
 mod svg;
 mod symbol;
 mod text;
 mod timeline;
 
 pub use draw::{Form, draw_schedule};
-pub use steps::draw_steps;

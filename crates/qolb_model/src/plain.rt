@@ -118,7 +118,7 @@ impl PlainLine {
     pub fn turns_left(&self, node: u64) -> Option<u64>
         requires { node_state self.now node ≡ PortState.Holding }
         ensures left { (s : OwnerState) → Agrees self.now s → result ≡ turns_left s.config.lease s.queue.ends }
-        ensures some { (s : OwnerState) → Agrees self.now s → result ≢ Some 0 }
+        ensures not_zero { (s : OwnerState) → Agrees self.now s → result ≢ Some 0 }
     {
         self.left
     }

@@ -24,10 +24,14 @@ use std::alloc::Global;
 
 /// A queue lock (QOLB, Goodman 1989) that hands 64 bytes from node to node. Each node has its own port.
 ///
-/// `K` says which bytes the line may have and which changes a turn may make. The contract of each call is one record of `specs/Calls`, with
-/// a field for each answer: what the port knows before and after the call. A word step is one atomic operation on a word that nodes share.
-/// Each call is wait-free: it takes at most `max_steps` word steps, whatever other nodes do meanwhile. Only `finish` allocates. To block
-/// takes a handle, which no call is passed: only a line's type that has one can block. A call changes only the ports that it is passed.
+/// `K` says which bytes the line may have and which changes a turn may make. What the port knows before and after a call of the queue is one
+/// record of `specs/Calls`, with a field for each answer. A word step is one atomic operation on a word that nodes share.
+///
+/// Each call is wait-free: it takes at most `max_steps` word steps, whatever other nodes do meanwhile. A few are enough for all but a
+/// release, and a call that finds the line closed, which releases it for the next node: these take some for each withdrawn request that they
+/// pass, so at most a few times the number of nodes. Only `finish` allocates. No call of a lock blocks, as that takes a handle of the
+/// system, and none is passed. A wrapper that keeps such a handle can implement this trait by calls that park. Of all ports, a call
+/// changes only those that it is passed.
 pub trait LineSync<K: Keep> {
     /// A node's handle of the line.
     type Port;
@@ -76,7 +80,7 @@ pub trait LineSync<K: Keep> {
         ensures state { result ≡ (view port.now).state }
         ensures allowed { allowed_states result };
 
-    /// Returns `true` if the port's label is the line's. Two lines may have one label, so that is less than `belongs`.
+    /// Returns `true` if the port's label is the line's. Two lines may have one label, so this is weaker than `belongs`.
     fn owns(&self, port: &Self::Port) -> bool
         ensures { IsTrue result ↔ ((view port.now).label ≡ label_of self.now) };
 
@@ -86,12 +90,12 @@ pub trait LineSync<K: Keep> {
         ensures bytes { result.now ≡ (turn port.now).bytes }
         ensures turn { IsTurn (view port.now) (turn port.now) };
 
-    /// Returns the number of turns left, with the holder's own: at least 1. `None` without a lease.
+    /// Returns the number of turns left, counting the current one: at least 1. `None` without a lease, a limit of the line's turns.
     fn turns_left(&self, port: &Self::Port) -> Option<u64>
         requires belongs { belongs self.now port.now }
         requires state { (view port.now).state ≡ PortState.Holding }
         ensures left { result ≡ turns_left (config_of self.now).lease (view port.now).ends }
-        ensures some { result ≢ Some 0 };
+        ensures not_zero { result ≢ Some 0 };
 
     /// Writes those of `bytes` that `mask` selects, in the holder's port. Other nodes see them after the release. No word step.
     fn write(port: &mut Self::Port, mask: Mask, bytes: &Line64)
@@ -101,7 +105,9 @@ pub trait LineSync<K: Keep> {
         ensures counters { counters port.new ≡ counters port.old }
         ensures belongs { (line : Self) → belongs line port.old → belongs line port.new };
 
-    /// Requests the line, and answers at once: granted, queued or closed. `Busy`: the last request is not clear, and none was made.
+    /// Requests the line, and answers at once: granted, queued or closed. `Busy`: the node's own last request is not clear, and none was made.
+    ///
+    /// `Closed`: the node was granted a closed line, and this call has released it for the next node.
     fn enqolb(&self, port: &mut Self::Port) -> Enq
         requires belongs { belongs self.now port.old }
         requires state { IsTrue (may_ask (view port.old).state) }
@@ -109,7 +115,8 @@ pub trait LineSync<K: Keep> {
         ensures enqueues { Enqueues K.allows (view port.old) (view port.new) (turn port.new) result }
         ensures counts { Counts (call_steps self.now) (max_steps self.now) (call.asks result) (view port.old) (view port.new) (counters port.old) (counters port.new) };
 
-    /// Polls the request. If it is at its turn, the port takes the line and holds it, or is told that the line is closed.
+    /// Polls the request. If it is at its turn, the port takes the line and holds it; or it is told that the line is closed, and has released it
+    /// for the next node.
     fn poll(&self, port: &mut Self::Port) -> Poll
         requires belongs { belongs self.now port.old }
         requires state { (view port.old).state ≡ PortState.Queued }
@@ -119,7 +126,7 @@ pub trait LineSync<K: Keep> {
 
     /// Withdraws the request. If it is at its turn, the port holds the line instead, or is told that it is closed.
     ///
-    /// A withdrawn request is not clear until a release has passed it.
+    /// A withdrawn request is not clear before a release has passed it and freed the node's word.
     fn withdraw(&self, port: &mut Self::Port) -> Out
         requires belongs { belongs self.now port.old }
         requires state { (view port.old).state ≡ PortState.Queued }
@@ -129,7 +136,7 @@ pub trait LineSync<K: Keep> {
 
     /// Returns `true` if the port's last request is clear, so that the next is not answered `Busy`. Makes no request.
     ///
-    /// A request is clear once no other node uses its word. The port's view grows by what the look found.
+    /// A request is clear once no other node uses its node's word. The port's view records what the look found.
     fn is_clear(&self, port: &mut Self::Port) -> bool
         requires belongs { belongs self.now port.old }
         requires state { IsTrue (may_ask (view port.old).state) }
@@ -137,7 +144,7 @@ pub trait LineSync<K: Keep> {
         ensures found { LooksIfClear K.allows (view port.old) (view port.new) result }
         ensures counts { Counts (call_steps self.now) (max_steps self.now) (call.looks_if_clear result) (view port.old) (view port.new) (counters port.old) (counters port.new) };
 
-    /// Ends the holder's request as served and releases the line. The last turn of a lease closes it, as `shut` does.
+    /// Ends the holder's request as served and releases the line. If this turn is the lease's last, the line closes, as by `shut`.
     fn deqolb(&self, port: &mut Self::Port)
         requires belongs { belongs self.now port.old }
         requires state { (view port.old).state ≡ PortState.Holding }
@@ -146,7 +153,7 @@ pub trait LineSync<K: Keep> {
         ensures releases { Releases K.allows false (view port.old) (view port.new) (turn port.old) }
         ensures counts { Counts (call_steps self.now) (max_steps self.now) call.releases (view port.old) (view port.new) (counters port.old) (counters port.new) };
 
-    /// Ends the holder's request as served, and closes the line: no request behind it is served, not even one queued now.
+    /// Ends the holder's request as served and releases the line closed: no request behind it is served, not even one queued now.
     fn shut(&self, port: &mut Self::Port)
         requires belongs { belongs self.now port.old }
         requires state { (view port.old).state ≡ PortState.Holding }
@@ -155,7 +162,7 @@ pub trait LineSync<K: Keep> {
         ensures releases { Releases K.allows true (view port.old) (view port.new) (turn port.old) }
         ensures counts { Counts (call_steps self.now) (max_steps self.now) call.releases (view port.old) (view port.new) (counters port.old) (counters port.new) };
 
-    /// Merges the views of two ports, and shows that not both hold. For proofs: no word step is counted.
+    /// Merges the views of two ports, and proves that at most one of them holds. For proofs: a lock loads one word for it, which is not counted.
     fn meet(&self, a: &mut Self::Port, b: &mut Self::Port)
         requires belongs_a { belongs self.now a.old }
         requires belongs_b { belongs self.now b.old }
@@ -169,7 +176,7 @@ pub trait LineSync<K: Keep> {
 
     /// Finishes the line and returns its bytes, given the ports of all its nodes in any order.
     ///
-    /// A port with this line's label must be this line's. If refused, returns the cause with the line, and the ports in their order.
+    /// A port with this line's label must be this line's. If refused, returns the cause with the line, and the ports in the order given.
     fn finish(
         self,
         alloc: Global,

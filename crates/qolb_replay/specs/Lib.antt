@@ -1,4 +1,2 @@
-pub mod Tallies
 pub mod Outcome
 pub mod StepRuns
-pub mod Calls

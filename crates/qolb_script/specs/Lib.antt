@@ -22,5 +22,3 @@ pub mod StepReply
 pub mod Jobs
 pub mod WorkScript
 pub mod Reports
-pub mod Reasons
-pub mod Laws

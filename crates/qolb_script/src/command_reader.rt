@@ -9,10 +9,8 @@ ghost use Rattle.qolb_script.specs.Reading.{words_left, lease_words, IsNoLease};
 use crate::command::{Command, Verb};
 use crate::items::ReadItem;
 use crate::number::number_within;
-use crate::reason::Reason;
 use crate::schedule::MAX_LINES;
 use crate::text::LineFault;
-use crate::why_command::why_command;
 use crate::words::Words;
 use hex::decode_to_slice;
 use line_lanes::{Line64, Mask, placed};
@@ -53,22 +51,14 @@ pub struct CommandReader {
 }
 
 impl ReadItem for CommandReader {
-    ghost use Rattle.qolb_script.specs.Reasons.{why_command};
-
     type Item = Command;
 
     ghost item_of = { λ r. spec.command_of r.nodes r.lines };
-
-    ghost why_of = { λ r. why_command r.nodes r.lines };
 
     ghost in_range = { λ r c. (1 ≤ spec.node_of c) × (spec.node_of c ≤ r.nodes) × (spec.line_of c < r.lines) };
 
     fn read_item(&self, line: &[u8]) -> Result<Command, LineFault> {
         read_command(self.nodes, self.lines, line)
-    }
-
-    fn why(&self, line: &[u8]) -> Reason {
-        why_command(self.nodes, self.lines, line)
     }
 }
 

@@ -8,10 +8,8 @@ ghost use Rattle.link_core.specs.Steps.{node_of};
 use crate::command_reader::{NODES, WRITE, lease_word, node_within, read_lease, read_placed};
 use crate::items::ReadItem;
 use crate::number::number_within;
-use crate::reason::Reason;
 use crate::step::Step;
 use crate::text::LineFault;
-use crate::why_event::why_event;
 use crate::words::Words;
 use link_core::Event;
 use qolb_model::MAX_NODES;
@@ -23,22 +21,14 @@ pub struct EventReader {
 }
 
 impl ReadItem for EventReader {
-    ghost use Rattle.qolb_script.specs.Reasons.{why_event};
-
     type Item = Event;
 
     ghost item_of = { λ r. spec.event_of r.nodes };
-
-    ghost why_of = { λ r. why_event r.nodes };
 
     ghost in_range = { λ r e. (1 ≤ node_of e) × (node_of e ≤ r.nodes) };
 
     fn read_item(&self, line: &[u8]) -> Result<Event, LineFault> {
         read_event(self.nodes, line)
-    }
-
-    fn why(&self, line: &[u8]) -> Reason {
-        why_event(self.nodes, line)
     }
 }
 

@@ -4,7 +4,6 @@ ghost use Rattle.qolb_script.specs.Reading.{lines_left};
 
 use crate::error::ScriptError;
 use crate::lines::NumberedLines;
-use crate::reason::Reason;
 use crate::schedule::MAX_COMMANDS;
 use crate::text::LineFault;
 use std::alloc::Allocator;
@@ -13,17 +12,12 @@ use std::alloc::Allocator;
 pub trait ReadItem {
     ghost use Rattle.std.specs.Prelude.{◌≡◌, ℕ, List, Result, IfOk};
     ghost use Rattle.qolb_script.specs.declared.text.LineFault.{LineFault};
-    ghost use Rattle.qolb_script.specs.declared.reason.Reason.{Reason};
     ghost use Rattle.qolb_script.specs.Commands.{read_line};
-    ghost use Rattle.qolb_script.specs.Reasons.{why_line};
 
     type Item: Drop;
 
     /// The item that these words are.
     ghost item_of: { Self → List (List ℕ) → Result Self.Item LineFault };
-
-    /// The fault of the words, if they are refused.
-    ghost why_of: { Self → List (List ℕ) → Reason };
 
     /// The item's numbers are in the ranges that the header gives.
     ghost in_range: { Self → Self.Item → Type 0 };
@@ -32,10 +26,6 @@ pub trait ReadItem {
     fn read_item(&self, line: &[u8]) -> Result<Self::Item, LineFault>
         ensures item { result ≡ read_line (item_of self.now) line.now }
         ensures range { IfOk result (λ item. in_range self.now item) };
-
-    /// Returns the fault of the line, if it is refused.
-    fn why(&self, line: &[u8]) -> Reason
-        ensures { result ≡ why_line (why_of self.now) line.now };
 }
 
 /// Reads the items on the lines below a header.

@@ -9,10 +9,8 @@ use crate::command_reader::{LINES, node_within, read_sizes};
 use crate::items::ReadItem;
 use crate::job::{ACCOUNTS_A_LINE, Job, WorkKind};
 use crate::number::number_within;
-use crate::reason::Reason;
 use crate::schedule::MAX_LINES;
 use crate::text::LineFault;
-use crate::why_job::why_job;
 use crate::words::Words;
 use qolb_model::MAX_NODES;
 
@@ -52,13 +50,9 @@ pub struct JobReader {
 }
 
 impl ReadItem for JobReader {
-    ghost use Rattle.qolb_script.specs.Reasons.{why_job};
-
     type Item = Job;
 
     ghost item_of = { λ r. spec.job_of r.kind r.workers r.lines };
-
-    ghost why_of = { λ r. why_job r.kind r.workers r.lines };
 
     ghost in_range = { λ r job. (1 ≤ spec.worker_of job) × (spec.worker_of job ≤ r.workers) × spec.IsOfKind r.kind r.lines job };
 
@@ -67,10 +61,6 @@ impl ReadItem for JobReader {
             WorkKind::Board => read_board_job(self.workers, line),
             WorkKind::Bank => read_bank_job(self.workers, self.lines, line),
         }
-    }
-
-    fn why(&self, line: &[u8]) -> Reason {
-        why_job(self.kind, self.workers, self.lines, line)
     }
 }
 

@@ -135,8 +135,8 @@ fn walk<K: Keep>(table: &SharedTable<K>, seat: &mut RingSeat, cell: u64, found: 
 fn free_passed<K: Keep>(table: &SharedTable<K>, seat: &mut RingSeat, nodes: &[u64])
     requires table { IsSeatOf word_count table.now.table_id seat.old }
     requires phase { IsAt Freeing seat.old }
-    requires some { (ghost_of seat.old).own.passed ≢ [] }
-    requires many { length nodes.now ≡ length (ghost_of seat.old).own.passed }
+    requires not_empty { (ghost_of seat.old).own.passed ≢ [] }
+    requires same_length { length nodes.now ≡ length (ghost_of seat.old).own.passed }
     requires nodes { AreNodesAt (ghost_of seat.old).view (ghost_of seat.old).own.passed nodes.now }
     ensures slot { seat.new.me.1 ≡ seat.old.me.1 }
     ensures advances { SeatAdvances K.allows seat.old seat.new (length nodes.now) }

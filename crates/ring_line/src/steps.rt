@@ -98,7 +98,7 @@ pub(crate) fn grant<K: Keep>(table: &SharedTable<K>, seat: &mut RingSeat, cell: 
 pub(crate) fn free<K: Keep>(table: &SharedTable<K>, seat: &mut RingSeat, node: u64)
     requires table { IsSeatOf word_count table.now.table_id seat.old }
     requires phase { IsAt Freeing seat.old }
-    requires high { node ≤ MAX_NODES }
+    requires in_range { node ≤ MAX_NODES }
     requires next { (q : ℕ) × (ps : List ℕ) × (r : Request) × ((ghost_of seat.old).own.passed ≡ q ∷ ps) × At (ghost_of seat.old).view.order q r × (r.node ≡ node) }
     ensures slot { seat.new.me.1 ≡ seat.old.me.1 }
     ensures advances { SeatAdvances K.allows seat.old seat.new 1 }

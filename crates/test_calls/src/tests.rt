@@ -1,5 +1,5 @@
-//! Each call of each lock. The answers are written once, over any line, and each lock is named once, because the prover needs some seconds
-//! to see that a lock is a line, wherever it is named.
+//! Each call of each lock. The answers are written once, over any line. A lock is named by its queue discipline: the prover sees once that a
+//! line of any discipline is a line, and at each named line again.
 
 mod asleep;
 mod did;
@@ -7,17 +7,20 @@ mod elsewhere;
 mod late;
 mod lines;
 mod named;
+mod rows;
 mod script;
 
 use crate::checked_line::Instrumented;
-use link_line::{LinkLine, LinkQueue};
+use line_generic::{Discipline, Line};
+use link_line::LinkQueue;
 use qolb_model::{Free, ParkingLine};
-use ring_line::{RingLine, RingQueue};
+use ring_line::RingQueue;
+use rows::expect_eq;
 use std::alloc::Global;
 use std::process::Abort;
 use std::sync::Wait;
 use std::test::Fail;
-use ticket_line::{TicketLine, TicketQueue};
+use ticket_line::TicketQueue;
 
 /// What differs between the locks: the word steps of a release that passes two withdrawn nodes of three, and of one that passes 199 of 200;
 /// and the bytes of the table of a line with four nodes.
@@ -78,6 +81,21 @@ where
     lines::any_line_is_handed_over::<R, L>(rt, alloc)
 }
 
+/// Runs `part` over lines of this queue discipline.
+fn part_over<R: Wait + Abort, Q: Discipline<Free>>(
+    rt: &R,
+    alloc: Global,
+    known: &Known,
+    part: Part,
+) -> Result<(), Fail> {
+    try_part::<R, Line<Free, Q>>(rt, alloc, known, part)
+}
+
+/// Returns `Some(true)` if a line of this queue discipline, whose waiters sleep elsewhere, names the next.
+fn names_over<Q: Discipline<Free>>(alloc: Global) -> Option<bool> {
+    elsewhere::each_names_the_next::<elsewhere::Told<Q>>(alloc)
+}
+
 fn over_rings<R: Wait + Abort>(rt: &R, alloc: Global, part: Part) -> Result<(), Fail> {
     // 256 cells, each with a node's word in 128 bytes, and a slot: as for 200 nodes.
     let known = Known {
@@ -85,7 +103,7 @@ fn over_rings<R: Wait + Abort>(rt: &R, alloc: Global, part: Part) -> Result<(), 
         many: 599,
         table: 257 * 128,
     };
-    try_part::<_, RingLine<Free>>(rt, alloc, &known, part)
+    part_over::<_, RingQueue>(rt, alloc, &known, part)
 }
 
 fn over_lists<R: Wait + Abort>(rt: &R, alloc: Global, part: Part) -> Result<(), Fail> {
@@ -95,7 +113,7 @@ fn over_lists<R: Wait + Abort>(rt: &R, alloc: Global, part: Part) -> Result<(), 
         many: 797,
         table: 6 * 128,
     };
-    try_part::<_, LinkLine<Free>>(rt, alloc, &known, part)
+    part_over::<_, LinkQueue>(rt, alloc, &known, part)
 }
 
 fn over_ticket_lines<R: Wait + Abort>(rt: &R, alloc: Global, part: Part) -> Result<(), Fail> {
@@ -105,7 +123,7 @@ fn over_ticket_lines<R: Wait + Abort>(rt: &R, alloc: Global, part: Part) -> Resu
         many: 399,
         table: 8 * 256,
     };
-    try_part::<_, TicketLine<Free>>(rt, alloc, &known, part)
+    part_over::<_, TicketQueue>(rt, alloc, &known, part)
 }
 
 #[test]
@@ -125,17 +143,23 @@ fn a_ticket_line_answers_each_call(rt: HostRuntime) -> Result<(), Fail> {
 
 #[test]
 fn a_line_tells_to_whom_it_went(rt: HostRuntime) {
-    assert_eq!(rt;
-        elsewhere::each_names_the_next::<elsewhere::Told<RingQueue>>(rt.alloc()),
-        Some(true)
+    expect_eq(
+        &rt,
+        "a ring",
+        names_over::<RingQueue>(rt.alloc()),
+        Some(true),
     );
-    assert_eq!(rt;
-        elsewhere::each_names_the_next::<elsewhere::Told<LinkQueue>>(rt.alloc()),
-        Some(true)
+    expect_eq(
+        &rt,
+        "a list",
+        names_over::<LinkQueue>(rt.alloc()),
+        Some(true),
     );
-    assert_eq!(rt;
-        elsewhere::each_names_the_next::<elsewhere::Told<TicketQueue>>(rt.alloc()),
-        Some(true)
+    expect_eq(
+        &rt,
+        "a ticket line",
+        names_over::<TicketQueue>(rt.alloc()),
+        Some(true),
     );
 }
 

@@ -3,6 +3,7 @@
 mod boards;
 mod counts;
 mod desks;
+mod rows;
 
 use line_accounts::AccountLaw;
 use line_board::BoardLaw;

@@ -6,6 +6,8 @@ mod pictures;
 #[cfg(test)]
 mod replays;
 #[cfg(test)]
+mod rows;
+#[cfg(test)]
 mod scarce;
 #[cfg(test)]
 mod step_pictures;

@@ -1,4 +1,5 @@
 //! Pictures of schedules.
+use crate::rows::{expect, expect_at};
 use crate::styles::{Sheet, are_seen, signs_differ};
 use linked_list_allocator::LocalHeap;
 use qolb_draw::{Form, draw_schedule};
@@ -67,11 +68,7 @@ static PICTURES: [(&str, &str); 8] = [
 fn draws_scripts(rt: HostRuntime) -> Result<(), Fail> {
     for (script, picture) in &PICTURES {
         let whole = format!(in rt.alloc(); "{picture}{LETTERS}")?;
-        assert_eq!(rt;
-            drawn(rt.alloc(), script, Form::Text)?,
-            whole,
-            "of {script}"
-        );
+        expect(&rt, script, drawn(rt.alloc(), script, Form::Text)?, whole);
     }
     Ok(())
 }
@@ -95,9 +92,9 @@ node   1 H
 
 ";
     let whole = format!(in rt.alloc(); "{blocks}{LETTERS}")?;
-    assert_eq!(rt; picture, whole);
+    expect(&rt, "the picture", picture.as_str(), whole.as_str());
     for line in picture.lines() {
-        assert!(rt; line.len() <= 79);
+        expect(&rt, "the width of a line", line.len() <= 79, true);
     }
     Ok(())
 }
@@ -106,7 +103,12 @@ node   1 H
 fn draws_the_last_of_200_nodes(rt: HostRuntime) -> Result<(), Fail> {
     let script = "nodes 200 lines 1\nenq 200 0\n";
     let picture = drawn(rt.alloc(), script, Form::Text)?;
-    assert!(rt; picture.contains("\nnode 200 H\n"));
+    expect(
+        &rt,
+        "the last node",
+        picture.contains("\nnode 200 H\n"),
+        true,
+    );
     Ok(())
 }
 
@@ -138,7 +140,12 @@ fn draws_the_longest_script(rt: HostRuntime) -> Result<(), Fail> {
     let script = longest_script(rt.alloc())?;
     let picture = drawn(rt.alloc(), script.as_str(), Form::Text)?;
     // A row has 70 commands.
-    assert_eq!(rt; rows_of_node_2(picture.as_str()), (1_429, 100_000));
+    expect(
+        &rt,
+        "rows and letters",
+        rows_of_node_2(picture.as_str()),
+        (1_429, 100_000),
+    );
     Ok(())
 }
 
@@ -147,13 +154,21 @@ fn draws_the_longest_script_as_an_svg(rt: HostRuntime) -> Result<(), Fail> {
     let script = longest_script(rt.alloc())?;
     let svg = drawn(rt.alloc(), script.as_str(), Form::Svg)?;
     // Seven lines without rows, and one with two.
-    assert!(rt; svg.contains(" width='3200128' height='624' "));
-    assert!(rt;
-        svg.contains(
-            "<rect class='holds' x='96' y='100' width='3200000' height='16'><title>node 2 holds the line</title></rect>\n"
-        )
+    expect(
+        &rt,
+        "the size",
+        svg.contains(" width='3200128' height='624' "),
+        true,
     );
-    assert!(rt; svg.ends_with("</svg>\n"));
+    expect(
+        &rt,
+        "a bar",
+        svg.contains(
+            "<rect class='holds' x='96' y='100' width='3200000' height='16'><title>node 2 holds the line</title></rect>\n",
+        ),
+        true,
+    );
+    expect(&rt, "the end", svg.ends_with("</svg>\n"), true);
     Ok(())
 }
 
@@ -180,7 +195,7 @@ fn draws_as_many_marks_as_there_may_be(rt: HostRuntime) -> Result<(), Fail> {
             letters = letters.saturating_add(line.len().saturating_sub(9));
         }
     }
-    assert_eq!(rt; letters, 20_000_000);
+    expect(&rt, "letters", letters, 20_000_000);
     Ok(())
 }
 
@@ -189,14 +204,27 @@ fn draws_as_many_marks_as_an_svg(rt: HostRuntime) -> Result<(), Fail> {
     let script = largest_script(rt.alloc())?;
     let svg = drawn(rt.alloc(), script.as_str(), Form::Svg)?;
     // 200 rows
-    assert!(rt; svg.contains(" width='3200128' height='8124' "));
-    // from the last node's request to the end
-    assert!(rt;
-        svg.contains(
-            "<rect class='waits' x='6464' y='8020' width='3193632' height='16'><title>node 200 waits</title></rect>\n"
-        )
+    expect(
+        &rt,
+        "the size",
+        svg.contains(" width='3200128' height='8124' "),
+        true,
     );
-    assert!(rt; svg.ends_with("<title>100000: poll 200 0: waiting</title></use>\n</g>\n</svg>\n"));
+    // from the last node's request to the end
+    expect(
+        &rt,
+        "a bar",
+        svg.contains(
+            "<rect class='waits' x='6464' y='8020' width='3193632' height='16'><title>node 200 waits</title></rect>\n",
+        ),
+        true,
+    );
+    expect(
+        &rt,
+        "the end",
+        svg.ends_with("<title>100000: poll 200 0: waiting</title></use>\n</g>\n</svg>\n"),
+        true,
+    );
     Ok(())
 }
 
@@ -215,8 +243,8 @@ fn refuses_what_a_replay_refuses(rt: HostRuntime) {
             &mut Watched::new(&mut text),
             Form::Text,
         );
-        assert_eq!(rt; done, Err(ReplayError::Script(error)), "of {script}");
-        assert_eq!(rt; text.len(), 0);
+        expect(&rt, script, done, Err(ReplayError::Script(error)));
+        expect(&rt, "bytes written", text.len(), 0);
     }
 }
 
@@ -250,8 +278,8 @@ fn tells_faults_of_reader_and_writer(rt: HostRuntime) {
         &mut Watched::new(&mut text),
         Form::Text,
     );
-    assert_eq!(rt; done, Err(ReplayError::Read));
-    assert_eq!(rt; text.len(), 0);
+    expect(&rt, "done", done, Err(ReplayError::Read));
+    expect(&rt, "bytes written", text.len(), 0);
     let mut reader = Watched::new(HAND_OVER.as_bytes());
     let done = draw_schedule(
         rt.alloc(),
@@ -259,7 +287,7 @@ fn tells_faults_of_reader_and_writer(rt: HostRuntime) {
         &mut Watched::new(Failing),
         Form::Text,
     );
-    assert_eq!(rt; done, Err(ReplayError::Write));
+    expect(&rt, "done", done, Err(ReplayError::Write));
 }
 
 /// The outcome of drawing a hand-over on a heap of this many bytes.
@@ -306,10 +334,10 @@ fn each_allocation_is_refused(rt: HostRuntime) -> Result<(), Fail> {
         if refusals.saturating_add(1) == step && found == refused {
             refusals = step;
         } else {
-            assert_eq!(rt; found, served, "at {step}");
+            expect_at(&rt, &step, found, served);
         }
     }
-    assert!(rt; refusals > 5 && refusals < 1599);
+    expect(&rt, "refusals", refusals > 5 && refusals < 1599, true);
     Ok(())
 }
 
@@ -323,8 +351,11 @@ fn draws_a_timeline(rt: HostRuntime) -> Result<(), Fail> {
     let script = "nodes 2 lines 1\nenq 1 0\nenq 2 0\ndeq 1 0\n";
     let svg = drawn(rt.alloc(), script, Form::Svg)?;
     // At least as wide as the legend. A line takes 60 pixels and each of its rows 40, below the legend of 64.
-    assert!(rt;
-        svg.starts_with("<svg xmlns='http://www.w3.org/2000/svg' width='640' height='204' ")
+    expect(
+        &rt,
+        "the size",
+        svg.starts_with("<svg xmlns='http://www.w3.org/2000/svg' width='640' height='204' "),
+        true,
     );
     let want = "<g transform='translate(0,64)'><text x='8' y='16'>line 0</text>
 <path class='lane' d='M96 68H192'/>
@@ -344,7 +375,7 @@ fn draws_a_timeline(rt: HostRuntime) -> Result<(), Fail> {
 </g>
 </svg>
 ";
-    assert_eq!(rt; body_of(svg.as_str()), Some(want));
+    expect(&rt, "the body", body_of(svg.as_str()), Some(want));
     Ok(())
 }
 
@@ -404,7 +435,7 @@ static SHAPES: [(&str, &str); 10] = [
 fn timelines_have_their_shapes(rt: HostRuntime) -> Result<(), Fail> {
     for (script, shape) in &SHAPES {
         let svg = drawn(rt.alloc(), script, Form::Svg)?;
-        assert!(rt; svg.contains(*shape), "{shape} of {script}");
+        expect(&rt, shape, svg.contains(*shape), true);
     }
     Ok(())
 }
@@ -418,14 +449,19 @@ fn names_stand_again(rt: HostRuntime) -> Result<(), Fail> {
     }
     let names = "<text class='name' x='8' y='72'>node 1</text>\n<text class='small'";
     let svg = drawn(rt.alloc(), script.as_str(), Form::Svg)?;
-    assert!(rt; svg.contains(names));
+    expect(&rt, "the names", svg.contains(names), true);
     script.push_str("show 1 0\n")?;
     let names =
         "<text class='name' x='8' y='72'>node 1</text>\n<text class='name' x='648' y='87'>node 1</text>\n<text class='small'";
     let svg = drawn(rt.alloc(), script.as_str(), Form::Svg)?;
-    assert!(rt; svg.contains(names));
+    expect(&rt, "the names", svg.contains(names), true);
     // 21 columns, and a margin on both sides
-    assert!(rt; svg.contains(" width='800' height='164' "));
+    expect(
+        &rt,
+        "the size",
+        svg.contains(" width='800' height='164' "),
+        true,
+    );
     Ok(())
 }
 
@@ -448,9 +484,11 @@ fn a_timeline_has_its_style_and_its_legend(rt: HostRuntime) -> Result<(), Fail> 
     let svg = drawn(alloc, "nodes 1 lines 1\n", Form::Svg)?;
     let (front, sheet, behind) = Sheet::first(svg.as_str()).ok_or("a style sheet")?;
     // as wide as the legend, and 60 high for a line without rows
-    assert_eq!(rt;
+    expect(
+        &rt,
+        "before the sheet",
         front,
-        "<svg xmlns='http://www.w3.org/2000/svg' width='640' height='124' font-family='monospace' font-size='12'>\n"
+        "<svg xmlns='http://www.w3.org/2000/svg' width='640' height='124' font-family='monospace' font-size='12'>\n",
     );
     are_seen(&rt, sheet);
     let (signs, behind) = behind.split_once("</defs>\n").ok_or("signs")?;
@@ -458,7 +496,7 @@ fn a_timeline_has_its_style_and_its_legend(rt: HostRuntime) -> Result<(), Fail> 
     let whole = format!(in alloc;
         "{LEGEND}<g transform='translate(0,64)'><text x='8' y='16'>line 0</text>\n</g>\n</svg>\n"
     )?;
-    assert_eq!(rt; behind, whole.as_str());
+    expect(&rt, "behind the sheet", behind, whole.as_str());
     Ok(())
 }
 
@@ -479,7 +517,7 @@ fn a_timeline_is_as_wide_as_its_longest_line(rt: HostRuntime) -> Result<(), Fail
         }
         script.push_str("enq 2 1\n")?;
         let svg = drawn(rt.alloc(), script.as_str(), Form::Svg)?;
-        assert!(rt; svg.contains(*size), "{size}");
+        expect(&rt, size, svg.contains(*size), true);
     }
     Ok(())
 }

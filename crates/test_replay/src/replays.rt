@@ -1,4 +1,5 @@
 //! Replays of scripts by lines of each kind.
+use crate::rows::{expect, expect_at};
 use line_kinds::{ALL, Lines, TicketLine};
 use linked_list_allocator::LocalHeap;
 use qolb_model::{Free, OpenLine};
@@ -22,10 +23,10 @@ fn kind_of(lines: Lines) -> Kind {
 
 #[test]
 fn kinds_are_the_plain_one_and_each_lock(rt: HostRuntime) -> Result<(), Fail> {
-    assert_eq!(rt; KINDS.len(), ALL.len() + 1);
-    assert_eq!(rt; KINDS[0], Kind::Plain);
+    expect(&rt, "kinds", KINDS.len(), ALL.len() + 1);
+    expect(&rt, "the first", KINDS[0], Kind::Plain);
     for (lines, kind) in ALL.iter().zip(KINDS.iter().skip(1)) {
-        assert_eq!(rt; *kind, kind_of(*lines));
+        expect(&rt, "a lock's kind", *kind, kind_of(*lines));
     }
     Ok(())
 }
@@ -57,11 +58,13 @@ fn the_longest_reply_is_whole(rt: HostRuntime) -> Result<(), Fail> {
     }
     let reply = reply_to(rt.alloc(), script.as_str(), Kind::Plain)?;
     let ends = "line 0 served 0 withdrawn 0 told 0 left 1\n";
-    assert!(rt; reply.starts_with("granted\n0000"));
-    assert!(rt; reply.ends_with(ends));
-    assert_eq!(rt;
+    expect(&rt, "the begin", reply.starts_with("granted\n0000"), true);
+    expect(&rt, "the end", reply.ends_with(ends), true);
+    expect(
+        &rt,
+        "bytes of the reply",
         reply.len(),
-        "granted\n".len() + 99_999 * ROW_OF_DIGITS + ends.len()
+        "granted\n".len() + 99_999 * ROW_OF_DIGITS + ends.len(),
     );
     Ok(())
 }
@@ -90,7 +93,7 @@ fn the_longest_script_is_replayed_by_shared_lines(rt: HostRuntime) -> Result<(),
     let summary = "line 0 served 50000 withdrawn 0 told 0 left 0\n";
     let wanted = repeated(alloc, "", 50_000, "granted\nreleased\n", summary)?;
     let reply = reply_to(alloc, script.as_str(), Kind::Ring)?;
-    assert!(rt; reply == wanted);
+    expect(&rt, "the reply", reply == wanted, true);
     Ok(())
 }
 
@@ -175,10 +178,11 @@ static REPLIES: [(&str, &str); 14] = [
 fn answers_scripts(rt: HostRuntime) -> Result<(), Fail> {
     for (script, reply) in &REPLIES {
         for kind in &KINDS {
-            assert_eq!(rt;
+            expect(
+                &rt,
+                script,
                 reply_to(rt.alloc(), script, *kind)?.as_str(),
                 *reply,
-                "of {script}"
             );
         }
     }
@@ -230,7 +234,8 @@ fn a_release_passes_199_withdrawn_nodes(rt: HostRuntime) -> Result<(), Fail> {
     let script = withdrawn_behind_one(rt.alloc())?;
     let reply = passed_behind_one(rt.alloc())?;
     for kind in &KINDS {
-        assert_eq!(rt; reply_to(rt.alloc(), script.as_str(), *kind)?, reply);
+        let found = reply_to(rt.alloc(), script.as_str(), *kind)?;
+        expect_at(&rt, kind, found.as_str(), reply.as_str());
     }
     Ok(())
 }
@@ -282,7 +287,12 @@ fn shows_what_holders_wrote(rt: HostRuntime) -> Result<(), Fail> {
         let line = line_of(alloc, *place, digits)?;
         let reply = format!(in alloc; "{before}{line}\n{behind}")?;
         for kind in &KINDS {
-            assert_eq!(rt; reply_to(alloc, script, *kind)?, reply, "of {script}");
+            expect(
+                &rt,
+                script,
+                reply_to(alloc, script, *kind)?.as_str(),
+                reply.as_str(),
+            );
         }
     }
     Ok(())
@@ -307,10 +317,11 @@ static FAULTS: [(&str, ScriptError); 8] = [
 fn names_the_first_fault(rt: HostRuntime) -> Result<(), Fail> {
     for (script, error) in &FAULTS {
         for kind in &KINDS {
-            assert_eq!(rt;
+            expect(
+                &rt,
+                script,
                 refused(rt.alloc(), script, *kind),
                 (Some(ReplayError::Script(*error)), 0),
-                "of {script}"
             );
         }
     }
@@ -373,16 +384,16 @@ fn tells_faults_of_reader_and_writer(rt: HostRuntime) -> Result<(), Fail> {
             &mut Watched::new(&mut text),
             Kind::Plain,
         );
-        assert_eq!(rt; done, Err(ReplayError::Read), "at {left}");
-        assert!(rt; reader.failed());
-        assert_eq!(rt; text.len(), 0);
+        expect_at(&rt, &left, done, Err(ReplayError::Read));
+        expect(&rt, "the reader failed", reader.failed(), true);
+        expect(&rt, "bytes written", text.len(), 0);
     }
     for left in 0..5u64 {
         let mut reader = Watched::new(HAND_OVER.as_bytes());
         let mut writer = Watched::new(Failing { left });
         let done = run_schedule(rt.alloc(), &mut reader, &mut writer, Kind::Plain);
-        assert_eq!(rt; done, Err(ReplayError::Write), "at {left}");
-        assert!(rt; writer.failed());
+        expect_at(&rt, &left, done, Err(ReplayError::Write));
+        expect(&rt, "the writer failed", writer.failed(), true);
     }
     Ok(())
 }
@@ -405,8 +416,8 @@ fn takes_inputs_up_to_the_limit(rt: HostRuntime) -> Result<(), Fail> {
             &mut Watched::new(&mut text),
             Kind::Plain,
         );
-        assert_eq!(rt; done, Err(error), "of {left} newlines");
-        assert_eq!(rt; text.len(), 0);
+        expect_at(&rt, &left, done, Err(error));
+        expect(&rt, "bytes written", text.len(), 0);
     }
     Ok(())
 }
@@ -419,7 +430,7 @@ fn an_input_may_come_byte_by_byte(rt: HostRuntime) -> Result<(), Fail> {
         fails: false,
     });
     let input = read_all(rt.alloc(), &mut reader).ok().ok_or("an input")?;
-    assert_eq!(rt; input.len(), 10_000);
+    expect(&rt, "bytes read", input.len(), 10_000);
     Ok(())
 }
 
@@ -430,14 +441,14 @@ fn each_growth_of_an_input_is_refused(rt: HostRuntime) -> Result<(), Fail> {
         let heap = LocalHeap::new(rt.alloc(), 32 * step)?;
         let mut reader = Watched::new(HAND_OVER.as_bytes());
         match read_all(&heap, &mut reader) {
-            Ok(input) => assert_eq!(rt; input.as_slice(), HAND_OVER.as_bytes(), "at {step}"),
+            Ok(input) => expect_at(&rt, &step, input.as_slice(), HAND_OVER.as_bytes()),
             Err(error) => {
-                assert_eq!(rt; error, ReplayError::Memory, "at {step}");
+                expect_at(&rt, &step, error, ReplayError::Memory);
                 refused = refused.saturating_add(1);
             }
         }
     }
-    assert!(rt; refused > 0);
+    expect(&rt, "refused", refused > 0, true);
     Ok(())
 }
 
@@ -458,10 +469,11 @@ fn an_input_is_read_up_to_the_limit_and_no_further(rt: HostRuntime) {
             fails: false,
         });
         let read = read_all(rt.alloc(), &mut reader).map(|input| input.len());
-        assert_eq!(rt;
+        expect_at(
+            &rt,
+            newlines,
             (read, reader.into_inner().left),
             (*wanted, *left),
-            "of {newlines}"
         );
     }
 }
@@ -493,7 +505,12 @@ fn an_input_is_not_read_behind_its_end(rt: HostRuntime) {
         ended: false,
     });
     let refused = read_all(rt.alloc(), &mut reader).err();
-    assert_eq!(rt; (refused, reader.failed()), (None, false));
+    expect(
+        &rt,
+        "refused, failed",
+        (refused, reader.failed()),
+        (None, false),
+    );
 }
 
 /// The reply to the script over lines of this type.
@@ -511,7 +528,7 @@ where
 fn answers_scripts_over_lines_of_a_type(rt: HostRuntime) -> Result<(), Fail> {
     for (script, reply) in &REPLIES {
         let found = reply_over::<TicketLine<Free>>(rt.alloc(), script)?;
-        assert_eq!(rt; found.as_str(), *reply, "of {script}");
+        expect(&rt, script, found.as_str(), *reply);
     }
     Ok(())
 }

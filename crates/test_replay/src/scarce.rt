@@ -1,5 +1,6 @@
 //! Replays in a room of memory, which show that a replay opens lines of its kind or type.
 use crate::replays::KINDS;
+use crate::rows::{expect, expect_at};
 use line_kinds::TicketLine;
 use qolb_model::Free;
 use qolb_run::{Kind, ReplayError, run_schedule, run_schedule_over};
@@ -20,9 +21,9 @@ static ROOMS: [usize; 4] = [300, 450, 650, 1_200];
 
 #[test]
 fn each_kind_has_its_size(rt: HostRuntime) -> Result<(), Fail> {
-    assert_eq!(rt; BY_SIZE.len(), KINDS.len());
+    expect(&rt, "kinds", BY_SIZE.len(), KINDS.len());
     for kind in &KINDS {
-        assert!(rt; BY_SIZE.contains(kind), "{kind:?}");
+        expect_at(&rt, kind, BY_SIZE.contains(kind), true);
     }
     Ok(())
 }
@@ -53,7 +54,7 @@ fn a_replay_takes_lines_of_its_kind(rt: HostRuntime) -> Result<(), Fail> {
             } else {
                 Some(ReplayError::Memory)
             };
-            assert_eq!(rt; found, wanted, "{kind:?} in {room} KB");
+            expect_at(&rt, &(*kind, *room), found, wanted);
         }
     }
     Ok(())
@@ -79,7 +80,7 @@ fn a_replay_takes_lines_of_its_type(rt: HostRuntime) -> Result<(), Fail> {
     let limit = MemoryLimit::begin(rt.alloc(), 1 << 22)?;
     for (room, wanted) in [(650, Some(ReplayError::Memory)), (1_200, None)] {
         let found = replayed_over_tickets(rt.alloc(), &limit, room)?;
-        assert_eq!(rt; found, wanted, "in {room} KB");
+        expect_at(&rt, &room, found, wanted);
     }
     Ok(())
 }

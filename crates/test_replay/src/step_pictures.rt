@@ -1,7 +1,9 @@
 //! Pictures of step scripts. The expected pictures were written by hand, from what each event does.
+use crate::rows::{expect, expect_at};
 use crate::styles::{Sheet, are_seen, signs_differ, steps_are_seen};
 use linked_list_allocator::LocalHeap;
-use qolb_draw::{Form, draw_steps};
+use qolb_draw::Form;
+use qolb_draw_steps::draw_steps;
 use qolb_run::ReplayError;
 use qolb_script::{ScriptError, Watched};
 use std::alloc::Global;
@@ -107,11 +109,7 @@ h  6: prepend 1: went; the line lies in the hand of node 1
 fn draws_step_scripts(rt: HostRuntime) -> Result<(), Fail> {
     for (script, picture) in &PICTURES {
         let whole = format!(in rt.alloc(); "{picture}{LETTERS}")?;
-        assert_eq!(rt;
-            drawn(rt.alloc(), script, Form::Text)?,
-            whole,
-            "of {script}"
-        );
+        expect(&rt, script, drawn(rt.alloc(), script, Form::Text)?, whole);
     }
     Ok(())
 }
@@ -125,8 +123,11 @@ fn body_of(svg: &str) -> Option<&str> {
 fn draws_one_turn(rt: HostRuntime) -> Result<(), Fail> {
     let svg = drawn(rt.alloc(), ONE_TURN, Form::Svg)?;
     // At least as wide as the legend. Above the first row are 132 pixels, and below the last 36.
-    assert!(rt;
-        svg.starts_with("<svg xmlns='http://www.w3.org/2000/svg' width='800' height='216' ")
+    expect(
+        &rt,
+        "the size",
+        svg.starts_with("<svg xmlns='http://www.w3.org/2000/svg' width='800' height='216' "),
+        true,
     );
     let want = "<path class='lane' d='M96 68H312'/>
 <text class='name' x='8' y='72'>home</text>
@@ -152,7 +153,7 @@ fn draws_one_turn(rt: HostRuntime) -> Result<(), Fail> {
 </g>
 </svg>
 ";
-    assert_eq!(rt; body_of(svg.as_str()), Some(want));
+    expect(&rt, "the body", body_of(svg.as_str()), Some(want));
     Ok(())
 }
 
@@ -247,7 +248,7 @@ static SHAPES: [(&str, &str); 20] = [
 fn pictures_have_their_shapes(rt: HostRuntime) -> Result<(), Fail> {
     for (script, shape) in &SHAPES {
         let svg = drawn(rt.alloc(), script, Form::Svg)?;
-        assert!(rt; svg.contains(*shape), "{shape} of {script}");
+        expect(&rt, shape, svg.contains(*shape), true);
     }
     Ok(())
 }
@@ -261,13 +262,18 @@ fn names_of_rows_stand_again(rt: HostRuntime) -> Result<(), Fail> {
     }
     let svg = drawn(rt.alloc(), script.as_str(), Form::Svg)?;
     // 21 columns and a margin on both sides; 200 rows below the home word
-    assert!(rt; svg.contains(" width='1640' height='9768' "));
+    expect(
+        &rt,
+        "the size",
+        svg.contains(" width='1640' height='9768' "),
+        true,
+    );
     let home =
         "<text class='name' x='8' y='72'>home</text>\n<text class='name' x='1448' y='94'>home</text>\n<path";
-    assert!(rt; svg.contains(home));
+    expect(&rt, "the home word", svg.contains(home), true);
     let last =
         "<text class='name' x='8' y='9672'>node 200</text>\n<text class='name' x='1448' y='9694'>node 200</text>\n<text class='small'";
-    assert!(rt; svg.contains(last));
+    expect(&rt, "the last node", svg.contains(last), true);
     Ok(())
 }
 
@@ -285,7 +291,7 @@ fn draws_the_longest_step_script(rt: HostRuntime) -> Result<(), Fail> {
     let script = longest_script(rt.alloc())?;
     let text = drawn(rt.alloc(), script.as_str(), Form::Text)?;
     // One line of the node's number, and after the events an empty line and two of the letters' meaning.
-    assert_eq!(rt; text.lines().count(), 100_004);
+    expect(&rt, "lines", text.lines().count(), 100_004);
     Ok(())
 }
 
@@ -310,7 +316,7 @@ fn draws_as_many_letters_as_there_may_be(rt: HostRuntime) -> Result<(), Fail> {
             }
         }
     }
-    assert_eq!(rt; letters, 20_000_000);
+    expect(&rt, "letters", letters, 20_000_000);
     Ok(())
 }
 
@@ -319,8 +325,18 @@ fn draws_as_many_events_of_as_many_nodes_as_an_svg(rt: HostRuntime) -> Result<()
     let script = largest_script(rt.alloc())?;
     let svg = drawn(rt.alloc(), script.as_str(), Form::Svg)?;
     // 200 rows below the home word
-    assert!(rt; svg.contains(" width='7200128' height='9768' "));
-    assert!(rt; svg.ends_with("<title>100000: load 200: refused</title></use>\n</g>\n</svg>\n"));
+    expect(
+        &rt,
+        "the size",
+        svg.contains(" width='7200128' height='9768' "),
+        true,
+    );
+    expect(
+        &rt,
+        "the end",
+        svg.ends_with("<title>100000: load 200: refused</title></use>\n</g>\n</svg>\n"),
+        true,
+    );
     Ok(())
 }
 
@@ -328,8 +344,18 @@ fn draws_as_many_events_of_as_many_nodes_as_an_svg(rt: HostRuntime) -> Result<()
 fn draws_the_longest_step_script_as_an_svg(rt: HostRuntime) -> Result<(), Fail> {
     let script = longest_script(rt.alloc())?;
     let svg = drawn(rt.alloc(), script.as_str(), Form::Svg)?;
-    assert!(rt; svg.contains(" width='7200128' height='216' "));
-    assert!(rt; svg.ends_with("<title>100000: load 1: refused</title></use>\n</g>\n</svg>\n"));
+    expect(
+        &rt,
+        "the size",
+        svg.contains(" width='7200128' height='216' "),
+        true,
+    );
+    expect(
+        &rt,
+        "the end",
+        svg.ends_with("<title>100000: load 1: refused</title></use>\n</g>\n</svg>\n"),
+        true,
+    );
     Ok(())
 }
 
@@ -344,8 +370,8 @@ fn refuses_what_a_run_refuses(rt: HostRuntime) {
         let mut text: Vec<u8> = Vec::new(rt.alloc());
         let mut writer = Watched::new(&mut text);
         let done = draw_steps(rt.alloc(), &mut reader, &mut writer, Form::Svg);
-        assert_eq!(rt; done, Err(ReplayError::Script(error)), "of {script}");
-        assert_eq!(rt; text.len(), 0);
+        expect(&rt, script, done, Err(ReplayError::Script(error)));
+        expect(&rt, "bytes written", text.len(), 0);
     }
 }
 
@@ -375,12 +401,12 @@ fn tells_faults_of_reader_and_writer(rt: HostRuntime) {
     let mut reader = Watched::new(Failing);
     let mut writer = Watched::new(&mut text);
     let done = draw_steps(rt.alloc(), &mut reader, &mut writer, Form::Svg);
-    assert_eq!(rt; done, Err(ReplayError::Read));
-    assert_eq!(rt; text.len(), 0);
+    expect(&rt, "done", done, Err(ReplayError::Read));
+    expect(&rt, "bytes written", text.len(), 0);
     let mut reader = Watched::new(ONE_TURN.as_bytes());
     let mut writer = Watched::new(Failing);
     let done = draw_steps(rt.alloc(), &mut reader, &mut writer, Form::Svg);
-    assert_eq!(rt; done, Err(ReplayError::Write));
+    expect(&rt, "done", done, Err(ReplayError::Write));
 }
 
 /// The outcome of drawing one turn on a heap of this many bytes.
@@ -427,10 +453,10 @@ fn each_allocation_is_refused(rt: HostRuntime) -> Result<(), Fail> {
         if refusals.saturating_add(1) == step && found == refused {
             refusals = step;
         } else {
-            assert_eq!(rt; found, served, "at {step}");
+            expect_at(&rt, &step, found, served);
         }
     }
-    assert!(rt; refusals > 5 && refusals < 1599);
+    expect(&rt, "refusals", refusals > 5 && refusals < 1599, true);
     Ok(())
 }
 
@@ -461,9 +487,11 @@ fn a_step_picture_has_its_colours_and_its_legend(rt: HostRuntime) -> Result<(), 
     let svg = drawn(alloc, "nodes 1\n", Form::Svg)?;
     let (front, sheet, behind) = Sheet::first(svg.as_str()).ok_or("a style sheet")?;
     // as wide as the legend
-    assert_eq!(rt;
+    expect(
+        &rt,
+        "before the sheet",
         front,
-        "<svg xmlns='http://www.w3.org/2000/svg' width='800' height='216' font-family='monospace' font-size='12'>\n"
+        "<svg xmlns='http://www.w3.org/2000/svg' width='800' height='216' font-family='monospace' font-size='12'>\n",
     );
     are_seen(&rt, sheet);
     let (signs, of_steps, behind) = Sheet::first(behind).ok_or("a sheet of its own")?;
@@ -472,6 +500,6 @@ fn a_step_picture_has_its_colours_and_its_legend(rt: HostRuntime) -> Result<(), 
     let whole = format!(in alloc;
         "{LEGEND}{ABOVE}<path class='lane' d='M96 68H96'/>\n<path class='lane' d='M96 116H96'/>\n</g>\n</svg>\n"
     )?;
-    assert_eq!(rt; behind, whole.as_str());
+    expect(&rt, "behind the sheet", behind, whole.as_str());
     Ok(())
 }

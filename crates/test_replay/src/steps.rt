@@ -1,5 +1,6 @@
 //! Replays of step scripts.
 use crate::replays::repeated;
+use crate::rows::{expect, expect_at};
 use linked_list_allocator::LocalHeap;
 use qolb_run::{Detail, ReplayError, run_steps, run_steps_with};
 use qolb_script::{ScriptError, Watched};
@@ -27,8 +28,8 @@ fn ranks_are_written(rt: HostRuntime) -> Result<(), Fail> {
         &mut Watched::new(&mut text),
         Detail::Ranks,
     );
-    assert_eq!(rt; done, Ok(()));
-    assert_eq!(rt; text.as_slice(), RANKED.as_bytes());
+    expect(&rt, "done", done, Ok(()));
+    expect(&rt, "the reply", text.as_slice(), RANKED.as_bytes());
     Ok(())
 }
 
@@ -44,10 +45,10 @@ fn the_longest_step_script_is_answered(rt: HostRuntime) -> Result<(), Fail> {
         &mut Watched::new(&mut text),
         Detail::Ranks,
     );
-    assert_eq!(rt; done, Ok(()));
+    expect(&rt, "done", done, Ok(()));
     let last = "went 0\nline 0 served 33333 withdrawn 0 told 0 left 0\n";
     let wanted = repeated(alloc, "", 33_333, "went 0\ngranted 1\nreleased 0\n", last)?;
-    assert!(rt; text.as_slice() == wanted.as_bytes());
+    expect(&rt, "the reply", text.as_slice() == wanted.as_bytes(), true);
     Ok(())
 }
 
@@ -72,10 +73,10 @@ fn each_allocation_is_refused(rt: HostRuntime) -> Result<(), Fail> {
         if refusals.saturating_add(1) == step && found == refused {
             refusals = step;
         } else {
-            assert_eq!(rt; found, ran, "at {step}");
+            expect_at(&rt, &step, found, ran);
         }
     }
-    assert!(rt; refusals > 5 && refusals < 199);
+    expect(&rt, "refusals", refusals > 5 && refusals < 199, true);
     Ok(())
 }
 
@@ -96,10 +97,11 @@ fn names_the_first_fault_of_steps(rt: HostRuntime) {
             &mut Watched::new(script.as_bytes()),
             &mut Watched::new(&mut text),
         );
-        assert_eq!(rt;
+        expect(
+            &rt,
+            script,
             (done, text.len()),
             (Err(ReplayError::Script(*fault)), 0),
-            "of {script}"
         );
     }
 }

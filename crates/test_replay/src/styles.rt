@@ -1,5 +1,6 @@
 //! Demands on the style of pictures, read from the pictures themselves: what is drawn can be seen on a light page and on a dark one, and no
 //! two kinds of bars look alike.
+use crate::rows::{expect, expect_at};
 use std::process::Abort;
 
 /// Red, green and blue.
@@ -148,9 +149,11 @@ pub fn are_seen<R: Abort>(rt: &R, sheet: Sheet) {
             Some(contrast(sheet.colour(is_dark, what, property)?, page?))
         };
         for (what, property, least) in &SEEN {
-            assert!(rt;
+            expect_at(
+                rt,
+                &(*what, is_dark),
                 seen(what, property) >= Some(*least),
-                "{what}, dark {is_dark}"
+                true,
             );
         }
         for (fainter, clearer) in BARS.iter().zip(BARS.iter().skip(1)) {
@@ -158,17 +161,29 @@ pub fn are_seen<R: Abort>(rt: &R, sheet: Sheet) {
                 .colour(is_dark, fainter, "fill")
                 .zip(sheet.colour(is_dark, clearer, "fill"))
                 .map(|(a, b)| distance(a, b));
-            assert!(rt;
+            expect_at(
+                rt,
+                &(*fainter, is_dark),
                 seen(fainter, "fill") < seen(clearer, "fill"),
-                "{fainter}, dark {is_dark}"
+                true,
             );
-            assert!(rt; far >= Some(100), "{fainter} and {clearer}, dark {is_dark}");
+            expect_at(rt, &(*fainter, *clearer, is_dark), far >= Some(100), true);
         }
     }
-    assert!(rt; is_hollow(sheet, ".withdrawn"));
-    assert!(rt; sheet.hides_points_alone());
-    assert_eq!(rt; sheet.said(".small", "text-anchor"), Some("middle"));
-    assert_eq!(rt; sheet.said(".arrow", "marker-end"), Some("url(#tip)"));
+    expect(rt, "hollow", is_hollow(sheet, ".withdrawn"), true);
+    expect(rt, "hides points alone", sheet.hides_points_alone(), true);
+    expect(
+        rt,
+        "a rule",
+        sheet.said(".small", "text-anchor"),
+        Some("middle"),
+    );
+    expect(
+        rt,
+        "a rule",
+        sheet.said(".arrow", "marker-end"),
+        Some("url(#tip)"),
+    );
 }
 
 /// Expects the same of the second sheet of a step picture, on the same page.
@@ -180,16 +195,26 @@ pub fn steps_are_seen<R: Abort>(rt: &R, sheet: Sheet, of_steps: Sheet) {
                 .colour(is_dark, what, property)
                 .zip(page)
                 .map(|(a, b)| contrast(a, b));
-            assert!(rt; seen >= Some(*least), "{what}, dark {is_dark}");
+            expect_at(rt, &(*what, is_dark), seen >= Some(*least), true);
         }
     }
-    assert!(rt; is_hollow(of_steps, ".rests"));
-    assert!(rt; is_hollow(of_steps, ".mailbox"));
-    assert!(rt; of_steps.said(".home", "fill-opacity").is_some());
+    expect(rt, "hollow", is_hollow(of_steps, ".rests"), true);
+    expect(rt, "hollow", is_hollow(of_steps, ".mailbox"), true);
+    expect(
+        rt,
+        "a rule",
+        of_steps.said(".home", "fill-opacity").is_some(),
+        true,
+    );
     // A point's name is in its bar, which answers the pointer; on a dark page it has a rim as dark as the page.
-    assert_eq!(rt; of_steps.said(".at", "pointer-events"), Some("none"));
+    expect(
+        rt,
+        "a rule",
+        of_steps.said(".at", "pointer-events"),
+        Some("none"),
+    );
     let rim = said(of_steps.at_night, ".at", "stroke").and_then(colour);
-    assert_eq!(rt; rim, sheet.colour(true, "svg", "background"));
+    expect(rt, "rim", rim, sheet.colour(true, "svg", "background"));
 }
 
 /// The signs of commands.
@@ -212,10 +237,10 @@ pub fn signs_differ<R: Abort>(rt: &R, signs: &str) {
     for (place, name) in SIGNS.iter().enumerate() {
         let shape = shape_of(signs, name);
         let is_large = shape.is_some_and(|it| it.bytes().any(|byte| matches!(byte, b'3'..=b'9')));
-        assert!(rt; is_large, "{name}");
+        expect(rt, name, is_large, true);
         for other in SIGNS.iter().take(place) {
-            assert!(rt; shape != shape_of(signs, other), "{name} and {other}");
+            expect_at(rt, &(*name, *other), shape != shape_of(signs, other), true);
         }
     }
-    assert!(rt; signs.contains("<marker id='tip' "));
+    expect(rt, "the tip", signs.contains("<marker id='tip' "), true);
 }

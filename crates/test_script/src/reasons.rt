@@ -1,8 +1,7 @@
 //! The reasons for refusing a script: the line, and the first thing that is wrong with it.
 use crate::rows::expect;
-use qolb_script::{
-    Complaint, Reason, WorkKind, explain_schedule, explain_steps, explain_work, read_schedule,
-};
+use qolb_explain::{Complaint, Reason, explain_schedule, explain_steps, explain_work};
+use qolb_script::{WorkKind, read_schedule};
 use std::alloc::Global;
 use std::test::Fail;
 

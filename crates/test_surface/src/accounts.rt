@@ -3,6 +3,7 @@ ghost use Rattle.std.specs.Prelude.{IfSome};
 ghost use Rattle.line_accounts.specs.Desks.{IsDeskOver};
 ghost use Rattle.line_accounts.specs.NewDesks.{IsNewPort};
 
+use crate::rows::expect;
 use line_accounts::{
     AccountLaw, Desk, Reply, SettleError, Unsettled, deposit, settle, take_out, transfer,
 };
@@ -83,5 +84,5 @@ where
 fn a_desk_pays_and_is_settled(rt: HostRuntime) {
     let day = day_over::<LinkLine<AccountLaw>>(rt.alloc());
     let wanted = ([Reply::Done, Reply::Done, Reply::Done], (10, 3), Ok(7));
-    assert_eq!(rt; day, Some(wanted));
+    expect(&rt, "a day", day, Some(wanted));
 }

@@ -1,4 +1,5 @@
 //! The variants of each answer and state, in their order.
+use crate::rows::expect_at;
 use line_accounts::Reply;
 use line_board::{Put, Take};
 use link_core::Place;
@@ -161,16 +162,16 @@ impl Listed for Kind {
 }
 
 /// Expects that `all` are the type's variants, in their order.
-fn expect<R: Abort, T: Listed + Debug>(rt: &R, all: &[T]) {
+fn expect_order<R: Abort, T: Listed + Debug>(rt: &R, all: &[T]) {
     for (place, one) in all.iter().enumerate() {
-        assert_eq!(rt; one.place(), place, "{one:?}");
+        expect_at(rt, one, one.place(), place);
     }
 }
 
 #[test]
 fn variants_with_fields_stand_so(rt: HostRuntime) {
-    expect(&rt, &[Place::Home, Place::Mailbox(1), Place::Hand(1)]);
-    expect(
+    expect_order(&rt, &[Place::Home, Place::Mailbox(1), Place::Hand(1)]);
+    expect_order(
         &rt,
         &[
             Take::Task(5),
@@ -185,16 +186,16 @@ fn variants_with_fields_stand_so(rt: HostRuntime) {
 #[test]
 fn variants_are_declared_in_this_order(rt: HostRuntime) {
     for one in [Enq::Granted, Enq::Queued, Enq::Closed, Enq::Busy] {
-        assert_eq!(rt; one as usize, one.place());
+        expect_at(&rt, &one, one as usize, one.place());
     }
     for one in [Prep::Granted, Prep::Closed, Prep::Busy, Prep::Linking] {
-        assert_eq!(rt; one as usize, one.place());
+        expect_at(&rt, &one, one as usize, one.place());
     }
     for one in [Poll::Granted, Poll::Waiting, Poll::Closed] {
-        assert_eq!(rt; one as usize, one.place());
+        expect_at(&rt, &one, one as usize, one.place());
     }
     for one in [Out::Withdrawn, Out::Granted, Out::Closed] {
-        assert_eq!(rt; one as usize, one.place());
+        expect_at(&rt, &one, one as usize, one.place());
     }
     for one in [
         PortState::Idle,
@@ -205,26 +206,26 @@ fn variants_are_declared_in_this_order(rt: HostRuntime) {
         PortState::Rolled,
         PortState::Shut,
     ] {
-        assert_eq!(rt; one as usize, one.place());
+        expect_at(&rt, &one, one as usize, one.place());
     }
 }
 
 #[test]
 fn variants_of_runs_are_declared_in_this_order(rt: HostRuntime) {
     for one in [Got::Granted, Got::Closed] {
-        assert_eq!(rt; one as usize, one.place());
+        expect_at(&rt, &one, one as usize, one.place());
     }
     for one in [Lines::Ring, Lines::Link, Lines::Ticket] {
-        assert_eq!(rt; one as usize, one.place());
+        expect_at(&rt, &one, one as usize, one.place());
     }
     for one in [Kind::Plain, Kind::Ring, Kind::Link, Kind::Ticket] {
-        assert_eq!(rt; one as usize, one.place());
+        expect_at(&rt, &one, one as usize, one.place());
     }
     for one in [WorkKind::Board, WorkKind::Bank] {
-        assert_eq!(rt; one as usize, one.place());
+        expect_at(&rt, &one, one as usize, one.place());
     }
     for one in [Put::Stored, Put::Full, Put::Late, Put::Closed, Put::Busy] {
-        assert_eq!(rt; one as usize, one.place());
+        expect_at(&rt, &one, one as usize, one.place());
     }
     for one in [
         Reply::Done,
@@ -236,6 +237,6 @@ fn variants_of_runs_are_declared_in_this_order(rt: HostRuntime) {
         Reply::NoAccount,
         Reply::SameAccount,
     ] {
-        assert_eq!(rt; one as usize, one.place());
+        expect_at(&rt, &one, one as usize, one.place());
     }
 }

@@ -1,4 +1,5 @@
 //! A board of tasks in a line.
+use crate::rows::expect;
 use line_board::{BoardLaw, Put, Take, Tasks, decode, encode, put, take};
 use line_lanes::Line64;
 use link_line::LinkLine;
@@ -46,7 +47,12 @@ where
 #[test]
 fn a_task_is_put_and_taken(rt: HostRuntime) {
     let answers = Some((Put::Stored, Take::Task(5), Take::Empty));
-    assert_eq!(rt; passed::<LinkLine<BoardLaw>>(rt.alloc()), answers);
+    expect(
+        &rt,
+        "answers",
+        passed::<LinkLine<BoardLaw>>(rt.alloc()),
+        answers,
+    );
 }
 
 #[test]
@@ -55,6 +61,11 @@ fn a_board_is_bytes(rt: HostRuntime) {
     tasks.push(5);
     let board: Line64 = encode(&tasks);
     let found: Option<Tasks> = decode(&board);
-    assert_eq!(rt; found, Some(tasks));
-    assert_eq!(rt; decode(&Line64::from_bytes([255; 64])), None);
+    expect(&rt, "decoded", found, Some(tasks));
+    expect(
+        &rt,
+        "no board",
+        decode(&Line64::from_bytes([255; 64])),
+        None,
+    );
 }

@@ -1,4 +1,5 @@
 //! The errors with their numbers, each variant of them.
+use crate::rows::{expect, expect_at};
 use line_accounts::SettleError;
 use link_core::NotEnabled;
 use qolb_model::{FinishError, OpenError};
@@ -72,10 +73,10 @@ fn of_replay(error: ReplayError) -> u8 {
 #[test]
 fn errors_without_fields_are_their_numbers(rt: HostRuntime) {
     for error in [OpenError::Memory, OpenError::Nodes, OpenError::Lease] {
-        assert_eq!(rt; error as u8, of_open(error), "{error:?}");
+        expect_at(&rt, &error, error as u8, of_open(error));
     }
     for error in [NotEnabled::Node, NotEnabled::Point] {
-        assert_eq!(rt; error as u8, of_event(error), "{error:?}");
+        expect_at(&rt, &error, error as u8, of_event(error));
     }
 }
 
@@ -86,13 +87,13 @@ fn errors_of_lines_say_their_numbers(rt: HostRuntime) {
         FinishError::Unquiet(7),
         FinishError::Missing(0),
     ] {
-        assert_eq!(rt; error.number(), of_finish(error), "{error:?}");
+        expect_at(&rt, &error, error.number(), of_finish(error));
     }
     for error in [
         SettleError::Memory,
         SettleError::Missing { line: 0, node: 1 },
     ] {
-        assert_eq!(rt; error.number(), of_settle(error), "{error:?}");
+        expect_at(&rt, &error, error.number(), of_settle(error));
     }
 }
 
@@ -104,14 +105,14 @@ fn errors_of_scripts_say_their_numbers(rt: HostRuntime) {
         ScriptError::Number(1),
         ScriptError::TooMany(1),
     ] {
-        assert_eq!(rt; error.number(), of_script(error), "{error:?}");
+        expect_at(&rt, &error, error.number(), of_script(error));
     }
 }
 
 #[test]
 fn errors_of_runs_say_their_numbers(rt: HostRuntime) {
     for error in [RunError::Memory, RunError::Stalled(1)] {
-        assert_eq!(rt; error.number(), of_run(error), "{error:?}");
+        expect_at(&rt, &error, error.number(), of_run(error));
     }
     for error in [
         ReplayError::Memory,
@@ -120,7 +121,7 @@ fn errors_of_runs_say_their_numbers(rt: HostRuntime) {
         ReplayError::Script(ScriptError::BadLine(1)),
         ReplayError::Write,
     ] {
-        assert_eq!(rt; error.number(), of_replay(error), "{error:?}");
+        expect_at(&rt, &error, error.number(), of_replay(error));
     }
 }
 
@@ -144,16 +145,16 @@ static OF_REPLAYS: [(ReplayError, &str); 5] = [
 #[test]
 fn errors_say_what_they_are(rt: HostRuntime) -> Result<(), Fail> {
     for (error, text) in &OF_SCRIPTS {
-        assert_eq!(rt; error.to_string(rt.alloc())?.as_str(), *text);
+        expect(&rt, text, error.to_string(rt.alloc())?.as_str(), *text);
     }
     for (error, text) in &OF_REPLAYS {
-        assert_eq!(rt; error.to_string(rt.alloc())?.as_str(), *text);
+        expect(&rt, text, error.to_string(rt.alloc())?.as_str(), *text);
     }
     for (error, text) in [
         (RunError::Memory, "out of memory"),
         (RunError::Stalled(7), "stalled 7"),
     ] {
-        assert_eq!(rt; error.to_string(rt.alloc())?.as_str(), text);
+        expect(&rt, text, error.to_string(rt.alloc())?.as_str(), text);
     }
     Ok(())
 }

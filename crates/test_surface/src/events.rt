@@ -1,4 +1,5 @@
 //! The step core of the list.
+use crate::rows::expect;
 use line_lanes::Line64;
 use link_core::{Core, Entry, Event, NotEnabled, Place, Point, Told, replay};
 use std::test::Fail;
@@ -11,10 +12,17 @@ fn a_core_is_stepped(rt: HostRuntime) -> Result<(), Fail> {
     let mut core: Core = Core::start(2, Line64::zero()).ok_or("a core")?;
     let told: Result<Told, NotEnabled> = core.step(Event::Reset(1));
     let refused: Result<Told, NotEnabled> = core.step(Event::Home(3));
-    assert_eq!(rt; (told, refused), (Ok(Told::Went), Err(NotEnabled::Node)));
+    expect(&rt, "told", told, Ok(Told::Went));
+    expect(&rt, "refused", refused, Err(NotEnabled::Node));
     let granted: Result<Told, NotEnabled> = core.step(Event::Prepend(1));
     let read: (Place, u64) = (core.place(), core.home());
-    assert_eq!(rt; (granted, read), (Ok(Told::Granted), (Place::Hand(1), 1)));
+    expect(&rt, "granted", granted, Ok(Told::Granted));
+    expect(
+        &rt,
+        "the place and the home word",
+        read,
+        (Place::Hand(1), 1),
+    );
     Ok(())
 }
 
@@ -29,15 +37,15 @@ fn a_core_shows_its_nodes(rt: HostRuntime) -> Result<(), Fail> {
         freed: false,
         link: 0,
     };
-    assert_eq!(rt; read, (Point::Idle, entry));
+    expect(&rt, "point and entry", read, (Point::Idle, entry));
     Ok(())
 }
 
 #[test]
 fn events_are_replayed(rt: HostRuntime) -> Result<(), Fail> {
     let core: Core = replay(1, Line64::zero(), &TURN).ok().ok_or("a core")?;
-    assert_eq!(rt; core.place(), Place::Home);
+    expect(&rt, "the place", core.place(), Place::Home);
     let refused: Option<(usize, NotEnabled)> = replay(0, Line64::zero(), &TURN).err();
-    assert_eq!(rt; refused, Some((0, NotEnabled::Node)));
+    expect(&rt, "no node", refused, Some((0, NotEnabled::Node)));
     Ok(())
 }

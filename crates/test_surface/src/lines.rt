@@ -3,6 +3,7 @@ ghost use Rattle.std.specs.Prelude.{◌≡◌, IsTrue, refl};
 ghost use Rattle.qolb_model.specs.PortStates.{may_ask};
 
 use crate::calls::{CALLS, Call, Outcome};
+use crate::rows::expect;
 use line_lanes::{Line64, Mask};
 use link_line::{LinkLine, Prep};
 use qolb_model::{
@@ -120,13 +121,18 @@ where
     let opened = open_zeros::<Free, L>(alloc, 2, Some(2)).ok_or("a line")?;
     let (line, mut one, mut two) = with_two::<Free, L>(opened).ok_or("two ports")?;
     let known: (u64, u64, bool) = (line.label(), line.nodes(), line.owns(&one));
-    assert_eq!(rt; known, (1, 2, true));
-    assert_eq!(rt; first_difference(&line, &mut one, &mut two), None);
+    expect(rt, "label, nodes, owner", known, (1, 2, true));
+    expect(
+        rt,
+        "a difference",
+        first_difference(&line, &mut one, &mut two),
+        None,
+    );
     line.meet(&mut one, &mut two);
     let last = finished(alloc, line, one, two).ok_or("memory")?;
     let mut bytes = [0; 64];
     bytes[0] = 171;
-    assert_eq!(rt; last, Ok(Line64::from_bytes(bytes)));
+    expect(rt, "the bytes", last, Ok(Line64::from_bytes(bytes)));
     Ok(())
 }
 
@@ -151,10 +157,10 @@ fn a_ring_is_opened(rt: HostRuntime) -> Result<(), Fail> {
     )?;
     for port in ports.iter() {
         let steps: u64 = line.steps(port);
-        assert_eq!(rt; (line.label(), steps), (7, 0));
+        expect(&rt, "label and steps", (line.label(), steps), (7, 0));
     }
     let refused: Option<OpenError> = RingLine::<Free>::open_leased(rt.alloc(), 7, 2, zero, 0).err();
-    assert_eq!(rt; refused, Some(OpenError::Lease));
+    expect(&rt, "no turn", refused, Some(OpenError::Lease));
     Ok(())
 }
 
@@ -169,10 +175,10 @@ fn a_list_is_opened(rt: HostRuntime) -> Result<(), Fail> {
     )?;
     for port in ports.iter() {
         let steps: u64 = line.steps(port);
-        assert_eq!(rt; (line.label(), steps), (7, 0));
+        expect(&rt, "label and steps", (line.label(), steps), (7, 0));
     }
     let refused: Option<OpenError> = LinkLine::<Free>::open_leased(rt.alloc(), 7, 2, zero, 0).err();
-    assert_eq!(rt; refused, Some(OpenError::Lease));
+    expect(&rt, "no turn", refused, Some(OpenError::Lease));
     Ok(())
 }
 
@@ -182,10 +188,15 @@ fn a_node_asks_a_list_in_two_halves(rt: HostRuntime) -> Result<(), Fail> {
     let (line, mut one, mut two) = with_two::<Free, LinkLine<Free>>(opened).ok_or("two ports")?;
     let first: Prep = line.prepend(&mut one);
     let second: Prep = line.prepend(&mut two);
-    assert_eq!(rt; (first, second), (Prep::Granted, Prep::Linking));
+    expect(
+        &rt,
+        "halves",
+        (first, second),
+        (Prep::Granted, Prep::Linking),
+    );
     if LinkLine::<Free>::state(&two) == PortState::Linking {
         let linked: Enq = line.link(&mut two);
-        assert_eq!(rt; linked, Enq::Queued);
+        expect(&rt, "linked", linked, Enq::Queued);
     }
     Ok(())
 }
@@ -230,5 +241,10 @@ where
 
 #[test]
 fn a_ring_is_under_a_law(rt: HostRuntime) {
-    assert_eq!(rt; read_zero::<RingLine<Fixed>>(rt.alloc()), Some(0));
+    expect(
+        &rt,
+        "byte 0",
+        read_zero::<RingLine<Fixed>>(rt.alloc()),
+        Some(0),
+    );
 }

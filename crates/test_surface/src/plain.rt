@@ -2,6 +2,7 @@
 ghost use Rattle.std.specs.Prelude.{◌≡◌};
 
 use crate::calls::{CALLS, Call, Outcome};
+use crate::rows::{expect, expect_at};
 use line_lanes::{Line64, Mask};
 use qolb_model::{OpenError, PlainLine, PortState, Write};
 use std::test::Fail;
@@ -43,7 +44,7 @@ fn a_plain_line_is_called(rt: HostRuntime) -> Result<(), Fail> {
     let mut line: PlainLine = PlainLine::open_leased(2, Line64::zero(), 2)?;
     for (node, made, wanted) in &CALLS {
         let outcome = call(&mut line, *node, *made);
-        assert_eq!(rt; outcome, *wanted, "{made:?} of {node}");
+        expect_at(&rt, &(*node, *made), outcome, *wanted);
     }
     Ok(())
 }
@@ -52,10 +53,8 @@ fn a_plain_line_is_called(rt: HostRuntime) -> Result<(), Fail> {
 fn a_plain_line_is_opened(rt: HostRuntime) {
     let opened: Result<PlainLine, OpenError> = PlainLine::open(200, Line64::zero());
     let refused: Result<PlainLine, OpenError> = PlainLine::open(201, Line64::zero());
-    assert_eq!(rt;
-        (opened.err(), refused.err()),
-        (None, Some(OpenError::Nodes))
-    );
+    expect(&rt, "200 nodes", opened.err(), None);
+    expect(&rt, "201 nodes", refused.err(), Some(OpenError::Nodes));
 }
 
 #[test]
@@ -65,5 +64,10 @@ fn a_write_has_a_mask_and_bytes(rt: HostRuntime) {
         bytes: Line64::zero(),
     };
     let Write { mask, bytes } = write;
-    assert_eq!(rt; (mask, bytes), (Mask(1), Line64::zero()));
+    expect(
+        &rt,
+        "mask and bytes",
+        (mask, bytes),
+        (Mask(1), Line64::zero()),
+    );
 }

@@ -1,4 +1,5 @@
 //! Runs: a wait for a line, gates, workers and replays.
+use crate::rows::{expect, expect_at};
 use qolb_model::{Free, LineSync, OpenLine};
 use qolb_run::{
     AlwaysOpen, Gate, Got, Kind, Lines, ReplayError, RunError, WaitMode, acquire, read_all,
@@ -34,7 +35,12 @@ where
 #[test]
 fn a_line_is_acquired_until_it_is_closed(rt: HostRuntime) {
     let found = closed::<_, RingLine<Free>>(&rt, rt.alloc());
-    assert_eq!(rt; found, Some((Got::Granted, Got::Closed)));
+    expect(
+        &rt,
+        "acquired twice",
+        found,
+        Some((Got::Granted, Got::Closed)),
+    );
 }
 
 /// A gate that refuses the first question and allows the others; it defines `may` alone.
@@ -62,8 +68,8 @@ fn work_is_run(rt: HostRuntime) -> Result<(), Fail> {
         asked: AtomicU64::new(0),
     };
     let found: Result<Report, RunError> = run_work(&rt, rt.alloc(), &gate, &work, Lines::Ring);
-    assert_eq!(rt; found, Ok(report));
-    assert_eq!(rt; WaitMode::default(), WaitMode::Awake);
+    expect(&rt, "with a gate", found, Ok(report));
+    expect(&rt, "the default", WaitMode::default(), WaitMode::Awake);
     let always: Result<Report, RunError> = run_work(
         &rt,
         rt.alloc(),
@@ -71,7 +77,7 @@ fn work_is_run(rt: HostRuntime) -> Result<(), Fail> {
         &work,
         Lines::Link,
     );
-    assert_eq!(rt; always, Ok(report));
+    expect(&rt, "always open", always, Ok(report));
     Ok(())
 }
 
@@ -89,8 +95,8 @@ fn a_schedule_is_replayed_by_each_kind(rt: HostRuntime) {
             &mut writer,
             kind,
         );
-        assert_eq!(rt; done, Ok(()), "{kind:?}");
-        assert_eq!(rt; writer.into_inner().as_slice(), NONE, "{kind:?}");
+        expect_at(&rt, &kind, done, Ok(()));
+        expect_at(&rt, &kind, writer.into_inner().as_slice(), NONE);
     }
 }
 
@@ -99,14 +105,14 @@ fn steps_are_run(rt: HostRuntime) {
     let mut reader = Watched::new(b"nodes 1".as_slice());
     let mut writer: Watched<Vec<u8>> = Watched::new(Vec::new(rt.alloc()));
     let done: Result<(), ReplayError> = run_steps(rt.alloc(), &mut reader, &mut writer);
-    assert_eq!(rt; done, Ok(()));
-    assert_eq!(rt; writer.into_inner().as_slice(), NONE);
+    expect(&rt, "done", done, Ok(()));
+    expect(&rt, "the reply", writer.into_inner().as_slice(), NONE);
 }
 
 #[test]
 fn an_input_is_read_whole(rt: HostRuntime) -> Result<(), Fail> {
     let mut reader = Watched::new(NONE);
     let input: Result<Vec<u8>, ReplayError> = read_all(rt.alloc(), &mut reader);
-    assert_eq!(rt; input?.as_slice(), NONE);
+    expect(&rt, "the input", input?.as_slice(), NONE);
     Ok(())
 }

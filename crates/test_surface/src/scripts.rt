@@ -1,4 +1,5 @@
 //! Scripts, their output, and readers and writers that remember a fault.
+use crate::rows::{expect, expect_at};
 use line_lanes::{Line64, Mask};
 use link_core::{Event, Told};
 use qolb_model::{Enq, Out, Poll};
@@ -56,7 +57,7 @@ fn a_schedule_is_read(rt: HostRuntime) -> Result<(), Fail> {
     let script = b"nodes 2 lines 1 lease 3\nwrite 1 0 0 ff\nenq 2 0\n";
     let schedule: Schedule = read_schedule(rt.alloc(), script)?;
     let header: (u64, u64, Option<u64>) = (schedule.nodes(), schedule.lines(), schedule.lease());
-    assert_eq!(rt; header, (2, 1, Some(3)));
+    expect(&rt, "header", header, (2, 1, Some(3)));
     let mut bytes = [0; 64];
     bytes[0] = 255;
     let write = Command::Write {
@@ -66,20 +67,18 @@ fn a_schedule_is_read(rt: HostRuntime) -> Result<(), Fail> {
         bytes: Line64::from_bytes(bytes),
     };
     let commands: &[Command] = schedule.commands();
-    assert_eq!(rt;
-        commands,
-        [write, Command::Enq { node: 2, line: 0 }].as_slice()
-    );
-    assert_eq!(rt; node_and_line(&write), (1, 0));
+    let wanted = [write, Command::Enq { node: 2, line: 0 }];
+    expect(&rt, "commands", commands, wanted.as_slice());
+    expect(&rt, "node and line", node_and_line(&write), (1, 0));
     Ok(())
 }
 
 #[test]
 fn a_step_script_is_read(rt: HostRuntime) -> Result<(), Fail> {
     let steps: Steps = read_steps(rt.alloc(), b"nodes 2 lease 3\nreset 1\n")?;
-    assert_eq!(rt; (steps.nodes(), steps.lease()), (2, Some(3)));
+    expect(&rt, "header", (steps.nodes(), steps.lease()), (2, Some(3)));
     let events: &[Event] = steps.events();
-    assert_eq!(rt; events, [Event::Reset(1)].as_slice());
+    expect(&rt, "events", events, [Event::Reset(1)].as_slice());
     Ok(())
 }
 
@@ -88,7 +87,7 @@ fn a_work_script_is_read(rt: HostRuntime) -> Result<(), Fail> {
     let script = b"bank workers 2 lines 3\n1 move 0 9 4\n";
     let work: Work = read_work(rt.alloc(), script, WorkKind::Bank)?;
     let header: (WorkKind, u64, u64) = (work.kind(), work.workers(), work.lines());
-    assert_eq!(rt; header, (WorkKind::Bank, 2, 3));
+    expect(&rt, "header", header, (WorkKind::Bank, 2, 3));
     let moved = Job::Move {
         worker: 1,
         source: 0,
@@ -96,15 +95,15 @@ fn a_work_script_is_read(rt: HostRuntime) -> Result<(), Fail> {
         amount: 4,
     };
     let jobs: &[Job] = work.jobs();
-    assert_eq!(rt; jobs, [moved].as_slice());
-    assert_eq!(rt; worker_and_last(&moved), (1, 4));
+    expect(&rt, "jobs", jobs, [moved].as_slice());
+    expect(&rt, "worker and last", worker_and_last(&moved), (1, 4));
     Ok(())
 }
 
 #[test]
 fn a_script_is_refused(rt: HostRuntime) {
     let refused: Option<ScriptError> = read_schedule(rt.alloc(), b"").err();
-    assert_eq!(rt; refused, Some(ScriptError::BadLine(1)));
+    expect(&rt, "no line", refused, Some(ScriptError::BadLine(1)));
 }
 
 /// Each answer of a schedule, except the bytes of a line.
@@ -157,11 +156,11 @@ fn what_is_said_is_a_line_of_text(rt: HostRuntime) -> Result<(), Fail> {
         let done: Result<(), AllocError> = push_said(&mut text, said);
         done?;
         text.pop();
-        assert_eq!(rt; text.as_slice(), first_word(said).as_bytes(), "{said:?}");
+        expect_at(&rt, said, text.as_slice(), first_word(said).as_bytes());
     }
     let mut text: Vec<u8> = Vec::new(rt.alloc());
     push_said(&mut text, &Said::Bytes(Line64::zero()))?;
-    assert_eq!(rt; text.len(), 129);
+    expect(&rt, "the bytes of a line", text.len(), 129);
     Ok(())
 }
 
@@ -190,13 +189,16 @@ fn a_report_is_written(rt: HostRuntime) {
         paid_out: 1,
         total: 9,
     };
-    assert_eq!(rt; first_and_last(&report), (10, 9));
+    expect(&rt, "first and last", first_and_last(&report), (10, 9));
     let mut out: Watched<Vec<u8>> = Watched::new(Vec::new(rt.alloc()));
     let done: Result<(), Fault> = write_report(&report, &mut out);
-    assert_eq!(rt; (done, out.failed()), (Ok(()), false));
-    assert_eq!(rt;
+    expect(&rt, "written", (done, out.failed()), (Ok(()), false));
+    let wanted = b"in 10\nout 1\ntotal 9\n";
+    expect(
+        &rt,
+        "the text",
         out.into_inner().as_slice(),
-        b"in 10\nout 1\ntotal 9\n".as_slice()
+        wanted.as_slice(),
     );
 }
 
@@ -205,12 +207,15 @@ fn a_reader_and_a_writer_are_watched(rt: HostRuntime) {
     let mut reader: Watched<&[u8]> = Watched::new(b"ab".as_slice());
     let mut part = [0; 4];
     let read: Result<usize, Fault> = reader.read(&mut part);
-    assert_eq!(rt;
-        (read, part, reader.failed()),
-        (Ok(2), [97, 98, 0, 0], false)
-    );
+    expect(&rt, "read", (read, reader.failed()), (Ok(2), false));
+    expect(&rt, "the bytes", part, [97, 98, 0, 0]);
     let mut room = [0; 1];
     let mut writer: Watched<&mut [u8]> = Watched::new(room.as_mut_slice());
     let written: Result<(), Fault> = writer.write_all(b"ab");
-    assert_eq!(rt; (written, writer.failed()), (Err(Fault), true));
+    expect(
+        &rt,
+        "no room",
+        (written, writer.failed()),
+        (Err(Fault), true),
+    );
 }

@@ -13,9 +13,9 @@ use Rattle.line_tickets.specs.declared.local.Point.TheVariants.{Holding, Passing
 use Rattle.line_tickets.specs.Array.{At}
 use Rattle.line_tickets.specs.BetweenCalls as between_calls
 use Rattle.line_tickets.specs.Counting.{mask_for}
-use Rattle.line_tickets.specs.Layout.{IsWithin, ticket_of}
+use Rattle.line_tickets.specs.Layout.{ticket_of}
 use Rattle.line_tickets.specs.Releases.{MatchesEnds, ReleasesLine, FinishesWalk, AreNodesAt, FreesAll}
-use Rattle.line_tickets.specs.Steps.{ArraySeat, IsAt, ghost_of, SeatAdvances, CarriesNext, Ended, GoesHome, Passes, Frees}
+use Rattle.line_tickets.specs.Steps.{ArraySeat, IsAt, ghost_of, SeatAdvances, CarriesNext, Ended, GoesHome, Passes}
 use Rattle.ticket_line.specs.declared.release.Handoff.{Handoff}
 use Rattle.ticket_line.specs.Layout.{word_count}
 use Rattle.ticket_line.specs.Slots.{slots_at_grant, slots_in_turn, slots_at_release}
@@ -44,7 +44,7 @@ module _ {P : Type 0} (t : LineTable Local P) where
     pub size : mask ≡ mask_for t.key.config.nodes
     pub sized : IsSized t.key.config.nodes s
     pub ticket : turn ≡ turn_ticket s
-    pub some : node ≢ 0
+    pub not_zero : node ≢ 0
     pub passed : (ghost_of s).own.passed ≡ length (ghost_of s).view.ends ∷ []
     pub others : AreOfOthers (ghost_of s).view.node (ghost_of s).view.order (ghost_of s).own.passed
     pub first : (r : Request) × At (ghost_of s).view.order (length (ghost_of s).view.ends) r × (r.node ≡ node) × (r.node ≤ (ghost_of s).view.config.nodes)
@@ -56,16 +56,9 @@ module _ {P : Type 0} (t : LineTable Local P) where
     pub table : IsSeatOf (word_count t.key.config.nodes) t.table_id s
     pub phase : IsAt Freeing s
     pub sized : IsSized t.key.config.nodes s
-    pub some : (ghost_of s).own.passed ≢ []
-    pub many : length passed ≡ length (ghost_of s).own.passed
+    pub not_empty : (ghost_of s).own.passed ≢ []
+    pub same_length : length passed ≡ length (ghost_of s).own.passed
     pub nodes : AreNodesAt (ghost_of s).view (ghost_of s).own.passed passed
-
-  -- the seat has this node to free, of the first passed request
-  pub record HasNodeToFree (node : ℕ) (s : ArraySeat) : Type 0 where
-    pub table : IsSeatOf (word_count t.key.config.nodes) t.table_id s
-    pub phase : IsAt Freeing s
-    pub high : IsWithin t.key.config.nodes node
-    pub next : (q : ℕ) × (ps : List ℕ) × (r : Request) × ((ghost_of s).own.passed ≡ q ∷ ps) × At (ghost_of s).view.order q r × (r.node ≡ node)
 
   -- the seat has the line stored for the successor with this ticket
   pub record HasSuccessor (allows : List ℕ → List ℕ → Type 0) (mask ticket : ℕ) (s : ArraySeat) : Type 0 where
@@ -112,9 +105,3 @@ module _ (allows : List ℕ → List ℕ → Type 0) where
     pub slot : new.me.1 ≡ old.me.1
     pub advances : SeatAdvances allows old new (length passed)
     pub frees : FreesAll (ghost_of old) (ghost_of new)
-
-  -- after `free`: the node of the first passed request is freed
-  pub record HasFreed (old new : ArraySeat) : Type 0 where
-    pub slot : new.me.1 ≡ old.me.1
-    pub advances : SeatAdvances allows old new 1
-    pub frees : (q : ℕ) (ps : List ℕ) (r : Request) → (ghost_of old).own.passed ≡ q ∷ ps → At (ghost_of old).view.order q r → Frees (ghost_of old) ps r (ghost_of new)

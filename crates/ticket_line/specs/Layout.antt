@@ -1,5 +1,5 @@
 -- The contents of a ticket line's words.
-use Rattle.std.specs.Prelude.{ℕ, ◌+◌, ◌-◌, ◌*◌, ◌/◌, ◌%◌, ◌^◌, List, Bool, ◌==◌, if◌then◌else◌}
+use Rattle.std.specs.Prelude.{◌≡◌, ◌<◌, ℕ, ◌+◌, ◌-◌, ◌*◌, ◌/◌, ◌%◌, ◌^◌, List, Bool, ◌==◌, if◌then◌else◌}
 use Rattle.line_tickets.specs.Counting.{cells_for}
 use Rattle.line_tickets.specs.Layout as array
 use Rattle.line_tickets.specs.Layout.{ticket_of}
@@ -42,3 +42,7 @@ cell_of nodes ticket = array.cell_of (cells_for nodes) ticket
 
 abbrev pub word_count : ℕ → ℕ
 word_count nodes = array.word_count (cells_for nodes)
+
+-- the word of a ticket's cell, which is one of the table's
+abbrev pub IsCellWord : ℕ → ℕ → ℕ → Type 0
+IsCellWord nodes ticket word = (word ≡ array.cell_at (cell_of nodes ticket)) × (word < word_count nodes)

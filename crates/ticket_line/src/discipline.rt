@@ -14,9 +14,9 @@ ghost use Rattle.ticket_line.specs.Ticket.{TicketCells};
 ghost use Rattle.ticket_line.specs.Laws.{first_cells, first_slot, enough, holder_returns, is_last};
 
 use crate::invariant::{SharedTable, TicketQueue, TicketSeat};
-use crate::layout::{cell_word, first_words, is_granted_half, slot_count, ticket_after};
+use crate::layout::{cell_word, first_words, is_granted_half, slot_count, slot_of, ticket_after};
 use crate::release::{release, try_reset};
-use crate::slots::{put, take, take_final};
+use crate::slots::{take, take_final};
 use crate::steps::{load, load_node, roll, take_ticket};
 use atomic_table::Closed;
 use line_generic::{
@@ -60,6 +60,7 @@ impl<K: Keep> Discipline<K> for TicketQueue {
         take(table, seat, size, token, payload);
     }
 
+    /// Stores the payload of a turn that is over in the slot of the next ticket.
     #[inline]
     fn put(
         table: &SharedTable<K>,
@@ -69,7 +70,14 @@ impl<K: Keep> Discipline<K> for TicketQueue {
         payload: &LocalCopy,
         closed: bool,
     ) {
-        put(table, seat, size, token, payload, closed);
+        let slot = seat.slot_mut(table, slot_of(table, size, ticket_after(token)));
+        slot.bytes = payload.bytes;
+        slot.mask = payload.mask;
+        slot.turns_left = match payload.turns_left {
+            Some(turns) => Some(turns - 1),
+            None => None,
+        };
+        slot.closed = closed;
     }
 
     fn take_final(closed: Closed<Payload, Global>, nodes: u64) -> Payload {

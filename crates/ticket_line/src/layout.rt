@@ -3,7 +3,6 @@ ghost use Rattle.std.specs.Prelude.{◌≡◌, ◌≢◌, ◌<◌, ◌≤◌, le
 ghost use Rattle.qolb_model.specs.declared.config.TheConstants.{MAX_NODES};
 ghost use Rattle.line_tickets.specs.declared.layout.TheConstants.{CELLS};
 ghost use Rattle.line_tickets.specs.Counting.{mask_for};
-ghost use Rattle.line_tickets.specs.Layout as array;
 ghost use Rattle.ticket_line.specs.Layout as layout;
 ghost use Rattle.ticket_line.specs.Slots as slots;
 
@@ -55,8 +54,7 @@ pub(crate) fn slot_for(nodes: u64, ticket: u64) -> usize
 #[inline]
 pub(crate) fn cell_word<K: Keep>(table: &SharedTable<K>, mask: u64, ticket: u64) -> usize
     requires { mask ≡ mask_for table.now.key.config.nodes }
-    ensures cell { result ≡ array.cell_at (layout.cell_of table.now.key.config.nodes ticket) }
-    ensures within { result < layout.word_count table.now.key.config.nodes }
+    ensures { layout.IsCellWord table.now.key.config.nodes ticket result }
 {
     line_tickets::cell_word(cell_of(table, mask, ticket))
 }
@@ -69,20 +67,12 @@ pub(crate) fn ticket_after(ticket: u64) -> u64
     ticket.wrapping_add(1)
 }
 
-/// Returns the number of a ticket, as its cell has it.
-#[inline]
-fn number(ticket: u64) -> u64
-    ensures { result ≡ layout.number ticket }
-{
-    ticket_after(ticket) % NUMBERS
-}
-
-/// Returns the word of a cell that is granted to `ticket`.
+/// Returns the word of a cell that is granted to `ticket`: the ticket's number, and no node.
 #[inline]
 pub(crate) fn granted(ticket: u64) -> u64
     ensures { result ≡ layout.granted ticket }
 {
-    NUMBER_UNIT * number(ticket)
+    NUMBER_UNIT * (ticket_after(ticket) % NUMBERS)
 }
 
 /// Returns the word of a cell where `node` has withdrawn `ticket`.
@@ -91,7 +81,7 @@ pub(crate) fn withdrawn(ticket: u64, node: u64) -> u64
     requires { node ≤ MAX_NODES }
     ensures { result ≡ layout.withdrawn ticket node }
 {
-    NUMBER_UNIT * number(ticket) + node
+    granted(ticket) + node
 }
 
 /// Returns `true` if a cell with this word is granted to `ticket`.

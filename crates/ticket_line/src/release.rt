@@ -1,33 +1,35 @@
-//! The release of the line.
+//! The release of the line, and what a node that had withdrawn does before its next request.
 ghost use Rattle.std.specs.Prelude.{◌≡◌, ◌≢◌, ◌+◌, ◌*◌};
 ghost use Rattle.qolb_model.specs.declared.config.TheConstants.{MAX_NODES};
 ghost use Rattle.line_tickets.specs.Steps.{IsAt, ghost_of, SeatAdvances};
 ghost use Rattle.line_tickets.specs.Releases.{IsReset, steps_to_reset};
 ghost use Rattle.ticket_line.specs.Steps.{IsSeatOfNode};
 ghost use Rattle.line_tickets.specs.declared.local.Point.TheVariants.{Idle, Rolled};
-ghost use Rattle.ticket_line.specs.Calls.{IsReleaser, HasReleased, HasPassedFirst, HasWalked, HasNodesToFree, HasFreedAll};
+ghost use Rattle.line_generic.specs.Calls.{MayTake};
+ghost use Rattle.line_tickets.specs.Counting.{mask_for};
+ghost use Rattle.ticket_line.specs.Calls.{phases, HasCopied, IsReleaser, HasReleased, HasPassedFirst, HasWalked, HasNodesToFree, HasFreedAll};
 
 use crate::invariant::{SharedTable, TicketSeat};
-use crate::layout::ticket_after;
-use crate::slots::copy_to_next_slot;
-use crate::steps::{free, grant, load_node, reset};
+use crate::layout::{slot_of, ticket_after};
+use crate::steps::{grant, load_node, reset};
 use arrayvec::ArrayVec;
-use line_tickets::is_freed;
+use line_tickets::{FreeNode, is_freed, node_word};
 use qolb_model::{Keep, MAX_NODES, PortState};
 
 /// The maximum number of requests that a release passes: those of all nodes but its own.
 const MAX_PASSED: usize = MAX_NODES as usize - 1;
 
-/// A release that is over: its word steps, and the last granted ticket, whose node may have to be unparked.
+/// A release that is over: its word steps, and the ticket that got the line. Its node may be parked, or may not have come yet.
 #[derive(Clone, Copy)]
 pub(crate) struct Handoff {
     pub(crate) steps: u64,
     pub(crate) ticket: u64,
 }
 
-/// Resets the node's word for a new request, and returns the word steps taken: 0 or 2.
+/// Makes the node's word ready for a new request, and returns the word steps taken.
 ///
-/// Returns `None`, after one step, if the last request is withdrawn and not passed yet.
+/// None if it is ready already; two if the last request was withdrawn and the word is freed. Returns `None`, after one step, if the last
+/// request was withdrawn and its word is not freed yet.
 #[inline]
 pub(crate) fn try_reset<K: Keep>(
     table: &SharedTable<K>,
@@ -52,8 +54,10 @@ pub(crate) fn try_reset<K: Keep>(
     Some(2)
 }
 
-/// Releases the line in the next slot to the successor. One word step if the successor has not withdrawn, else two more for each passed
-/// request.
+/// Grants the next ticket. The line is in the slot of that ticket already.
+///
+/// One word step if the successor has not withdrawn; two more, and a copy of the line, for each passed request. At most
+/// `2 * nodes - 1` word steps. Does not block.
 #[inline]
 pub(crate) fn release<K: Keep>(
     table: &SharedTable<K>,
@@ -80,7 +84,9 @@ pub(crate) fn release<K: Keep>(
     }
 }
 
-/// Passes withdrawn requests, up to the first that is not, and frees their nodes. Two word steps for each.
+/// Passes withdrawn requests, up to the first ticket that is not withdrawn or has not come yet, and frees their nodes.
+///
+/// The first one, `ticket` of `node`, was granted already, and found withdrawn. Two word steps for each.
 ///
 /// Cold and not inlined: it has an array of the passed nodes, which a release without withdrawn successors should not set up.
 #[cold]
@@ -112,12 +118,27 @@ fn walk<K: Keep>(
     }
 }
 
-/// Frees the nodes of all passed requests, in their order.
+/// Copies the line from the ticket's slot to the next one, unchanged: for a ticket that is passed, or told that the line is closed.
+pub(crate) fn copy_to_next_slot<K: Keep>(
+    table: &SharedTable<K>,
+    seat: &mut TicketSeat,
+    size: u64,
+    ticket: u64,
+)
+    requires { MayTake phases mask_for table.now size ticket seat.old }
+    ensures { HasCopied table.now ticket seat.old seat.new }
+{
+    let line = *seat.slot_mut(table, slot_of(table, size, ticket));
+    seat.turn();
+    *seat.slot_mut(table, slot_of(table, size, ticket_after(ticket))) = line;
+}
+
+/// Frees the nodes of all passed requests, in their order. One word step for each.
 fn free_passed<K: Keep>(table: &SharedTable<K>, seat: &mut TicketSeat, nodes: &[u64])
     requires { HasNodesToFree table.now nodes.now seat.old }
     ensures { HasFreedAll K.allows nodes.now seat.old seat.new }
 {
     for node in nodes {
-        free(table, seat, *node);
+        table.store::<FreeNode<K>>(seat, node_word(*node), 1);
     }
 }

@@ -1,5 +1,5 @@
-//! The two slots of a holder: that of its ticket, with the line as it was granted, and the next one, for the successor.
-ghost use Rattle.std.specs.Prelude.{◌≡◌, Some};
+//! The slots of a line: a holder's copy of its own, and the last one of a table that is finished.
+ghost use Rattle.std.specs.Prelude.{◌≡◌};
 ghost use mathlib.Core.Option.{some};
 ghost use lib.ListN.{get_elem?};
 ghost use Rattle.std.specs.Slots.{slots_items, slots_len, IsFull};
@@ -7,12 +7,13 @@ ghost use Rattle.line_generic.specs.declared.table.Payload.{Payload};
 ghost use Rattle.line_tickets.specs.Counting.{mask_for};
 ghost use Rattle.ticket_line.specs.Layout.{word_count};
 ghost use Rattle.ticket_line.specs.Slots.{slot_count, last};
-ghost use Rattle.line_generic.specs.Answers.{Takes, Puts};
-ghost use Rattle.line_generic.specs.Calls.{MayTake, MayPut};
-ghost use Rattle.ticket_line.specs.Calls.{phases, HasCopied};
+ghost use Rattle.line_generic.specs.Answers.{Takes};
+ghost use Rattle.line_generic.specs.Calls.{MayTake};
+ghost use Rattle.ticket_line.specs.Calls.{phases};
 
 use crate::invariant::{SharedTable, TicketSeat};
-use crate::layout::{slot_count, slot_for, slot_of, ticket_after};
+use crate::layout::{slot_count, slot_for, slot_of};
+use crate::release::copy_to_next_slot;
 use atomic_table::Closed;
 use line_generic::{LocalCopy, Payload};
 use line_lanes::Mask;
@@ -42,44 +43,6 @@ pub(crate) fn take<K: Keep>(
     } else {
         seat.turn();
     }
-}
-
-/// Copies the line from the ticket's slot to the next one, unchanged.
-pub(crate) fn copy_to_next_slot<K: Keep>(
-    table: &SharedTable<K>,
-    seat: &mut TicketSeat,
-    size: u64,
-    ticket: u64,
-)
-    requires { MayTake phases mask_for table.now size ticket seat.old }
-    ensures { HasCopied table.now ticket seat.old seat.new }
-{
-    let line = *seat.slot_mut(table, slot_of(table, size, ticket));
-    seat.turn();
-    *seat.slot_mut(table, slot_of(table, size, ticket_after(ticket))) = line;
-}
-
-/// Stores the payload of a turn that is over in the next slot.
-#[inline]
-pub(crate) fn put<K: Keep>(
-    table: &SharedTable<K>,
-    seat: &mut TicketSeat,
-    size: u64,
-    ticket: u64,
-    payload: &LocalCopy,
-    closed: bool,
-)
-    requires { MayPut phases mask_for table.now size ticket seat.old payload.now }
-    ensures { Puts phases table.now.key.config.nodes ticket seat.old seat.new payload.now closed }
-{
-    let slot = seat.slot_mut(table, slot_of(table, size, ticket_after(ticket)));
-    slot.bytes = payload.bytes;
-    slot.mask = payload.mask;
-    slot.turns_left = match payload.turns_left {
-        Some(turns) => Some(turns - 1),
-        None => None,
-    };
-    slot.closed = closed;
 }
 
 /// Takes the line out of a table that no thread shares any more, and frees the table.

@@ -1,4 +1,4 @@
-//! The word steps: each is one operation on one word, and its play counts it.
+//! The word steps, each one operation on one word, which its play counts; but for the last ones of a walk, which frees the passed nodes.
 ghost use Rattle.std.specs.Prelude.{◌≡◌, ◌∷◌, [], true, false};
 ghost use Rattle.qolb_model.specs.Requests.{Has};
 ghost use Rattle.qolb_model.specs.Views.{own};
@@ -9,12 +9,12 @@ ghost use Rattle.ticket_line.specs.Layout.{word_count};
 ghost use Rattle.line_tickets.specs.Steps.{IsAt, ghost_of, SeatAdvances, TakesTicket, IsStill, after_reset};
 ghost use Rattle.ticket_line.specs.Steps.{IsSeatOfNode, IsSized, own_ticket, SlotsAtGrant, IsStillQueued, IsAtTurn, IsRolled};
 ghost use Rattle.line_tickets.specs.declared.local.Point.TheVariants.{Idle, Queued, Rolled};
-ghost use Rattle.ticket_line.specs.Calls.{HasSuccessor, HasGranted, HasNodeToFree, HasFreed};
+ghost use Rattle.ticket_line.specs.Calls.{HasSuccessor, HasGranted};
 
 use crate::invariant::{SharedTable, TicketSeat};
 use crate::layout::{cell_word, granted, is_granted, withdrawn, withdrawn_by};
 use crate::plays::{Grant, Load, Roll};
-use line_tickets::{FreeNode, LoadNode, Reset, TICKET, TakeTicket, node_word};
+use line_tickets::{LoadNode, Reset, TICKET, TakeTicket, node_word};
 use qolb_model::Keep;
 
 /// Takes a ticket. The linearization point of a request: it puts the request into the order.
@@ -94,14 +94,6 @@ pub(crate) fn grant<K: Keep>(
 {
     let found = table.swap::<Grant<K>>(seat, cell_word(table, size, next), granted(next));
     withdrawn_by(found, next)
-}
-
-/// Frees the node of the first request that was passed and is not freed yet.
-pub(crate) fn free<K: Keep>(table: &SharedTable<K>, seat: &mut TicketSeat, node: u64)
-    requires { HasNodeToFree table.now node seat.old }
-    ensures { HasFreed K.allows seat.old seat.new }
-{
-    table.store::<FreeNode<K>>(seat, node_word(node), 1);
 }
 
 /// Loads the node's own word: not 0 if its withdrawn request was passed and the node freed.

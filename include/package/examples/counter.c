@@ -8,10 +8,9 @@ enum { THREADS = 4, ROUNDS = 1000 };
 static void *add(void *argument) {
     qolb_node *node = argument;
     for (int round = 0; round < ROUNDS; round++) {
-        uint64_t count;
+        uint64_t was;
         if (qolb_acquire(node) != QOLB_GRANTED) return "not granted";
-        qolb_read_lane(node, 0, &count);
-        qolb_write_lane(node, 0, count + 1);
+        qolb_add_lane(node, 0, 1, &was);
         qolb_deqolb(node);
     }
     return NULL;

@@ -12,7 +12,7 @@ int main() {
         threads.emplace_back([&node] {
             for (int round = 0; round < 1000; round++) {
                 qolb::Guard turn(node);
-                turn.set_lane(0, turn.lane(0) + 1);
+                turn.add_to_lane(0, 1);
             }
         });
     for (std::thread &thread : threads) thread.join();

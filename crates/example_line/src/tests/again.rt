@@ -25,7 +25,7 @@ enum Again {
 }
 
 /// The number of busy tries after which a parking or timed call sleeps briefly between two tries.
-const AWAKE: u64 = 72;
+const AWAKE: u64 = 96;
 
 /// How many more tries of node 2 are busy, at least, before node 1 releases.
 const NAPS: u64 = 20;
@@ -94,10 +94,11 @@ struct Asking<'t> {
 }
 
 impl<R: Wait + Clock, L: ParkingLine<Free>> Scene<R, L> for Asking<'_> {
-    fn keep(&self, rt: &R, _line: &L) {
+    fn keep(&self, rt: &R, _line: &L) -> bool {
         wait_until(rt, &self.late, 1);
         thread::sleep(rt, Duration::from_millis(BUSY_MILLIS));
         wait_until(rt, self.busy, AWAKE + NAPS);
+        false
     }
 
     fn behind(&self, rt: &R, line: &L, port: &mut L::Port) -> bool {
@@ -139,7 +140,7 @@ where
     };
     let (line, ports) = L::open_with(alloc, 1, for_nodes(2))?;
     let line = HookedLine::with(&tries, line);
-    let had = all_see(rt, alloc, &line, ports, &asking);
+    let had = all_see(rt, alloc, &line, ports, &asking, &AtomicU64::new(0));
     Ok(Found {
         had,
         busy: tries.count.load(Ordering::SeqCst),

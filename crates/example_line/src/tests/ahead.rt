@@ -60,9 +60,10 @@ impl Ahead {
 }
 
 impl<R: Wait + Clock, L: ParkingLine<Free>> Scene<R, L> for Ahead {
-    fn keep(&self, rt: &R, _line: &L) {
+    fn keep(&self, rt: &R, _line: &L) -> bool {
         wait_until(rt, &self.asked, NODES - 1);
         thread::sleep(rt, self.nap);
+        false
     }
 
     fn behind(&self, rt: &R, line: &L, port: &mut L::Port) -> bool {
@@ -97,7 +98,7 @@ where
         asked: AtomicU64::new(0),
     };
     let (line, ports) = L::open_with(alloc, 1, for_nodes(NODES))?;
-    Ok(all_see(rt, alloc, &line, ports, &scene))
+    Ok(all_see(rt, alloc, &line, ports, &scene, &AtomicU64::new(0)))
 }
 
 /// A release wakes the waiter behind the next holder, and none behind that waiter. So it does whether the next holder sleeps or not, also

@@ -4,7 +4,7 @@ ghost use Rattle.qolb_model.specs.PortStates.{may_ask};
 ghost use Rattle.qolb_model.specs.AtTurn.{IsGranted};
 
 use crate::counter::add_one;
-use crate::tests::held::for_nodes;
+use crate::tests::held::{expect, expect_at, for_nodes};
 use crate::tests::passing::whoever_passes_a_closed_line_on_wakes;
 use crate::timed::add_within;
 use line_blocking::scoped::{ScopedTask, run_scoped};
@@ -165,7 +165,12 @@ where
         turns: 400,
         late: 0,
     });
-    assert_eq!(rt; share::<R, L>(rt, alloc, 8, None, &sharing), wanted);
+    expect(
+        rt,
+        "woken",
+        share::<R, L>(rt, alloc, 8, None, &sharing),
+        wanted,
+    );
 }
 
 /// One thread shuts the line while seven sleep: each is woken by its predecessor.
@@ -182,7 +187,12 @@ where
         turns: 1,
         late: 0,
     });
-    assert_eq!(rt; share::<R, L>(rt, alloc, 8, None, &sharing), wanted);
+    expect(
+        rt,
+        "woken",
+        share::<R, L>(rt, alloc, 8, None, &sharing),
+        wanted,
+    );
 }
 
 /// The third turn is the last of the lease: all sleeping waiters are woken.
@@ -199,7 +209,12 @@ where
         turns: 3,
         late: 0,
     });
-    assert_eq!(rt; share::<R, L>(rt, alloc, 8, Some(3), &sharing), wanted);
+    expect(
+        rt,
+        "a lease",
+        share::<R, L>(rt, alloc, 8, Some(3), &sharing),
+        wanted,
+    );
 }
 
 /// Time-outs race with grants, as the limit is about as long as a turn. Returns `true` if each try was either a turn or a time-out.
@@ -232,7 +247,7 @@ where
     L::Port: Send + Drop,
 {
     for micros in [0, 70, 150, 400] {
-        assert!(rt; race::<R, L>(rt, alloc, micros));
+        expect_at(rt, micros, race::<R, L>(rt, alloc, micros), true);
     }
 }
 
@@ -251,7 +266,12 @@ where
         turns: 60,
         late: 0,
     });
-    assert_eq!(rt; share::<R, L>(rt, alloc, 3, None, &sharing), wanted);
+    expect(
+        rt,
+        "a long limit",
+        share::<R, L>(rt, alloc, 3, None, &sharing),
+        wanted,
+    );
 }
 
 /// Two thirds of the tries have no limit, the others have one, until the lease is used up.
@@ -266,10 +286,8 @@ where
         let manner = Manner::Mixed(Duration::from_micros(200));
         let sharing = Sharing::new(u64::MAX, manner, Duration::from_micros(10), false);
         let outcome = share::<R, L>(rt, alloc, 8, Some(3_000), &sharing);
-        assert_eq!(rt;
-            outcome.map(|outcome| (outcome.number, outcome.turns)),
-            Some((3_000, 3_000))
-        );
+        let turns = outcome.map(|outcome| (outcome.number, outcome.turns));
+        expect(rt, "a shared lease", turns, Some((3_000, 3_000)));
     }
 }
 
@@ -325,7 +343,7 @@ where
         (TimedAcquire::TimedOut, PortState::Rolled),
         (TimedAcquire::Granted, PortState::Idle),
     ]);
-    assert_eq!(rt; late_at_a_new_line::<R, L>(rt, alloc), wanted);
+    expect(rt, "late", late_at_a_new_line::<R, L>(rt, alloc), wanted);
 }
 
 /// Runs each of these tests over lines of this type.

@@ -1,5 +1,5 @@
 //! A waiter is counted as a sleeper while it sleeps, and no longer, over all lines.
-use crate::tests::held::{Scene, all_see, for_nodes};
+use crate::tests::held::{Scene, all_see, expect, for_nodes};
 use line_blocking::{Got, acquire_parking};
 use line_generic::{Discipline, Line};
 use qolb_model::{Free, OpenError, OpenLine, ParkingLine};
@@ -56,14 +56,15 @@ struct Counted {
 }
 
 impl<R: Wait, L: Counting> Scene<R, L> for Counted {
-    fn keep(&self, rt: &R, line: &L) {
+    fn keep(&self, rt: &R, line: &L) -> bool {
         for _ in rt.forever() {
             if line.sleepers() == NODES - 1 {
                 self.even.store(groups_with(line, 12, 13), Ordering::SeqCst);
-                return;
+                break;
             }
             yield_now();
         }
+        false
     }
 
     fn behind(&self, rt: &R, line: &L, port: &mut L::Port) -> bool {
@@ -97,7 +98,7 @@ where
     let scene = Counted {
         even: AtomicU64::new(0),
     };
-    let had = all_see(rt, alloc, &line, ports, &scene);
+    let had = all_see(rt, alloc, &line, ports, &scene, &AtomicU64::new(0));
     Ok(Counts {
         had,
         even: scene.even.load(Ordering::SeqCst),
@@ -120,5 +121,10 @@ where
         left: 0,
         empty: 16,
     };
-    assert_eq!(rt; count_sleepers::<R, L>(rt, alloc), Ok(wanted));
+    expect(
+        rt,
+        "sleepers",
+        count_sleepers::<R, L>(rt, alloc),
+        Ok(wanted),
+    );
 }

@@ -1,4 +1,5 @@
 //! A mailbox leaves the other lanes, each addition takes a turn, and values arrive in their order.
+use crate::tests::held::expect;
 use crate::{counter, mailbox};
 use line_blocking::{HookedLine, Hooks};
 use line_lanes::{Line64, lane, with_lane};
@@ -35,7 +36,7 @@ where
     counter::add(rt, &line, &mut port, 10);
     ports.push(port)?;
     let last = line.finish(alloc, ports).ok().ok_or("finished")?;
-    assert_eq!(rt; last, with_lane(&opening(), 0, 3));
+    expect(rt, "three turns", last, with_lane(&opening(), 0, 3));
     Ok(())
 }
 
@@ -71,9 +72,9 @@ where
     L::Port: Drop,
 {
     let (put, taken, last) = put_and_taken::<L>(alloc, takes).ok_or("finished")?;
-    assert_eq!(rt; (put, taken), (true, takes));
+    expect(rt, "put and taken", (put, taken), (true, takes));
     let lies = if takes { 0 } else { 5 };
-    assert_eq!(rt; last, with_lane(&opening(), 0, lies));
+    expect(rt, "what lies there", last, with_lane(&opening(), 0, lies));
     Ok(())
 }
 
@@ -118,5 +119,5 @@ where
     L::Port: Send + Drop,
 {
     let sum = mailbox::hand_over::<R, HookedLine<InOrder, L>>(rt, alloc, 1_000);
-    assert_eq!(rt; sum, Some(500_500));
+    expect(rt, "the sum", sum, Some(500_500));
 }

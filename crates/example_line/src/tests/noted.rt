@@ -2,7 +2,7 @@
 ghost use Rattle.std.specs.Prelude.{IfSome, IsTrue};
 ghost use Rattle.qolb_model.specs.PortStates.{may_ask};
 
-use crate::tests::held::{Scene, all_see, for_nodes, wait_until};
+use crate::tests::held::{Scene, all_see, expect, expect_at, for_nodes, wait_until};
 use crate::timed::add_within;
 use line_blocking::{
     Got, HookedLine, Hooks, ParkOnPoll, TimedAcquire, acquire_parking, acquire_timeout,
@@ -207,8 +207,8 @@ where
 /// A wait of 200 ticks times out at its limit, and sleeps twice before.
 ///
 /// It begins at the first reading, reads the clock between its polls, and times out when it reads the limit: after 199 polls. It stays
-/// awake for 72 polls (64 spins, then 8 yields), and sleeps after the 73rd. A release also wakes the waiter behind the next holder, so the
-/// waiter then stays awake as long again: it sleeps after the 146th poll, with 54 ticks left. No sleep may take longer than the time left.
+/// awake for 96 polls (64 spins, then 32 yields), and sleeps after the 97th. A release also wakes the waiter behind the next holder, so the
+/// waiter then stays awake as long again: it sleeps after the 194th poll, with 6 ticks left. No sleep may take longer than the time left.
 /// All this holds for `acquire_timeout` and for `add_within`.
 fn a_wait_keeps_to_its_time<R: Wait + Abort, L: OpenLine<Free> + ParkingLine<Free> + Drop>(
     rt: &R,
@@ -222,10 +222,10 @@ where
         let clock = Ticking::new(rt, Some(tick));
         let at_most = Duration::from_nanos(tick.wrapping_mul(AT_MOST));
         let found = wait_by::<R, L>(alloc, &notes, &clock, at_most, adds);
-        assert_eq!(rt; found, Some((TimedAcquire::TimedOut, 201)), "of {tick} ns");
+        expect_at(rt, tick, found, Some((TimedAcquire::TimedOut, 201)));
         let noted = (notes.looks_before(), notes.sleeps(), notes.last());
-        assert_eq!(rt; noted, (73, 2, tick.wrapping_mul(54)), "of {tick} ns");
-        assert_eq!(rt; notes.longest(), tick.wrapping_mul(127), "of {tick} ns");
+        expect_at(rt, tick, noted, (97, 2, tick.wrapping_mul(6)));
+        expect_at(rt, tick, notes.longest(), tick.wrapping_mul(103));
     }
 }
 
@@ -240,11 +240,12 @@ where
     let notes = Notes::none();
     let clock = Ticking::new(rt, Some(1_000_000));
     let found = wait_by::<R, L>(alloc, &notes, &clock, Duration::ZERO, false);
-    assert_eq!(rt; found, Some((TimedAcquire::TimedOut, 2)));
+    expect(rt, "no time", found, Some((TimedAcquire::TimedOut, 2)));
     let clock = Ticking::new(rt, None);
     let found = wait_by::<R, L>(alloc, &notes, &clock, Duration::from_millis(200), false);
-    assert_eq!(rt; found.map(|found| found.0), Some(TimedAcquire::TimedOut));
-    assert_eq!(rt; notes.sleeps(), 0);
+    let answer = found.map(|found| found.0);
+    expect(rt, "no clock", answer, Some(TimedAcquire::TimedOut));
+    expect(rt, "sleeps", notes.sleeps(), 0);
 }
 
 /// Node 2 times out behind node 1, which holds the line, and asks again for `at_most` by `clock` while its withdrawn request is not passed.
@@ -284,11 +285,7 @@ where
         let at_most = Duration::from_nanos(tick.wrapping_mul(AT_MOST));
         let got = ask_in_vain::<_, _, L>(rt, &clock, alloc, &notes, at_most);
         let found = (got, clock.readings(), notes.busy());
-        assert_eq!(rt;
-            found,
-            (Some(TimedAcquire::TimedOut), 201, 200),
-            "of {tick} ns"
-        );
+        expect_at(rt, *tick, found, (Some(TimedAcquire::TimedOut), 201, 200));
     }
 }
 
@@ -340,12 +337,9 @@ struct Renewing<'n> {
 }
 
 impl<R: Wait + Clock, L: ParkingLine<Free>> Scene<R, L> for Renewing<'_> {
-    fn keep(&self, rt: &R, _line: &L) {
+    fn keep(&self, rt: &R, _line: &L) -> bool {
         wait_until(rt, &self.notes.busy, BUSY);
-    }
-
-    fn let_go(&self) {
-        self.let_go.store(1, Ordering::SeqCst);
+        false
     }
 
     fn behind(&self, rt: &R, line: &L, port: &mut L::Port) -> bool {
@@ -389,7 +383,7 @@ where
     };
     let (line, ports) = L::open_with(alloc, 1, for_nodes(3))?;
     let line = NotedLine::with(notes, line);
-    let saw = all_see(rt, alloc, &line, ports, &renewing);
+    let saw = all_see(rt, alloc, &line, ports, &renewing, &renewing.let_go);
     Ok((saw, renewing.readings.load(Ordering::SeqCst)))
 }
 
@@ -402,8 +396,18 @@ where
     L::Port: Send + Drop,
 {
     let notes = Notes::none();
-    assert_eq!(rt; renew::<R, L>(rt, alloc, &notes), Ok((true, AT_MOST + 1)));
-    assert_eq!(rt; (notes.busy(), notes.poll_count()), (BUSY, 151));
+    expect(
+        rt,
+        "readings",
+        renew::<R, L>(rt, alloc, &notes),
+        Ok((true, AT_MOST + 1)),
+    );
+    expect(
+        rt,
+        "tries and polls",
+        (notes.busy(), notes.poll_count()),
+        (BUSY, 151),
+    );
 }
 
 /// Node 2 polls a `ParkOnPoll` twice while node 1 holds it, and once after node 1 has released. Returns `true` if each answer was right.
@@ -442,9 +446,19 @@ where
     L::Port: Drop,
 {
     let notes = Notes::none();
-    assert_eq!(rt; look_asleep::<R, L>(rt, alloc, &notes), Some(true));
-    assert_eq!(rt; (notes.poll_count(), notes.sleeps()), (2, 2));
-    assert_eq!(rt; notes.last(), u64::MAX);
+    expect(
+        rt,
+        "polls",
+        look_asleep::<R, L>(rt, alloc, &notes),
+        Some(true),
+    );
+    expect(
+        rt,
+        "polls and sleeps",
+        (notes.poll_count(), notes.sleeps()),
+        (2, 2),
+    );
+    expect(rt, "the limit", notes.last(), u64::MAX);
 }
 
 /// Node 2 withdraws its request behind node 1, at a `ParkOnPoll`. Returns the answer.
@@ -477,9 +491,9 @@ where
 {
     let notes = Notes::none();
     let out = withdraw_asleep::<R, L>(rt, alloc, &notes);
-    assert_eq!(rt; out, Some(Out::Withdrawn));
+    expect(rt, "withdrawn", out, Some(Out::Withdrawn));
     let noted = (notes.poll_count(), notes.sleeps(), notes.let_go());
-    assert_eq!(rt; noted, (0, 0, 0));
+    expect(rt, "nothing is noted", noted, (0, 0, 0));
 }
 
 /// Node 1 releases the line, and node 2 shuts it. Returns the number of noted releases after each.
@@ -512,7 +526,12 @@ where
     L::Port: Drop,
 {
     let notes = Notes::none();
-    assert_eq!(rt; let_go_and_shut::<L>(alloc, &notes), Some((1, 2)));
+    expect(
+        rt,
+        "releases",
+        let_go_and_shut::<L>(alloc, &notes),
+        Some((1, 2)),
+    );
 }
 
 /// Hooks that delay a release until another node has polled.
@@ -538,11 +557,8 @@ struct Looking<'n> {
 }
 
 impl<R: Wait, L: ParkingLine<Free>> Scene<R, L> for Looking<'_> {
-    fn keep(&self, rt: &R, _line: &L) {
+    fn keep(&self, rt: &R, _line: &L) -> bool {
         wait_until(rt, &self.waits, 1);
-    }
-
-    fn shuts(&self) -> bool {
         self.shuts
     }
 
@@ -575,7 +591,7 @@ where
     };
     let (line, ports) = L::open_with(alloc, 1, for_nodes(2))?;
     let line = HookedLine::with(hooks, line);
-    Ok(all_see(rt, alloc, &line, ports, &looking))
+    Ok(all_see(rt, alloc, &line, ports, &looking, &AtomicU64::new(0)))
 }
 
 /// Hooks are called before the line is released or shut.
@@ -592,7 +608,7 @@ where
             looked: AtomicU64::new(0),
         };
         let found = look_before::<R, L>(rt, alloc, &hooks, shuts);
-        assert_eq!(rt; found, Ok(true), "shuts: {shuts}");
+        expect_at(rt, u64::from(shuts), found, Ok(true));
     }
 }
 
@@ -603,8 +619,9 @@ struct Handing<'n> {
 }
 
 impl<R: Wait, L: ParkingLine<Free>> Scene<R, L> for Handing<'_> {
-    fn keep(&self, rt: &R, _line: &L) {
+    fn keep(&self, rt: &R, _line: &L) -> bool {
         wait_until(rt, &self.notes.sleeps, 2);
+        false
     }
 
     fn behind(&self, rt: &R, line: &L, port: &mut L::Port) -> bool {
@@ -623,10 +640,11 @@ where
 {
     let (line, ports) = L::open_with(alloc, 1, for_nodes(2))?;
     let line = NotedLine::with(notes, line);
-    Ok(all_see(rt, alloc, &line, ports, &Handing { notes }))
+    let handing = Handing { notes };
+    Ok(all_see(rt, alloc, &line, ports, &handing, &AtomicU64::new(0)))
 }
 
-/// `acquire_parking` sleeps after 73 polls that found the turn not there, without a limit. Woken ahead of its turn, it polls 73 times again
+/// `acquire_parking` sleeps after 97 polls that found the turn not there, without a limit. Woken ahead of its turn, it polls 97 times again
 /// before it sleeps again.
 fn a_long_wait_sleeps<
     R: Threads + Wait + Abort + Sync,
@@ -636,9 +654,19 @@ where
     L::Port: Send + Drop,
 {
     let notes = Notes::none();
-    assert_eq!(rt; hand_to_a_sleeper::<R, L>(rt, alloc, &notes), Ok(true));
-    assert_eq!(rt; (notes.looks_before(), notes.last()), (73, u64::MAX));
-    assert_eq!(rt; notes.looks_again(), 146);
+    expect(
+        rt,
+        "both had it",
+        hand_to_a_sleeper::<R, L>(rt, alloc, &notes),
+        Ok(true),
+    );
+    expect(
+        rt,
+        "polls before",
+        (notes.looks_before(), notes.last()),
+        (97, u64::MAX),
+    );
+    expect(rt, "polls again", notes.looks_again(), 194);
 }
 
 /// Runs each of these tests over lines of this type.

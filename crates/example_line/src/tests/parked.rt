@@ -3,7 +3,7 @@ ghost use Rattle.std.specs.Prelude.{◌≡◌, IfSome, IsTrue};
 ghost use Rattle.qolb_model.specs.PortStates.{may_ask};
 
 use crate::counter::add;
-use crate::tests::held::{Scene, all_see, for_nodes, wait_until};
+use crate::tests::held::{Scene, all_see, expect, for_nodes, wait_until};
 use line_blocking::{HookedLine, Hooks};
 use qolb_model::{Enq, Free, OpenError, OpenLine, ParkingLine, PortState};
 use std::alloc::Global;
@@ -162,8 +162,9 @@ impl Dozing {
 }
 
 impl<R: Wait + Clock, L: ParkingLine<Free>> Scene<R, L> for Dozing {
-    fn keep(&self, rt: &R, _line: &L) {
+    fn keep(&self, rt: &R, _line: &L) -> bool {
         wait_until(rt, &self.slept, NODES - 1);
+        false
     }
 
     fn behind(&self, rt: &R, line: &L, port: &mut L::Port) -> bool {
@@ -189,7 +190,7 @@ where
         slept: AtomicU64::new(0),
     };
     let (line, ports) = L::open_with(alloc, 1, for_nodes(NODES))?;
-    Ok(all_see(rt, alloc, &line, ports, &dozing))
+    Ok(all_see(rt, alloc, &line, ports, &dozing, &AtomicU64::new(0)))
 }
 
 /// All 199 waiters sleep at the same time: none stays awake because others sleep.
@@ -200,5 +201,5 @@ pub(super) fn all_sleep_at_the_same_time<
 where
     L::Port: Send + Drop,
 {
-    assert_eq!(rt; doze_together::<R, L>(rt, alloc), Ok(true));
+    expect(rt, "together", doze_together::<R, L>(rt, alloc), Ok(true));
 }

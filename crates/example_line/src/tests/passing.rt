@@ -1,12 +1,13 @@
 //! A node that withdraws at a closed line forwards it to its successor, which sleeps.
-ghost use Rattle.std.specs.Prelude.{IsTrue};
+ghost use Rattle.std.specs.Prelude.{◌≡◌, IsTrue};
 ghost use Rattle.qolb_model.specs.PortStates.{may_ask};
 
-use crate::tests::held::for_nodes;
+use crate::tests::held::{expect, for_nodes};
 use line_blocking::scoped::{ScopedTask, run_scoped};
 use line_blocking::{Got, acquire_parking};
-use link_line::{LinkLine, Port};
-use qolb_model::{Enq, Free, LineSync, OpenLine, Out, ParkingLine, Prep};
+use line_generic::{Line, Port, SplitEnqueue};
+use link_line::LinkQueue;
+use qolb_model::{Enq, Free, OpenLine, Out, ParkingLine, PortState, Prep};
 use std::alloc::Global;
 use std::process::Abort;
 use std::rt::Clock;
@@ -139,7 +140,37 @@ pub(super) fn whoever_passes_a_closed_line_on_wakes<
 where
     L::Port: Send + Drop,
 {
-    assert_eq!(rt; pass::<R, L>(rt, alloc), Some([true, true, true]));
+    expect(
+        rt,
+        "passed",
+        pass::<R, L>(rt, alloc),
+        Some([true, true, true]),
+    );
+}
+
+/// A line on which a node can also ask by two calls.
+trait SplitCalls: ParkingLine<Free> {
+    /// The first half of a request.
+    fn prepend(&self, port: &mut Self::Port) -> Prep
+        requires belongs { Self.belongs self.now port.old }
+        requires state { IsTrue (may_ask (Self.view port.old).state) }
+        ensures belongs { Self.belongs self.now port.new }
+        ensures linking { result ≡ Prep.Linking → (Self.view port.new).state ≡ PortState.Linking };
+
+    /// The second half of a request.
+    fn link(&self, port: &mut Self::Port) -> Enq
+        requires belongs { Self.belongs self.now port.old }
+        requires state { (Self.view port.old).state ≡ PortState.Linking };
+}
+
+impl<Q: SplitEnqueue<Free>> SplitCalls for Line<Free, Q> {
+    fn prepend(&self, port: &mut Port<Q>) -> Prep {
+        Line::<Free, Q>::prepend(self, port)
+    }
+
+    fn link(&self, port: &mut Port<Q>) -> Enq {
+        Line::<Free, Q>::link(self, port)
+    }
 }
 
 /// The first node holds a list, the second has prepended its node but not linked it, and the third sleeps behind both. The first shuts the
@@ -151,9 +182,9 @@ struct LinkingLate {
 
 impl LinkingLate {
     /// Runs the second node. Returns `true` if `link` told it that the list is closed.
-    fn link<R: Wait>(&self, rt: &R, line: &LinkLine<Free>, port: &mut Port) -> bool
-        requires belongs { ⟦<LinkLine<Free> as LineSync<Free>>⟧.belongs line.now port.old }
-        requires state { IsTrue (may_ask port.old.view.state) }
+    fn link<R: Wait, L: SplitCalls>(&self, rt: &R, line: &L, port: &mut L::Port) -> bool
+        requires belongs { L.belongs line.now port.old }
+        requires state { IsTrue (may_ask (L.view port.old).state) }
     {
         self.passing.wait(rt, 1);
         let Prep::Linking = line.prepend(port) else {
@@ -165,14 +196,17 @@ impl LinkingLate {
     }
 }
 
-impl<R: Wait + Clock> ScopedTask<R, LinkLine<Free>, Port> for LinkingLate {
+impl<R: Wait + Clock, L: SplitCalls> ScopedTask<R, L, L::Port> for LinkingLate
+where
+    L::Port: Drop,
+{
     type Output = bool;
 
-    ghost pre = { λ _ line _ port. ⟦<LinkLine<Free> as LineSync<Free>>⟧.belongs line port × IsTrue (may_ask port.view.state) };
+    ghost pre = { λ _ line _ port. L.belongs line port × IsTrue (may_ask (L.view port).state) };
 
     ghost post = { λ _ _ _ _. Unit {0} };
 
-    fn work(&self, rt: &R, line: &LinkLine<Free>, place: usize, port: Port) -> bool {
+    fn work(&self, rt: &R, line: &L, place: usize, port: L::Port) -> bool {
         let mut port = port;
         match place {
             0 => self.passing.close(rt, line, &mut port),
@@ -183,8 +217,14 @@ impl<R: Wait + Clock> ScopedTask<R, LinkLine<Free>, Port> for LinkingLate {
 }
 
 /// Runs the scene on a new list. Returns what each of the three nodes saw.
-fn link_late<R: Threads + Wait + Clock + Sync>(rt: &R, alloc: Global) -> Option<[bool; 3]> {
-    let (line, ports) = LinkLine::<Free>::open_with(alloc, 1, for_nodes(3)).ok()?;
+fn link_late<R: Threads + Wait + Clock + Sync, L: OpenLine<Free> + SplitCalls + Sync + Drop>(
+    rt: &R,
+    alloc: Global,
+) -> Option<[bool; 3]>
+where
+    L::Port: Send + Drop,
+{
+    let (line, ports) = L::open_with(alloc, 1, for_nodes(3)).ok()?;
     let linking = LinkingLate {
         passing: Passing::new(),
     };
@@ -197,5 +237,6 @@ fn link_late<R: Threads + Wait + Clock + Sync>(rt: &R, alloc: Global) -> Option<
 
 /// A waiter that sleeps behind a late linker of a closed list is woken.
 pub(super) fn late_linker_wakes<R: Threads + Wait + Clock + Abort + Sync>(rt: &R, alloc: Global) {
-    assert_eq!(rt; link_late(rt, alloc), Some([true, true, true]));
+    let saw = link_late::<R, Line<Free, LinkQueue>>(rt, alloc);
+    expect(rt, "linked late", saw, Some([true, true, true]));
 }

@@ -1,5 +1,5 @@
 //! `run_scoped` without a line.
-use crate::tests::held::wait_until;
+use crate::tests::held::{expect, wait_until};
 use line_blocking::scoped::{ScopedTask, run_scoped};
 use std::alloc::Global;
 use std::sync::Wait;
@@ -46,7 +46,12 @@ fn what_comes_back_stands_in_the_order_of_the_parts(rt: HostRuntime) -> Result<(
     let Some(back) = run_scoped(&rt, alloc, &Adding, &100, parts) else {
         return Err(Fail::from("refused"));
     };
-    assert_eq!(rt; back.as_slice(), [105, 1_103, 2_109].as_slice());
+    expect(
+        &rt,
+        "the order",
+        back.as_slice(),
+        [105, 1_103, 2_109].as_slice(),
+    );
     Ok(())
 }
 
@@ -56,7 +61,7 @@ fn no_part_needs_no_thread(rt: HostRuntime) -> Result<(), Fail> {
     let Some(back) = run_scoped(&rt, alloc, &Adding, &100, Vec::new(alloc)) else {
         return Err(Fail::from("refused"));
     };
-    assert_eq!(rt; back.len(), 0);
+    expect(&rt, "no part", back.len(), 0);
     Ok(())
 }
 
@@ -67,6 +72,6 @@ fn two_hundred_work_at_the_same_time(rt: HostRuntime) -> Result<(), Fail> {
     let Some(back) = run_scoped(&rt, alloc, &Gathering, &AtomicU64::new(0), parts) else {
         return Err(Fail::from("refused"));
     };
-    assert_eq!(rt; back.len(), 200);
+    expect(&rt, "all", back.len(), 200);
     Ok(())
 }

@@ -3,4 +3,4 @@ use Rattle.qolb_c.proofs.Telling.{called}
 use Rattle.qolb_c.proofs.qolb_prepend.Goals as goal
 
 pub returns-in-Some : goal.returns-in-Some
-returns-in-Some c = called Prepends _ _ _ _ _ _ _ c.in-Some.ensures.node c.deref_mut.ensures.value c.put.ensures c.number-in-Some.ensures c.prepend-answer.ensures
+returns-in-Some c = called Prepends _ _ _ _ _ c.in-Some.ensures.node c.number-in-Some.ensures c.prepend.ensures

@@ -1,6 +1,7 @@
 //! A waiter that has slept is no longer counted, over each lock.
 
 use crate::checked_line::Instrumented;
+use crate::tests::rows::expect_eq;
 use line_lanes::Line64;
 use qolb_model::{Enq, Free, LineConfig, ParkingLine};
 use std::alloc::Global;
@@ -46,5 +47,10 @@ pub(super) fn a_waiter_that_has_slept_is_counted_no_more<
 where
     L::Port: Drop,
 {
-    assert_eq!(rt; counted_after_a_sleep::<R, L>(rt, alloc), Some((0, 0)));
+    expect_eq(
+        rt,
+        "sleepers",
+        counted_after_a_sleep::<R, L>(rt, alloc),
+        Some((0, 0)),
+    );
 }

@@ -1,6 +1,7 @@
 //! Tables of calls by node, each with its outcome.
 
 use crate::checked_line::{CheckedLine, Instrumented, SplitCalls};
+use crate::tests::rows::expect_at;
 use line_lanes::{Line64, Mask};
 use qolb_model::{Enq, Out, Poll, PortState, Prep};
 use std::process::Abort;
@@ -91,7 +92,7 @@ where
 {
     for (at, (node, wanted)) in calls.iter().enumerate() {
         let found = answered(row, *node, *wanted);
-        assert_eq!(rt; found, Some(*wanted), "call {at}");
+        expect_at(rt, &at, found, Some(*wanted));
     }
 }
 
@@ -106,6 +107,6 @@ where
 {
     for (at, (node, wanted)) in calls.iter().enumerate() {
         let found = answered_by_halves(row, *node, *wanted);
-        assert_eq!(rt; found, Some(*wanted), "call {at}");
+        expect_at(rt, &at, found, Some(*wanted));
     }
 }

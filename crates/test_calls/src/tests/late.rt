@@ -2,6 +2,7 @@
 
 use crate::checked_line::{CheckedLine, SplitCalls};
 use crate::tests::did::{CallOutcome, expect_by_halves};
+use crate::tests::rows::{expect_at, expect_eq};
 use line_lanes::Line64;
 use link_line::LinkLine;
 use qolb_model::{Enq, FinishError, Free, LineConfig, Out, Poll, PortState, Prep};
@@ -87,7 +88,7 @@ where
 {
     let mut row = CheckedLine::<L>::of_zeros(alloc, 2)?;
     expect_by_halves(rt, &mut row, &LINKING);
-    assert_eq!(rt; row.poll(2), None);
+    expect_eq(rt, "no poll", row.poll(2), None);
     expect_by_halves(rt, &mut row, &LINKED);
     Ok(())
 }
@@ -157,9 +158,9 @@ where
     let mut row = left_behind::<L>(alloc).ok_or("opened")?;
     expect_by_halves(rt, &mut row, &LEFT);
     let (why, mut row) = row.finish(alloc).err().ok_or("one is linking")?;
-    assert_eq!(rt; why, FinishError::Unquiet(2));
+    expect_eq(rt, "linking", why, FinishError::Unquiet(2));
     expect_by_halves(rt, &mut row, &AT_REST);
-    assert!(rt; row.finish(alloc).is_ok());
+    expect_eq(rt, "finished", row.finish(alloc).is_ok(), true);
     Ok(())
 }
 
@@ -199,14 +200,19 @@ where
     let three = row.take(3).ok_or("a port of node 3")?;
     drop(three);
     let (why, mut row) = row.finish(alloc).err().ok_or("node 3 has no port")?;
-    assert_eq!(rt; why, FinishError::Missing(3));
-    assert_eq!(rt; put_a_stranger(alloc, &mut row), Some(true));
+    expect_eq(rt, "missing", why, FinishError::Missing(3));
+    expect_eq(
+        rt,
+        "a stranger",
+        put_a_stranger(alloc, &mut row),
+        Some(true),
+    );
     let (why, mut row) = row.finish(alloc).err().ok_or("one is a stranger")?;
-    assert_eq!(rt; why, FinishError::Missing(0));
+    expect_eq(rt, "not the line's", why, FinishError::Missing(0));
     for (place, port) in BESIDE.iter().enumerate() {
-        assert_eq!(rt; row.at(place), Some(*port), "at {place}");
+        expect_at(rt, &place, row.at(place), Some(*port));
     }
-    assert_eq!(rt; row.at(3), None);
+    expect_eq(rt, "no fourth", row.at(3), None);
     expect_by_halves(rt, &mut row, &AT_REST);
     Ok(())
 }

@@ -2,6 +2,7 @@
 
 use crate::checked_line::{CheckedLine, Instrumented};
 use crate::tests::did::{CallOutcome, expect};
+use crate::tests::rows::{expect_at, expect_eq};
 use line_lanes::{Line64, Mask, changed, lane, placed, with_lane};
 use linked_list_allocator::LocalHeap;
 use qolb_model::{Enq, FinishError, Free, LineConfig, OpenError, Out, Poll};
@@ -34,7 +35,7 @@ where
             lease,
         };
         let refused = CheckedLine::<L>::open(alloc, 7, config).err();
-        assert_eq!(rt; refused, want, "{nodes} nodes, the lease {lease:?}");
+        expect_at(rt, &(nodes, lease), refused, want);
     }
 }
 
@@ -103,7 +104,7 @@ pub(super) fn one_node_takes_300_turns<R: Abort, L: Instrumented + Drop>(
 where
     L::Port: Drop,
 {
-    assert_eq!(rt; turns::<L>(alloc), Some((300, 300)));
+    expect_eq(rt, "turns", turns::<L>(alloc), Some((300, 300)));
     Ok(())
 }
 
@@ -138,7 +139,7 @@ where
     let last = [(1, CallOutcome::Release), (1, CallOutcome::Steps(steps))];
     expect(rt, &mut row, last.as_slice());
     let line = row.finish(alloc).ok().ok_or("200 ports do not finish")?;
-    assert_eq!(rt; line.to_bytes(), [0; 64]);
+    expect_eq(rt, "the bytes", line.to_bytes(), [0; 64]);
     Ok(())
 }
 
@@ -167,10 +168,8 @@ pub(super) fn finish_wants_a_port_of_each_node<R: Abort, L: Instrumented + Drop>
 where
     L::Port: Drop,
 {
-    assert_eq!(rt;
-        without_a_port::<L>(alloc),
-        Some((FinishError::Missing(2), [7; 64]))
-    );
+    let want = Some((FinishError::Missing(2), [7; 64]));
+    expect_eq(rt, "without a port", without_a_port::<L>(alloc), want);
 }
 
 /// Returns why a line of two nodes does not finish with a port of another line, and whether it finishes without it; `None` if it owned that
@@ -203,7 +202,7 @@ where
     L::Port: Drop,
 {
     let want = Some((FinishError::Missing(0), true));
-    assert_eq!(rt; beside_a_stranger::<L>(alloc), want);
+    expect_eq(rt, "a stranger", beside_a_stranger::<L>(alloc), want);
 }
 
 /// A line of four nodes, of which the third has had a turn and written two bytes.
@@ -264,14 +263,11 @@ where
         if is_refused {
             refusals = step;
         } else {
-            assert_eq!(rt;
-                finished_within::<L>(alloc, 64 * step),
-                Some((false, want, 0)),
-                "at {step}"
-            );
+            let found = finished_within::<L>(alloc, 64 * step);
+            expect_at(rt, &step, found, Some((false, want, 0)));
         }
     }
-    assert!(rt; refusals > 0 && refusals < 39);
+    expect_eq(rt, "refusals", refusals > 0 && refusals < 39, true);
     Ok(())
 }
 
@@ -297,12 +293,12 @@ where
         [(1, CallOutcome::Ask(Enq::Granted))].as_slice(),
     );
     let (mask, bytes) = placed(0, &[0xa1, 0xb2]).ok_or("placed")?;
-    assert_eq!(rt; row.write(1, mask, &bytes), Some(true));
+    expect_eq(rt, "written", row.write(1, mask, &bytes), Some(true));
     expect(rt, &mut row, &HAND_OVER);
     let mut want = [0; 64];
     want[0] = 0xa1;
     want[1] = 0xb2;
-    assert_eq!(rt; row.bytes(2), Some(want));
+    expect_eq(rt, "the bytes", row.bytes(2), Some(want));
     expect(rt, &mut row, [(2, CallOutcome::Release)].as_slice());
     Ok(())
 }
@@ -349,16 +345,14 @@ where
         match opened_in::<L>(alloc, &limit, GRAIN * grains).ok_or("a room, or finished")? {
             Ok(bytes) => {
                 let besides = (GRAIN * grains).saturating_sub(table);
-                assert_eq!(rt; bytes, [3; 64]);
-                assert!(rt; refused > 0);
-                assert!(rt; besides >= 4 * PORT, "{besides}");
-                assert!(rt;
-                    besides.saturating_sub(table) <= 8 * PORT + 512,
-                    "{besides}"
-                );
+                expect_eq(rt, "the bytes", bytes, [3; 64]);
+                expect_eq(rt, "refused", refused > 0, true);
+                expect_at(rt, &besides, besides >= 4 * PORT, true);
+                let is_little = besides.saturating_sub(table) <= 8 * PORT + 512;
+                expect_at(rt, &besides, is_little, true);
                 return Ok(());
             }
-            Err(why) => assert_eq!(rt; why, OpenError::Memory, "at {grains}"),
+            Err(why) => expect_at(rt, &grains, why, OpenError::Memory),
         }
         refused = refused.saturating_add(1);
     }
@@ -387,7 +381,7 @@ where
     let (released, seen) = handed::<L>(alloc).ok_or("handed over")?;
     let mut want = [0; 64];
     want[3] = 5;
-    assert_eq!(rt; released.to_bytes(), want);
-    assert_eq!(rt; seen.to_bytes(), want);
+    expect_eq(rt, "released", released.to_bytes(), want);
+    expect_eq(rt, "seen", seen.to_bytes(), want);
     Ok(())
 }

@@ -1,5 +1,6 @@
 //! Lines that are opened by a lock's own calls, and not as an `OpenLine`.
 
+use crate::tests::rows::{expect_at, expect_eq};
 use line_generic::{Discipline, Line, Payload};
 use line_lanes::Line64;
 use link_line::LinkQueue;
@@ -13,15 +14,20 @@ use ticket_line::TicketQueue;
 
 fn a_line_is_opened<R: Abort, Q: Discipline<Free>>(rt: &R, alloc: Global) -> Result<(), Fail> {
     let (line, ports) = Line::<Free, Q>::open(alloc, 3, 2, Line64::zero())?;
-    assert_eq!(rt; (line.label(), line.nodes(), ports.len()), (3, 2, 2));
+    expect_eq(
+        rt,
+        "label, nodes, ports",
+        (line.label(), line.nodes(), ports.len()),
+        (3, 2, 2),
+    );
     for (at, port) in ports.iter().enumerate() {
         let node = Line::<Free, Q>::node(port);
         let state = Line::<Free, Q>::state(port);
         let found = (node, state, line.steps(port), line.owns(port));
-        assert_eq!(rt; found, (at as u64 + 1, PortState::Idle, 0, true));
+        expect_at(rt, &at, found, (at as u64 + 1, PortState::Idle, 0, true));
     }
     let refused = Line::<Free, Q>::open(alloc, 3, 201, Line64::zero()).err();
-    assert_eq!(rt; refused, Some(OpenError::Nodes));
+    expect_eq(rt, "201 nodes", refused, Some(OpenError::Nodes));
     Ok(())
 }
 
@@ -31,11 +37,16 @@ fn a_line_is_opened_with_a_lease<R: Abort, Q: Discipline<Free>>(
 ) -> Result<(), Fail> {
     let zero = Line64::zero();
     let (line, ports) = Line::<Free, Q>::open_leased(alloc, 4, 1, zero, 2)?;
-    assert_eq!(rt; (line.label(), line.nodes(), ports.len()), (4, 1, 1));
+    expect_eq(
+        rt,
+        "label, nodes, ports",
+        (line.label(), line.nodes(), ports.len()),
+        (4, 1, 1),
+    );
     let no_nodes = Line::<Free, Q>::open_leased(alloc, 4, 0, zero, 0).err();
-    assert_eq!(rt; no_nodes, Some(OpenError::Nodes));
+    expect_eq(rt, "no nodes", no_nodes, Some(OpenError::Nodes));
     let no_turn = Line::<Free, Q>::open_leased(alloc, 4, 1, zero, 0).err();
-    assert_eq!(rt; no_turn, Some(OpenError::Lease));
+    expect_eq(rt, "no turn", no_turn, Some(OpenError::Lease));
     Ok(())
 }
 
@@ -55,6 +66,6 @@ fn lines_are_opened(rt: HostRuntime) -> Result<(), Fail> {
 /// A slot takes two cache lines, so that no two slots share one.
 #[test]
 fn a_slot_has_128_bytes(rt: HostRuntime) -> Result<(), Fail> {
-    assert_eq!(rt; size_of::<Payload>(), 128);
+    expect_eq(&rt, "a slot", size_of::<Payload>(), 128);
     Ok(())
 }

@@ -2,6 +2,7 @@
 
 use crate::checked_line::{CheckedLine, Instrumented};
 use crate::tests::did::{CallOutcome, answered};
+use crate::tests::rows::expect_eq;
 use line_lanes::Line64;
 use qolb_model::{Enq, FinishError, LineConfig, Out, Poll, PortState};
 use std::alloc::Global;
@@ -238,6 +239,6 @@ where
             refused: script.4,
             end: script.5.map(written_first),
         };
-        assert_eq!(rt; ran::<L>(alloc, script), Some(want), "of {}", script.2);
+        expect_eq(rt, script.2, ran::<L>(alloc, script), Some(want));
     }
 }

@@ -5,6 +5,7 @@ ghost use Rattle.line_accounts.specs.NewDesks.{IsNewPort};
 use crate::boards::{busy_node, eight_tasks, late_node, three_turns, two_tasks};
 use crate::fixtures::{open_zeros, with_last, with_two};
 use crate::producers::{Handed, hand_over};
+use crate::tests::rows::{expect, expect_at};
 use crate::tries::Tries;
 use line_blocking::HookedLine;
 use line_board::{BoardLaw, Put, Take};
@@ -56,7 +57,7 @@ where
     let (puts, takes) = eight_on_a_board::<L>(alloc).ok_or("opened")?;
     for (k, answer) in puts.iter().enumerate() {
         let want = if k < 7 { Put::Stored } else { Put::Full };
-        assert_eq!(rt; *answer, want, "put {k}");
+        expect_at(rt, &k, *answer, want);
     }
     for (k, answer) in takes.iter().enumerate() {
         let want = if k < 7 {
@@ -64,7 +65,7 @@ where
         } else {
             Take::Empty
         };
-        assert_eq!(rt; *answer, want, "take {k}");
+        expect_at(rt, &k, *answer, want);
     }
     Ok(())
 }
@@ -90,7 +91,7 @@ where
     board[8] = 5;
     board[16] = 9;
     let want = Some(([Put::Stored, Put::Stored], Some(board)));
-    assert_eq!(rt; two_on_a_board::<L>(alloc), want);
+    expect(rt, "two tasks", two_on_a_board::<L>(alloc), want);
 }
 
 fn a_late_node<L: OpenLine<BoardLaw> + Drop>(
@@ -114,7 +115,7 @@ where
     let puts = [Put::Late, Put::Busy, Put::Stored];
     let takes = [Take::Task(5), Take::Empty];
     let want = Some((puts, PortState::Rolled, takes));
-    assert_eq!(rt; a_late_node::<L>(alloc), want);
+    expect(rt, "a late node", a_late_node::<L>(alloc), want);
 }
 
 /// The answers to a busy node, and the number of its busy tries.
@@ -140,7 +141,7 @@ where
     L::Port: Drop,
 {
     let want = Some(([Put::Late, Put::Busy], Take::Busy, 2));
-    assert_eq!(rt; a_busy_node::<L>(alloc), want);
+    expect(rt, "a busy node", a_busy_node::<L>(alloc), want);
 }
 
 /// The answers of a board with a lease of three turns.
@@ -162,7 +163,7 @@ where
     let puts = [Put::Stored, Put::Closed];
     let takes = [Take::Task(5), Take::Empty, Take::Closed];
     let want = Some((puts, takes, PortState::Shut));
-    assert_eq!(rt; a_leased_board::<L>(alloc), want);
+    expect(rt, "a leased board", a_leased_board::<L>(alloc), want);
 }
 
 /// The tasks that each producer puts.
@@ -189,18 +190,19 @@ where
     L::Port: Send + Drop,
 {
     let handed = handed_over::<R, L>(rt, alloc).ok_or("handed over")?;
-    assert!(rt; handed.rest.is_empty());
+    expect(rt, "tasks left", handed.rest.len(), 0);
     let mut all = Vec::new(alloc);
     for taken in handed.taken.iter() {
-        assert!(rt; is_in_order(taken.as_slice(), u64::from(TASKS)));
+        let in_order = is_in_order(taken.as_slice(), u64::from(TASKS));
+        expect(rt, "the order of each producer", in_order, true);
         for task in taken.iter() {
             all.push(*task)?;
         }
     }
     all.sort()?;
-    assert_eq!(rt; all.len(), 2 * TASKS as usize);
+    expect(rt, "tasks", all.len(), 2 * TASKS as usize);
     for (k, task) in all.iter().enumerate() {
-        assert_eq!(rt; *task, k as u64, "the tasks in order");
+        expect_at(rt, &k, *task, k as u64);
     }
     Ok(())
 }

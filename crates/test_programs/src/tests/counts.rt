@@ -2,6 +2,7 @@
 
 use crate::counts::{race, raise_all};
 use crate::fixtures::{open_zeros, with_two};
+use crate::tests::rows::expect;
 use line_lanes::lane;
 use qolb_model::{Free, OpenLine};
 use std::alloc::Global;
@@ -24,7 +25,7 @@ where
     let mut count = [0; 64];
     count[0] = 160;
     count[1] = 15;
-    assert_eq!(rt; last.bytes, count);
+    expect(rt, "the count", last.bytes, count);
     Ok(())
 }
 
@@ -41,6 +42,7 @@ where
     let opened = open_zeros::<Free, L>(alloc, 2, None).ok_or("opened")?;
     let (line, one, two) = with_two::<Free, L>(opened).ok_or("two ports")?;
     let raced = race(rt, alloc, line, one, two, ROUNDS).ok_or("raced")?;
-    assert_eq!(rt; lane(&raced.last, 0), raced.granted.saturating_add(ROUNDS));
+    let wanted = raced.granted.saturating_add(ROUNDS);
+    expect(rt, "the count", lane(&raced.last, 0), wanted);
     Ok(())
 }

@@ -8,6 +8,7 @@ use crate::desks::{
     over_two, settle_with,
 };
 use crate::fixtures::{open_zeros, with_last, with_two};
+use crate::tests::rows::{expect, expect_at};
 use crate::transfers::{ACCOUNTS, PAID_IN, Settled, transfer_at_random};
 use crate::tries::Thrice;
 use line_accounts::{AccountLaw, Desk, Reply, SettleError};
@@ -102,7 +103,7 @@ pub(super) fn a_day_is_settled<R: Abort, L: OpenLine<AccountLaw> + Drop>(rt: &R,
 where
     L::Port: Drop,
 {
-    assert_eq!(rt; day::<L>(alloc), Some(90));
+    expect(rt, "a day", day::<L>(alloc), Some(90));
 }
 
 /// The desk's answers at the limits of an account, and the settled total; `None` if memory is refused.
@@ -130,7 +131,7 @@ where
         Reply::NoAccount,
     ];
     let want = Some((answers, Some(281_474_976_710_656)));
-    assert_eq!(rt; at_the_limits::<L>(alloc), want);
+    expect(rt, "the limits", at_the_limits::<L>(alloc), want);
 }
 
 /// The bytes that the second of two nodes finds in a line whose account 0 holds its limit.
@@ -154,7 +155,12 @@ where
 {
     let mut full = [0; 64];
     full[6] = 1;
-    assert_eq!(rt; a_full_line::<L>(alloc).ok_or("granted")?.bytes, full);
+    expect(
+        rt,
+        "a full balance",
+        a_full_line::<L>(alloc).ok_or("granted")?.bytes,
+        full,
+    );
     Ok(())
 }
 
@@ -201,9 +207,9 @@ where
     six[0] = 6;
     let mut four = [0; 64];
     four[8] = 4;
-    assert_eq!(rt; answers, [Reply::Done, Reply::Done]);
-    assert_eq!(rt; first.ok_or("granted")?.bytes, six);
-    assert_eq!(rt; second.ok_or("granted")?.bytes, four);
+    expect(rt, "answers", answers, [Reply::Done, Reply::Done]);
+    expect(rt, "six", first.ok_or("granted")?.bytes, six);
+    expect(rt, "four", second.ok_or("granted")?.bytes, four);
     Ok(())
 }
 
@@ -225,7 +231,7 @@ where
     L::Port: Drop,
 {
     let want = Some(([Reply::Done, Reply::Done], Some(10)));
-    assert_eq!(rt; moved_across::<L>(alloc), want);
+    expect(rt, "over two lines", moved_across::<L>(alloc), want);
 }
 
 /// The desk's answers at the limit of an account, and the settled total; `None` if memory is refused.
@@ -249,7 +255,12 @@ where
 {
     let answers = [Reply::Done, Reply::Done, Reply::Over];
     let want = Some((answers, Some(281_474_976_710_661)));
-    assert_eq!(rt; moved_to_a_full_account::<L>(alloc), want);
+    expect(
+        rt,
+        "to a full account",
+        moved_to_a_full_account::<L>(alloc),
+        want,
+    );
 }
 
 /// The desk's answers over two lines, the first with a lease of two turns; its counters, and the settled total.
@@ -291,7 +302,7 @@ where
         paid_out: 4,
         total: Some(6),
     };
-    assert_eq!(rt; under_a_lease::<L>(alloc), Some(want));
+    expect(rt, "a lease", under_a_lease::<L>(alloc), Some(want));
 }
 
 /// Why the desks could not be settled, and how many lines and desks were returned.
@@ -347,7 +358,7 @@ where
         answers: [Reply::Done, Reply::Late, Reply::Busy, Reply::Done],
         refusal: Some((SettleError::Missing { line: 0, node: 2 }, Some((2, 1)))),
     };
-    assert_eq!(rt; beside_a_holder::<L>(alloc), Some(want));
+    expect(rt, "a late desk", beside_a_holder::<L>(alloc), Some(want));
 }
 
 /// The answers to node 2 and to the desk of node 1, while node 2 holds the line.
@@ -371,7 +382,12 @@ where
 {
     let answers = [Reply::Late, Reply::Busy, Reply::Busy, Reply::Busy];
     let want = Some((Enq::Granted, answers));
-    assert_eq!(rt; at_a_busy_desk::<HookedLine<Thrice, L>>(alloc), want);
+    expect(
+        rt,
+        "a busy desk",
+        at_a_busy_desk::<HookedLine<Thrice, L>>(alloc),
+        want,
+    );
 }
 
 /// The answers to node 2 and to the desk of node 1, over two lines of which the second has a lease of one turn. A transfer that waits for
@@ -400,7 +416,12 @@ where
     L::Port: Drop,
 {
     let want = Some((Enq::Granted, [Reply::Late, Reply::Done]));
-    assert_eq!(rt; waits_for_the_lower::<L>(alloc, from, to), want);
+    expect(
+        rt,
+        "the lower line",
+        waits_for_the_lower::<L>(alloc, from, to),
+        want,
+    );
 }
 
 /// The number of customers that transfer, and of the transfers of each.
@@ -429,17 +450,14 @@ where
     L::Port: Send + Drop,
 {
     let settled = settled_at_random::<R, L>(rt, alloc).ok_or("settled")?;
-    assert_eq!(rt; settled.total, u128::from(CUSTOMERS * ACCOUNTS * PAID_IN));
+    let paid_in = u128::from(CUSTOMERS * ACCOUNTS * PAID_IN);
+    expect(rt, "the total", settled.total, paid_in);
     let counts = settled.counts;
     let all = [counts.done, counts.short, counts.other]
         .iter()
         .fold(0u64, |sum, count| sum.saturating_add(*count));
-    assert_eq!(rt; all, CUSTOMERS * ROUNDS);
-    assert!(rt;
-        counts.done > ROUNDS,
-        "of {all} transfers {} are done",
-        counts.done
-    );
+    expect(rt, "transfers", all, CUSTOMERS * ROUNDS);
+    expect_at(rt, &(all, counts.done), counts.done > ROUNDS, true);
     Ok(())
 }
 
@@ -491,15 +509,15 @@ where
     let mut refused = 0u32;
     for grains in 2..4_000usize {
         let (paid, found) = settled_in::<L>(alloc, &limit, GRAIN * grains).ok_or("opened")?;
-        assert_eq!(rt; paid, [Reply::Done, Reply::Done]);
+        expect(rt, "paid", paid, [Reply::Done, Reply::Done]);
         match found {
             InRoom::Settled { total } => {
-                assert_eq!(rt; total, 10);
-                assert!(rt; refused > 0);
+                expect(rt, "the total", total, 10);
+                expect(rt, "refused", refused > 0, true);
                 return Ok(());
             }
             InRoom::Refused { why, back } => {
-                assert_eq!(rt; (why, back), (SettleError::Memory, false));
+                expect(rt, "why", (why, back), (SettleError::Memory, false));
                 refused = refused.saturating_add(1);
             }
             InRoom::NoList => {}

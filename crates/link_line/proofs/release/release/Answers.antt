@@ -13,85 +13,85 @@ use Rattle.link_line.proofs.release.release.Goals as goal
 after_none : {allows : List ℕ → List ℕ → Type 0} (s t : LinkSeat) (n steps : ℕ) → steps ≡ 0 + n → Advances allows s.me t.me n → Advances allows s.me t.me steps
 after_none {allows} s t n steps is goes = let e : n ≡ steps = omega (arith, is) in subst (Advances allows s.me t.me) e goes
 
-pub walk-steps-requires-clause-nodes : goal.walk-steps-requires-clause-nodes
-walk-steps-requires-clause-nodes g c =
+pub walk-requires-clause-nodes : goal.walk-requires-clause-nodes
+walk-requires-clause-nodes g c =
     let y = c.requires.payload in
-    let on = c.in-Passed.ensures.handed in
+    let on = c.in-Passed.ensures.outcome in
     let passes = (on.3 y.0 y.1).2 in
-    (walk_nodes (ghost_of c.args.seat.now) (ghost_of c.try_handoff.new.seat) y.0 c.in-Passed.first c.requires.none_passed passes, omega (arith, c.requires.nodes.1, ap (λ (t : LineConfig). t.nodes) on.2.extends.config))
+    (walk_nodes (ghost_of c.args.seat.now) (ghost_of c.try_handoff-handoff.new.seat) y.0 c.in-Passed.first c.requires.none_passed passes, omega (arith, c.requires.nodes.1, ap (λ (t : LineConfig). t.nodes) on.2.extends.config))
 
-pub returns-in-On-clause-releases : goal.returns-in-On-clause-releases
-returns-in-On-clause-releases g c y slot =
+pub returns-in-HandedOn-clause-releases : goal.returns-in-HandedOn-clause-releases
+returns-in-HandedOn-clause-releases g c y slot =
     let own = c.requires.payload in
-    let on = c.in-On.ensures.handed.3 y slot in
+    let on = c.in-HandedOn.ensures.outcome.3 y slot in
     let closed = ap (λ (z : Payload). state_after z.closed) (same_slot c.args.seat.now.me.1 y own.0 slot own.1) ∙ ap state_after own.3 in
-    subst (λ (state : PortState). ReleasesLine (ghost_of c.args.seat.now) y state (ghost_of c.try_handoff.new.seat)) (closed ∙ sym c.state_after.ensures) (lets_out (ghost_of c.args.seat.now) y c.requires.none_passed (ghost_of c.try_handoff.new.seat) on.1 on.2)
+    subst (λ (state : PortState). ReleasesLine (ghost_of c.args.seat.now) y state (ghost_of c.try_handoff-handoff.new.seat)) (closed ∙ sym c.state_after.ensures) (lets_out (ghost_of c.args.seat.now) y c.requires.none_passed (ghost_of c.try_handoff-handoff.new.seat) on.1 on.2)
 
 pub returns-in-Left-clause-releases : goal.returns-in-Left-clause-releases
 returns-in-Left-clause-releases g c y slot =
-    let on = c.in-Left.ensures.handed.3 y slot in
-    lets_left (ghost_of c.args.seat.now) y c.requires.none_passed (ghost_of c.try_handoff.new.seat) on.1 on.2
+    let on = c.in-Left.ensures.outcome.3 y slot in
+    lets_left (ghost_of c.args.seat.now) y c.requires.none_passed (ghost_of c.try_handoff-handoff.new.seat) on.1 on.2
 
 pub returns-in-Passed-clause-advances : goal.returns-in-Passed-clause-advances
 returns-in-Passed-clause-advances g c = record {
   seat = search rules;
-  advances = let on = c.in-Passed.ensures.handed in
-      let walked = c.walk-steps.ensures.advances in
-      after_none c.args.seat.now c.walk-steps.new.seat (on.0 + walked.0) c.walk-steps.result (omega (arith, on.1, walked.1)) (goes_trans g.K.Keep.allows c.args.seat.now.me c.try_handoff.new.seat.me c.walk-steps.new.seat.me on.0 walked.0 on.2 walked.2);
+  advances = let on = c.in-Passed.ensures.outcome in
+      let walked = c.walk.ensures.advances in
+      after_none c.args.seat.now c.walk.new.seat (on.0 + walked.0) c.walk.result.steps (omega (arith, on.1, walked.1)) (goes_trans g.K.Keep.allows c.args.seat.now.me c.try_handoff-handoff.new.seat.me c.walk.new.seat.me on.0 walked.0 on.2 walked.2);
 }
 
 pub returns-in-Passed-clause-releases : goal.returns-in-Passed-clause-releases
 returns-in-Passed-clause-releases g c y slot =
     let own = c.requires.payload in
-    let on = c.in-Passed.ensures.handed.3 y slot in
+    let on = c.in-Passed.ensures.outcome.3 y slot in
     let closed = ap (λ (z : Payload). state_after z.closed) (same_slot c.args.seat.now.me.1 y own.0 slot own.1) ∙ ap state_after own.3 in
-    subst (λ (state : PortState). ReleasesLine (ghost_of c.args.seat.now) y state (ghost_of c.walk-steps.new.seat)) (closed ∙ sym c.state_after-in-Passed.ensures)
-    (lets_on (ghost_of c.args.seat.now) y c.requires.none_passed (ghost_of c.try_handoff.new.seat) (ghost_of c.walk-steps.new.seat) c.in-Passed.first on.1 on.2 c.walk-steps.ensures.advances.2.extends c.walk-steps.ensures.finishes_walk)
+    subst (λ (state : PortState). ReleasesLine (ghost_of c.args.seat.now) y state (ghost_of c.walk.new.seat)) (closed ∙ sym c.walk.ensures.state)
+    (lets_on (ghost_of c.args.seat.now) y c.requires.none_passed (ghost_of c.try_handoff-handoff.new.seat) (ghost_of c.walk.new.seat) c.in-Passed.first on.1 on.2 c.walk.ensures.advances.2.extends c.walk.ensures.finishes_walk)
 
-pub returns-in-On-clause-advances : goal.returns-in-On-clause-advances
-returns-in-On-clause-advances g c = record {
+pub returns-in-HandedOn-clause-advances : goal.returns-in-HandedOn-clause-advances
+returns-in-HandedOn-clause-advances g c = record {
   seat = search rules;
-  advances = let on = c.in-On.ensures.handed in after_none c.args.seat.now c.try_handoff.new.seat on.0 c.try_handoff.new.steps on.1 on.2;
+  advances = let on = c.in-HandedOn.ensures.outcome in after_none c.args.seat.now c.try_handoff-handoff.new.seat on.0 c.try_handoff-handoff.new.steps on.1 on.2;
 }
 
 pub returns-in-Left-clause-advances : goal.returns-in-Left-clause-advances
 returns-in-Left-clause-advances g c = record {
   seat = search rules;
-  advances = let on = c.in-Left.ensures.handed in after_none c.args.seat.now c.try_handoff.new.seat on.0 c.try_handoff.new.steps on.1 on.2;
+  advances = let on = c.in-Left.ensures.outcome in after_none c.args.seat.now c.try_handoff-handoff.new.seat on.0 c.try_handoff-handoff.new.steps on.1 on.2;
 }
 
-pub returns-in-On-clause-steps : goal.returns-in-On-clause-steps
-returns-in-On-clause-steps g c =
+pub returns-in-HandedOn-clause-steps : goal.returns-in-HandedOn-clause-steps
+returns-in-HandedOn-clause-steps g c =
     let y = c.requires.payload in
-    let on = c.in-On.ensures.handed in
+    let on = c.in-HandedOn.ensures.outcome in
     let away = on.3 y.0 y.1 in
-    let one = one_more (ghost_of c.args.seat.now) y.0 c.requires.none_passed (ghost_of c.try_handoff.new.seat) away.1 in
+    let one = one_more (ghost_of c.args.seat.now) y.0 c.requires.none_passed (ghost_of c.try_handoff-handoff.new.seat) away.1 in
     (⊎_elim (λ k. omega (arith, k, one, on.1)) (λ k. omega (arith, k.0, one, on.1)) away.3, ⊎_elim (λ k. omega (arith, k, one, on.1)) (λ k. omega (arith, k.0, one, on.1)) away.3)
 
 pub returns-in-Left-clause-steps : goal.returns-in-Left-clause-steps
 returns-in-Left-clause-steps g c =
     let y = c.requires.payload in
-    let on = c.in-Left.ensures.handed in
+    let on = c.in-Left.ensures.outcome in
     let left = on.3 y.0 y.1 in
-    let one = one_more (ghost_of c.args.seat.now) y.0 c.requires.none_passed (ghost_of c.try_handoff.new.seat) left.1 in
+    let one = one_more (ghost_of c.args.seat.now) y.0 c.requires.none_passed (ghost_of c.try_handoff-handoff.new.seat) left.1 in
     (omega (arith, left.3, one, on.1), omega (arith, left.3, one, on.1))
 
 pub returns-in-Passed-clause-steps : goal.returns-in-Passed-clause-steps
 returns-in-Passed-clause-steps g c =
     let y = c.requires.payload in
-    let on = c.in-Passed.ensures.handed in
+    let on = c.in-Passed.ensures.outcome in
     let passed = on.3 y.0 y.1 in
-    let one = one_more (ghost_of c.args.seat.now) y.0 c.requires.none_passed (ghost_of c.try_handoff.new.seat) passed.1 in
-    let walked = c.walk-steps.ensures.steps in
+    let one = one_more (ghost_of c.args.seat.now) y.0 c.requires.none_passed (ghost_of c.try_handoff-handoff.new.seat) passed.1 in
+    let walked = c.walk.ensures.steps in
     (omega (arith, passed.3, one, on.1, walked.1, walked.2), omega (arith, passed.3, one, on.1, walked.1, walked.3))
 
-pub walk-steps-requires-clause-high : goal.walk-steps-requires-clause-high
-walk-steps-requires-clause-high g c =
+pub walk-requires-clause-in_range : goal.walk-requires-clause-in_range
+walk-requires-clause-in_range g c =
     let y = c.requires.payload in
-    let on = c.in-Passed.ensures.handed in
+    let on = c.in-Passed.ensures.outcome in
     let within = (on.3 y.0 y.1).4 in
-    let size : (ghost_of c.try_handoff.new.seat).view.config.nodes ≡ (ghost_of c.args.seat.now).view.config.nodes = ap (λ (t : LineConfig). t.nodes) on.2.extends.config in
+    let size : (ghost_of c.try_handoff-handoff.new.seat).view.config.nodes ≡ (ghost_of c.args.seat.now).view.config.nodes = ap (λ (t : LineConfig). t.nodes) on.2.extends.config in
     (within.0, omega (arith, within.1, size, c.requires.seat.1.3))
 
-pub walk-steps-requires-clause-size : goal.walk-steps-requires-clause-size
-walk-steps-requires-clause-size g c = ap (λ (t : LineConfig). t.nodes) c.in-Passed.ensures.handed.2.extends.config ∙ c.requires.seat.1.3
+pub walk-requires-clause-size : goal.walk-requires-clause-size
+walk-requires-clause-size g c = ap (λ (t : LineConfig). t.nodes) c.in-Passed.ensures.outcome.2.extends.config ∙ c.requires.seat.1.3

@@ -13,30 +13,25 @@ one_of s t u nodes n a b size first next w =
     let f : (ghost_of u).view.config.nodes ≡ (ghost_of t).view.config.nodes = ap (λ (t : LineConfig). t.nodes) next.extends.config in
     (w.0, omega (arith, w.1, e, f, size))
 
-pub grant-requires-clause-high : goal.grant-requires-clause-high
-grant-requires-clause-high g c = one_of c.args.seat.now c.home.new.seat c.done-next.new.seat c.args.table.now.key.config.nodes c.done-next.result 1 1 c.requires.size c.home.ensures.advances.advances c.done-next.ensures.advances.advances (c.done-next.ensures.on c.if-next-eq0.false).1
-
-pub returns-then-grant-clause-within : goal.returns-then-grant-clause-within
-returns-then-grant-clause-within g c =
-    let high = one_of c.args.seat.now c.home.new.seat c.done-next.new.seat c.args.table.now.key.config.nodes c.done-next.result 1 1 c.requires.size c.home.ensures.advances.advances c.done-next.ensures.advances.advances (c.done-next.ensures.on c.if-next-eq0.false).1 in
-    omega arith
+pub grant-requires-clause-in_range : goal.grant-requires-clause-in_range
+grant-requires-clause-in_range g c = one_of c.args.seat.now c.home.new.seat c.done-next.new.seat c.args.table.now.key.config.nodes c.done-next.result 1 1 c.requires.size c.home.ensures.advances.advances c.done-next.ensures.advances.advances (c.done-next.ensures.keeps c.if-next-eq0.false).1
 
 pub returns-else-grant-clause-within : goal.returns-else-grant-clause-within
 returns-else-grant-clause-within g c =
-    let high = one_of c.args.seat.now c.home.new.seat c.done-next.new.seat c.args.table.now.key.config.nodes c.done-next.result 1 1 c.requires.size c.home.ensures.advances.advances c.done-next.ensures.advances.advances (c.done-next.ensures.on c.if-next-eq0.false).1 in
+    let high = one_of c.args.seat.now c.home.new.seat c.done-next.new.seat c.args.table.now.key.config.nodes c.done-next.result 1 1 c.requires.size c.home.ensures.advances.advances c.done-next.ensures.advances.advances (c.done-next.ensures.keeps c.if-next-eq0.false).1 in
     omega arith
 
-pub returns-then-home-clause-handed : goal.returns-then-home-clause-handed
-returns-then-home-clause-handed g c = let gone = c.home.ensures.home c.if-home.true in (
+pub returns-then-home-clause-outcome : goal.returns-then-home-clause-outcome
+returns-then-home-clause-outcome g c = let gone = c.home.ensures.home c.if-home.true in (
   1,
   refl,
   c.home.ensures.advances.advances,
   λ y slot. (gone.0, (gone.1 y slot).0, (gone.1 y slot).1, inl refl),
 )
 
-pub returns-then-next-eq0-clause-handed : goal.returns-then-next-eq0-clause-handed
-returns-then-next-eq0-clause-handed g c =
-    let on = c.home.ensures.on c.if-home.false in
+pub returns-then-next-eq0-clause-outcome : goal.returns-then-next-eq0-clause-outcome
+returns-then-next-eq0-clause-outcome g c =
+    let on = c.home.ensures.keeps c.if-home.false in
     let left = c.done-next.ensures.left c.if-next-eq0.true in (
       2,
       omega arith,
@@ -44,10 +39,10 @@ returns-then-next-eq0-clause-handed g c =
       λ y slot. hands_left g.K.Keep.allows c.args.seat.now c.home.new.seat c.done-next.new.seat y c.args.at c.home.ensures.advances.advances on.1 (on.2 y slot) left.0 left.1 left.2,
     )
 
-pub returns-then-grant-clause-handed : goal.returns-then-grant-clause-handed
-returns-then-grant-clause-handed g c =
-    let on = c.home.ensures.on c.if-home.false in
-    let linked = c.done-next.ensures.on c.if-next-eq0.false in
+pub returns-then-grant-clause-outcome : goal.returns-then-grant-clause-outcome
+returns-then-grant-clause-outcome g c =
+    let on = c.home.ensures.keeps c.if-home.false in
+    let linked = c.done-next.ensures.keeps c.if-next-eq0.false in
     let passed = c.grant.ensures.passes c.if-grant.true in (
       3,
       omega arith,
@@ -56,23 +51,23 @@ returns-then-grant-clause-handed g c =
       λ y slot. hands_passed g.K.Keep.allows c.args.seat.now c.home.new.seat c.done-next.new.seat y c.args.at c.home.ensures.advances.advances on.1 (on.2 y slot) c.grant.new.seat c.done-next.result linked.2 (passed.0 ∙ (linked.0 ∙ (on.0 ∙ slot))) (subst (λ (t : LineConfig). IsWithin t.nodes c.done-next.result) (sym c.grant.ensures.advances.advances.extends.config) linked.1) c.grant.ensures.ended passed.1,
     )
 
-pub returns-else-grant-clause-handed : goal.returns-else-grant-clause-handed
-returns-else-grant-clause-handed g c =
-    let on = c.home.ensures.on c.if-home.false in
-    let linked = c.done-next.ensures.on c.if-next-eq0.false in
-    let out = c.grant.ensures.out c.if-grant.false in (
+pub returns-else-grant-clause-outcome : goal.returns-else-grant-clause-outcome
+returns-else-grant-clause-outcome g c =
+    let on = c.home.ensures.keeps c.if-home.false in
+    let linked = c.done-next.ensures.keeps c.if-next-eq0.false in
+    let out = c.grant.ensures.handed_on c.if-grant.false in (
       3,
       omega arith,
       goes_trans g.K.Keep.allows c.args.seat.now.me c.home.new.seat.me c.grant.new.seat.me 1 2 c.home.ensures.advances.advances
           (goes_trans g.K.Keep.allows c.home.new.seat.me c.done-next.new.seat.me c.grant.new.seat.me 1 1 c.done-next.ensures.advances.advances c.grant.ensures.advances.advances),
-      λ y slot. hands_out g.K.Keep.allows c.args.seat.now c.home.new.seat c.done-next.new.seat y c.args.at c.home.ensures.advances.advances on.1 (on.2 y slot) c.grant.new.seat c.done-next.result linked.2 out.0 c.grant.ensures.ended out.1,
+      λ y slot. hands_out g.K.Keep.allows c.args.seat.now c.home.new.seat c.done-next.new.seat y c.args.at c.home.ensures.advances.advances on.1 (on.2 y slot) c.grant.new.seat c.done-next.result linked.2 0 0 out.0 c.grant.ensures.ended out.1,
     )
 
-pub returns-then-home-clause-names : goal.returns-then-home-clause-names
-returns-then-home-clause-names g c = sym (c.home.ensures.names c.if-home.true)
+pub returns-then-home-clause-wakes : goal.returns-then-home-clause-wakes
+returns-then-home-clause-wakes g c = sym (c.home.ensures.wakes c.if-home.true)
 
-pub returns-then-next-eq0-clause-names : goal.returns-then-next-eq0-clause-names
-returns-then-next-eq0-clause-names g c = sym (c.done-next.ensures.names c.if-next-eq0.true)
+pub returns-then-next-eq0-clause-wakes : goal.returns-then-next-eq0-clause-wakes
+returns-then-next-eq0-clause-wakes g c = sym (c.done-next.ensures.wakes c.if-next-eq0.true)
 
-pub returns-else-grant-clause-names : goal.returns-else-grant-clause-names
-returns-else-grant-clause-names g c = c.entry_word.ensures ∙ sym (c.grant.ensures.names c.if-grant.false)
+pub returns-else-grant-clause-wakes : goal.returns-else-grant-clause-wakes
+returns-else-grant-clause-wakes g c = c.entry_word.ensures ∙ sym (c.grant.ensures.wakes c.if-grant.false)

@@ -12,11 +12,11 @@ fetch_add-requires g c = let r = c.requires.phase in let y = c.requires.payload 
 pub returns-clause-left : goal.returns-clause-left
 returns-clause-left g c = λ none. (c.fetch_add.ensures.2.1 _ c.requires.payload).0 (sym c.link_of.ensures ∙ none)
 
-pub returns-clause-names : goal.returns-clause-names
-returns-clause-names g c = λ none. names_short (ghost_of c.fetch_add.new.seat).view ((c.fetch_add.ensures.2.1 _ c.requires.payload).0 (sym c.link_of.ensures ∙ none)).2.short
+pub returns-clause-wakes : goal.returns-clause-wakes
+returns-clause-wakes g c = λ none. names_short (ghost_of c.fetch_add.new.seat).view ((c.fetch_add.ensures.2.1 _ c.requires.payload).0 (sym c.link_of.ensures ∙ none)).2.short
 
-pub returns-clause-on : goal.returns-clause-on
-returns-clause-on g c = λ more. let on = (c.fetch_add.ensures.2.1 _ c.requires.payload).1 (λ z. more (c.link_of.ensures ∙ z)) in (
+pub returns-clause-keeps : goal.returns-clause-keeps
+returns-clause-keeps g c = λ more. let on = (c.fetch_add.ensures.2.1 _ c.requires.payload).1 (λ z. more (c.link_of.ensures ∙ z)) in (
   on.0,
   subst (λ (k : ℕ). IsWithin (ghost_of c.fetch_add.new.seat).view.config.nodes k) (sym c.link_of.ensures) on.2,
   subst (λ (k : ℕ). KeepsPayload (ghost_of c.args.seat.now) (ghost_of c.fetch_add.new.seat) (ghost_of c.args.seat.now).own.line (Granting k)) (sym c.link_of.ensures) on.1,

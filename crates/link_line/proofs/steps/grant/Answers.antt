@@ -9,11 +9,11 @@ fetch_add-found-requires g c = let r = c.requires.phase in let y = c.requires.pa
 pub returns-clause-ended : goal.returns-clause-ended
 returns-clause-ended g c = (c.fetch_add-found.ensures.2.1 _ c.requires.payload).0
 
-pub returns-clause-out : goal.returns-clause-out
-returns-clause-out g c = λ no'. let out = (c.fetch_add-found.ensures.2.1 _ c.requires.payload).1 (sym c.is_rolled.ensures ∙ no') in (out.0, out.1)
+pub returns-clause-handed_on : goal.returns-clause-handed_on
+returns-clause-handed_on g c = λ no'. let out = (c.fetch_add-found.ensures.2.1 _ c.requires.payload).1 (sym c.is_rolled.ensures ∙ no') in (out.0, out.1)
 
-pub returns-clause-names : goal.returns-clause-names
-returns-clause-names g c = λ no'. ((c.fetch_add-found.ensures.2.1 _ c.requires.payload).1 (sym c.is_rolled.ensures ∙ no')).2 _ c.requires.phase.1
+pub returns-clause-wakes : goal.returns-clause-wakes
+returns-clause-wakes g c = λ no'. ((c.fetch_add-found.ensures.2.1 _ c.requires.payload).1 (sym c.is_rolled.ensures ∙ no')).2 _ c.requires.phase.1
 
 pub returns-clause-passes : goal.returns-clause-passes
 returns-clause-passes g c = λ yes'. let on = (c.fetch_add-found.ensures.2.1 _ c.requires.payload).2 (sym c.is_rolled.ensures ∙ yes') in (on.0, on.1 _ c.requires.phase.1)

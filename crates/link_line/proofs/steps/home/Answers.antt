@@ -19,9 +19,9 @@ pub returns-clause-home : goal.returns-clause-home
 returns-clause-home g c = λ is. let y = c.requires.payload in let told = c.compare_exchange.ensures.2.1 in let same = hit c.compare_exchange.result c.args.at is in
     (((told y.0 y.1).0 same).0, λ z has. (((told z has).0 same).1, ((told z has).0 same).2))
 
-pub returns-clause-names : goal.returns-clause-names
-returns-clause-names g c = λ is. let y = c.requires.payload in ((c.compare_exchange.ensures.2.1 y.0 y.1).0 (hit c.compare_exchange.result c.args.at is)).3
+pub returns-clause-wakes : goal.returns-clause-wakes
+returns-clause-wakes g c = λ is. let y = c.requires.payload in ((c.compare_exchange.ensures.2.1 y.0 y.1).0 (hit c.compare_exchange.result c.args.at is)).3
 
-pub returns-clause-on : goal.returns-clause-on
-returns-clause-on g c = λ is. let y = c.requires.payload in let told = c.compare_exchange.ensures.2.1 in let other = miss c.compare_exchange.result c.args.at is in
+pub returns-clause-keeps : goal.returns-clause-keeps
+returns-clause-keeps g c = λ is. let y = c.requires.payload in let told = c.compare_exchange.ensures.2.1 in let other = miss c.compare_exchange.result c.args.at is in
     (((told y.0 y.1).1 other).0, ((told y.0 y.1).1 other).2, λ z has. ((told z has).1 other).1)

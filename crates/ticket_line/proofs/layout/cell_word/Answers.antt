@@ -5,12 +5,9 @@ use Rattle.line_tickets.proofs.Counting.{some_cells}
 use Rattle.ticket_line.specs.Layout.{cell_of}
 use Rattle.ticket_line.proofs.layout.cell_word.Goals as goal
 
-pub returns-clause-cell : goal.returns-clause-cell
-returns-clause-cell g c = c.cell_word.ensures ∙ ap cell_at c.cell_of.ensures.cell
-
-pub returns-clause-within : goal.returns-clause-within
-returns-clause-within g c =
+pub returns : goal.returns
+returns g c =
     let nodes = c.args.table.now.key.config.nodes in
     let low : cell_of nodes c.args.ticket < cells_for nodes = mod-lt c.args.ticket (some_cells nodes) in
     let is = c.cell_word.ensures ∙ ap cell_at c.cell_of.ensures.cell in
-    omega arith
+    (is, omega arith)

@@ -1,7 +1,13 @@
-use Rattle.std.proofs.Common.{refl, ◌∙◌, arith}
+use Rattle.std.proofs.Common.{rules, refl, sym, ap, subst, ◌∙◌, ◌≤◌, ℕ, slice_index_or, arith}
+use Rattle.qolb_model.specs.declared.config.TheConstants.{MAX_NODES}
+use Rattle.line_tickets.specs.Layout.{node_at}
 use Rattle.line_tickets.specs.Steps.{ghost_of}
+use Rattle.line_tickets.proofs.Counting.{node_below}
+use Rattle.line_tickets.proofs.Freeing.{frees_next}
 use Rattle.line_tickets.proofs.Turning.{goes_none}
 use Rattle.line_tickets.proofs.Walking.{frees_none, frees_all, freeing_which, freeing_next, freed_steps}
+use Rattle.ticket_line.specs.Slots.{slot_layout}
+use Rattle.ticket_line.specs.Ticket.{TicketCells}
 use Rattle.ticket_line.proofs.release.free_passed.Goals as goal
 
 pub loop-node-init : goal.loop-node-init
@@ -10,25 +16,29 @@ loop-node-init g c = record {
   carried = refl;
   advances = goes_none g.K.Keep.allows c.args.seat.now.me c.requires.phase.0;
   within = omega arith;
-  frees = frees_none (ghost_of c.args.seat.now) c.requires.phase.1 c.requires.some;
+  frees = frees_none (ghost_of c.args.seat.now) c.requires.phase.1 c.requires.not_empty;
 }
 
-pub free-requires : goal.free-requires
-free-requires g c =
-    let next = freeing_which c.args.seat.now c.loop-node.seat c.args.nodes.now c.loop-node.node-index c.loop-node.invariant c.requires.many c.requires.nodes c.loop-node-test.true in
-    record {
-      table = (c.loop-node.invariant.seat.0 ∙ c.requires.table.0, c.requires.table.1, c.requires.table.2);
-      phase = (c.loop-node.invariant.advances.is_single, next.0);
-      high = (next.1.0, omega (arith, next.1.1, c.requires.sized));
-      next = next.2;
-    }
+pub node_word-requires : goal.node_word-requires
+node_word-requires g c = (freeing_which c.args.seat.now c.loop-node.seat c.args.nodes.now c.loop-node.node-index c.loop-node.invariant c.requires.same_length c.requires.nodes c.loop-node-test.true).1.0
+
+pub store-requires : goal.store-requires
+store-requires g c =
+    let nodes = c.args.table.now.key.config.nodes in
+    let next = freeing_which c.args.seat.now c.loop-node.seat c.args.nodes.now c.loop-node.node-index c.loop-node.invariant c.requires.same_length c.requires.nodes c.loop-node-test.true in
+    let n = next.2 in
+    let node : ℕ = slice_index_or c.args.nodes.now c.loop-node.node-index 0 in (
+      c.loop-node.invariant.seat.0 ∙ c.requires.table.0,
+      (let low = node_below nodes node (omega (arith, next.1.1, c.requires.sized)) next.1.0 in omega arith),
+      frees_next (TicketCells nodes) (slot_layout nodes) g.K.Keep.good g.K.Keep.allows c.args.table.now.key (ghost_of c.loop-node.seat) next.0 n.0 n.1 n.3 n.2 n.4 _ _ _ c.loop-node.seat.me c.loop-node.invariant.advances.is_single (c.node_word.ensures ∙ ap node_at (sym n.5)) (subst (λ k. k ≤ MAX_NODES) (sym n.5) next.1.0),
+    )
 
 pub loop-node-preserved : goal.loop-node-preserved
-loop-node-preserved g c = freeing_next g.K.Keep.allows c.args.seat.now c.loop-node.seat c.free.new.seat c.args.nodes.now c.loop-node.node-index c.loop-node.invariant c.requires.many c.requires.nodes c.loop-node-test.true c.free.ensures.advances.seat c.free.ensures.slot c.free.ensures.advances.advances c.free.ensures.frees
+loop-node-preserved g c = freeing_next g.K.Keep.allows c.args.seat.now c.loop-node.seat c.store.new.seat c.args.nodes.now c.loop-node.node-index c.loop-node.invariant c.requires.same_length c.requires.nodes c.loop-node-test.true (search rules) (search rules) (search rules) (search rules)
 
 pub returns : goal.returns
 returns g c = let done = c.loop-node.invariant in record {
-  advances = record { seat = done.seat; advances = freed_steps g.K.Keep.allows c.args.seat.now c.loop-node.seat c.args.nodes.now c.loop-node.node-index done c.requires.many (omega (arith, c.loop-node-test.false)) };
+  advances = record { seat = done.seat; advances = freed_steps g.K.Keep.allows c.args.seat.now c.loop-node.seat c.args.nodes.now c.loop-node.node-index done c.requires.same_length (omega (arith, c.loop-node-test.false)) };
   slot = done.carried;
-  frees = frees_all (ghost_of c.args.seat.now) (ghost_of c.loop-node.seat) c.loop-node.node-index done.frees (omega (arith, c.requires.many, c.loop-node-test.false));
+  frees = frees_all (ghost_of c.args.seat.now) (ghost_of c.loop-node.seat) c.loop-node.node-index done.frees (omega (arith, c.requires.same_length, c.loop-node-test.false));
 }

@@ -45,7 +45,7 @@ walk-walked-requires g c = record {
   ticket = let y = c.requires.payload in
       c.ticket_after-next.ensures ∙ ap ticket_after c.requires.ticket ∙ ticket_next (length (ghost_of c.args.seat.now).view.ends)
       ∙ ap ticket_of (sym (ended_longer (ghost_of c.args.seat.now) (ghost_of c.grant-node.new.seat) y.0 (c.grant-node.ensures.ended y.0 (subst (λ n. SlotsAtRelease c.args.table.now.key.config.nodes n c.args.seat.now y.0) c.requires.ticket y.1))));
-  some = search rules;
+  not_zero = search rules;
   passed = search rules;
   others = search rules;
   first = search rules;

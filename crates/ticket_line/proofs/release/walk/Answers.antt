@@ -21,7 +21,7 @@ loop-node-init g c = subst (λ (nodes : List ℕ). IsWalking c.args.table.now.ke
     advances = goes_none g.K.Keep.allows c.args.seat.now.me c.requires.phase.0;
     walked = walk_begins (ghost_of c.args.seat.now) c.requires.passed c.requires.others c.requires.nodes.0;
     stands = λ more. ((λ y slot. slot), stands_first (ghost_of c.args.seat.now) c.args.node c.requires.phase.1 c.requires.passed c.requires.first);
-    home = λ none. absurd (c.requires.some none);
+    home = λ none. absurd (c.requires.not_zero none);
   };
 })
 
@@ -74,7 +74,7 @@ free_passed-requires g c = record {
   table = search rules;
   phase = search rules;
   sized = ap (λ (t : LineConfig). t.nodes) c.loop-node.invariant.walking.walked.config ∙ c.requires.sized;
-  some = search rules;
-  many = search rules;
+  not_empty = search rules;
+  same_length = search rules;
   nodes = search rules;
 }

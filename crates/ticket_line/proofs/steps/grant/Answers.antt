@@ -13,7 +13,7 @@ swap-found-requires g c = let y = c.requires.payload in (
   search rules,
   search rules,
   ticket_grants g.K.Keep.good g.K.Keep.allows c.args.table.now.key (ghost_of c.args.seat.now) _ _ _ c.args.seat.now.me c.requires.nodes g.K.Keep.stays_good (⊎_elim (λ a. ap has_line a.1) (λ a. ap has_line a.1) c.requires.phase) y.0 y.2 c.args.seat.now.me.1
-      (λ i. (⊎_elim (λ a. a.0) (λ a. a.0) c.requires.phase i, c.args.seat.now.me.1)) y.1 c.args.next c.requires.next c.cell_word.ensures.cell c.granted.result (c.granted.ensures ∙ ap granted c.requires.next),
+      (λ i. (⊎_elim (λ a. a.0) (λ a. a.0) c.requires.phase i, c.args.seat.now.me.1)) y.1 c.args.next c.requires.next c.cell_word.ensures.0 c.granted.result (c.granted.ensures ∙ ap granted c.requires.next),
 )
 
 pub returns : goal.returns

@@ -9,6 +9,6 @@ pub swap-found-requires : goal.swap-found-requires
 swap-found-requires g c = let own = c.requires.seat.1 in (
   search rules,
   search rules,
-  ticket_rolls g.K.Keep.good g.K.Keep.allows c.args.table.now.key (ghost_of c.args.seat.now) _ _ _ c.args.seat.now.me own.3 c.requires.phase.1 (λ i. (c.requires.phase.0 i, c.requires.slot i)) c.args.ticket c.requires.ticket c.cell_word.ensures.cell
+  ticket_rolls g.K.Keep.good g.K.Keep.allows c.args.table.now.key (ghost_of c.args.seat.now) _ _ _ c.args.seat.now.me own.3 c.requires.phase.1 (λ i. (c.requires.phase.0 i, c.requires.slot i)) c.args.ticket c.requires.ticket c.cell_word.ensures.0
       c.withdrawn.result (subst (λ n. n ≤ MAX_NODES) own.0 own.1) (c.withdrawn.ensures ∙ (λ j. withdrawn (c.requires.ticket j) (own.0 j))),
 )

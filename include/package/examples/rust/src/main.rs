@@ -10,8 +10,7 @@ fn main() -> Result<(), Box<dyn Error>> {
             scope.spawn(move || {
                 for _round in 0..1000 {
                     let mut turn = node.lock().expect("nobody closes the line");
-                    let count = turn.lane(0);
-                    turn.set_lane(0, count + 1);
+                    turn.add_to_lane(0, 1);
                 }
             });
         }

@@ -20,8 +20,8 @@ gather-whole-requires-clause-quiet g c = let l = c.args.self in
     all_quiet (λ (p : PortModel). p.view) (BelongsTo g.K.Keep.good g.K.Keep.allows l.table.shared.key l.table.shared.table_id) (λ p b. b.sound) c.args.ports.items c.sort_by_node.result.items c.sort_by_node.ensures.all
     (finishes_so (λ (p : PortModel). p.view) l.labelled l.steps c.deref.ensures.value c.in_default.ensures) c.requires.belongs
 
-pub gather-whole-requires-clause-some : goal.gather-whole-requires-clause-some
-gather-whole-requires-clause-some g c = let l = c.args.self in
+pub gather-whole-requires-clause-not_empty : goal.gather-whole-requires-clause-not_empty
+gather-whole-requires-clause-not_empty g c = let l = c.args.self in
     some_port (λ (p : PortModel). p.view) (BelongsTo g.K.Keep.good g.K.Keep.allows l.table.shared.key l.table.shared.table_id) (λ p b. b.sound) c.args.ports.items c.sort_by_node.result.items c.sort_by_node.ensures.all
     (finishes_so (λ (p : PortModel). p.view) l.labelled l.steps c.deref.ensures.value c.in_default.ensures) c.requires.belongs (subst (λ n. 1 ≤ n) l.steps l.some_nodes)
 

@@ -1,8 +1,8 @@
-use Rattle.std.proofs.Common.{rules, ◌∙◌, ℕ, ap, subst}
+use Rattle.std.proofs.Common.{rules, ◌∙◌, ◌||◌, ℕ, ap, subst}
 use Rattle.line_generic.specs.Steps.{single}
 use Rattle.line_generic.specs.AtTurn.{Names}
 use Rattle.line_generic.proofs.Turning.{put_then}
-use Rattle.line_generic.proofs.Calling.{call_nodes, holds_of, put_carries, released_with, call_belongs}
+use Rattle.line_generic.proofs.Calling.{equal-is_one, call_nodes, holds_of, put_carries, released_with, call_belongs}
 use Rattle.line_generic.proofs.line.Line.release_with.Goals as goal
 
 pub release-released-requires : goal.release-released-requires
@@ -12,7 +12,7 @@ release-released-requires g c = record {
   is_single = search rules;
   nodes = search rules;
   line = let q = c.port.inside in
-      put_carries q.seat q.payload q.token q.steps q.poll_count.count q.state c.port.invariant c.port.view_is c.requires.belongs c.requires.state c.args.shut c.closes-closed.result c.closes-closed.ensures c.put.new.seat c.put.ensures.seat.0 c.put.ensures.seat.1 c.put.ensures.stored c.requires.allowed;
+      put_carries q.seat q.payload q.token q.steps q.poll_count.count q.state c.port.invariant c.port.view_is c.requires.belongs c.requires.state c.args.shut (c.args.shut || c.eq.result) (ap (λ b. c.args.shut || b) (c.eq.ensures ∙ equal-is_one c.port.inside.payload.turns_left)) c.put.new.seat c.put.ensures.seat.0 c.put.ensures.seat.1 c.put.ensures.stored c.requires.allowed;
 }
 
 pub invariant_of-port : goal.invariant_of-port
@@ -30,7 +30,7 @@ returns g c = record {
   belongs = let q = c.port.inside in
       call_belongs q.seat q.payload q.steps q.poll_count.count c.requires.belongs c.port.view_is {t = c.release-released.new.seat} (put_then c.put.ensures.seat c.release-released.ensures.advances) q.payload c.release-released.result.steps;
   releases = let q = c.port.inside in let back = c.put.ensures.stored in
-      released_with q.seat q.payload q.token q.steps q.poll_count.count q.state c.port.invariant c.port.view_is c.requires.belongs c.requires.state c.args.shut c.closes-closed.result c.closes-closed.ensures c.put.new.seat c.put.ensures.seat.0 c.put.ensures.seat.1 back
+      released_with q.seat q.payload q.token q.steps q.poll_count.count q.state c.port.invariant c.port.view_is c.requires.belongs c.requires.state c.args.shut (c.args.shut || c.eq.result) (ap (λ b. c.args.shut || b) (c.eq.ensures ∙ equal-is_one c.port.inside.payload.turns_left)) c.put.new.seat c.put.ensures.seat.0 c.put.ensures.seat.1 back
       {t = c.release-released.new.seat} (put_then c.put.ensures.seat c.release-released.ensures.advances) (c.release-released.ensures.hands_over.releases back.0 back.1);
   counts = search rules;
   went_to = subst (λ (word : ℕ). Names word (g.W.WakePolicy.went_to c.wake.new.note)) c.release-released.ensures.wakes c.wake.ensures;

@@ -49,9 +49,9 @@ returns g c = record {
 pub link-is_at_turn-requires-clause-seat : goal.link-is_at_turn-requires-clause-seat
 link-is_at_turn-requires-clause-seat g c = seat_goes c.args.seat.now c.request-made.new.seat c.request-made.ensures.advances c.requires.seat
 
-pub link-is_at_turn-requires-clause-high : goal.link-is_at_turn-requires-clause-high
-link-is_at_turn-requires-clause-high g c =
+pub link-is_at_turn-requires-clause-in_range : goal.link-is_at_turn-requires-clause-in_range
+link-is_at_turn-requires-clause-in_range g c =
     let behind : c.request-made.result.answer ≡ enqueued.Queued = search rules in
-    let high = (c.request-made.ensures.links behind).1.stands.1 in
+    let high = (c.request-made.ensures.must_link behind).1.stands.1 in
     let seat = seat_goes c.args.seat.now c.request-made.new.seat c.request-made.ensures.advances c.requires.seat in
     (high.0, omega (arith, high.1, seat.1.3))

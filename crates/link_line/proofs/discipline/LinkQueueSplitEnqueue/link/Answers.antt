@@ -11,5 +11,5 @@ returns g c = record {
   };
 }
 
-pub link-requires-clause-high : goal.link-requires-clause-high
-link-requires-clause-high g c = let high = c.requires.in_state.stands.1 in (high.0, omega (arith, high.1, c.requires.seat.1.3))
+pub link-requires-clause-in_range : goal.link-requires-clause-in_range
+link-requires-clause-in_range g c = let high = c.requires.in_state.stands.1 in (high.0, omega (arith, high.1, c.requires.seat.1.3))

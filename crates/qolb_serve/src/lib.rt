@@ -1,0 +1,8 @@
+//! The program behind its words: what they ask for, what is done, and the exit status.
+#![tactic(auto)]
+
+mod command_line;
+mod program;
+
+pub use command_line::{Args, Subcommand, parse_args};
+pub use program::{fail, serve};
