@@ -24,11 +24,14 @@ BODY = "crates/line_generic/src/"
 
 # The functions from the C call to the atomic step, by file. A name that a commit does not have counts as nothing.
 RELEASE = {
-    "crates/qolb_c/src/lib.rt": ["qolb_deqolb"],
+    "crates/qolb_c/src/lib.rt": ["qolb_deqolb", "number"],
     "crates/qolb_c/src/handle.rt": ["get_mut"],
     "crates/qolb_c/src/any_node.rt": ["release"],
     "crates/qolb_c/src/answer.rt": ["of_done", "number"],
     "crates/qolb_c/src/node.rt": ["release", "deqolb", "state"],
+    "crates/qolb_nodes/src/handle.rt": ["get_mut"],
+    "crates/qolb_nodes/src/any_node.rt": ["release"],
+    "crates/qolb_nodes/src/node.rt": ["release", "state"],
     "crates/qolb_model/src/sync.rt": ["deqolb", "state"],
     "crates/line_generic/src/sync.rt": ["deqolb", "state"],
     "crates/line_generic/src/calls.rt": ["deqolb", "release_with", "state"],
@@ -41,7 +44,7 @@ RELEASE = {
     "crates/ticket_line/src/release.rt": ["release", "walk", "copy_to_next_slot", "free_passed"],
     "crates/ticket_line/src/steps.rt": ["grant", "free"],
     "crates/ticket_line/src/layout.rt": ["slot_of", "cell_word", "ticket_after", "number", "granted", "withdrawn_by"],
-    "crates/line_tickets/src/layout.rt": ["cell_word", "node_word"],
+    "crates/line_cells/src/layout.rt": ["cell_word", "node_word"],
 }
 
 

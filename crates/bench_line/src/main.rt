@@ -15,7 +15,8 @@ mod workers;
 use clap::{Arg, ArgAction, ArgMatches, Command};
 use enqueue::{AtOnce, EnqueueStrategy, OnList};
 use law::NonDecreasing;
-use line_kinds::{Lines, LinkLine, NAMES, RingLine, TicketLine};
+use line_generic::{Discipline, Line};
+use line_kinds::{Lines, LinkLine, NAMES, RingQueue, TicketQueue};
 use line_lanes::lane;
 use pace::Pace;
 use qolb_model::{LineSync, OpenLine};
@@ -170,7 +171,7 @@ fn kind_of(matches: &ArgMatches) -> Kind {
 
 /// Runs what the command line asks for, on a line of this kind.
 ///
-/// Each lock is named once in the program, here, because the prover takes long for each naming.
+/// The locks are named here alone, as the prover takes long for each naming of a line's type.
 fn run_kind<R: Threads + Wait + Clock + Print + Sync>(
     rt: &R,
     alloc: Global,
@@ -179,9 +180,7 @@ fn run_kind<R: Threads + Wait + Clock + Print + Sync>(
     wanted: Wanted,
 ) -> anyhow::Result<()> {
     match kind {
-        Kind::Ring => bench::<R, AtOnce, RingLine<NonDecreasing>>(
-            rt, alloc, AtOnce, threads, wanted,
-        ),
+        Kind::Ring => bench_at_once::<R, RingQueue>(rt, alloc, threads, wanted),
         Kind::List { apart } => {
             bench::<R, OnList, LinkLine<NonDecreasing>>(
                 rt,
@@ -191,10 +190,16 @@ fn run_kind<R: Threads + Wait + Clock + Print + Sync>(
                 wanted,
             )
         }
-        Kind::Ticket => bench::<R, AtOnce, TicketLine<NonDecreasing>>(
-            rt, alloc, AtOnce, threads, wanted,
-        ),
+        Kind::Ticket => bench_at_once::<R, TicketQueue>(rt, alloc, threads, wanted),
     }
+}
+
+/// Runs what is asked for on a line of this discipline, whose nodes ask by one call.
+fn bench_at_once<
+    R: Threads + Wait + Clock + Print + Sync,
+    Q: Discipline<NonDecreasing> + Send + Sync,
+>(rt: &R, alloc: Global, threads: u64, wanted: Wanted) -> anyhow::Result<()> {
+    bench::<R, AtOnce, Line<NonDecreasing, Q>>(rt, alloc, AtOnce, threads, wanted)
 }
 
 /// Opens a line of `threads` nodes, and runs what is asked for on it.

@@ -5,6 +5,7 @@ ghost use Rattle.std.specs.Duration.{as_nanos};
 
 use crate::turns::{Plan, Turns, Waiter};
 use line_blocking::scoped::run_scoped;
+use line_generic::{Discipline, Line};
 use line_kinds::{ALL, Lines, for_kind};
 use line_lanes::{Line64, lane};
 use qolb_model::{FinishError, Free, LineConfig, OpenError, OpenLine, ParkingLine};
@@ -124,7 +125,16 @@ fn run_over<R: Threads + Wait + Clock + Print + Sync>(
     lines: Lines,
     plan: Plan,
 ) -> anyhow::Result<Measured> {
-    for_kind!(lines, run, [R], [Free], (rt, alloc, plan))
+    for_kind!(lines, run_by, [R], (rt, alloc, plan))
+}
+
+/// Runs the plan over a line of this discipline.
+fn run_by<R: Threads + Wait + Clock + Print + Sync, Q: Discipline<Free> + Send + Sync>(
+    rt: &R,
+    alloc: Global,
+    plan: Plan,
+) -> anyhow::Result<Measured> {
+    run::<R, Line<Free, Q>>(rt, alloc, plan)
 }
 
 /// Opens a line of zeros, and runs the plan by its nodes.

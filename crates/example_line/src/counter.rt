@@ -20,7 +20,7 @@ use std::thread::Threads;
 const WHOLE: Mask = Mask(0xffff_ffff_ffff_ffff);
 
 /// Adds 1 to the first lane in the holder's turn.
-pub(crate) fn add_one<L: LineSync<Free>>(port: &mut L::Port)
+pub fn add_one<L: LineSync<Free>>(port: &mut L::Port)
     requires { IsGranted (L.view port.old) (L.turn port.old) }
     ensures view { L.view port.new ≡ L.view port.old }
     ensures added { lane_of (L.turn port.new).bytes.bytes 0 ≡ (lane_of (bytes_of (L.view port.old)) 0 + 1) % 2 ^ 64 }

@@ -5,6 +5,4 @@ pub mod capacity;
 pub mod counter;
 pub mod fair;
 pub mod mailbox;
-#[cfg(test)]
-mod tests;
 pub mod timed;

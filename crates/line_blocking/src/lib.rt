@@ -1,14 +1,12 @@
 //! Blocking calls for threads that share lines: waiting for a line, scoped threads, and ports that meet.
 #![tactic(auto)]
 
-mod hooked_line;
 mod meetings;
 mod park_on_poll;
 pub mod scoped;
 mod spin;
 mod timed;
 
-pub use hooked_line::{HookedLine, Hooks};
 pub use meetings::{meet_all, meet_others};
 pub use park_on_poll::ParkOnPoll;
 pub use spin::{Got, acquire, wait};

@@ -1,6 +1,6 @@
 -- The memory of a line's table.
 use Rattle.std.specs.Prelude.{ℕ, ◌+◌, ◌*◌}
-use Rattle.line_tickets.specs.Counting.{cells_for}
+use Rattle.line_cells.specs.Counting.{cells_for}
 use Rattle.ring_line.specs.Layout as ring
 use Rattle.link_line.specs.Layout as link
 use Rattle.ticket_line.specs.Layout as ticket

@@ -6,11 +6,11 @@ ghost use Rattle.qolb_model.specs.Opening.{AreNodes};
 ghost use Rattle.line_kinds.specs.Names.{lock_named};
 ghost use Rattle.line_kinds.specs.Bytes.{words_of, slots_of, bytes_of};
 
+use line_cells::{CELLS, cell_count, word_count};
 use line_generic::Payload;
-use line_tickets::{CELLS, cell_count, word_count};
-pub use link_line::LinkLine;
-pub use ring_line::RingLine;
-pub use ticket_line::TicketLine;
+pub use link_line::{LinkLine, LinkQueue};
+pub use ring_line::{RingLine, RingQueue};
+pub use ticket_line::{TicketLine, TicketQueue};
 
 /// The kind of lock that shares a line.
 #[derive(Clone, Copy, Debug, PartialEq, Eq)]
@@ -67,17 +67,18 @@ impl Lines {
     }
 }
 
-/// Calls a generic function with a kind's line types, one for each law.
+/// Calls a generic function with a kind's queue discipline.
 ///
-/// The line types are its last type parameters: `for_kind!(lines, f, [R], [Free], (a, b))` is `f::<R, RingLine<Free>>(a, b)` if `lines` is
-/// `Ring`.
+/// The discipline is its last type parameter: `for_kind!(lines, f, [R], (a, b))` is `f::<R, RingQueue>(a, b)` if `lines` is `Ring`. In such an
+/// `f` a line is `Line<K, Q>`, for any law `K`. So the prover sees once that it is a line, and not once for each lock; if `f` starts threads,
+/// `Q` is also `Send` and `Sync`.
 #[macro_export]
 macro_rules! for_kind {
-    ($lines:expr, $work:ident, [$($other:ty),*], [$($law:ty),*], $given:tt) => {
+    ($lines:expr, $work:ident, [$($other:ty),*], $given:tt) => {
         match $lines {
-            $crate::Lines::Ring => $work::<$($other,)* $($crate::RingLine<$law>),*> $given,
-            $crate::Lines::Link => $work::<$($other,)* $($crate::LinkLine<$law>),*> $given,
-            $crate::Lines::Ticket => $work::<$($other,)* $($crate::TicketLine<$law>),*> $given,
+            $crate::Lines::Ring => $work::<$($other,)* $crate::RingQueue> $given,
+            $crate::Lines::Link => $work::<$($other,)* $crate::LinkQueue> $given,
+            $crate::Lines::Ticket => $work::<$($other,)* $crate::TicketQueue> $given,
         }
     };
 }

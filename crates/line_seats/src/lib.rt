@@ -10,6 +10,3 @@ pub use enter::EnterError;
 pub use ports::{Borrowed, PortSet};
 pub use seats::Seats;
 pub use turn::Turn;
-
-#[cfg(test)]
-mod tests;

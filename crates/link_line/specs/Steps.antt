@@ -103,7 +103,7 @@ is_free Rolled w = is_freed w && not (is_done w && (link_of w == 0))
 is_free _ w = false
 
 -- the node may ask, or its last request is not clear
-pub record IsStill (v : LinkGhost) (free : Bool) (w : LinkGhost) : Type 0 where
+pub record HasLoadedNodeWord (v : LinkGhost) (free : Bool) (w : LinkGhost) : Type 0 where
   pub count : w.view.count ≡ v.view.count
   pub clear : free ≡ true → (w.own.seat.point ≡ Idle) × (w.view.state ≡ port_state.Idle)
   pub unclear : free ≡ false → (w.own.seat.point ≡ v.own.seat.point) × (w.view.state ≡ v.view.state) × Lacks w.view.clear (own w.view)
@@ -231,7 +231,7 @@ module _ (allows : List ℕ → List ℕ → Type 0) where
       × (is_granted n ≡ false → (m'.1 ≡ m.1) × IsRolled (single m'.0))
 
   abbrev pub looked : Step Payload → SeatContents → ℕ → SeatContents → Type 0
-  looked st m n m' = (m'.1 ≡ m.1) × Advances allows m m' 1 × IsStill (single m.0) (is_free (single m.0).own.seat.point n) (single m'.0)
+  looked st m n m' = (m'.1 ≡ m.1) × Advances allows m m' 1 × HasLoadedNodeWord (single m.0) (is_free (single m.0).own.seat.point n) (single m'.0)
 
   abbrev pub homed : Step Payload → SeatContents → ℕ → SeatContents → Type 0
   homed st m n m' = Advances allows m m' 1 × ((y : Payload) → m.1 ≡ (0, y) ∷ []

@@ -17,7 +17,7 @@ ghost use Rattle.link_line.specs.BetweenCalls.{turn_word};
 ghost use Rattle.link_line.specs.Layout as layout;
 ghost use Rattle.line_generic.specs.declared.table.Payload.{Payload};
 ghost use Rattle.line_generic.specs.Steps.{HasSlot, HasNoSlot};
-ghost use Rattle.link_line.specs.Steps.{IsSingle, IsSeatOf, IsAt, IsSeatOfNode, ghost_of, SeatAdvances, IsReady, LinksTo, IsStillQueued, IsAtTurn, IsRolled, IsStill, MayHandOff, KeepsPayload, IsOneLeft, Ended, LeavesNode, IsLeft, Passes, Frees};
+ghost use Rattle.link_line.specs.Steps.{IsSingle, IsSeatOf, IsAt, IsSeatOfNode, ghost_of, SeatAdvances, IsReady, LinksTo, IsStillQueued, IsAtTurn, IsRolled, HasLoadedNodeWord, MayHandOff, KeepsPayload, IsOneLeft, Ended, LeavesNode, IsLeft, Passes, Frees};
 
 use crate::invariant::{LinkSeat, SharedTable};
 use crate::layout::{
@@ -110,7 +110,7 @@ pub(crate) fn look_left<K: Keep>(table: &SharedTable<K>, seat: &mut LinkSeat, no
     requires phase { IsAt Left seat.old }
     ensures slot { seat.new.me.1 ≡ seat.old.me.1 }
     ensures advances { SeatAdvances K.allows seat.old seat.new 1 }
-    ensures still { IsStill (ghost_of seat.old) result (ghost_of seat.new) }
+    ensures still { HasLoadedNodeWord (ghost_of seat.old) result (ghost_of seat.new) }
 {
     link_of(table.load::<Look<K>>(seat, entry_word(node))) != 0
 }
@@ -124,7 +124,7 @@ pub(crate) fn look_rolled<K: Keep>(table: &SharedTable<K>, seat: &mut LinkSeat, 
     requires phase { IsAt Rolled seat.old }
     ensures slot { seat.new.me.1 ≡ seat.old.me.1 }
     ensures advances { SeatAdvances K.allows seat.old seat.new 1 }
-    ensures still { IsStill (ghost_of seat.old) result (ghost_of seat.new) }
+    ensures still { HasLoadedNodeWord (ghost_of seat.old) result (ghost_of seat.new) }
 {
     let word = table.load::<Look<K>>(seat, entry_word(node));
     is_freed(word) && !(is_done(word) && link_of(word) == 0)

@@ -1,5 +1,1 @@
 pub mod Telling
-pub mod AsBox
-pub mod Handles
-pub mod Filling
-pub mod Opened

@@ -1,9 +1,9 @@
 -- C's numbers. (Of this project.)
-use Rattle.std.specs.Prelude.{ℕ, Option, Some, None}
+use Rattle.std.specs.Prelude.{ℕ}
 use Rattle.qolb_model.specs.declared.answer.PortState.{PortState}
 use Rattle.qolb_model.specs.declared.answer.PortState.TheVariants as state
-use Rattle.qolb_c.specs.declared.answer.Answer.{Answer}
-use Rattle.qolb_c.specs.declared.answer.Answer.TheVariants as answer
+use Rattle.qolb_nodes.specs.declared.answer.Answer.{Answer}
+use Rattle.qolb_nodes.specs.declared.answer.Answer.TheVariants as answer
 
 -- the number of an answer
 abbrev pub number_of : Answer → ℕ
@@ -32,8 +32,3 @@ state_number state.Holding = 4
 state_number state.Left = 5
 state_number state.Rolled = 6
 state_number state.Shut = 7
-
--- the number of the turns left of a lease; 2^64 - 1 for no lease
-abbrev pub turns_number : Option ℕ → ℕ
-turns_number None = 0xffff_ffff_ffff_ffff
-turns_number (Some turns) = turns

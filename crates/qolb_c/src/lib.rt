@@ -5,24 +5,17 @@
 #![tactic(auto)]
 
 ghost use Rattle.std.specs.Prelude.{◌≡◌, true, false, None};
-ghost use Rattle.qolb_c.specs.declared.answer.Answer.{Answer};
-ghost use Rattle.qolb_c.specs.Numbers.{number_of};
-ghost use Rattle.qolb_c.specs.Memory.{TellsMemory};
-ghost use Rattle.qolb_c.specs.Opens.{Opens, config_by};
-ghost use Rattle.qolb_c.specs.Calls.{Calls, Enqolbs, Polls, Waits, Prepends, LinksUp, Withdraws, LooksIfClear, Reads, ReadsLane, Writes, WritesLane, AddsLane, Releases, Closes, TurnsLeft, WaitsAt, WentTo, node_number, label_told, state_told};
-ghost use Rattle.qolb_c.specs.Waits.{nowhere};
+ghost use Rattle.qolb_nodes.specs.declared.answer.Answer.{Answer};
+ghost use Rattle.qolb_nodes.specs.Calls.{Enqolbs, Polls, Waits, Prepends, LinksUp, Withdraws, LooksIfClear, Reads, ReadsLane, Writes, WritesLane, AddsLane, Releases};
+ghost use Rattle.qolb_nodes.specs.Memory.{TellsMemory};
+ghost use Rattle.qolb_nodes.specs.Opens.{Opens, config_by};
+ghost use Rattle.qolb_nodes.specs.Waits.{nowhere};
+ghost use Rattle.qolb_c.specs.Exports.{Calls, Closes, TurnsLeft, WaitsAt, WentTo, node_number, label_told, state_told};
+ghost use Rattle.qolb_c.specs.Numbers.{number_of, state_number};
 
-mod answer;
-mod any_node;
-mod handle;
-mod kinds;
-mod node;
-mod opening;
-
-use answer::{Answer, NO_LEASE, state_number};
-use handle::Handle;
 use line_lanes::{Line64, Mask};
-use qolb_model::LineConfig;
+use qolb_model::{LineConfig, PortState};
+use qolb_nodes::{Answer, Handle, NO_LEASE};
 use std::alloc::Global;
 
 /// 64 bytes, as C passes them.
@@ -38,12 +31,34 @@ const VERSION: u32 = 10_700;
 /// A number that is no word of any line: no node waits there.
 const NO_WORD: u64 = u64::MAX;
 
+/// Returns C's number of an answer.
+fn number(answer: Answer) -> u32
+    ensures { result ≡ number_of answer }
+{
+    answer as u32
+}
+
+/// Returns C's number of a node's state. A handle without a node has 0.
+fn state_number(state: PortState) -> u32
+    ensures { result ≡ state_number state }
+{
+    match state {
+        PortState::Idle => 1,
+        PortState::Linking => 2,
+        PortState::Queued => 3,
+        PortState::Holding => 4,
+        PortState::Left => 5,
+        PortState::Rolled => 6,
+        PortState::Shut => 7,
+    }
+}
+
 /// Calls the handle's node, and returns the answer's number; `Misuse` for an empty handle.
 macro_rules! told {
     ($handle:ident, $node:ident => $call:expr) => {
         match $handle.get_mut() {
-            None => Answer::Misuse.number(),
-            Some($node) => $call.number(),
+            None => number(Answer::Misuse),
+            Some($node) => number($call),
         }
     };
 }
@@ -71,7 +86,7 @@ pub extern "C" fn qolb_open(
         },
         lease: if lease == NO_LEASE { None } else { Some(lease) },
     };
-    opening::open(alloc, kind, label, config, out).number()
+    number(qolb_nodes::open(alloc, kind, label, config, out))
 }
 
 /// Returns the number of bytes of the table of such a line. Does not allocate.
@@ -81,7 +96,7 @@ pub extern "C" fn qolb_open(
 pub extern "C" fn qolb_memory(kind: u32, nodes: u64) -> u64
     ensures { TellsMemory kind nodes result }
 {
-    opening::memory(kind, nodes)
+    qolb_nodes::memory(kind, nodes)
 }
 
 /// Requests the line, and answers at once. Does not block.
@@ -260,14 +275,14 @@ pub extern "C" fn qolb_close(alloc: Global, node: &mut Handle) -> u32
     ensures { Closes node.old.held node.new.held result }
 {
     match node.take(alloc) {
-        None => Answer::Misuse.number(),
+        None => number(Answer::Misuse),
         Some(taken) => {
             if taken.shown().state.may_ask() {
                 drop(taken);
-                Answer::Done.number()
+                number(Answer::Done)
             } else {
                 node.put(taken);
-                Answer::Misuse.number()
+                number(Answer::Misuse)
             }
         }
     }

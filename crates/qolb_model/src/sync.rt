@@ -22,16 +22,16 @@ use crate::view::View;
 use line_lanes::{Line64, Mask};
 use std::alloc::Global;
 
-/// A queue lock (QOLB, Goodman 1989) that hands 64 bytes from node to node. Each node has its own port.
+/// A queue lock that hands 64 bytes from node to node, each with its own port.
 ///
-/// `K` says which bytes the line may have and which changes a turn may make. What the port knows before and after a call of the queue is one
-/// record of `specs/Calls`, with a field for each answer. A word step is one atomic operation on a word that nodes share.
+/// The calls are those of QOLB (Scalable Coherent Interface, IEEE 1596; as QOSB by Goodman, Vernon and Woest 1989). `K` says which bytes the
+/// line may have and which changes a turn may make. Each call promises one record of `specs/Calls` about the port's view before and after
+/// it, with a field for each answer.
 ///
-/// Each call is wait-free: it takes at most `max_steps` word steps, whatever other nodes do meanwhile. A few are enough for all but a
-/// release, and a call that finds the line closed, which releases it for the next node: these take some for each withdrawn request that they
-/// pass, so at most a few times the number of nodes. Only `finish` allocates. No call of a lock blocks, as that takes a handle of the
-/// system, and none is passed. A wrapper that keeps such a handle can implement this trait by calls that park. Of all ports, a call
-/// changes only those that it is passed.
+/// A word step is one atomic operation on a word that nodes share, sequentially consistent in all locks. A call takes at most `max_steps`
+/// of them, whatever other nodes do meanwhile: a constant number, but for a release, and for a call that finds the line closed and releases
+/// it. These take two to four for each withdrawn request that they pass. Only `finish` allocates. No lock blocks in a call, as it has no
+/// handle of the system (`Wait`); a wrapper that keeps one may park in `poll`. Of all ports, a call changes only those that it is passed.
 pub trait LineSync<K: Keep> {
     /// A node's handle of the line.
     type Port;
@@ -115,8 +115,9 @@ pub trait LineSync<K: Keep> {
         ensures enqueues { Enqueues K.allows (view port.old) (view port.new) (turn port.new) result }
         ensures counts { Counts (call_steps self.now) (max_steps self.now) (call.asks result) (view port.old) (view port.new) (counters port.old) (counters port.new) };
 
-    /// Polls the request. If it is at its turn, the port takes the line and holds it; or it is told that the line is closed, and has released it
-    /// for the next node.
+    /// Polls the request. If it is at its turn, the port takes the line and holds it.
+    ///
+    /// `Closed`: it was at the turn of a closed line, and this call has released it for the next node.
     fn poll(&self, port: &mut Self::Port) -> Poll
         requires belongs { belongs self.now port.old }
         requires state { (view port.old).state ≡ PortState.Queued }
@@ -124,9 +125,10 @@ pub trait LineSync<K: Keep> {
         ensures polls { Polls K.allows (view port.old) (view port.new) (turn port.new) result }
         ensures counts { Counts (call_steps self.now) (max_steps self.now) (call.polls result) (view port.old) (view port.new) (counters port.old) (counters port.new) };
 
-    /// Withdraws the request. If it is at its turn, the port holds the line instead, or is told that it is closed.
+    /// Withdraws the request. If it is at its turn, the port takes the line and holds it instead.
     ///
-    /// A withdrawn request is not clear before a release has passed it and freed the node's word.
+    /// `Closed`: it was at the turn of a closed line, and this call has released it for the next node. A withdrawn request is not clear
+    /// before a release has passed it and freed the node's word.
     fn withdraw(&self, port: &mut Self::Port) -> Out
         requires belongs { belongs self.now port.old }
         requires state { (view port.old).state ≡ PortState.Queued }
@@ -136,7 +138,7 @@ pub trait LineSync<K: Keep> {
 
     /// Returns `true` if the port's last request is clear, so that the next is not answered `Busy`. Makes no request.
     ///
-    /// A request is clear once no other node uses its node's word. The port's view records what the look found.
+    /// A request is clear once no other node uses its node's word. At most a few word steps; the port's view records what the look found.
     fn is_clear(&self, port: &mut Self::Port) -> bool
         requires belongs { belongs self.now port.old }
         requires state { IsTrue (may_ask (view port.old).state) }
@@ -162,7 +164,9 @@ pub trait LineSync<K: Keep> {
         ensures releases { Releases K.allows true (view port.old) (view port.new) (turn port.old) }
         ensures counts { Counts (call_steps self.now) (max_steps self.now) call.releases (view port.old) (view port.new) (counters port.old) (counters port.new) };
 
-    /// Merges the views of two ports, and proves that at most one of them holds. For proofs: a lock loads one word for it, which is not counted.
+    /// Merges the views of two ports, and proves that at most one of them holds. For proofs: it returns nothing.
+    ///
+    /// A lock loads one word, so that its rule can be read; `steps` does not count that load.
     fn meet(&self, a: &mut Self::Port, b: &mut Self::Port)
         requires belongs_a { belongs self.now a.old }
         requires belongs_b { belongs self.now b.old }
@@ -176,7 +180,8 @@ pub trait LineSync<K: Keep> {
 
     /// Finishes the line and returns its bytes, given the ports of all its nodes in any order.
     ///
-    /// A port with this line's label must be this line's. If refused, returns the cause with the line, and the ports in the order given.
+    /// A port with this line's label must be this line's. Refused if a node has an open request or holds the line, if its port is missing, or
+    /// if a port is of another line; also without memory. Then returns the cause with the line, and the ports in the order given.
     fn finish(
         self,
         alloc: Global,

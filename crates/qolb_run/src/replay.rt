@@ -7,6 +7,7 @@ ghost use Rattle.qolb_replay.specs.Outcome.{IsReply, HasNoReply};
 ghost use Rattle.qolb_run.specs.declared.task.Task.TheVariants as task;
 ghost use Rattle.qolb_run.specs.Outcome.{MayFail};
 
+use line_generic::{Discipline, Line};
 use line_kinds::{Lines, for_kind};
 use qolb_model::Free;
 use qolb_replay::{ReplayError, answered_over, answered_plainly, read_input};
@@ -82,11 +83,16 @@ fn answered_by<'a>(
     ensures ok { IfOk result (λ text. reply_to input.now ≡ Ok text.items) }
     ensures refused { IfErr result (HasNoReply input.now) }
 {
-    for_kind!(
-        lines,
-        answered_over,
-        [Global],
-        [Free],
-        (alloc, *alloc, input)
-    )
+    for_kind!(lines, answered_with, [], (alloc, input))
+}
+
+/// The reply of the schedule that the input is, by lines of this discipline.
+fn answered_with<'a, Q: Discipline<Free>>(
+    alloc: &'a Global,
+    input: &[u8],
+) -> Result<Vec<u8, &'a Global>, ReplayError>
+    ensures ok { IfOk result (λ text. reply_to input.now ≡ Ok text.items) }
+    ensures refused { IfErr result (HasNoReply input.now) }
+{
+    answered_over::<Global, Line<Free, Q>>(alloc, *alloc, input)
 }

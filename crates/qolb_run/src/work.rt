@@ -11,6 +11,7 @@ ghost use Rattle.qolb_work.specs.BoardWork.{IsBoardedOver};
 
 use line_accounts::AccountLaw;
 use line_board::BoardLaw;
+use line_generic::{Discipline, Line};
 use line_kinds::{Lines, LinkLine, RingLine, TicketLine, for_kind};
 use qolb_model::LineSync;
 use qolb_script::{Report, Work};
@@ -76,11 +77,20 @@ pub fn run_work_with<R: Threads + Wait + Sync, G: Gate + Sync>(
     ensures stalled { IfErr result (MayStop work.now) }
     ensures by_gate { (worker : ℕ) → result ≡ Err (RunError.Stalled worker) → G.may_refuse gate.now worker }
 {
-    for_kind!(
-        lines,
-        run_work_over,
-        [R, G],
-        [BoardLaw, AccountLaw],
-        (rt, alloc, gate, work, waits)
-    )
+    for_kind!(lines, run_work_by, [R, G], (rt, alloc, gate, work, waits))
+}
+
+/// Does the work over lines of this discipline.
+fn run_work_by<
+    R: Threads + Wait + Sync,
+    G: Gate + Sync,
+    Q: Discipline<BoardLaw> + Discipline<AccountLaw> + Send + Sync,
+>(rt: &R, alloc: Global, gate: &G, work: &Work, waits: WaitMode) -> Result<Report, RunError>
+    ensures report { IfOk result (IsReportOf work.now) }
+    ensures boarded { let board = ⟦<Line<BoardLaw, Q> as LineSync<BoardLaw>>⟧ in IfOk result (IsBoardedOver board.belongs board.view board.config_of work.now) }
+    ensures banked { let bank = ⟦<Line<AccountLaw, Q> as LineSync<AccountLaw>>⟧ in IfOk result (IsBankedOver bank.belongs bank.view bank.config_of work.now) }
+    ensures stalled { IfErr result (MayStop work.now) }
+    ensures by_gate { (worker : ℕ) → result ≡ Err (RunError.Stalled worker) → G.may_refuse gate.now worker }
+{
+    run_work_over::<R, G, Line<BoardLaw, Q>, Line<AccountLaw, Q>>(rt, alloc, gate, work, waits)
 }

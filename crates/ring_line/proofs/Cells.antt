@@ -4,11 +4,11 @@ use mathlib.Core.Logic.{dite}
 use native.Mathlib.Decide.{ℕ_discrete, dec_le}
 use Rattle.atomic_table.proofs.Lists.{one_turn}
 use Rattle.qolb_model.proofs.Updates.{put, put_here, put_else}
-use Rattle.line_tickets.specs.declared.layout.TheConstants.{CELLS}
+use Rattle.line_cells.specs.declared.layout.TheConstants.{CELLS}
 use Rattle.ring_line.specs.Layout.{cell_of}
-use Rattle.line_tickets.proofs.Taking.{Takes, StaysBehind, cells_apart}
-use Rattle.line_tickets.proofs.Roll.{Withdraws}
-use Rattle.line_tickets.proofs.Grant.{GrantsNext}
+use Rattle.line_cells.proofs.Taking.{Takes, StaysBehind, cells_apart}
+use Rattle.line_cells.proofs.Roll.{Withdraws}
+use Rattle.line_cells.proofs.Grant.{GrantsNext}
 use Rattle.ring_line.specs.declared.layout.TheConstants.{WITHDRAWN}
 use Rattle.ring_line.specs.Ring.{RingCells}
 use Rattle.ring_line.specs.Steps.{is_blank, is_granted, seen, withdrawn_by}

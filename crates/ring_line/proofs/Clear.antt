@@ -3,21 +3,21 @@ use Rattle.std.proofs.Common.{◌≡◌, ◌≢◌, ◌⊎◌, ℕ, ◌+◌, ◌
 use mathlib.Core.Option.{none, some}
 use lib.ListN.{get_elem?}
 use Rattle.atomic_table.specs.Table.{step, keeps, Allows}
-use Rattle.line_tickets.specs.declared.local.Point.TheVariants.{Idle, Holding, Passing, Rolled}
+use Rattle.line_cells.specs.declared.local.Point.TheVariants.{Idle, Holding, Passing, Rolled}
 use Rattle.line_generic.specs.declared.table.TableKey.{TableKey}
-use Rattle.line_tickets.specs.Layout.{cell_at, cells_in}
+use Rattle.line_cells.specs.Layout.{cell_at, cells_in}
 use Rattle.ring_line.specs.Layout.{cell_of}
-use Rattle.line_tickets.specs.Array.{ArrayGhost, History, Walks, NodeInv, Represents, has_line, is_unfinished}
-use Rattle.line_tickets.specs.SlotLayout.{Homes, one_slot}
+use Rattle.line_cells.specs.Array.{ArrayGhost, History, Walks, NodeInv, Represents, has_line, is_unfinished}
+use Rattle.line_cells.specs.SlotLayout.{Homes, one_slot}
 use Rattle.ring_line.specs.Ring.{RingCells, RingRule}
-use Rattle.line_tickets.specs.Steps.{single, SeatContents}
+use Rattle.line_cells.specs.Steps.{single, SeatContents}
 use Rattle.ring_line.specs.Steps.{cleared, after_clear}
 use Rattle.qolb_model.proofs.Prefixes.{prefix_self}
-use Rattle.line_tickets.proofs.OneNode.{clash_at, passed_goes}
-use Rattle.line_tickets.proofs.Nodes.{others_hand}
-use Rattle.line_tickets.proofs.Keeping.{rule_step, mine_ok, mine_low, cell_shown}
-use Rattle.line_tickets.proofs.Taking.{cells_apart, at_turn, line_kept}
-use Rattle.line_tickets.specs.declared.layout.TheConstants.{CELLS}
+use Rattle.line_cells.proofs.OneNode.{clash_at, passed_goes}
+use Rattle.line_cells.proofs.Nodes.{others_hand}
+use Rattle.line_cells.proofs.Keeping.{rule_step, mine_ok, mine_low, cell_shown}
+use Rattle.line_cells.proofs.Taking.{cells_apart, at_turn, line_kept}
+use Rattle.line_cells.specs.declared.layout.TheConstants.{CELLS}
 use Rattle.qolb_model.proofs.Updates.{put_here, put_else}
 
 module _ (good : List ℕ → Type 0) (allows : List ℕ → List ℕ → Type 0) (key : TableKey) (v : ArrayGhost) (passing : (v.own.point ≡ Holding) ⊎ (v.own.point ≡ Passing)) where

@@ -5,12 +5,12 @@ use Rattle.qolb_model.specs.PortStates.{state_after}
 use Rattle.line_generic.specs.declared.table.Payload.{Payload}
 use Rattle.line_generic.specs.Steps.{IsSameSeat, HasSlot, HasNoSlot}
 use Rattle.ring_line.specs.Layout.{cell_of}
-use Rattle.line_tickets.specs.SlotLayout.{one_slot}
-use Rattle.line_tickets.specs.Array.{ArrayGhost}
-use Rattle.line_tickets.specs.Steps.{ArraySeat, SeatContents, ghost_of, single, CarriesNext, Ended, GoesHome, Passes, Advances}
-use Rattle.line_tickets.specs.Releases.{MatchesEnds}
-use Rattle.line_tickets.proofs.Turning.{goes_trans, goes_same}
-use Rattle.line_tickets.proofs.Walking as walk
+use Rattle.line_cells.specs.SlotLayout.{one_slot}
+use Rattle.line_cells.specs.Array.{ArrayGhost}
+use Rattle.line_cells.specs.Steps.{ArraySeat, SeatContents, ghost_of, single, CarriesNext, Ended, GoesHome, Passes, Advances}
+use Rattle.line_cells.specs.Releases.{MatchesEnds}
+use Rattle.line_cells.proofs.Turning.{goes_trans, goes_same}
+use Rattle.line_cells.proofs.Walking as walk
 use Rattle.ring_line.specs.Layout.{withdrawn_by}
 use Rattle.ring_line.specs.Steps.{turn_cell, after_clear}
 

@@ -2,9 +2,9 @@
 -- nothing of `proofs`.
 use Rattle.std.proofs.Common.{◌≡◌, ℕ, ◌+◌, ◌^◌, ◌<◌, ◌≤◌, List, false, arith}
 use Rattle.qolb_model.specs.declared.config.TheConstants.{MAX_NODES}
-use Rattle.line_tickets.specs.declared.layout.TheConstants.{CELLS}
-use Rattle.line_tickets.specs.BetweenCalls.{max_steps}
-use Rattle.line_tickets.specs.Layout.{cell_at, cells_in}
+use Rattle.line_cells.specs.declared.layout.TheConstants.{CELLS}
+use Rattle.line_cells.specs.BetweenCalls.{max_steps}
+use Rattle.line_cells.specs.Layout.{cell_at, cells_in}
 use Rattle.ring_line.specs.Layout.{cell_of}
 use Rattle.ring_line.specs.Layout.{AreFirst}
 use Rattle.ring_line.specs.Ring.{RingCells}

@@ -1,7 +1,7 @@
 -- The contents of a ring's words.
 use Rattle.std.specs.Prelude.{ℕ, ◌/◌, List, Bool, not, ◌==◌}
-use Rattle.line_tickets.specs.declared.layout.TheConstants.{CELLS}
-use Rattle.line_tickets.specs.Layout as array
+use Rattle.line_cells.specs.declared.layout.TheConstants.{CELLS}
+use Rattle.line_cells.specs.Layout as array
 use Rattle.ring_line.specs.declared.layout.TheConstants.{WITHDRAWN}
 
 -- the node that withdrew at a cell with this word

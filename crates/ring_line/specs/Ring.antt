@@ -1,10 +1,10 @@
 -- The invariant of a ring's table.
 use Rattle.std.specs.Prelude.{◌≡◌, ℕ, ◌+◌, ◌*◌, ◌<◌, List, Bool, true}
 use Rattle.line_generic.specs.declared.table.TableKey.{TableKey}
-use Rattle.line_tickets.specs.declared.layout.TheConstants.{CELLS}
+use Rattle.line_cells.specs.declared.layout.TheConstants.{CELLS}
 use Rattle.ring_line.specs.Layout.{cell_of}
-use Rattle.line_tickets.specs.SlotLayout.{one_slot}
-use Rattle.line_tickets.specs.Array.{ArrayState, ArrayRule}
+use Rattle.line_cells.specs.SlotLayout.{one_slot}
+use Rattle.line_cells.specs.Array.{ArrayState, ArrayRule}
 use Rattle.ring_line.specs.declared.layout.TheConstants.{WITHDRAWN}
 
 -- The words of the cells. The cell at its turn is blank once it is cleared, and granted if no node has the line; a

@@ -3,13 +3,13 @@ use Rattle.std.specs.Prelude.{◌≡◌, ◌≢◌, ℕ, ◌+◌, ◌%◌, ◌^�
 use Rattle.atomic_table.specs.Table.{Step}
 use Rattle.atomic_table.specs.Seated.{TableId}
 use Rattle.line_generic.specs.declared.table.Payload.{Payload}
-use Rattle.line_tickets.specs.declared.local.Point.TheVariants.{Cleared}
+use Rattle.line_cells.specs.declared.local.Point.TheVariants.{Cleared}
 use Rattle.ring_line.specs.Layout.{cell_of}
-use Rattle.line_tickets.specs.SlotLayout.{one_slot}
-use Rattle.line_tickets.specs.declared.layout.TheConstants.{CELLS}
-use Rattle.line_tickets.specs.Array.{ArrayGhost}
-use Rattle.line_tickets.specs.Steps as array
-use Rattle.line_tickets.specs.Steps.{ArraySeat, SeatContents, single, ghost_of}
+use Rattle.line_cells.specs.SlotLayout.{one_slot}
+use Rattle.line_cells.specs.declared.layout.TheConstants.{CELLS}
+use Rattle.line_cells.specs.Array.{ArrayGhost}
+use Rattle.line_cells.specs.Steps as array
+use Rattle.line_cells.specs.Steps.{ArraySeat, SeatContents, single, ghost_of}
 use Rattle.ring_line.specs.Layout as layout
 
 -- the cell of the node's last request, and the one at its turn, as far as the node knows

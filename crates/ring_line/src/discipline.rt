@@ -2,12 +2,12 @@
 ghost use Rattle.std.specs.Prelude.{◌≡◌};
 ghost use Rattle.qolb_model.specs.PortStates as states;
 ghost use Rattle.ring_line.specs.Layout.{word_count, cell_of};
-ghost use Rattle.line_tickets.proofs.Seats as seats;
-ghost use Rattle.line_tickets.proofs.Meets as meeting;
-ghost use Rattle.line_tickets.proofs.Lasting as lasting;
+ghost use Rattle.line_cells.proofs.Seats as seats;
+ghost use Rattle.line_cells.proofs.Meets as meeting;
+ghost use Rattle.line_cells.proofs.Lasting as lasting;
 ghost use Rattle.ring_line.specs.Layout as layout;
-ghost use Rattle.line_tickets.specs.SlotLayout.{one_slot};
-ghost use Rattle.line_tickets.proofs.Slots.{one_returns, one_first, one_last};
+ghost use Rattle.line_cells.specs.SlotLayout.{one_slot};
+ghost use Rattle.line_cells.proofs.Slots.{one_returns, one_first, one_last};
 ghost use Rattle.ring_line.specs.Ring.{RingCells};
 ghost use Rattle.ring_line.specs.Laws.{first_cells, enough};
 
@@ -16,11 +16,11 @@ use crate::layout::{cell_after, cell_of, first_words, is_granted};
 use crate::release::{release, try_reset};
 use crate::steps::{load, load_node, roll, take_ticket};
 use atomic_table::Closed;
+use line_cells::{WORDS, cell_word, is_freed};
 use line_generic::{
     Discipline, EnqueueResult, Enqueued, LocalCopy, Payload, Released, Rested, UnparkHandle,
     load_from_slot, store_to_slot, take_from_closed,
 };
-use line_tickets::{WORDS, cell_word, is_freed};
 use qolb_model::{Keep, PortState};
 use std::alloc::{AllocError, Global};
 

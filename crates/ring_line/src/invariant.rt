@@ -1,14 +1,14 @@
 //! The queue discipline of a ring, its ghost state and its invariant.
 ghost use Rattle.line_generic.specs.Slots.{in_single_slot, open_in_single_slot};
 ghost use Rattle.ring_line.specs.Layout.{cell_of};
-ghost use Rattle.line_tickets.specs.declared.layout.TheConstants.{CELLS};
-ghost use Rattle.line_tickets.specs.BetweenCalls as between_calls;
-ghost use Rattle.line_tickets.proofs.PortModel as port_model;
+ghost use Rattle.line_cells.specs.declared.layout.TheConstants.{CELLS};
+ghost use Rattle.line_cells.specs.BetweenCalls as between_calls;
+ghost use Rattle.line_cells.proofs.PortModel as port_model;
 ghost use Rattle.ring_line.specs.Laws as laws;
 ghost use Rattle.ring_line.specs.Layout as layout;
 
+use line_cells::Local;
 use line_generic::{DisciplineInvariant, DisciplineSpec, LineSeat, Parking};
-use line_tickets::Local;
 use qolb_model::Keep;
 
 /// An array queue lock (Anderson 1990) that also hands over the line, with withdrawal.

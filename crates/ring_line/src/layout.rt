@@ -1,10 +1,10 @@
 //! The contents of a ring's words.
 ghost use Rattle.std.specs.Prelude.{◌≡◌, ◌≢◌, ◌+◌, ◌<◌, length, MatchBool, IfOk};
-ghost use Rattle.line_tickets.specs.declared.layout.TheConstants.{CELLS};
-ghost use Rattle.line_tickets.specs.Layout as array;
+ghost use Rattle.line_cells.specs.declared.layout.TheConstants.{CELLS};
+ghost use Rattle.line_cells.specs.Layout as array;
 ghost use Rattle.ring_line.specs.Layout as layout;
 
-use line_tickets::{CELLS, cell_word};
+use line_cells::{CELLS, cell_word};
 use std::alloc::{AllocError, Global};
 
 /// The number that a grant adds to a cell.

@@ -7,18 +7,18 @@ ghost use Rattle.qolb_model.specs.PortStates.{state_after};
 ghost use Rattle.line_generic.specs.declared.table.Payload.{Payload};
 ghost use Rattle.line_generic.specs.Steps.{IsSeatOf, HasSlot, HasNoSlot};
 ghost use Rattle.ring_line.specs.Layout.{word_count};
-ghost use Rattle.line_tickets.specs.Array.{At};
-ghost use Rattle.line_tickets.specs.Steps.{IsAt, ghost_of, SeatAdvances, CarriesNext};
-ghost use Rattle.line_tickets.specs.Releases.{IsReset, steps_to_reset, MatchesEnds, ReleasesLine, FinishesWalk, AreNodesAt, FreesAll};
+ghost use Rattle.line_cells.specs.Array.{At};
+ghost use Rattle.line_cells.specs.Steps.{IsAt, ghost_of, SeatAdvances, CarriesNext};
+ghost use Rattle.line_cells.specs.Releases.{IsReset, steps_to_reset, MatchesEnds, ReleasesLine, FinishesWalk, AreNodesAt, FreesAll};
 ghost use Rattle.ring_line.specs.Layout.{withdrawn_by};
 ghost use Rattle.ring_line.specs.Steps.{IsSeatOfNode, turn_cell};
-ghost use Rattle.line_tickets.specs.declared.local.Point.TheVariants.{Idle, Holding, Passing, Freeing, Rolled};
+ghost use Rattle.line_cells.specs.declared.local.Point.TheVariants.{Idle, Holding, Passing, Freeing, Rolled};
 
 use crate::invariant::{RingSeat, SharedTable};
 use crate::layout::{cell_after, is_withdrawn, withdrawn_by};
 use crate::steps::{clear, free, grant, load_node, reset};
 use arrayvec::ArrayVec;
-use line_tickets::is_freed;
+use line_cells::is_freed;
 use qolb_model::{Keep, MAX_NODES, PortState};
 
 /// The maximum number of requests that a release passes: those of all nodes but its own.
@@ -33,7 +33,7 @@ pub(crate) struct Handoff {
 
 /// Resets the node's word for a new request, and returns the word steps taken: 0 or 2.
 ///
-/// Returns `None`, after one step, if the last request is withdrawn and not passed yet.
+/// Returns `None`, after one step, if the last request is withdrawn and the node not freed yet.
 #[inline]
 pub(crate) fn try_reset<K: Keep>(
     table: &SharedTable<K>,
@@ -58,8 +58,8 @@ pub(crate) fn try_reset<K: Keep>(
     Some(2)
 }
 
-/// Releases the line in the slot to the successor. Two word steps if the successor has not withdrawn, else three more for each passed
-/// request.
+/// Releases the line in the slot to the successor, or to the next request if there is none yet. Two word steps if the successor has not
+/// withdrawn, else three more for each passed request.
 #[inline]
 pub(crate) fn release<K: Keep>(table: &SharedTable<K>, seat: &mut RingSeat, cell: u64) -> Handoff
     requires table { IsSeatOf word_count table.now.table_id seat.old }
@@ -75,7 +75,7 @@ pub(crate) fn release<K: Keep>(table: &SharedTable<K>, seat: &mut RingSeat, cell
     ensures steps { result.steps + 1 + 3 * length (ghost_of seat.old).view.ends ≡ 3 * length (ghost_of seat.new).view.ends }
     ensures bound { result.steps + 1 ≤ 3 * (ghost_of seat.old).view.config.nodes }
 {
-    // The own cell is cleared before the next is granted: once that is done, others may come round to this cell.
+    // Cleared before the next cell is granted: after the grant a later ticket may come round to this cell.
     clear(table, seat, cell);
     let found = grant(table, seat, cell);
     if is_withdrawn(found) {
@@ -123,7 +123,7 @@ fn walk<K: Keep>(table: &SharedTable<K>, seat: &mut RingSeat, cell: u64, found: 
         found = grant(table, seat, cell);
         cell = cell_after(cell);
     }
-    // Freed only now: a freed node may make a request, which this walk must not pass.
+    // Freed only now: a freed node may request again, and this walk must not pass it twice.
     free_passed(table, seat, &passed);
     Handoff {
         steps: 3 * passed.len() as u64,

@@ -2,7 +2,7 @@
 ghost use Rattle.std.specs.Prelude.{IsTrue};
 ghost use Rattle.qolb_model.specs.PortStates.{may_ask};
 
-use crate::rows::{expect, line_with, with_byte};
+use crate::rows::{Bytes, FULL, expect, line_with, with_byte};
 use line_board::{BoardLaw, Put, Take, Tasks, decode, encode, laws, put, take};
 use line_lanes::Line64;
 use qolb_model::LineSync;
@@ -93,16 +93,19 @@ fn boards_stand_lowest_byte_first(rt: HostRuntime) {
     expect_board(&rt, &[1, 2, 3, 4, 5, 6, 7], full);
 }
 
+/// Lines that are no boards.
+static NO_BOARDS: [(Bytes, &str); 3] = [
+    (&[(0, 8)], "eight tasks"),
+    (&[(0, 1), (24, 5)], "lane 3 of one task"),
+    (&[(1, 1)], "byte 1"),
+];
+
 #[test]
 fn these_lines_are_no_boards(rt: HostRuntime) {
-    for (line, why) in [
-        (line_with(&[(0, 8)]), "eight tasks"),
-        (line_with(&[(0, 1), (24, 5)]), "lane 3 of one task"),
-        (line_with(&[(1, 1)]), "byte 1"),
-        (Line64::from_bytes([255; 64]), "all ones"),
-    ] {
-        expect(&rt, why, decode(&line), None);
+    for (bytes, why) in &NO_BOARDS {
+        expect(&rt, why, decode(&line_with(bytes)), None);
     }
+    expect(&rt, "all ones", decode(&FULL), None);
 }
 
 #[test]

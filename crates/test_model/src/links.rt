@@ -1,5 +1,5 @@
 //! The step core of the list, event by event.
-use crate::rows::expect;
+use crate::rows::{expect, expect_at};
 use line_lanes::{Line64, Mask};
 use link_core::{Core, Entry, Event, NotEnabled, Place, Point, Told, replay};
 use std::process::Abort;
@@ -11,8 +11,8 @@ fn expect_run(
     nodes: u64,
     script: &[(Event, Result<Told, NotEnabled>)],
 ) -> Result<Core, Fail> {
-    let core = Core::start(nodes, Line64::zero()).ok_or("1 to 200 nodes")?;
-    let core = expect_told(rt, core, script)?;
+    let mut core = Core::start(nodes, Line64::zero()).ok_or("1 to 200 nodes")?;
+    expect_told(rt, &mut core, script);
     expect_replay(rt, &core, script);
     Ok(core)
 }
@@ -34,28 +34,27 @@ fn expect_replay(rt: &impl Abort, core: &Core, script: &[(Event, Result<Told, No
     }
     let made = &events[..script.len().min(MAX_EVENTS)];
     match replay(core.nodes(), Line64::zero(), made) {
-        Err(refused) => assert_eq!(rt; Some(refused), wanted),
+        Err(refused) => expect(rt, "a refused event", Some(refused), wanted),
         Ok(again) => {
-            assert_eq!(rt; wanted, None);
-            let words = (again.home(), again.place(), again.rank());
-            assert_eq!(rt; words, (core.home(), core.place(), core.rank()));
+            let found = (None, words_of(&again));
+            expect(rt, "a replay", found, (wanted, words_of(core)));
             for node in 1..core.nodes().saturating_add(1) {
-                assert_eq!(rt; node_of(&again, node), node_of(core, node), "node {node}");
+                expect_at(rt, &node, node_of(&again, node), node_of(core, node));
             }
         }
     }
 }
 
+/// The home word, the place of the line, and the rank.
+fn words_of(core: &Core) -> (u64, Place, u64) {
+    (core.home(), core.place(), core.rank())
+}
+
 /// Runs the events from this core on, and expects each answer or error.
-fn expect_told(
-    rt: &impl Abort,
-    mut core: Core,
-    script: &[(Event, Result<Told, NotEnabled>)],
-) -> Result<Core, Fail> {
+fn expect_told(rt: &impl Abort, core: &mut Core, script: &[(Event, Result<Told, NotEnabled>)]) {
     for (event, want) in script {
-        assert_eq!(rt; core.step(*event), *want, "at {event:?}");
+        expect_at(rt, event, core.step(*event), *want);
     }
-    Ok(core)
 }
 
 /// A release finds a successor that has not linked yet.
@@ -257,9 +256,9 @@ fn lines_have_one_to_200_nodes(rt: HostRuntime) {
         (1, 0, false),
     ] {
         let without = Core::start(nodes, Line64::zero()).is_some();
-        assert_eq!(rt; without, starts || lease == 0, "{nodes} nodes");
         let leased = Core::start_leased(nodes, Line64::zero(), lease).is_some();
-        assert_eq!(rt; leased, starts, "{nodes} nodes with a lease of {lease}");
+        let wanted = (starts || lease == 0, starts);
+        expect_at(&rt, &(nodes, lease), (without, leased), wanted);
     }
 }
 
@@ -275,8 +274,8 @@ static LEASE_OF_ONE: [(Event, Result<Told, NotEnabled>); 6] = [
 
 #[test]
 fn the_last_turn_of_a_lease_closes_the_line(rt: HostRuntime) -> Result<(), Fail> {
-    let core = Core::start_leased(1, Line64::zero(), 1).ok_or("1 node")?;
-    let _ = expect_told(&rt, core, LEASE_OF_ONE.as_slice())?;
+    let mut core = Core::start_leased(1, Line64::zero(), 1).ok_or("1 node")?;
+    expect_told(&rt, &mut core, LEASE_OF_ONE.as_slice());
     Ok(())
 }
 
@@ -300,38 +299,55 @@ static LEASE_OF_TWO: [(Event, Result<Told, NotEnabled>); 14] = [
 
 #[test]
 fn a_withdrawn_node_uses_no_turn_of_a_lease(rt: HostRuntime) -> Result<(), Fail> {
-    let core = Core::start_leased(2, Line64::zero(), 2).ok_or("2 nodes")?;
-    let _ = expect_told(&rt, core, LEASE_OF_TWO.as_slice())?;
+    let mut core = Core::start_leased(2, Line64::zero(), 2).ok_or("2 nodes")?;
+    expect_told(&rt, &mut core, LEASE_OF_TWO.as_slice());
     Ok(())
 }
 
-/// Expects this answer of the event.
-fn expect_step<R: Abort>(rt: &R, core: &mut Core, event: Event, told: Told) {
-    assert_eq!(rt; core.step(event), Ok(told), "at {event:?}");
-}
+/// Node 1 takes the line.
+static TAKEN: [(Event, Result<Told, NotEnabled>); 2] = [
+    (Event::Reset(1), Ok(Told::Went)),
+    (Event::Prepend(1), Ok(Told::Granted)),
+];
+
+/// Its release passes a node, and finds the next one.
+static PASSED: [(Event, Result<Told, NotEnabled>); 3] = [
+    (Event::Home(1), Ok(Told::Went)),
+    (Event::Done(1), Ok(Told::Went)),
+    (Event::Grant(1), Ok(Told::Went)),
+];
+
+/// It has passed all, and frees them; below what it frees last, the node that it passed last.
+static ALL_PASSED: [(Event, Result<Told, NotEnabled>); 1] = [(Event::Home(1), Ok(Told::Went))];
+
+static FREED: [(Event, Result<Told, NotEnabled>); 1] = [(Event::Freed(1), Ok(Told::Went))];
+
+static ALL_FREED: [(Event, Result<Told, NotEnabled>); 2] = [
+    (Event::Freed(1), Ok(Told::Released)),
+    (Event::Load(200), Ok(Told::Free)),
+];
 
 #[test]
 fn one_release_passes_all_other_nodes(rt: HostRuntime) -> Result<(), Fail> {
     let mut core = Core::start(200, Line64::zero()).ok_or("200 nodes")?;
-    expect_step(&rt, &mut core, Event::Reset(1), Told::Went);
-    expect_step(&rt, &mut core, Event::Prepend(1), Told::Granted);
+    expect_told(&rt, &mut core, TAKEN.as_slice());
     for n in 2..201 {
-        expect_step(&rt, &mut core, Event::Reset(n), Told::Went);
-        expect_step(&rt, &mut core, Event::Prepend(n), Told::Went);
-        expect_step(&rt, &mut core, Event::Link(n), Told::Queued);
-        expect_step(&rt, &mut core, Event::Roll(n), Told::Withdrawn);
+        let withdrawn = [
+            (Event::Reset(n), Ok(Told::Went)),
+            (Event::Prepend(n), Ok(Told::Went)),
+            (Event::Link(n), Ok(Told::Queued)),
+            (Event::Roll(n), Ok(Told::Withdrawn)),
+        ];
+        expect_told(&rt, &mut core, withdrawn.as_slice());
     }
     for _ in 1..200 {
-        expect_step(&rt, &mut core, Event::Home(1), Told::Went);
-        expect_step(&rt, &mut core, Event::Done(1), Told::Went);
-        expect_step(&rt, &mut core, Event::Grant(1), Told::Went);
+        expect_told(&rt, &mut core, PASSED.as_slice());
     }
-    expect_step(&rt, &mut core, Event::Home(1), Told::Went);
+    expect_told(&rt, &mut core, ALL_PASSED.as_slice());
     for _ in 1..199 {
-        expect_step(&rt, &mut core, Event::Freed(1), Told::Went);
+        expect_told(&rt, &mut core, FREED.as_slice());
     }
-    expect_step(&rt, &mut core, Event::Freed(1), Told::Released);
-    expect_step(&rt, &mut core, Event::Load(200), Told::Free);
+    expect_told(&rt, &mut core, ALL_FREED.as_slice());
     Ok(())
 }
 
@@ -365,7 +381,7 @@ fn the_first_refused_event_is_named(rt: HostRuntime) {
         (201, 1, (0, NotEnabled::Node)),
     ] {
         let refused = replay(nodes, Line64::zero(), &TWO_FAULTS[from.min(4)..]).err();
-        assert_eq!(rt; refused, Some(wanted), "{nodes} nodes, from {from} on");
+        expect_at(&rt, &(nodes, from), refused, Some(wanted));
     }
 }
 
@@ -378,6 +394,14 @@ static HANDING_OVER: [(Event, Result<Told, NotEnabled>); 7] = [
     (Event::Link(2), Ok(Told::Queued)),
     (Event::Home(1), Ok(Told::Went)),
     (Event::Done(1), Ok(Told::Went)),
+];
+
+/// The grant that ends the release, and then the release by the next holder.
+static GRANTED: [(Event, Result<Told, NotEnabled>); 1] = [(Event::Grant(1), Ok(Told::Released))];
+
+static TAKEN_HOME: [(Event, Result<Told, NotEnabled>); 2] = [
+    (Event::Load(2), Ok(Told::Granted)),
+    (Event::Home(2), Ok(Told::Released)),
 ];
 
 /// An entry without a flag or link.
@@ -397,6 +421,12 @@ fn node_of(core: &Core, node: u64) -> Option<(Point, Entry)> {
     Some((core.point(node), core.entry(node)))
 }
 
+/// The number of nodes, the place of the line, and the first two nodes.
+fn seen(core: &Core) -> (u64, Place, [Option<(Point, Entry)>; 2]) {
+    let first_two = [node_of(core, 1), node_of(core, 2)];
+    (core.nodes(), core.place(), first_two)
+}
+
 #[test]
 fn a_hand_over_is_seen_in_the_words(rt: HostRuntime) -> Result<(), Fail> {
     let mut core = expect_run(&rt, 2, HANDING_OVER.as_slice())?;
@@ -405,35 +435,26 @@ fn a_hand_over_is_seen_in_the_words(rt: HostRuntime) -> Result<(), Fail> {
         link: 2,
         ..CLEAR
     };
-    let granting = Some((Point::Granting(2), marked));
-    expect(&rt, "nodes", core.nodes(), 2);
+    let nodes = [
+        Some((Point::Granting(2), marked)),
+        Some((Point::Queued, CLEAR)),
+    ];
+    let wanted = (2, Place::Hand(1), nodes);
+    expect(&rt, "before the grant", seen(&core), wanted);
     expect(&rt, "the home word", core.home(), 2);
-    expect(&rt, "the place of the line", core.place(), Place::Hand(1));
-    expect(&rt, "node 1", node_of(&core, 1), granting);
-    let queued = Some((Point::Queued, CLEAR));
-    expect(&rt, "node 2", node_of(&core, 2), queued);
 
-    expect_step(&rt, &mut core, Event::Grant(1), Told::Released);
+    expect_told(&rt, &mut core, GRANTED.as_slice());
     let granted = Entry {
         granted: true,
         ..CLEAR
     };
-    let waiting = Some((Point::Queued, granted));
-    expect(&rt, "nodes", core.nodes(), 2);
-    expect(
-        &rt,
-        "the place of the line",
-        core.place(),
-        Place::Mailbox(2),
-    );
-    let idle = Some((Point::Idle, marked));
-    expect(&rt, "node 1", node_of(&core, 1), idle);
-    expect(&rt, "node 2", node_of(&core, 2), waiting);
+    let nodes = [Some((Point::Idle, marked)), Some((Point::Queued, granted))];
+    let wanted = (2, Place::Mailbox(2), nodes);
+    expect(&rt, "after the grant", seen(&core), wanted);
 
-    expect_step(&rt, &mut core, Event::Load(2), Told::Granted);
-    expect_step(&rt, &mut core, Event::Home(2), Told::Released);
-    expect(&rt, "the place of the line", core.place(), Place::Home);
-    expect(&rt, "the home word", core.home(), 0);
+    expect_told(&rt, &mut core, TAKEN_HOME.as_slice());
+    let end = (core.place(), core.home());
+    expect(&rt, "at the end", end, (Place::Home, 0));
     Ok(())
 }
 
@@ -443,8 +464,8 @@ fn a_replay_reaches_the_core_after_its_events(rt: HostRuntime) -> Result<(), Fai
     let core = replay(2, Line64::zero(), events.as_slice())
         .ok()
         .ok_or("a run")?;
-    expect(&rt, "the home word", core.home(), 2);
-    expect(&rt, "the place of the line", core.place(), Place::Hand(2));
+    let found = (core.home(), core.place());
+    expect(&rt, "the words", found, (2, Place::Hand(2)));
     Ok(())
 }
 
@@ -484,8 +505,8 @@ static RANKS: [(u64, Event); 12] = [
 fn each_productive_event_takes_one_off_the_rank(rt: HostRuntime) -> Result<(), Fail> {
     let mut core = expect_run(&rt, 3, THREE_PENDING.as_slice())?;
     for (left, event) in &RANKS {
-        assert_eq!(rt; core.rank(), *left, "before {event:?}");
-        assert!(rt; core.step(*event).is_ok(), "at {event:?}");
+        let found = (core.rank(), core.step(*event).is_ok());
+        expect_at(&rt, event, found, (*left, true));
     }
     expect(&rt, "the rank at the end", core.rank(), 0);
     Ok(())

@@ -1,7 +1,7 @@
 //! The plain line, call by call, and the configurations that open a line.
 ghost use Rattle.std.specs.Prelude.{◌≡◌};
 
-use crate::rows::expect;
+use crate::rows::expect_at;
 use line_lanes::{Line64, Mask};
 use qolb_model::laws::good_stays_good;
 use qolb_model::{Enq, Free, LineConfig, MAX_NODES, OpenError, Out, PlainLine, Poll, PortState};
@@ -83,7 +83,7 @@ fn expect_run<R: Abort>(
     })?;
     for (node, wanted) in rows {
         let found = done(&mut line, nodes, *node, *wanted);
-        expect(rt, "a call", found, *wanted);
+        expect_at(rt, node, found, *wanted);
     }
     Ok(())
 }
@@ -207,7 +207,7 @@ fn lines_have_one_to_200_nodes(rt: HostRuntime) {
         (201, Some(OpenError::Nodes)),
     ] {
         let refused = PlainLine::open(nodes, Line64::zero()).err();
-        assert_eq!(rt; refused, wanted, "{nodes} nodes");
+        expect_at(&rt, &nodes, refused, wanted);
     }
 }
 
@@ -221,7 +221,7 @@ fn nodes_are_refused_before_the_lease(rt: HostRuntime) {
         (200, u64::MAX, None),
     ] {
         let refused = PlainLine::open_leased(nodes, Line64::zero(), lease).err();
-        assert_eq!(rt; refused, wanted, "{nodes} nodes, a lease of {lease}");
+        expect_at(&rt, &(nodes, lease), refused, wanted);
     }
 }
 
@@ -240,11 +240,7 @@ fn config_are_of_some_nodes_and_turns(rt: HostRuntime) {
             opening,
             lease,
         };
-        assert_eq!(rt;
-            config.check(),
-            wanted,
-            "{nodes} nodes, a lease of {lease:?}"
-        );
+        expect_at(&rt, &(nodes, lease), config.check(), wanted);
     }
 }
 
@@ -259,7 +255,7 @@ fn node_asks_once_its_request_neither_waits_nor_holds(rt: HostRuntime) {
         (PortState::Rolled, true),
         (PortState::Shut, true),
     ] {
-        assert_eq!(rt; state.may_ask(), wanted, "{state:?}");
+        expect_at(&rt, &state, state.may_ask(), wanted);
     }
 }
 

@@ -13,6 +13,16 @@ pub(crate) fn expect<R: Abort, T: PartialEq + Debug + Drop>(
     assert_eq!(rt; found, wanted, "{row}");
 }
 
+/// Expects so in the row of this value.
+pub(crate) fn expect_at<R: Abort, D: Debug, T: PartialEq + Debug + Drop>(
+    rt: &R,
+    at: &D,
+    found: T,
+    wanted: T,
+) {
+    assert_eq!(rt; found, wanted, "at {at:?}");
+}
+
 /// The line with one byte replaced.
 pub(crate) fn with_byte(line: &Line64, place: usize, byte: u8) -> Line64 {
     let mut bytes = line.to_bytes();
@@ -22,11 +32,24 @@ pub(crate) fn with_byte(line: &Line64, place: usize, byte: u8) -> Line64 {
     Line64::from_bytes(bytes)
 }
 
-/// The line of zeros except for these bytes, each given with its place.
-pub(crate) fn line_with(bytes: &[(usize, u8)]) -> Line64 {
-    let mut line = Line64::zero();
+/// Bytes, each with its place in a line.
+pub(crate) type Bytes = &'static [(usize, u8)];
+
+/// The line with these bytes replaced.
+pub(crate) fn with_bytes(line: &Line64, bytes: &[(usize, u8)]) -> Line64 {
+    let mut line = *line;
     for (place, byte) in bytes.iter().copied() {
         line = with_byte(&line, place, byte);
     }
     line
 }
+
+/// The line of zeros except for these bytes.
+pub(crate) fn line_with(bytes: &[(usize, u8)]) -> Line64 {
+    with_bytes(&Line64::zero(), bytes)
+}
+
+/// The line of bytes 7, and below that of bytes 255.
+pub(crate) static SEVENS: Line64 = Line64 { bytes: [7; 64] };
+
+pub(crate) static FULL: Line64 = Line64 { bytes: [255; 64] };

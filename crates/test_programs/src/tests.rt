@@ -7,15 +7,16 @@ mod rows;
 
 use line_accounts::AccountLaw;
 use line_board::BoardLaw;
-use link_line::LinkLine;
+use line_generic::{Discipline, Line};
+use link_line::LinkQueue;
 use qolb_model::{Free, OpenLine, ParkingLine};
-use ring_line::RingLine;
+use ring_line::RingQueue;
 use std::alloc::Global;
 use std::process::Abort;
 use std::sync::Wait;
 use std::test::Fail;
 use std::thread::Threads;
-use ticket_line::TicketLine;
+use ticket_line::TicketQueue;
 
 /// Runs each test of the board over lines of this type.
 fn each_board<
@@ -91,78 +92,79 @@ where
     counts::a_withdrawal_and_a_release_race::<R, L>(rt, alloc)
 }
 
-fn desks_of_rings<R: Threads + Wait + Sync + Abort>(
+/// Runs each test of the board over lines of this discipline.
+fn boards_by<R: Threads + Wait + Sync + Abort, Q: Discipline<BoardLaw> + Send + Sync>(
     rt: &R,
     alloc: Global,
-    part: Part,
 ) -> Result<(), Fail> {
-    try_desks::<_, RingLine<AccountLaw>>(rt, alloc, part)
+    each_board::<R, Line<BoardLaw, Q>>(rt, alloc)
 }
 
-fn desks_of_lists<R: Threads + Wait + Sync + Abort>(
+/// Runs `part` over lines of this discipline.
+fn desks_by<R: Threads + Wait + Sync + Abort, Q: Discipline<AccountLaw> + Send + Sync>(
     rt: &R,
     alloc: Global,
     part: Part,
 ) -> Result<(), Fail> {
-    try_desks::<_, LinkLine<AccountLaw>>(rt, alloc, part)
+    try_desks::<R, Line<AccountLaw, Q>>(rt, alloc, part)
 }
 
-fn desks_of_ticket_lines<R: Threads + Wait + Sync + Abort>(
+/// Runs each program of threads that count, over lines of this discipline.
+fn counts_by<R: Threads + Wait + Sync + Abort, Q: Discipline<Free> + Send + Sync>(
     rt: &R,
     alloc: Global,
-    part: Part,
 ) -> Result<(), Fail> {
-    try_desks::<_, TicketLine<AccountLaw>>(rt, alloc, part)
+    each_count::<R, Line<Free, Q>>(rt, alloc)
 }
 
 #[test]
 fn boards_over_rings(rt: HostRuntime) -> Result<(), Fail> {
-    each_board::<_, RingLine<BoardLaw>>(&rt, rt.alloc())
+    boards_by::<_, RingQueue>(&rt, rt.alloc())
 }
 
 #[test]
 fn desks_over_rings(rt: HostRuntime) -> Result<(), Fail> {
-    desks_of_rings(&rt, rt.alloc(), Part::Rows)
+    desks_by::<_, RingQueue>(&rt, rt.alloc(), Part::Rows)
 }
 
 #[test]
 fn counts_over_rings(rt: HostRuntime) -> Result<(), Fail> {
-    each_count::<_, RingLine<Free>>(&rt, rt.alloc())
+    counts_by::<_, RingQueue>(&rt, rt.alloc())
 }
 
 #[test]
 fn boards_over_lists(rt: HostRuntime) -> Result<(), Fail> {
-    each_board::<_, LinkLine<BoardLaw>>(&rt, rt.alloc())
+    boards_by::<_, LinkQueue>(&rt, rt.alloc())
 }
 
 #[test]
 fn desks_over_lists(rt: HostRuntime) -> Result<(), Fail> {
-    desks_of_lists(&rt, rt.alloc(), Part::Rows)
+    desks_by::<_, LinkQueue>(&rt, rt.alloc(), Part::Rows)
 }
 
 #[test]
 fn counts_over_lists(rt: HostRuntime) -> Result<(), Fail> {
-    each_count::<_, LinkLine<Free>>(&rt, rt.alloc())
+    counts_by::<_, LinkQueue>(&rt, rt.alloc())
 }
 
 #[test]
 fn boards_over_ticket_lines(rt: HostRuntime) -> Result<(), Fail> {
-    each_board::<_, TicketLine<BoardLaw>>(&rt, rt.alloc())
+    boards_by::<_, TicketQueue>(&rt, rt.alloc())
 }
 
 #[test]
 fn desks_over_ticket_lines(rt: HostRuntime) -> Result<(), Fail> {
-    desks_of_ticket_lines(&rt, rt.alloc(), Part::Rows)
+    desks_by::<_, TicketQueue>(&rt, rt.alloc(), Part::Rows)
 }
 
 #[test]
 fn counts_over_ticket_lines(rt: HostRuntime) -> Result<(), Fail> {
-    each_count::<_, TicketLine<Free>>(&rt, rt.alloc())
+    counts_by::<_, TicketQueue>(&rt, rt.alloc())
 }
 
 #[test]
 fn settling_is_refused_without_memory(rt: HostRuntime) -> Result<(), Fail> {
-    desks_of_rings(&rt, rt.alloc(), Part::SettlingWithoutMemory)?;
-    desks_of_lists(&rt, rt.alloc(), Part::SettlingWithoutMemory)?;
-    desks_of_ticket_lines(&rt, rt.alloc(), Part::SettlingWithoutMemory)
+    desks_by::<_, RingQueue>(&rt, rt.alloc(), Part::SettlingWithoutMemory)?;
+    desks_by::<_, LinkQueue>(&rt, rt.alloc(), Part::SettlingWithoutMemory)?;
+    desks_by::<_, TicketQueue>(&rt, rt.alloc(), Part::SettlingWithoutMemory)
 }

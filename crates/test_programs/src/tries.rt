@@ -1,8 +1,8 @@
 //! Hooks that count the busy tries of a line's nodes.
-use line_blocking::Hooks;
 use qolb_model::{Keep, ParkingLine};
 use std::sync::atomic::{AtomicU64, Ordering};
 use std::thread::yield_now;
+use test_support::Hooks;
 
 /// Counts busy tries.
 #[derive(Drop)]

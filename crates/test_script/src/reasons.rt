@@ -1,8 +1,9 @@
 //! The reasons for refusing a script: the line, and the first thing that is wrong with it.
-use crate::rows::expect;
+use crate::rows::{expect, expect_at};
 use qolb_explain::{Complaint, Reason, explain_schedule, explain_steps, explain_work};
 use qolb_script::{WorkKind, read_schedule};
 use std::alloc::Global;
+use std::process::Abort;
 use std::test::Fail;
 
 /// Schedules, with the number of the refused line and the reason.
@@ -472,7 +473,8 @@ fn says_of_too_many_commands(rt: HostRuntime) -> Result<(), Fail> {
         reason: Reason::TooMany,
     };
     let text = format!(in rt.alloc(); "{complaint}")?;
-    assert_eq!(rt; text.as_str(), "    poll 1 0\nmore than 100,000 commands");
+    let wanted = "    poll 1 0\nmore than 100,000 commands";
+    expect(&rt, "the text", text.as_str(), wanted);
     Ok(())
 }
 
@@ -480,6 +482,16 @@ fn says_of_too_many_commands(rt: HostRuntime) -> Result<(), Fail> {
 fn shown(alloc: Global, script: &[u8]) -> Result<String, Fail> {
     let complaint = explain_schedule(script).ok_or("a complaint")?;
     Ok(format!(in alloc; "{complaint}")?)
+}
+
+/// Expects this line in the complaint about a byte of the script.
+fn expect_shown<R: Abort>(rt: &R, alloc: Global, script: &[u8], line: &str) -> Result<(), Fail> {
+    let found = shown(alloc, script)?;
+    let wanted = format!(in alloc;
+        "{line}\na byte is neither a space nor a visible ASCII character"
+    )?;
+    expect(rt, "the complaint", found.as_str(), wanted.as_str());
+    Ok(())
 }
 
 #[test]
@@ -493,22 +505,16 @@ fn shows_200_bytes_at_most(rt: HostRuntime) -> Result<(), Fail> {
     }
     script.push(b'\x1b')?;
     wanted.push_str("\\x1b")?;
-    let full = format!(in alloc;
-        "{wanted}\na byte is neither a space nor a visible ASCII character"
-    )?;
-    assert_eq!(rt; shown(alloc, &script)?.as_str(), full.as_str());
+    expect_shown(&rt, alloc, &script, wanted.as_str())?;
     script.push(b'x')?;
-    let cut = format!(in alloc;
-        "{wanted} ..\na byte is neither a space nor a visible ASCII character"
-    )?;
-    assert_eq!(rt; shown(alloc, &script)?.as_str(), cut.as_str());
-    Ok(())
+    wanted.push_str(" ..")?;
+    expect_shown(&rt, alloc, &script, wanted.as_str())
 }
 
 #[test]
 fn a_script_that_is_read_has_nothing_wrong(rt: HostRuntime) {
     for (text, wanted) in &SCHEDULES {
         let read = read_schedule(rt.alloc(), text.as_bytes());
-        assert_eq!(rt; read.is_ok(), wanted.is_none(), "{text:?}");
+        expect_at(&rt, text, read.is_ok(), wanted.is_none());
     }
 }

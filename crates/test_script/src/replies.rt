@@ -1,4 +1,5 @@
 //! The text of the answer to each call and step.
+use crate::rows::{expect, expect_at};
 use line_lanes::Line64;
 use link_core::Told;
 use qolb_model::{Enq, Out, Poll};
@@ -49,7 +50,7 @@ fn says_each_thing(rt: HostRuntime) -> Result<(), Fail> {
         let mut text = Vec::from_slice(rt.alloc(), b"ok\n")?;
         push_said(&mut text, said)?;
         let wanted = format!(in rt.alloc(); "ok\n{line}")?;
-        assert_eq!(rt; text.as_slice(), wanted.as_bytes());
+        expect_at(&rt, line, text.as_slice(), wanted.as_bytes());
     }
     Ok(())
 }
@@ -61,7 +62,7 @@ fn says_a_rank_behind_the_word(rt: HostRuntime) -> Result<(), Fail> {
     push_ranked(&mut text, Some(Told::Withdrawn), 0)?;
     push_ranked(&mut text, None, 18446744073709551615)?;
     let want = "went 4\nwithdrawn 0\nrefused 18446744073709551615\n";
-    assert_eq!(rt; text.as_slice(), want.as_bytes());
+    expect(&rt, "ranks", text.as_slice(), want.as_bytes());
     Ok(())
 }
 
@@ -77,7 +78,7 @@ fn says_the_bytes_in_lower_case(rt: HostRuntime) -> Result<(), Fail> {
         wanted.push(b'0')?;
     }
     wanted.extend_from_slice(b"f\n")?;
-    assert_eq!(rt; text.as_slice(), wanted.as_slice());
+    expect(&rt, "bytes", text.as_slice(), wanted.as_slice());
     Ok(())
 }
 
@@ -104,6 +105,6 @@ fn says_what_an_event_told(rt: HostRuntime) -> Result<(), Fail> {
     }
     let wanted =
         "went\ngranted\nqueued\nwaiting\nclosed\nbusy\nfree\nwithdrawn\nreleased\nshut\nrefused\n";
-    assert_eq!(rt; text.as_slice(), wanted.as_bytes());
+    expect(&rt, "answers", text.as_slice(), wanted.as_bytes());
     Ok(())
 }

@@ -1,4 +1,5 @@
 //! The texts of reports.
+use crate::rows::expect_at;
 use qolb_script::{Report, Watched, write_report};
 use std::test::Fail;
 
@@ -38,9 +39,10 @@ fn reports_are_written_a_line_for_each_number(rt: HostRuntime) -> Result<(), Fai
         let mut written = Vec::new(rt.alloc());
         let mut out = Watched::new(&mut written);
         write_report(report, &mut out)?;
-        assert!(rt; !out.failed());
+        let failed = out.failed();
         drop(out);
-        assert_eq!(rt; written.as_slice(), text.as_bytes(), "of {report:?}");
+        let found = (failed, written.as_slice());
+        expect_at(&rt, report, found, (false, text.as_bytes()));
     }
     Ok(())
 }
@@ -51,7 +53,7 @@ fn a_writer_that_is_full_fails_the_report(rt: HostRuntime) {
         let mut bytes = [0u8; 40];
         let mut out = Watched::new(&mut bytes[..room]);
         let answer = write_report(&REPORTS[0].0, &mut out);
-        assert_eq!(rt; answer.is_err(), room < REPORTS[0].1.len(), "at {room}");
-        assert_eq!(rt; out.failed(), answer.is_err());
+        let fails = room < REPORTS[0].1.len();
+        expect_at(&rt, &room, (answer.is_err(), out.failed()), (fails, fails));
     }
 }

@@ -16,6 +16,16 @@ pub(crate) fn expect<R: Abort, T: PartialEq + Debug + Drop>(
     assert_eq!(rt; found, wanted, "{row}");
 }
 
+/// Expects so in the row of this value.
+pub(crate) fn expect_at<R: Abort, D: Debug, T: PartialEq + Debug + Drop>(
+    rt: &R,
+    at: &D,
+    found: T,
+    wanted: T,
+) {
+    assert_eq!(rt; found, wanted, "at {at:?}");
+}
+
 /// Reads `items` items on heaps that grow by 64 bytes. The reading is refused for want of memory more than `least` times, until a heap
 /// serves; each larger heap serves, too. Nothing stays allocated on a heap.
 pub(crate) fn expect_refusals<R: Abort, F: Fn(&LocalHeap) -> Result<usize, ScriptError>>(
@@ -39,10 +49,14 @@ pub(crate) fn expect_refusals<R: Abort, F: Fn(&LocalHeap) -> Result<usize, Scrip
             refused = refused.saturating_add(1);
             Err(ScriptError::Memory)
         };
-        assert_eq!(rt; found, wanted, "at {step}");
-        assert_eq!(rt; heap.used(), 0, "at {step}");
+        expect_at(rt, &step, (found, heap.used()), (wanted, 0));
     }
-    assert!(rt; served);
-    assert!(rt; refused > least);
+    let ends = (served, refused > least);
+    expect(
+        rt,
+        "served in the end, refused often enough",
+        ends,
+        (true, true),
+    );
     Ok(())
 }

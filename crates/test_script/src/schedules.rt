@@ -1,5 +1,5 @@
 //! Scripts of calls.
-use crate::rows::{expect, expect_refusals};
+use crate::rows::{expect, expect_at, expect_refusals};
 use line_lanes::{Line64, Mask};
 use linked_list_allocator::LocalHeap;
 use qolb_script::{Command, ScriptError, read_schedule};
@@ -76,7 +76,7 @@ fn many(alloc: Global, count: u64) -> Result<Vec<u8>, AllocError> {
 fn names_the_first_fault(rt: HostRuntime) {
     for (text, error) in &REFUSED {
         let found = read_schedule(rt.alloc(), text.as_bytes()).err();
-        assert_eq!(rt; found, Some(*error), "at {text:?}");
+        expect_at(&rt, text, found, Some(*error));
     }
 }
 
@@ -87,7 +87,7 @@ fn refuses_more_bytes_than_a_line(rt: HostRuntime) -> Result<(), Fail> {
         for _ in 0..digits {
             text.push(b'0')?;
         }
-        assert_eq!(rt; read_schedule(rt.alloc(), &text).err(), error);
+        expect_at(&rt, &digits, read_schedule(rt.alloc(), &text).err(), error);
     }
     Ok(())
 }
@@ -109,7 +109,7 @@ fn reads_every_command(rt: HostRuntime) -> Result<(), Fail> {
     let schedule = read_schedule(rt.alloc(), text)?;
     expect(&rt, "nodes", schedule.nodes(), 2);
     expect(&rt, "lines", schedule.lines(), 8);
-    assert_eq!(rt; schedule.commands(), COMMANDS.as_slice());
+    expect(&rt, "commands", schedule.commands(), COMMANDS.as_slice());
     Ok(())
 }
 
@@ -125,7 +125,7 @@ fn reads_a_write(rt: HostRuntime) -> Result<(), Fail> {
         mask: Mask(3 << 62),
         bytes: Line64 { bytes },
     }];
-    assert_eq!(rt; schedule.commands(), wanted.as_slice());
+    expect(&rt, "a write", schedule.commands(), wanted.as_slice());
     Ok(())
 }
 
@@ -146,7 +146,7 @@ static CUT_OFF: [(&str, ScriptError); 3] = [
 fn refuses_a_script_that_was_cut_off(rt: HostRuntime) {
     for (text, error) in &CUT_OFF {
         let found = read_schedule(rt.alloc(), text.as_bytes()).err();
-        assert_eq!(rt; found, Some(*error), "at {text:?}");
+        expect_at(&rt, text, found, Some(*error));
     }
 }
 
@@ -168,7 +168,7 @@ fn reads_a_last_line_without_its_end(rt: HostRuntime) -> Result<(), Fail> {
         ("nodes 2 lines 1\nenq 1 0\nwrite 1 0 0 a1", 2),
     ] {
         let schedule = read_schedule(rt.alloc(), text.as_bytes())?;
-        assert_eq!(rt; schedule.commands(), &wanted[..read.min(2)]);
+        expect(&rt, text, schedule.commands(), &wanted[..read.min(2)]);
     }
     Ok(())
 }
@@ -193,10 +193,10 @@ fn reads_the_lease(rt: HostRuntime) -> Result<(), Fail> {
 fn takes_no_more_than_the_most_commands(rt: HostRuntime) -> Result<(), Fail> {
     let text = many(rt.alloc(), 100_000)?;
     let schedule = read_schedule(rt.alloc(), &text)?;
-    assert_eq!(rt; schedule.commands().len(), 100_000);
+    expect(&rt, "the most", schedule.commands().len(), 100_000);
     let text = many(rt.alloc(), 100_001)?;
     let error = read_schedule(rt.alloc(), &text).err();
-    assert_eq!(rt; error, Some(ScriptError::TooMany(100_002)));
+    expect(&rt, "one more", error, Some(ScriptError::TooMany(100_002)));
     Ok(())
 }
 
@@ -205,14 +205,14 @@ fn large_texts_are_read_in_one_go(rt: HostRuntime) -> Result<(), Fail> {
     for byte in [b'\n', b' ', b'0'] {
         let text = vec![in rt.alloc(); byte; 2_097_152]?;
         let error = read_schedule(rt.alloc(), &text).err();
-        assert_eq!(rt; error, Some(ScriptError::BadLine(1)), "of {byte}");
+        expect_at(&rt, &byte, error, Some(ScriptError::BadLine(1)));
     }
     let mut words = Vec::from_slice(rt.alloc(), b"nodes 2 lines 1\n")?;
     for _ in 0..1_048_576 {
         words.extend_from_slice(b"1 ")?;
     }
     let error = read_schedule(rt.alloc(), &words).err();
-    assert_eq!(rt; error, Some(ScriptError::BadLine(2)));
+    expect(&rt, "a long line", error, Some(ScriptError::BadLine(2)));
     Ok(())
 }
 
@@ -224,7 +224,7 @@ fn lines_without_words_take_no_memory(rt: HostRuntime) -> Result<(), Fail> {
     }
     let heap = LocalHeap::new(rt.alloc(), 4_096)?;
     let schedule = read_schedule(&heap, &text)?;
-    assert_eq!(rt; schedule.commands().len(), 1);
+    expect(&rt, "commands", schedule.commands().len(), 1);
     Ok(())
 }
 

@@ -1,5 +1,5 @@
 //! Scripts of word steps.
-use crate::rows::{expect, expect_refusals};
+use crate::rows::{expect, expect_at, expect_refusals};
 use line_lanes::{Line64, Mask};
 use link_core::Event;
 use qolb_script::{ScriptError, read_steps};
@@ -33,13 +33,14 @@ static REFUSED: [(&str, ScriptError); 20] = [
 fn names_the_first_fault(rt: HostRuntime) {
     for (text, error) in &REFUSED {
         let found = read_steps(rt.alloc(), text.as_bytes()).err();
-        assert_eq!(rt; found, Some(*error), "at {text:?}");
+        expect_at(&rt, text, found, Some(*error));
     }
 }
 
 #[test]
 fn has_no_lease_where_none_is_written(rt: HostRuntime) -> Result<(), Fail> {
-    assert_eq!(rt; read_steps(rt.alloc(), b"nodes 1")?.lease(), None);
+    let lease = read_steps(rt.alloc(), b"nodes 1")?.lease();
+    expect(&rt, "lease", lease, None);
     Ok(())
 }
 
@@ -64,7 +65,7 @@ fn reads_every_event(rt: HostRuntime) -> Result<(), Fail> {
     let steps = read_steps(rt.alloc(), text)?;
     expect(&rt, "nodes", steps.nodes(), 200);
     expect(&rt, "lease", steps.lease(), Some(7));
-    assert_eq!(rt; steps.events(), EVENTS.as_slice());
+    expect(&rt, "events", steps.events(), EVENTS.as_slice());
     Ok(())
 }
 
@@ -75,7 +76,7 @@ fn reads_a_write(rt: HostRuntime) -> Result<(), Fail> {
     bytes[62] = 0xab;
     bytes[63] = 0xff;
     let wanted = [Event::Write(9, Mask(3 << 62), Line64 { bytes })];
-    assert_eq!(rt; steps.events(), wanted.as_slice());
+    expect(&rt, "a write", steps.events(), wanted.as_slice());
     Ok(())
 }
 
@@ -86,10 +87,10 @@ fn takes_no_more_than_the_most_events(rt: HostRuntime) -> Result<(), Fail> {
         text.extend_from_slice(b"load 1\n")?;
     }
     let steps = read_steps(rt.alloc(), &text)?;
-    assert_eq!(rt; steps.events().len(), 100_000);
+    expect(&rt, "the most", steps.events().len(), 100_000);
     text.extend_from_slice(b"load\n")?;
     let error = read_steps(rt.alloc(), &text).err();
-    assert_eq!(rt; error, Some(ScriptError::TooMany(100_002)));
+    expect(&rt, "one more", error, Some(ScriptError::TooMany(100_002)));
     Ok(())
 }
 

@@ -1,5 +1,5 @@
 //! Readers and writers that remember a fault.
-use crate::rows::expect;
+use crate::rows::{expect, expect_at};
 use qolb_script::{Fault, Watched};
 use std::io;
 use std::io::{Error, ErrorKind, Read, Write};
@@ -108,14 +108,15 @@ fn a_failed_read_is_remembered(rt: HostRuntime) {
                     interruptions: *interruptions,
                     met: 0,
                 });
+                let row = (*interruptions, *kind, left);
                 let mut part = [0; 8];
                 for _ in 0..left {
-                    assert!(rt; !reader.failed());
-                    assert_eq!(rt; reader.read(&mut part), Ok(1), "at {left}");
+                    let found = (reader.failed(), reader.read(&mut part));
+                    expect_at(&rt, &row, found, (false, Ok(1)));
                 }
                 for _ in 0..3 {
-                    assert_eq!(rt; reader.read(&mut part), Err(Fault), "at {left}");
-                    assert!(rt; reader.failed());
+                    let found = (reader.read(&mut part), reader.failed());
+                    expect_at(&rt, &row, found, (Err(Fault), true));
                 }
             }
         }
@@ -131,11 +132,16 @@ fn short_and_interrupted_writes_go_on(rt: HostRuntime) -> Result<(), Fail> {
             met: 0,
         });
         for part in ["abc", "", "d"] {
-            assert_eq!(rt; writer.write_all(part.as_bytes()), Ok(()), "of {part}");
+            expect_at(&rt, &part, writer.write_all(part.as_bytes()), Ok(()));
         }
         expect(&rt, "the writer", writer.failed(), false);
         let slow = writer.into_inner();
-        assert_eq!(rt; slow.taken.as_slice(), b"abcd".as_slice());
+        expect_at(
+            &rt,
+            interruptions,
+            slow.taken.as_slice(),
+            b"abcd".as_slice(),
+        );
     }
     Ok(())
 }
@@ -145,8 +151,8 @@ fn a_failed_write_is_remembered(rt: HostRuntime) {
     for (left, fails) in [(0, true), (2, true), (0, false), (2, false)] {
         let mut writer = Watched::new(FailingWriter { left, fails });
         for _ in 0..3 {
-            assert_eq!(rt; writer.write_all(b"abc"), Err(Fault), "at {left}");
-            assert!(rt; writer.failed());
+            let found = (writer.write_all(b"abc"), writer.failed());
+            expect_at(&rt, &(left, fails), found, (Err(Fault), true));
         }
     }
 }
@@ -158,14 +164,14 @@ fn bytes_are_read_and_written(rt: HostRuntime) -> Result<(), Fail> {
     let (none, some) = part.split_at_mut(0);
     for read in [4, 3, 0] {
         // without room nothing is read, and that is no fault
-        assert_eq!(rt; (reader.read(none), reader.failed()), (Ok(0), false));
-        assert_eq!(rt; reader.read(some), Ok(read));
+        let found = (reader.read(none), reader.failed(), reader.read(some));
+        expect_at(&rt, &read, found, (Ok(0), false, Ok(read)));
     }
     expect(&rt, "the reader", reader.failed(), false);
     let mut writer = Watched::new(Vec::new(rt.alloc()));
-    expect(&rt, "a write", writer.write_all(b"ok\n"), Ok(()));
-    expect(&rt, "the writer", writer.failed(), false);
+    let wrote = (writer.write_all(b"ok\n"), writer.failed());
+    expect(&rt, "a write", wrote, (Ok(()), false));
     let written = writer.into_inner();
-    assert_eq!(rt; written.as_slice(), b"ok\n".as_slice());
+    expect(&rt, "written", written.as_slice(), b"ok\n".as_slice());
     Ok(())
 }

@@ -1,5 +1,5 @@
 //! Scripts of boards and banks.
-use crate::rows::{expect, expect_refusals};
+use crate::rows::{expect, expect_at, expect_refusals};
 use qolb_script::{Job, ScriptError, WorkKind, read_work};
 use std::alloc::{AllocError, Global};
 use std::test::Fail;
@@ -70,11 +70,11 @@ static REFUSED_OF_BANKS: [(&str, ScriptError); 15] = [
 fn names_the_first_fault(rt: HostRuntime) {
     for (text, error) in &REFUSED_OF_BOARDS {
         let found = read_work(rt.alloc(), text.as_bytes(), WorkKind::Board).err();
-        assert_eq!(rt; found, Some(*error), "at {text:?}");
+        expect_at(&rt, text, found, Some(*error));
     }
     for (text, error) in &REFUSED_OF_BANKS {
         let found = read_work(rt.alloc(), text.as_bytes(), WorkKind::Bank).err();
-        assert_eq!(rt; found, Some(*error), "at {text:?}");
+        expect_at(&rt, text, found, Some(*error));
     }
 }
 
@@ -95,7 +95,7 @@ fn reads_every_job_of_a_board(rt: HostRuntime) -> Result<(), Fail> {
     expect(&rt, "kind", work.kind(), WorkKind::Board);
     expect(&rt, "workers", work.workers(), 200);
     expect(&rt, "lines", work.lines(), 1);
-    assert_eq!(rt; work.jobs(), BOARD_JOBS.as_slice());
+    expect(&rt, "jobs", work.jobs(), BOARD_JOBS.as_slice());
     expect(&rt, "its worker", BOARD_JOBS[1].worker(), 200);
     Ok(())
 }
@@ -127,7 +127,7 @@ fn reads_every_job_of_a_bank(rt: HostRuntime) -> Result<(), Fail> {
     expect(&rt, "kind", work.kind(), WorkKind::Bank);
     expect(&rt, "workers", work.workers(), 3);
     expect(&rt, "lines", work.lines(), 8);
-    assert_eq!(rt; work.jobs(), BANK_JOBS.as_slice());
+    expect(&rt, "jobs", work.jobs(), BANK_JOBS.as_slice());
     Ok(())
 }
 
@@ -145,10 +145,10 @@ fn takes_no_more_than_the_most_jobs(rt: HostRuntime) -> Result<(), Fail> {
     let alloc = rt.alloc();
     let board = many(alloc, "board workers 1\n", "1 take\n", 100_000)?;
     let work = read_work(alloc, &board, WorkKind::Board)?;
-    assert_eq!(rt; work.jobs().len(), 100_000);
+    expect(&rt, "the most", work.jobs().len(), 100_000);
     let bank = many(alloc, "bank workers 1 lines 1\n", "1 in 0 1\n", 100_001)?;
     let error = read_work(alloc, &bank, WorkKind::Bank).err();
-    assert_eq!(rt; error, Some(ScriptError::TooMany(100_002)));
+    expect(&rt, "one more", error, Some(ScriptError::TooMany(100_002)));
     Ok(())
 }
 

@@ -1,8 +1,11 @@
-//! Takes a process's memory away, for tests of refused allocations.
+//! For tests: takes a process's memory away, so that allocations are refused, and calls hooks beside a line's own calls.
 #![tactic(auto)]
+
+mod hooked_line;
 
 ghost use Rattle.std.specs.Prelude.{◌≤◌, length, IfOk};
 
+pub use hooked_line::{HookedLine, Hooks};
 use std::alloc::{AllocError, Global};
 use std::str::from_utf8;
 

@@ -1,7 +1,7 @@
 //! Workers sleep if they are told to, and else do not: over lines whose holder keeps the line until a waiter has waited so.
 use crate::gates::Closed;
+use crate::rows::expect;
 use line_accounts::AccountLaw;
-use line_blocking::{HookedLine, Hooks};
 use line_board::BoardLaw;
 use line_kinds::RingLine;
 use qolb_model::{Keep, OpenLine, ParkingLine};
@@ -14,6 +14,7 @@ use std::sync::atomic::{AtomicU64, Ordering};
 use std::test::Fail;
 use std::thread::{Threads, yield_now};
 use std::time::Duration;
+use test_support::{HookedLine, Hooks};
 
 /// Waits until the count is no longer 0.
 fn wait_until_some(count: &AtomicU64) {
@@ -215,7 +216,7 @@ fn expect_hooked<R: Threads + Wait + Abort + Sync, H: Hooks + Default + Sync + D
     for (kind, script, report) in &JOBS_OF_EACH_KIND {
         let work = read_work(alloc, script.as_bytes(), *kind)?;
         let found = work_over_rings::<R, AlwaysOpen, H>(rt, alloc, &AlwaysOpen, &work, waits);
-        assert_eq!(rt; found, Ok(*report), "{script}");
+        expect(rt, script, found, Ok(*report));
     }
     Ok(())
 }
@@ -240,6 +241,6 @@ fn who_gives_up_before_a_closed_gate_does_no_job(rt: HostRuntime) -> Result<(), 
         &work,
         WaitMode::Awake,
     );
-    assert_eq!(rt; found, Err(RunError::Stalled(1)));
+    expect(&rt, "one worker", found, Err(RunError::Stalled(1)));
     Ok(())
 }

@@ -1,5 +1,6 @@
 //! Workers at a gate.
-use crate::work::{EITHER, expect};
+use crate::rows::{expect, expect_at};
+use crate::work::{EITHER, expect_work};
 use line_kinds::{ALL, Lines};
 use qolb_run::{Gate, RunError, TaskError, WaitMode, report_work, run_work, run_work_with};
 use qolb_script::{Report, Watched, WorkKind, read_work};
@@ -24,7 +25,7 @@ impl Gate for Closed {
 #[test]
 fn a_worker_gives_up_before_a_closed_gate(rt: HostRuntime) -> Result<(), Fail> {
     let script = "board workers 3\n2 put 5\n3 put 6\n";
-    expect(
+    expect_work(
         &rt,
         rt.alloc(),
         &Closed,
@@ -49,13 +50,14 @@ fn a_report_of_work_says_who_gave_up(rt: HostRuntime) {
         WaitMode::Awake,
     );
     let written = writer.into_inner();
-    assert_eq!(rt; (done, written.len()), (Err(TaskError::Stalled(2)), 0));
+    let wanted = (Err(TaskError::Stalled(2)), 0);
+    expect(&rt, "a report", (done, written.len()), wanted);
 }
 
 #[test]
 fn a_worker_of_a_bank_gives_up_before_a_closed_gate(rt: HostRuntime) -> Result<(), Fail> {
     let script = "bank workers 3 lines 1\n2 in 0 1\n3 in 1 1\n";
-    expect(
+    expect_work(
         &rt,
         rt.alloc(),
         &Closed,
@@ -76,7 +78,7 @@ fn expect_behind<R: Threads + Wait + Abort + Sync, G: Gate + Default + Sync + Dr
     let work = read_work(alloc, script.as_bytes(), kind)?;
     for lines in ALL {
         let found = run_work(rt, alloc, &G::default(), &work, lines);
-        assert_eq!(rt; found, Ok(report), "by {lines:?}");
+        expect_at(rt, &lines, found, Ok(report));
     }
     Ok(())
 }
@@ -216,6 +218,24 @@ impl Counting {
     pub(crate) fn asks_for(&self, at: usize) -> u64 {
         self.asked[at % 4].load(Ordering::SeqCst)
     }
+
+    /// The questions for the first three job numbers.
+    fn asks(&self) -> [u64; 3] {
+        [self.asks_for(0), self.asks_for(1), self.asks_for(2)]
+    }
+
+    fn numbers(&self) -> u64 {
+        self.numbers.load(Ordering::SeqCst)
+    }
+
+    /// `begun`, `jobs` and `early`.
+    fn told(&self) -> [u64; 3] {
+        [
+            self.begun.load(Ordering::SeqCst),
+            self.jobs.load(Ordering::SeqCst),
+            self.early.load(Ordering::SeqCst),
+        ]
+    }
 }
 
 impl Gate for Counting {
@@ -263,18 +283,9 @@ fn a_worker_asks_before_each_job_and_once_after_the_last(rt: HostRuntime) -> Res
         let work = read_work(rt.alloc(), script.as_bytes(), *kind)?;
         for lines in ALL {
             let gate = Counting::new(1);
-            assert!(rt;
-                run_work_with(&rt, rt.alloc(), &gate, &work, lines, WaitMode::Asleep).is_ok(),
-                "{kind:?} by {lines:?}"
-            );
-            assert_eq!(rt;
-                gate.numbers.load(Ordering::SeqCst),
-                123,
-                "{kind:?} by {lines:?}"
-            );
-            for at in 0..3usize {
-                assert_eq!(rt; gate.asks_for(at), 1, "for {at}, {kind:?} by {lines:?}");
-            }
+            let done = run_work_with(&rt, rt.alloc(), &gate, &work, lines, WaitMode::Asleep);
+            let found = (done.is_ok(), gate.numbers(), gate.asks());
+            expect_at(&rt, &(*kind, lines), found, (true, 123, [1, 1, 1]));
         }
     }
     Ok(())
@@ -286,25 +297,9 @@ fn a_gate_is_told_once_of_all_jobs_before_any_worker_asks(rt: HostRuntime) -> Re
         let work = read_work(rt.alloc(), script.as_bytes(), *kind)?;
         for lines in ALL {
             let gate = Counting::new(1);
-            assert!(rt;
-                run_work(&rt, rt.alloc(), &gate, &work, lines).is_ok(),
-                "{kind:?} by {lines:?}"
-            );
-            assert_eq!(rt;
-                gate.begun.load(Ordering::SeqCst),
-                1,
-                "{kind:?} by {lines:?}"
-            );
-            assert_eq!(rt;
-                gate.jobs.load(Ordering::SeqCst),
-                3,
-                "{kind:?} by {lines:?}"
-            );
-            assert_eq!(rt;
-                gate.early.load(Ordering::SeqCst),
-                0,
-                "{kind:?} by {lines:?}"
-            );
+            let done = run_work(&rt, rt.alloc(), &gate, &work, lines);
+            let found = (done.is_ok(), gate.told());
+            expect_at(&rt, &(*kind, lines), found, (true, [1, 3, 0]));
         }
     }
     Ok(())
@@ -328,14 +323,8 @@ fn work_that_is_reported_is_done_once(rt: HostRuntime) -> Result<(), Fail> {
                     lines,
                     waits,
                 );
-                assert!(rt; done.is_ok(), "{kind:?} by {lines:?}, {waits:?}");
-                for at in 0..3usize {
-                    assert_eq!(rt;
-                        gate.asks_for(at),
-                        1,
-                        "for {at}, {kind:?} by {lines:?}, {waits:?}"
-                    );
-                }
+                let found = (done.is_ok(), gate.asks());
+                expect_at(&rt, &(*kind, lines, waits), found, (true, [1, 1, 1]));
             }
         }
     }
@@ -355,9 +344,8 @@ fn a_worker_waits_for_the_millionth_ask_for_each_job(rt: HostRuntime) -> Result<
     };
     let gate = Counting::new(1_000_000);
     let found = run_work(&rt, rt.alloc(), &gate, &work, Lines::Ring);
-    assert_eq!(rt; found, Ok(report));
-    let asks = (gate.asks_for(0), gate.asks_for(1), gate.asks_for(2));
-    assert_eq!(rt; asks, (1_000_000, 1_000_000, 1));
+    let wanted = (Ok(report), [1_000_000, 1_000_000, 1]);
+    expect(&rt, "two jobs", (found, gate.asks()), wanted);
     Ok(())
 }
 
@@ -366,9 +354,9 @@ fn a_worker_gives_up_at_the_millionth_refusal(rt: HostRuntime) -> Result<(), Fai
     let work = read_work(rt.alloc(), b"board workers 1\n1 put 5\n", WorkKind::Board)?;
     let gate = Counting::new(1_000_001);
     let found = run_work(&rt, rt.alloc(), &gate, &work, Lines::Ring);
-    assert_eq!(rt; found, Err(RunError::Stalled(1)));
-    assert_eq!(rt; gate.asks_for(0), 1_000_000);
-    assert_eq!(rt; gate.asks_for(1), 0);
+    let asked = (found, gate.asks_for(0), gate.asks_for(1));
+    let wanted = (Err(RunError::Stalled(1)), 1_000_000, 0);
+    expect(&rt, "one job", asked, wanted);
     Ok(())
 }
 
@@ -376,14 +364,9 @@ fn a_worker_gives_up_at_the_millionth_refusal(rt: HostRuntime) -> Result<(), Fai
 fn a_gate_is_told_of_work_without_jobs_and_asked_once(rt: HostRuntime) -> Result<(), Fail> {
     let work = read_work(rt.alloc(), b"board workers 2\n", WorkKind::Board)?;
     let gate = Counting::new(1);
-    assert!(rt; run_work(&rt, rt.alloc(), &gate, &work, Lines::Ring).is_ok());
-    let told = (
-        gate.begun.load(Ordering::SeqCst),
-        gate.jobs.load(Ordering::SeqCst),
-        gate.early.load(Ordering::SeqCst),
-        gate.asks_for(0),
-    );
-    assert_eq!(rt; told, (1, 0, 0, 1));
+    let done = run_work(&rt, rt.alloc(), &gate, &work, Lines::Ring);
+    let found = (done.is_ok(), gate.told(), gate.asks_for(0));
+    expect(&rt, "no job", found, (true, [1, 0, 0], 1));
     Ok(())
 }
 
@@ -414,11 +397,9 @@ fn a_worker_asks_by_the_number_of_its_job(rt: HostRuntime) -> Result<(), Fail> {
         asked: AtomicU64::new(0),
         wrong: AtomicU64::new(0),
     };
-    assert!(rt; run_work(&rt, rt.alloc(), &gate, &work, Lines::Ring).is_ok());
-    let found = (
-        gate.asked.load(Ordering::SeqCst),
-        gate.wrong.load(Ordering::SeqCst),
-    );
-    assert_eq!(rt; found, (301, 0));
+    let done = run_work(&rt, rt.alloc(), &gate, &work, Lines::Ring);
+    let asked = gate.asked.load(Ordering::SeqCst);
+    let found = (done.is_ok(), asked, gate.wrong.load(Ordering::SeqCst));
+    expect(&rt, "300 jobs", found, (true, 301, 0));
     Ok(())
 }

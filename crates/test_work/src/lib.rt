@@ -8,6 +8,8 @@ mod gates;
 #[cfg(test)]
 mod progress;
 #[cfg(test)]
+mod rows;
+#[cfg(test)]
 mod scarce;
 #[cfg(test)]
 mod work;

@@ -1,4 +1,5 @@
 //! The messages about the progress of work, and their times.
+use crate::rows::{expect, expect_at};
 use line_blocking::scoped::{ScopedTask, run_scoped};
 use qolb_run::{Gate, Progress};
 use std::alloc::Global;
@@ -52,6 +53,16 @@ impl Eprint for Console<'_> {
         };
         count.fetch_add(1, Ordering::SeqCst);
         Ok(())
+    }
+}
+
+impl Console<'_> {
+    /// The number of expected lines that were written, and of others.
+    fn lines(&self) -> (u64, u64) {
+        (
+            self.came.load(Ordering::SeqCst),
+            self.others.load(Ordering::SeqCst),
+        )
     }
 }
 
@@ -178,7 +189,8 @@ fn said_by_two<T: Threads + Wait + Sync>(rt: &T, alloc: Global) -> Option<u64> {
 #[test]
 fn two_workers_say_each_second_once(rt: HostRuntime) -> Result<(), Fail> {
     for _ in 0..PAIRS {
-        assert_eq!(rt; said_by_two(&rt, rt.alloc()), Some(SECONDS));
+        let said = said_by_two(&rt, rt.alloc());
+        expect(&rt, "two workers", said, Some(SECONDS));
     }
     Ok(())
 }
@@ -222,11 +234,11 @@ fn no_job_of_four_workers_is_forgotten(rt: HostRuntime) -> Result<(), Fail> {
     let console = expecting(rt.alloc(), expected.as_slice());
     let gate = Progress::new(&console)?;
     gate.begins(100_000);
-    assert_eq!(rt; asked_by_four(&rt, rt.alloc(), &gate), Some(true));
+    let asked = asked_by_four(&rt, rt.alloc(), &gate);
     console.second.store(1, Ordering::SeqCst);
-    assert!(rt; gate.may(1, 1));
-    assert_eq!(rt; console.came.load(Ordering::SeqCst), 1);
-    assert_eq!(rt; console.others.load(Ordering::SeqCst), 0);
+    let may = gate.may(1, 1);
+    let found = (asked, may, console.lines());
+    expect(&rt, "four workers", found, (Some(true), true, (1, 0)));
     Ok(())
 }
 
@@ -248,13 +260,9 @@ fn progress_is_said_once_a_second(rt: HostRuntime) -> Result<(), Fail> {
     ];
     for (second, worker, at, lines) in rows {
         console.second.store(second, Ordering::SeqCst);
-        assert!(rt; gate.may(worker, at));
-        assert_eq!(rt;
-            console.came.load(Ordering::SeqCst),
-            lines,
-            "worker {worker} at {at}"
-        );
+        let may = gate.may(worker, at);
+        let row = (second, worker, at);
+        expect_at(&rt, &row, (may, console.lines()), (true, (lines, 0)));
     }
-    assert_eq!(rt; console.others.load(Ordering::SeqCst), 0);
     Ok(())
 }

@@ -1,5 +1,6 @@
 //! Work in a room of memory: refused work is not begun twice.
 use crate::gates::Counting;
+use crate::rows::expect_at;
 use line_kinds::Lines;
 use qolb_run::{RunError, run_work};
 use qolb_script::{Work, WorkKind, read_work};
@@ -37,13 +38,15 @@ fn work_that_is_refused_is_not_done_again(rt: HostRuntime) -> Result<(), Fail> {
     let mut half_done = 0u32;
     for room in 1..100usize {
         let (error, first, second) = worked_in(&rt, alloc, &limit, &work, room)?;
-        assert!(rt; first <= 1 && second <= 1, "in {room} MB");
+        let row = (room, error, first, second);
+        let once = first <= 1 && second <= 1;
         if error.is_none() {
-            assert_eq!(rt; second, 1, "in {room} MB");
-            assert!(rt; half_done > 0);
+            let found = (once, second, half_done > 0);
+            expect_at(&rt, &row, found, (true, 1, true));
             return Ok(());
         }
-        assert_eq!(rt; error, Some(RunError::Memory), "in {room} MB");
+        let found = (once, error);
+        expect_at(&rt, &row, found, (true, Some(RunError::Memory)));
         if second == 1 {
             half_done = half_done.saturating_add(1);
         }

@@ -1,6 +1,7 @@
 //! Workers that share lines, over lines of each kind, awake and asleep.
 ghost use Rattle.std.specs.Prelude.{◌<◌};
 
+use crate::rows::{expect, expect_at};
 use line_kinds::{ALL, Lines, NAMES};
 use qolb_run::{AlwaysOpen, Gate, RunError, WaitMode, run_work, run_work_with};
 use qolb_script::{Report, WorkKind, read_work};
@@ -14,7 +15,7 @@ use std::thread::Threads;
 pub(crate) static EITHER: [WaitMode; 2] = [WaitMode::Awake, WaitMode::Asleep];
 
 /// Expects this outcome of the script's workers behind the gate, over lines of each kind, awake and asleep.
-pub(crate) fn expect<R: Threads + Wait + Abort + Sync, G: Gate + Sync>(
+pub(crate) fn expect_work<R: Threads + Wait + Abort + Sync, G: Gate + Sync>(
     rt: &R,
     alloc: Global,
     gate: &G,
@@ -26,7 +27,7 @@ pub(crate) fn expect<R: Threads + Wait + Abort + Sync, G: Gate + Sync>(
     for lines in ALL {
         for waits in EITHER {
             let found = run_work_with(rt, alloc, gate, &work, lines, waits);
-            assert_eq!(rt; found, want, "by {lines:?}, {waits:?}");
+            expect_at(rt, &(lines, waits), found, want);
         }
     }
     Ok(())
@@ -34,8 +35,8 @@ pub(crate) fn expect<R: Threads + Wait + Abort + Sync, G: Gate + Sync>(
 
 #[test]
 fn all_locks_are_these(rt: HostRuntime) -> Result<(), Fail> {
-    assert_eq!(rt; ALL, [Lines::Ring, Lines::Link, Lines::Ticket]);
-    assert_eq!(rt; NAMES, ["ring", "link", "ticket"]);
+    expect(&rt, "locks", ALL, [Lines::Ring, Lines::Link, Lines::Ticket]);
+    expect(&rt, "names", NAMES, ["ring", "link", "ticket"]);
     Ok(())
 }
 
@@ -92,7 +93,7 @@ static OF_ONE: [Row; 4] = [
 #[test]
 fn one_worker_does_its_jobs(rt: HostRuntime) -> Result<(), Fail> {
     for (kind, script, report) in &OF_ONE {
-        expect(&rt, rt.alloc(), &AlwaysOpen, *script, *kind, Ok(*report))?;
+        expect_work(&rt, rt.alloc(), &AlwaysOpen, *script, *kind, Ok(*report))?;
     }
     Ok(())
 }
@@ -128,7 +129,7 @@ static OF_TWO: [Row; 2] = [
 fn two_workers_do_theirs_in_any_order(rt: HostRuntime) -> Result<(), Fail> {
     for (kind, script, report) in &OF_TWO {
         for _ in 0..100 {
-            expect(&rt, rt.alloc(), &AlwaysOpen, *script, *kind, Ok(*report))?;
+            expect_work(&rt, rt.alloc(), &AlwaysOpen, *script, *kind, Ok(*report))?;
         }
     }
     Ok(())
@@ -159,7 +160,7 @@ fn expect_payments<R: Threads + Wait + Abort + Sync>(
         paid_out: 0,
         total: paid,
     };
-    expect(
+    expect_work(
         rt,
         alloc,
         &AlwaysOpen,
@@ -191,7 +192,7 @@ fn expect_longest<R: Threads + Wait + Abort + Sync>(
     }
     let work = read_work(alloc, script.as_bytes(), kind)?;
     let found = run_work(rt, alloc, &AlwaysOpen, &work, Lines::Ring);
-    assert_eq!(rt; found, Ok(report));
+    expect(rt, "50,000 times two jobs", found, Ok(report));
     Ok(())
 }
 

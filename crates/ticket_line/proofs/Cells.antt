@@ -6,13 +6,13 @@ use native.Mathlib.Decide.{ℕ_discrete, dec_le}
 use Rattle.atomic_table.proofs.Lists.{one_turn}
 use Rattle.qolb_model.specs.declared.config.TheConstants.{MAX_NODES}
 use Rattle.qolb_model.proofs.Updates.{put, put_here, put_else}
-use Rattle.line_tickets.specs.Counting.{cells_for}
-use Rattle.line_tickets.proofs.Counting.{two_cells}
-use Rattle.line_tickets.specs.Layout.{ticket_of}
+use Rattle.line_cells.specs.Counting.{cells_for}
+use Rattle.line_cells.proofs.Counting.{two_cells}
+use Rattle.line_cells.specs.Layout.{ticket_of}
 use Rattle.ticket_line.specs.Layout.{cell_of}
-use Rattle.line_tickets.proofs.Taking.{Takes, StaysBehind, cells_apart}
-use Rattle.line_tickets.proofs.Roll.{Withdraws}
-use Rattle.line_tickets.proofs.Grant.{GrantsNext}
+use Rattle.line_cells.proofs.Taking.{Takes, StaysBehind, cells_apart}
+use Rattle.line_cells.proofs.Roll.{Withdraws}
+use Rattle.line_cells.proofs.Grant.{GrantsNext}
 use Rattle.ticket_line.specs.declared.layout.TheConstants.{NUMBER_UNIT, NUMBERS}
 use Rattle.ticket_line.specs.Layout.{number, granted, withdrawn}
 use Rattle.ticket_line.specs.Ticket.{IsLater, TicketCells}

@@ -4,9 +4,9 @@ use native.Mathlib.Nat.{mod-add-mod}
 use lib.Pow.{mod-mod-pow}
 use Rattle.atomic_table.proofs.Lists.{one_turn}
 use Rattle.qolb_model.specs.declared.config.TheConstants.{MAX_NODES}
-use Rattle.line_tickets.specs.Counting.{cells_for}
-use Rattle.line_tickets.proofs.Counting.{some_cells, few_cells, wraps}
-use Rattle.line_tickets.specs.Layout.{ticket_of}
+use Rattle.line_cells.specs.Counting.{cells_for}
+use Rattle.line_cells.proofs.Counting.{some_cells, few_cells, wraps}
+use Rattle.line_cells.specs.Layout.{ticket_of}
 use Rattle.ticket_line.specs.Layout.{cell_of}
 use Rattle.ticket_line.specs.declared.layout.TheConstants.{NUMBER_UNIT, NUMBERS}
 use Rattle.ticket_line.specs.Layout.{ticket_after, number, granted, withdrawn, withdrawn_by, number_before}

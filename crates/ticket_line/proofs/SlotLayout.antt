@@ -8,12 +8,12 @@ use Rattle.atomic_table.specs.Table.{Act, chain, takes, gives, Valid, homes_afte
 use Rattle.atomic_table.proofs.Lists.{set_here, set_else}
 use Rattle.line_generic.specs.declared.table.Payload.{Payload}
 use Rattle.line_generic.specs.Slots.{Slots}
-use Rattle.line_tickets.specs.Layout.{ticket_of}
-use Rattle.line_tickets.specs.SlotLayout.{Homes, IsAtHome}
-use Rattle.line_tickets.proofs.Slots.{MayTake, MayGive, MayKeep, LaysOne, AreSpare, stays_home}
-use Rattle.line_tickets.specs.Counting.{cells_for}
-use Rattle.line_tickets.proofs.Counting.{two_cells, some_cells}
-use Rattle.line_tickets.proofs.Taking.{cells_apart}
+use Rattle.line_cells.specs.Layout.{ticket_of}
+use Rattle.line_cells.specs.SlotLayout.{Homes, IsAtHome}
+use Rattle.line_cells.proofs.Slots.{MayTake, MayGive, MayKeep, LaysOne, AreSpare, stays_home}
+use Rattle.line_cells.specs.Counting.{cells_for}
+use Rattle.line_cells.proofs.Counting.{two_cells, some_cells}
+use Rattle.line_cells.proofs.Taking.{cells_apart}
 use Rattle.ticket_line.specs.Layout.{ticket_after, cell_of}
 use Rattle.ticket_line.specs.Slots.{slot_of, slot_count, slot_layout, slots_at_grant}
 use Rattle.ticket_line.proofs.Numbers.{cell_ticket, ticket_next}

@@ -6,14 +6,14 @@ use Rattle.qolb_model.specs.declared.config.TheConstants.{MAX_NODES}
 use Rattle.line_generic.specs.declared.table.Payload.{Payload}
 use Rattle.line_generic.specs.declared.table.TableKey.{TableKey}
 use Rattle.line_generic.specs.Slots.{Slots}
-use Rattle.line_tickets.specs.declared.local.Point.TheVariants.{Queued}
-use Rattle.line_tickets.specs.Layout.{cell_at, ticket_of}
-use Rattle.line_tickets.specs.Array.{ArrayGhost, has_line, is_cleared}
-use Rattle.line_tickets.specs.Steps as array
-use Rattle.line_tickets.specs.Steps.{SeatContents, CarriesNext, single}
-use Rattle.line_tickets.proofs.Load.{loads_next}
-use Rattle.line_tickets.proofs.Roll.{rolls_next}
-use Rattle.line_tickets.proofs.Grant.{grants_next}
+use Rattle.line_cells.specs.declared.local.Point.TheVariants.{Queued}
+use Rattle.line_cells.specs.Layout.{cell_at, ticket_of}
+use Rattle.line_cells.specs.Array.{ArrayGhost, has_line, is_cleared}
+use Rattle.line_cells.specs.Steps as array
+use Rattle.line_cells.specs.Steps.{SeatContents, CarriesNext, single}
+use Rattle.line_cells.proofs.Load.{loads_next}
+use Rattle.line_cells.proofs.Roll.{rolls_next}
+use Rattle.line_cells.proofs.Grant.{grants_next}
 use Rattle.ticket_line.specs.Layout.{cell_of, granted, withdrawn}
 use Rattle.ticket_line.specs.Slots.{slot_layout, slots_at_release}
 use Rattle.ticket_line.specs.Ticket.{TicketCells, TicketRule}

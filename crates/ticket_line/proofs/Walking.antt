@@ -6,11 +6,11 @@ use Rattle.qolb_model.specs.Sound.{Continues}
 use Rattle.qolb_model.specs.Views.{Extends}
 use Rattle.line_generic.specs.declared.table.Payload.{Payload}
 use Rattle.line_generic.specs.Steps.{IsSameSeat, HasNoSlot}
-use Rattle.line_tickets.specs.Layout.{ticket_of}
-use Rattle.line_tickets.specs.Array.{ArrayGhost}
-use Rattle.line_tickets.specs.Steps.{ArraySeat, SeatContents, ghost_of, single, CarriesNext, Ended, GoesHome, Passes, Advances}
-use Rattle.line_tickets.specs.Releases.{MatchesEnds}
-use Rattle.line_tickets.proofs.Walking as walk
+use Rattle.line_cells.specs.Layout.{ticket_of}
+use Rattle.line_cells.specs.Array.{ArrayGhost}
+use Rattle.line_cells.specs.Steps.{ArraySeat, SeatContents, ghost_of, single, CarriesNext, Ended, GoesHome, Passes, Advances}
+use Rattle.line_cells.specs.Releases.{MatchesEnds}
+use Rattle.line_cells.proofs.Walking as walk
 use Rattle.ticket_line.specs.Layout.{ticket_after}
 use Rattle.ticket_line.specs.Slots.{slot_layout}
 use Rattle.ticket_line.specs.Steps.{turn_ticket, SlotsAtGrant, SlotsAtRelease}

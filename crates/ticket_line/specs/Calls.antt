@@ -8,14 +8,14 @@ use Rattle.line_generic.specs.declared.table.Payload.{Payload}
 use Rattle.line_generic.specs.Calls.{LineTable}
 use Rattle.line_generic.specs.PortPhases.{PortPhases}
 use Rattle.line_generic.specs.Steps.{IsSameSeat, IsSeatOf, HasNoSlot}
-use Rattle.line_tickets.specs.declared.local.Local.{Local}
-use Rattle.line_tickets.specs.declared.local.Point.TheVariants.{Holding, Passing, Freeing}
-use Rattle.line_tickets.specs.Array.{At}
-use Rattle.line_tickets.specs.BetweenCalls as between_calls
-use Rattle.line_tickets.specs.Counting.{mask_for}
-use Rattle.line_tickets.specs.Layout.{ticket_of}
-use Rattle.line_tickets.specs.Releases.{MatchesEnds, ReleasesLine, FinishesWalk, AreNodesAt, FreesAll}
-use Rattle.line_tickets.specs.Steps.{ArraySeat, IsAt, ghost_of, SeatAdvances, CarriesNext, Ended, GoesHome, Passes}
+use Rattle.line_cells.specs.declared.local.Local.{Local}
+use Rattle.line_cells.specs.declared.local.Point.TheVariants.{Holding, Passing, Freeing}
+use Rattle.line_cells.specs.Array.{At}
+use Rattle.line_cells.specs.BetweenCalls as between_calls
+use Rattle.line_cells.specs.Counting.{mask_for}
+use Rattle.line_cells.specs.Layout.{ticket_of}
+use Rattle.line_cells.specs.Releases.{MatchesEnds, ReleasesLine, FinishesWalk, AreNodesAt, FreesAll}
+use Rattle.line_cells.specs.Steps.{ArraySeat, IsAt, ghost_of, SeatAdvances, CarriesNext, Ended, GoesHome, Passes}
 use Rattle.ticket_line.specs.declared.release.Handoff.{Handoff}
 use Rattle.ticket_line.specs.Layout.{word_count}
 use Rattle.ticket_line.specs.Slots.{slots_at_grant, slots_in_turn, slots_at_release}

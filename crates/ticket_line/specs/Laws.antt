@@ -9,15 +9,15 @@ use Rattle.line_generic.specs.Slots.{Slots}
 use Rattle.qolb_model.specs.declared.config.TheConstants.{MAX_NODES}
 use Rattle.qolb_model.specs.declared.config.LineConfig.{LineConfig}
 use Rattle.qolb_model.specs.declared.view.View.{View}
-use Rattle.line_tickets.specs.Counting.{cells_for}
-use Rattle.line_tickets.proofs.Counting.{node_below, some_cells}
-use Rattle.line_tickets.specs.BetweenCalls.{max_steps}
-use Rattle.line_tickets.specs.Layout.{cell_at, cells_in, ticket_at, ticket_of}
+use Rattle.line_cells.specs.Counting.{cells_for}
+use Rattle.line_cells.proofs.Counting.{node_below, some_cells}
+use Rattle.line_cells.specs.BetweenCalls.{max_steps}
+use Rattle.line_cells.specs.Layout.{cell_at, cells_in, ticket_at, ticket_of}
 use Rattle.ticket_line.specs.declared.layout.TheConstants.{NUMBER_UNIT, NUMBERS}
 use Rattle.ticket_line.specs.Layout.{cell_of, number, granted}
 use Rattle.line_generic.specs.declared.table.TableKey.{TableKey}
 use Rattle.qolb_model.specs.Opening.{MayOpen}
-use Rattle.line_tickets.proofs.Slots.{MayReturnSlots, stays_home}
+use Rattle.line_cells.proofs.Slots.{MayReturnSlots, stays_home}
 use Rattle.ticket_line.specs.Layout.{AreFirst, ticket_after}
 use Rattle.ticket_line.specs.Slots.{slot_layout, slots_in_turn, slot_of, last}
 use Rattle.ticket_line.specs.Ticket.{IsLater, TicketCells}

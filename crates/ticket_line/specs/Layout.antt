@@ -1,8 +1,8 @@
 -- The contents of a ticket line's words.
 use Rattle.std.specs.Prelude.{◌≡◌, ◌<◌, ℕ, ◌+◌, ◌-◌, ◌*◌, ◌/◌, ◌%◌, ◌^◌, List, Bool, ◌==◌, if◌then◌else◌}
-use Rattle.line_tickets.specs.Counting.{cells_for}
-use Rattle.line_tickets.specs.Layout as array
-use Rattle.line_tickets.specs.Layout.{ticket_of}
+use Rattle.line_cells.specs.Counting.{cells_for}
+use Rattle.line_cells.specs.Layout as array
+use Rattle.line_cells.specs.Layout.{ticket_of}
 use Rattle.ticket_line.specs.declared.layout.TheConstants.{NUMBER_UNIT, NUMBERS}
 
 -- the ticket behind one

@@ -2,10 +2,10 @@
 use Rattle.std.specs.Prelude.{◌≡◌, ◌⊎◌, ℕ, List, [], ◌∷◌, Option, slice_index}
 use Rattle.line_generic.specs.declared.table.Payload.{Payload}
 use Rattle.line_generic.specs.Slots.{Slots}
-use Rattle.line_tickets.specs.Counting.{cells_for}
-use Rattle.line_tickets.specs.Layout.{ticket_of, ticket_at}
-use Rattle.line_tickets.specs.SlotLayout.{SlotLayout}
-use Rattle.line_tickets.proofs.Counting.{some_cells}
+use Rattle.line_cells.specs.Counting.{cells_for}
+use Rattle.line_cells.specs.Layout.{ticket_of, ticket_at}
+use Rattle.line_cells.specs.SlotLayout.{SlotLayout}
+use Rattle.line_cells.proofs.Counting.{some_cells}
 use Rattle.ticket_line.specs.Layout.{ticket_after, cell_of}
 
 -- the slot of a ticket's cell

@@ -3,11 +3,11 @@ use Rattle.std.specs.Prelude.{◌≡◌, ◌≢◌, ℕ, ◌+◌, ◌%◌, ◌^�
 use Rattle.atomic_table.specs.Table.{Step}
 use Rattle.atomic_table.specs.Seated.{TableId}
 use Rattle.line_generic.specs.declared.table.Payload.{Payload}
-use Rattle.line_tickets.specs.Layout.{ticket_of}
-use Rattle.line_tickets.specs.Counting.{cells_for}
-use Rattle.line_tickets.specs.Array.{ArrayGhost}
-use Rattle.line_tickets.specs.Steps as array
-use Rattle.line_tickets.specs.Steps.{ArraySeat, SeatContents, single, ghost_of}
+use Rattle.line_cells.specs.Layout.{ticket_of}
+use Rattle.line_cells.specs.Counting.{cells_for}
+use Rattle.line_cells.specs.Array.{ArrayGhost}
+use Rattle.line_cells.specs.Steps as array
+use Rattle.line_cells.specs.Steps.{ArraySeat, SeatContents, single, ghost_of}
 use Rattle.ticket_line.specs.Layout as layout
 use Rattle.ticket_line.specs.Slots.{slot_layout, slots_at_grant, slots_at_release}
 

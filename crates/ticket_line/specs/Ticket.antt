@@ -1,9 +1,9 @@
 -- The invariant of a ticket line's table.
 use Rattle.std.specs.Prelude.{◌≡◌, ℕ, ◌+◌, ◌/◌, ◌<◌, List, Bool, false}
 use Rattle.line_generic.specs.declared.table.TableKey.{TableKey}
-use Rattle.line_tickets.specs.Counting.{cells_for}
+use Rattle.line_cells.specs.Counting.{cells_for}
 use Rattle.ticket_line.specs.Layout.{cell_of}
-use Rattle.line_tickets.specs.Array.{ArrayState, ArrayRule}
+use Rattle.line_cells.specs.Array.{ArrayState, ArrayRule}
 use Rattle.ticket_line.specs.declared.layout.TheConstants.{NUMBER_UNIT}
 use Rattle.ticket_line.specs.Layout.{number, number_before}
 use Rattle.ticket_line.specs.Layout as layout

@@ -1,12 +1,12 @@
 //! Partitioned tickets as a queue discipline.
 ghost use Rattle.std.specs.Prelude.{◌≡◌};
 ghost use Rattle.qolb_model.specs.PortStates as states;
-ghost use Rattle.line_tickets.specs.Counting.{mask_for};
-ghost use Rattle.line_tickets.specs.Layout.{ticket_of};
+ghost use Rattle.line_cells.specs.Counting.{mask_for};
+ghost use Rattle.line_cells.specs.Layout.{ticket_of};
 ghost use Rattle.ticket_line.specs.Layout.{word_count};
-ghost use Rattle.line_tickets.proofs.Seats as seats;
-ghost use Rattle.line_tickets.proofs.Meets as meeting;
-ghost use Rattle.line_tickets.proofs.Lasting as lasting;
+ghost use Rattle.line_cells.proofs.Seats as seats;
+ghost use Rattle.line_cells.proofs.Meets as meeting;
+ghost use Rattle.line_cells.proofs.Lasting as lasting;
 ghost use Rattle.ticket_line.specs.Layout as layout;
 ghost use Rattle.ticket_line.specs.Slots as slots;
 ghost use Rattle.ticket_line.specs.Slots.{slot_layout, last};
@@ -19,10 +19,10 @@ use crate::release::{release, try_reset};
 use crate::slots::{take, take_final};
 use crate::steps::{load, load_node, roll, take_ticket};
 use atomic_table::Closed;
+use line_cells::{cell_count, is_freed};
 use line_generic::{
     Discipline, EnqueueResult, Enqueued, LocalCopy, Payload, Released, Rested, UnparkHandle,
 };
-use line_tickets::{cell_count, is_freed};
 use qolb_model::{Keep, PortState};
 use std::alloc::{AllocError, Global};
 

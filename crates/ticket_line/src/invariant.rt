@@ -1,14 +1,14 @@
 //! The queue discipline of partitioned tickets, its ghost state and its invariant.
 ghost use Rattle.ticket_line.specs.Slots as slots;
-ghost use Rattle.line_tickets.specs.Layout.{ticket_of};
-ghost use Rattle.line_tickets.specs.Counting.{cells_for};
-ghost use Rattle.line_tickets.specs.BetweenCalls as between_calls;
-ghost use Rattle.line_tickets.proofs.PortModel as port_model;
+ghost use Rattle.line_cells.specs.Layout.{ticket_of};
+ghost use Rattle.line_cells.specs.Counting.{cells_for};
+ghost use Rattle.line_cells.specs.BetweenCalls as between_calls;
+ghost use Rattle.line_cells.proofs.PortModel as port_model;
 ghost use Rattle.ticket_line.specs.Laws as laws;
 ghost use Rattle.ticket_line.specs.Layout as layout;
 
+use line_cells::Local;
 use line_generic::{DisciplineInvariant, DisciplineSpec, LineSeat, Parking};
-use line_tickets::Local;
 use qolb_model::Keep;
 
 /// A partitioned ticket lock (Dice 2011) that also hands over the line, with withdrawal.

@@ -1,13 +1,13 @@
 //! The contents of a ticket line's words.
 ghost use Rattle.std.specs.Prelude.{◌≡◌, ◌≢◌, ◌<◌, ◌≤◌, length, MatchBool, IfOk};
 ghost use Rattle.qolb_model.specs.declared.config.TheConstants.{MAX_NODES};
-ghost use Rattle.line_tickets.specs.declared.layout.TheConstants.{CELLS};
-ghost use Rattle.line_tickets.specs.Counting.{mask_for};
+ghost use Rattle.line_cells.specs.declared.layout.TheConstants.{CELLS};
+ghost use Rattle.line_cells.specs.Counting.{mask_for};
 ghost use Rattle.ticket_line.specs.Layout as layout;
 ghost use Rattle.ticket_line.specs.Slots as slots;
 
 use crate::invariant::SharedTable;
-use line_tickets::{cell_count, word_count};
+use line_cells::{cell_count, word_count};
 use qolb_model::Keep;
 use std::alloc::{AllocError, Global};
 
@@ -56,7 +56,7 @@ pub(crate) fn cell_word<K: Keep>(table: &SharedTable<K>, mask: u64, ticket: u64)
     requires { mask ≡ mask_for table.now.key.config.nodes }
     ensures { layout.IsCellWord table.now.key.config.nodes ticket result }
 {
-    line_tickets::cell_word(cell_of(table, mask, ticket))
+    line_cells::cell_word(cell_of(table, mask, ticket))
 }
 
 /// Returns the ticket behind this one.
@@ -119,6 +119,6 @@ pub(crate) fn first_words(alloc: Global, nodes: u64) -> Result<Vec<u64>, AllocEr
 {
     let count = word_count(cell_count(nodes));
     let mut words = vec![in alloc; 0u64; count]?;
-    words[line_tickets::cell_word(0)] = granted(0);
+    words[line_cells::cell_word(0)] = granted(0);
     Ok(words)
 }

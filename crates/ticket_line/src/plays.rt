@@ -2,8 +2,8 @@
 ghost use Rattle.ticket_line.specs.Steps.{loaded, rolled, handed};
 
 use atomic_table::Play;
+use line_cells::Entries;
 use line_generic::Payload;
-use line_tickets::Entries;
 use qolb_model::Keep;
 use std::marker::PhantomData;
 

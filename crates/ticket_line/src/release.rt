@@ -1,19 +1,19 @@
 //! The release of the line, and what a node that had withdrawn does before its next request.
 ghost use Rattle.std.specs.Prelude.{◌≡◌, ◌≢◌, ◌+◌, ◌*◌};
 ghost use Rattle.qolb_model.specs.declared.config.TheConstants.{MAX_NODES};
-ghost use Rattle.line_tickets.specs.Steps.{IsAt, ghost_of, SeatAdvances};
-ghost use Rattle.line_tickets.specs.Releases.{IsReset, steps_to_reset};
+ghost use Rattle.line_cells.specs.Steps.{IsAt, ghost_of, SeatAdvances};
+ghost use Rattle.line_cells.specs.Releases.{IsReset, steps_to_reset};
 ghost use Rattle.ticket_line.specs.Steps.{IsSeatOfNode};
-ghost use Rattle.line_tickets.specs.declared.local.Point.TheVariants.{Idle, Rolled};
+ghost use Rattle.line_cells.specs.declared.local.Point.TheVariants.{Idle, Rolled};
 ghost use Rattle.line_generic.specs.Calls.{MayTake};
-ghost use Rattle.line_tickets.specs.Counting.{mask_for};
+ghost use Rattle.line_cells.specs.Counting.{mask_for};
 ghost use Rattle.ticket_line.specs.Calls.{phases, HasCopied, IsReleaser, HasReleased, HasPassedFirst, HasWalked, HasNodesToFree, HasFreedAll};
 
 use crate::invariant::{SharedTable, TicketSeat};
 use crate::layout::{slot_of, ticket_after};
 use crate::steps::{grant, load_node, reset};
 use arrayvec::ArrayVec;
-use line_tickets::{FreeNode, is_freed, node_word};
+use line_cells::{FreeNode, is_freed, node_word};
 use qolb_model::{Keep, MAX_NODES, PortState};
 
 /// The maximum number of requests that a release passes: those of all nodes but its own.
@@ -110,7 +110,7 @@ fn walk<K: Keep>(
         ticket = ticket_after(ticket);
         node = grant(table, seat, size, ticket);
     }
-    // Freed only now: a freed node may make a request, which this walk must not pass.
+    // Freed only now: a freed node may request again, and this walk must not pass it twice.
     free_passed(table, seat, &passed);
     Handoff {
         steps: 2 * passed.len() as u64,

@@ -1,20 +1,21 @@
-//! The word steps, each one operation on one word, which its play counts; but for the last ones of a walk, which frees the passed nodes.
+//! The word steps, but for the last ones of a walk, which frees the passed nodes. Each is one sequentially consistent operation on one word of
+//! the table. Its type argument is its play: what the step does to the ghost state, with the count of steps.
 ghost use Rattle.std.specs.Prelude.{◌≡◌, ◌∷◌, [], true, false};
 ghost use Rattle.qolb_model.specs.Requests.{Has};
 ghost use Rattle.qolb_model.specs.Views.{own};
 ghost use Rattle.line_generic.specs.declared.table.Payload.{Payload};
 ghost use Rattle.line_generic.specs.Steps.{IsSameSeat, IsSeatOf, HasNoSlot};
-ghost use Rattle.line_tickets.specs.Counting.{mask_for};
+ghost use Rattle.line_cells.specs.Counting.{mask_for};
 ghost use Rattle.ticket_line.specs.Layout.{word_count};
-ghost use Rattle.line_tickets.specs.Steps.{IsAt, ghost_of, SeatAdvances, TakesTicket, IsStill, after_reset};
+ghost use Rattle.line_cells.specs.Steps.{IsAt, ghost_of, SeatAdvances, TakesTicket, HasLoadedNodeWord, after_reset};
 ghost use Rattle.ticket_line.specs.Steps.{IsSeatOfNode, IsSized, own_ticket, SlotsAtGrant, IsStillQueued, IsAtTurn, IsRolled};
-ghost use Rattle.line_tickets.specs.declared.local.Point.TheVariants.{Idle, Queued, Rolled};
+ghost use Rattle.line_cells.specs.declared.local.Point.TheVariants.{Idle, Queued, Rolled};
 ghost use Rattle.ticket_line.specs.Calls.{HasSuccessor, HasGranted};
 
 use crate::invariant::{SharedTable, TicketSeat};
 use crate::layout::{cell_word, granted, is_granted, withdrawn, withdrawn_by};
 use crate::plays::{Grant, Load, Roll};
-use line_tickets::{LoadNode, Reset, TICKET, TakeTicket, node_word};
+use line_cells::{LoadNode, Reset, TICKET, TakeTicket, node_word};
 use qolb_model::Keep;
 
 /// Takes a ticket. The linearization point of a request: it puts the request into the order.
@@ -29,7 +30,7 @@ pub(crate) fn take_ticket<K: Keep>(table: &SharedTable<K>, seat: &mut TicketSeat
     table.fetch_add::<TakeTicket<K>>(seat, TICKET, 1)
 }
 
-/// Loads the node's own cell. Returns `true` if it is granted to its ticket.
+/// Loads the node's own cell. Returns `true` if it is granted to its ticket: the request is at its turn.
 pub(crate) fn load<K: Keep>(
     table: &SharedTable<K>,
     seat: &mut TicketSeat,
@@ -53,7 +54,7 @@ pub(crate) fn load<K: Keep>(
     )
 }
 
-/// Returns `true` if the cell is granted to the ticket, and withdraws the request otherwise.
+/// Returns `true` if the cell is granted to the ticket, and withdraws the request otherwise. The linearization point of a withdrawal.
 pub(crate) fn roll<K: Keep>(
     table: &SharedTable<K>,
     seat: &mut TicketSeat,
@@ -79,7 +80,8 @@ pub(crate) fn roll<K: Keep>(
     is_granted(found, ticket)
 }
 
-/// Ends the request at its turn and grants the next cell to the next ticket. The linearization point of an end.
+/// Ends the request at its turn, the node's own or a withdrawn one, and grants the next cell to ticket `next`. The linearization point of
+/// an end.
 ///
 /// Returns 0 if the line is now in the slot for the next request; else the node that had withdrawn that ticket, whose request is then
 /// passed.
@@ -102,12 +104,12 @@ pub(crate) fn load_node<K: Keep>(table: &SharedTable<K>, seat: &mut TicketSeat, 
     requires phase { IsAt Rolled seat.old }
     ensures slot { seat.new.me.1 ≡ seat.old.me.1 }
     ensures advances { SeatAdvances K.allows seat.old seat.new 1 }
-    ensures still { IsStill (ghost_of seat.old) result (ghost_of seat.new) }
+    ensures still { HasLoadedNodeWord (ghost_of seat.old) result (ghost_of seat.new) }
 {
     table.load::<LoadNode<K>>(seat, node_word(node))
 }
 
-/// Clears the node's own word.
+/// Clears the node's own word, before its next request.
 pub(crate) fn reset<K: Keep>(table: &SharedTable<K>, seat: &mut TicketSeat, node: u64)
     requires seat { IsSeatOfNode table.now.key.config.nodes table.now.table_id node seat.old }
     requires phase { IsAt Rolled seat.old }

@@ -1,4 +1,4 @@
-use Rattle.qolb_c.specs.Calls.{AddsLane}
+use Rattle.qolb_nodes.specs.Calls.{AddsLane}
 use Rattle.qolb_c.proofs.Telling.{called}
 use Rattle.qolb_c.proofs.qolb_add_lane.Goals as goal
 

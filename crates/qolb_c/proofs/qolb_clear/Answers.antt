@@ -1,4 +1,4 @@
-use Rattle.qolb_c.specs.Calls.{LooksIfClear}
+use Rattle.qolb_nodes.specs.Calls.{LooksIfClear}
 use Rattle.qolb_c.proofs.Telling.{called}
 use Rattle.qolb_c.proofs.qolb_clear.Goals as goal
 

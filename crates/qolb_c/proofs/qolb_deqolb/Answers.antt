@@ -1,5 +1,5 @@
 use Rattle.std.proofs.Common.{false}
-use Rattle.qolb_c.specs.Calls.{Releases}
+use Rattle.qolb_nodes.specs.Calls.{Releases}
 use Rattle.qolb_c.proofs.Telling.{called}
 use Rattle.qolb_c.proofs.qolb_deqolb.Goals as goal
 

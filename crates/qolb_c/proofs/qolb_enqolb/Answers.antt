@@ -1,4 +1,4 @@
-use Rattle.qolb_c.specs.Calls.{Enqolbs}
+use Rattle.qolb_nodes.specs.Calls.{Enqolbs}
 use Rattle.qolb_c.proofs.Telling.{called}
 use Rattle.qolb_c.proofs.qolb_enqolb.Goals as goal
 

@@ -1,4 +1,4 @@
-use Rattle.qolb_c.specs.Calls.{Polls}
+use Rattle.qolb_nodes.specs.Calls.{Polls}
 use Rattle.qolb_c.proofs.Telling.{called}
 use Rattle.qolb_c.proofs.qolb_poll.Goals as goal
 

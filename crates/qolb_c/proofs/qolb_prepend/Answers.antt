@@ -1,4 +1,4 @@
-use Rattle.qolb_c.specs.Calls.{Prepends}
+use Rattle.qolb_nodes.specs.Calls.{Prepends}
 use Rattle.qolb_c.proofs.Telling.{called}
 use Rattle.qolb_c.proofs.qolb_prepend.Goals as goal
 

@@ -1,4 +1,4 @@
-use Rattle.qolb_c.specs.Calls.{ReadsLane}
+use Rattle.qolb_nodes.specs.Calls.{ReadsLane}
 use Rattle.qolb_c.proofs.Telling.{called}
 use Rattle.qolb_c.proofs.qolb_read_lane.Goals as goal
 

@@ -1,5 +1,5 @@
 use Rattle.std.proofs.Common.{true}
-use Rattle.qolb_c.specs.Calls.{Releases}
+use Rattle.qolb_nodes.specs.Calls.{Releases}
 use Rattle.qolb_c.proofs.Telling.{called}
 use Rattle.qolb_c.proofs.qolb_shut.Goals as goal
 

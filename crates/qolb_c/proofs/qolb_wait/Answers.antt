@@ -1,4 +1,4 @@
-use Rattle.qolb_c.specs.Calls.{Waits}
+use Rattle.qolb_nodes.specs.Calls.{Waits}
 use Rattle.qolb_c.proofs.Telling.{called}
 use Rattle.qolb_c.proofs.qolb_wait.Goals as goal
 

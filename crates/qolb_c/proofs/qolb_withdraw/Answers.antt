@@ -1,4 +1,4 @@
-use Rattle.qolb_c.specs.Calls.{Withdraws}
+use Rattle.qolb_nodes.specs.Calls.{Withdraws}
 use Rattle.qolb_c.proofs.Telling.{called}
 use Rattle.qolb_c.proofs.qolb_withdraw.Goals as goal
 

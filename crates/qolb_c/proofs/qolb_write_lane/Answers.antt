@@ -1,4 +1,4 @@
-use Rattle.qolb_c.specs.Calls.{WritesLane}
+use Rattle.qolb_nodes.specs.Calls.{WritesLane}
 use Rattle.qolb_c.proofs.Telling.{called}
 use Rattle.qolb_c.proofs.qolb_write_lane.Goals as goal
 

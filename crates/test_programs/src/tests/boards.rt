@@ -7,7 +7,6 @@ use crate::fixtures::{open_zeros, with_last, with_two};
 use crate::producers::{Handed, hand_over};
 use crate::tests::rows::{expect, expect_at};
 use crate::tries::Tries;
-use line_blocking::HookedLine;
 use line_board::{BoardLaw, Put, Take};
 use qolb_model::{OpenLine, ParkingLine, PortState};
 use std::alloc::Global;
@@ -15,6 +14,7 @@ use std::process::Abort;
 use std::sync::Wait;
 use std::test::Fail;
 use std::thread::Threads;
+use test_support::HookedLine;
 
 /// A line with an empty board for one node.
 fn board<L: OpenLine<BoardLaw> + Drop>(alloc: Global, lease: Option<u64>) -> Option<(L, L::Port)>

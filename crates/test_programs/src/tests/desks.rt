@@ -12,7 +12,6 @@ use crate::tests::rows::{expect, expect_at};
 use crate::transfers::{ACCOUNTS, PAID_IN, Settled, transfer_at_random};
 use crate::tries::Thrice;
 use line_accounts::{AccountLaw, Desk, Reply, SettleError};
-use line_blocking::HookedLine;
 use line_lanes::Line64;
 use qolb_model::{Enq, LineSync, OpenLine, ParkingLine};
 use std::alloc::Global;
@@ -20,7 +19,7 @@ use std::process::Abort;
 use std::sync::Wait;
 use std::test::Fail;
 use std::thread::Threads;
-use test_support::{GRAIN, MemoryLimit};
+use test_support::{GRAIN, HookedLine, MemoryLimit};
 
 /// A line of empty accounts for one node.
 fn accounts<L: OpenLine<AccountLaw> + Drop>(

@@ -1,7 +1,7 @@
 use Rattle.std.proofs.Common.{refl, ◌∙◌, arith}
-use Rattle.line_tickets.specs.Steps.{ghost_of}
-use Rattle.line_tickets.proofs.Turning.{goes_none}
-use Rattle.line_tickets.proofs.Walking.{frees_none, frees_all, freeing_which, freeing_next, freed_steps}
+use Rattle.line_cells.specs.Steps.{ghost_of}
+use Rattle.line_cells.proofs.Turning.{goes_none}
+use Rattle.line_cells.proofs.Walking.{frees_none, frees_all, freeing_which, freeing_next, freed_steps}
 use Rattle.ring_line.proofs.release.free_passed.Goals as goal
 
 pub loop-node-init : goal.loop-node-init

@@ -1,4 +1,4 @@
-use Rattle.line_tickets.proofs.Walking.{IsFreeing}
+use Rattle.line_cells.proofs.Walking.{IsFreeing}
 use Rattle.ring_line.proofs.release.free_passed.Given as goal
 
 abbrev pub invariant-loop-node : goal.invariant-loop-node

@@ -1,9 +1,9 @@
 use Rattle.std.proofs.Common.{rules, subst, ◌∙◌, arith}
-use Rattle.line_tickets.specs.Array.{ArrayGhost}
-use Rattle.line_tickets.specs.Steps.{ghost_of, Ended}
-use Rattle.line_tickets.proofs.Turning.{goes_trans}
-use Rattle.line_tickets.proofs.Releasing.{lets_on}
-use Rattle.line_tickets.proofs.Walking.{ended_longer}
+use Rattle.line_cells.specs.Array.{ArrayGhost}
+use Rattle.line_cells.specs.Steps.{ghost_of, Ended}
+use Rattle.line_cells.proofs.Turning.{goes_trans}
+use Rattle.line_cells.proofs.Releasing.{lets_on}
+use Rattle.line_cells.proofs.Walking.{ended_longer}
 use Rattle.ring_line.proofs.Walking.{goes_clear, cleared_entry, cleared_slot, cleared_ended}
 use Rattle.ring_line.proofs.release.release.Goals as goal
 

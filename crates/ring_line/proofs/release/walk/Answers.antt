@@ -1,10 +1,10 @@
 use Rattle.std.proofs.Common.{rules, refl, sym, subst, ap, arith, ◌≡◌, ◌≢◌, ◌∙◌, ◌++◌, ◌∷◌, [], ℕ, List, length}
 use Rattle.qolb_model.specs.declared.end.End.{End}
 use Rattle.ring_line.specs.Layout.{cell_of}
-use Rattle.line_tickets.specs.Steps.{ghost_of}
-use Rattle.line_tickets.specs.SlotLayout.{one_slot}
-use Rattle.line_tickets.proofs.Turning.{goes_none}
-use Rattle.line_tickets.proofs.Walking.{walk_begins, stands_first, walked_steps, walk_over}
+use Rattle.line_cells.specs.Steps.{ghost_of}
+use Rattle.line_cells.specs.SlotLayout.{one_slot}
+use Rattle.line_cells.proofs.Turning.{goes_none}
+use Rattle.line_cells.proofs.Walking.{walk_begins, stands_first, walked_steps, walk_over}
 use Rattle.ring_line.specs.Layout.{withdrawn_by}
 use Rattle.ring_line.proofs.Walking.{IsWalking, walk_carries, walk_step}
 use Rattle.ring_line.proofs.release.walk.Goals as goal

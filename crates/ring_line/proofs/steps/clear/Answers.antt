@@ -1,6 +1,6 @@
 use Rattle.std.proofs.Common.{rules, arith, ap, ◌∙◌, inl, inr, ⊎_elim}
-use Rattle.line_tickets.specs.Layout.{cell_at}
-use Rattle.line_tickets.specs.Steps.{ghost_of}
+use Rattle.line_cells.specs.Layout.{cell_at}
+use Rattle.line_cells.specs.Steps.{ghost_of}
 use Rattle.ring_line.proofs.Clear.{clears_next}
 use Rattle.ring_line.proofs.steps.clear.Goals as goal
 

@@ -1,9 +1,9 @@
 use Rattle.std.proofs.Common.{rules, arith, sym, ap, subst, ◌∙◌, ◌≤◌}
 use Rattle.qolb_model.specs.declared.config.TheConstants.{MAX_NODES}
-use Rattle.line_tickets.specs.Layout.{node_at}
-use Rattle.line_tickets.specs.Steps.{ghost_of}
-use Rattle.line_tickets.proofs.Freeing.{frees_next}
-use Rattle.line_tickets.specs.SlotLayout.{one_slot}
+use Rattle.line_cells.specs.Layout.{node_at}
+use Rattle.line_cells.specs.Steps.{ghost_of}
+use Rattle.line_cells.proofs.Freeing.{frees_next}
+use Rattle.line_cells.specs.SlotLayout.{one_slot}
 use Rattle.ring_line.specs.Ring.{RingCells}
 use Rattle.ring_line.proofs.steps.free.Goals as goal
 

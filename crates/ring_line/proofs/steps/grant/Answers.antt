@@ -1,13 +1,13 @@
 use Rattle.std.proofs.Common.{rules, arith, refl, sym, ap, subst, ◌+◌, ◌%◌, ◌^◌, ◌∙◌, ℕ, length}
 use native.Mathlib.Nat.{mod-add-mod}
-use Rattle.line_tickets.specs.declared.layout.TheConstants.{CELLS}
-use Rattle.line_tickets.specs.Layout.{cell_at}
+use Rattle.line_cells.specs.declared.layout.TheConstants.{CELLS}
+use Rattle.line_cells.specs.Layout.{cell_at}
 use Rattle.ring_line.specs.Layout.{cell_of}
-use Rattle.line_tickets.specs.Steps.{ghost_of}
-use Rattle.line_tickets.proofs.Slots.{one_give, one_keep, one_lays}
-use Rattle.line_tickets.proofs.Grant.{GrantsNext, grants_next}
-use Rattle.line_tickets.specs.Array.{has_line, is_cleared}
-use Rattle.line_tickets.specs.SlotLayout.{one_slot}
+use Rattle.line_cells.specs.Steps.{ghost_of}
+use Rattle.line_cells.proofs.Slots.{one_give, one_keep, one_lays}
+use Rattle.line_cells.proofs.Grant.{GrantsNext, grants_next}
+use Rattle.line_cells.specs.Array.{has_line, is_cleared}
+use Rattle.line_cells.specs.SlotLayout.{one_slot}
 use Rattle.ring_line.specs.Ring.{RingCells}
 use Rattle.ring_line.specs.Steps.{seen, withdrawn_by}
 use Rattle.ring_line.proofs.Cells.{grants}

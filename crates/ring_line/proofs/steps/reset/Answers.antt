@@ -1,8 +1,8 @@
 use Rattle.std.proofs.Common.{rules, arith, ap, ◌∙◌}
-use Rattle.line_tickets.specs.Layout.{node_at}
-use Rattle.line_tickets.specs.Steps.{ghost_of}
-use Rattle.line_tickets.proofs.Renewing.{resets_next}
-use Rattle.line_tickets.specs.SlotLayout.{one_slot}
+use Rattle.line_cells.specs.Layout.{node_at}
+use Rattle.line_cells.specs.Steps.{ghost_of}
+use Rattle.line_cells.proofs.Renewing.{resets_next}
+use Rattle.line_cells.specs.SlotLayout.{one_slot}
 use Rattle.ring_line.specs.Ring.{RingCells}
 use Rattle.ring_line.proofs.steps.reset.Goals as goal
 

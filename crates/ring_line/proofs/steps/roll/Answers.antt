@@ -1,13 +1,13 @@
 use Rattle.std.proofs.Common.{rules, arith, ap, ◌∙◌, ◌+◌, ◌*◌, ◌%◌, ◌^◌, ℕ}
 use Rattle.ring_line.specs.declared.layout.TheConstants.{WITHDRAWN}
-use Rattle.line_tickets.specs.Layout.{cell_at}
+use Rattle.line_cells.specs.Layout.{cell_at}
 use Rattle.ring_line.specs.Layout.{cell_of}
-use Rattle.line_tickets.specs.Steps.{ghost_of}
-use Rattle.line_tickets.proofs.Slots.{one_take}
-use Rattle.line_tickets.proofs.Roll.{rolls_next}
+use Rattle.line_cells.specs.Steps.{ghost_of}
+use Rattle.line_cells.proofs.Slots.{one_take}
+use Rattle.line_cells.proofs.Roll.{rolls_next}
 use Rattle.ring_line.specs.Steps.{is_blank, is_granted}
 use Rattle.ring_line.proofs.Cells.{takes, stays, withdraws}
-use Rattle.line_tickets.specs.SlotLayout.{one_slot}
+use Rattle.line_cells.specs.SlotLayout.{one_slot}
 use Rattle.ring_line.specs.Ring.{RingCells}
 use Rattle.ring_line.proofs.steps.roll.Goals as goal
 

@@ -1,7 +1,7 @@
 use Rattle.std.proofs.Common.{rules}
-use Rattle.line_tickets.specs.Steps.{ghost_of}
-use Rattle.line_tickets.proofs.Ask.{asks_next}
-use Rattle.line_tickets.specs.SlotLayout.{one_slot}
+use Rattle.line_cells.specs.Steps.{ghost_of}
+use Rattle.line_cells.proofs.Ask.{asks_next}
+use Rattle.line_cells.specs.SlotLayout.{one_slot}
 use Rattle.ring_line.specs.Ring.{RingCells}
 use Rattle.ring_line.proofs.steps.take_ticket.Goals as goal
 

@@ -1,6 +1,6 @@
 use Rattle.std.proofs.Common.{arith, mod-lt, ◌<◌}
-use Rattle.line_tickets.specs.Counting.{cells_for}
-use Rattle.line_tickets.proofs.Counting.{few_cells, some_cells, masked}
+use Rattle.line_cells.specs.Counting.{cells_for}
+use Rattle.line_cells.proofs.Counting.{few_cells, some_cells, masked}
 use Rattle.ticket_line.specs.Layout.{cell_of}
 use Rattle.ticket_line.proofs.layout.cell_of.Goals as goal
 

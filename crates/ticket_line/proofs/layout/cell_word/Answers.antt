@@ -1,7 +1,7 @@
 use Rattle.std.proofs.Common.{arith, ap, mod-lt, ◌<◌, ◌∙◌}
-use Rattle.line_tickets.specs.Counting.{cells_for}
-use Rattle.line_tickets.specs.Layout.{cell_at}
-use Rattle.line_tickets.proofs.Counting.{some_cells}
+use Rattle.line_cells.specs.Counting.{cells_for}
+use Rattle.line_cells.specs.Layout.{cell_at}
+use Rattle.line_cells.proofs.Counting.{some_cells}
 use Rattle.ticket_line.specs.Layout.{cell_of}
 use Rattle.ticket_line.proofs.layout.cell_word.Goals as goal
 

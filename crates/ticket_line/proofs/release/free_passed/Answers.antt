@@ -1,11 +1,11 @@
 use Rattle.std.proofs.Common.{rules, refl, sym, ap, subst, ◌∙◌, ◌≤◌, ℕ, slice_index_or, arith}
 use Rattle.qolb_model.specs.declared.config.TheConstants.{MAX_NODES}
-use Rattle.line_tickets.specs.Layout.{node_at}
-use Rattle.line_tickets.specs.Steps.{ghost_of}
-use Rattle.line_tickets.proofs.Counting.{node_below}
-use Rattle.line_tickets.proofs.Freeing.{frees_next}
-use Rattle.line_tickets.proofs.Turning.{goes_none}
-use Rattle.line_tickets.proofs.Walking.{frees_none, frees_all, freeing_which, freeing_next, freed_steps}
+use Rattle.line_cells.specs.Layout.{node_at}
+use Rattle.line_cells.specs.Steps.{ghost_of}
+use Rattle.line_cells.proofs.Counting.{node_below}
+use Rattle.line_cells.proofs.Freeing.{frees_next}
+use Rattle.line_cells.proofs.Turning.{goes_none}
+use Rattle.line_cells.proofs.Walking.{frees_none, frees_all, freeing_which, freeing_next, freed_steps}
 use Rattle.ticket_line.specs.Slots.{slot_layout}
 use Rattle.ticket_line.specs.Ticket.{TicketCells}
 use Rattle.ticket_line.proofs.release.free_passed.Goals as goal

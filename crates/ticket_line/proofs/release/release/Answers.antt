@@ -1,12 +1,12 @@
 use Rattle.std.proofs.Common.{rules, arith, subst, sym, ap, ◌∙◌, length}
 use Rattle.std.proofs.lemmas.Grind.{common_steps}
 use Rattle.qolb_model.specs.declared.config.LineConfig.{LineConfig}
-use Rattle.line_tickets.specs.Steps.{ghost_of}
+use Rattle.line_cells.specs.Steps.{ghost_of}
 use Rattle.ticket_line.specs.Steps.{SlotsAtRelease}
-use Rattle.line_tickets.proofs.Turning.{goes_trans}
-use Rattle.line_tickets.proofs.Releasing.{lets_on}
-use Rattle.line_tickets.proofs.Walking.{ended_longer}
-use Rattle.line_tickets.specs.Layout.{ticket_of}
+use Rattle.line_cells.proofs.Turning.{goes_trans}
+use Rattle.line_cells.proofs.Releasing.{lets_on}
+use Rattle.line_cells.proofs.Walking.{ended_longer}
+use Rattle.line_cells.specs.Layout.{ticket_of}
 use Rattle.ticket_line.specs.Layout.{ticket_after}
 use Rattle.ticket_line.proofs.Numbers.{ticket_next}
 use Rattle.ticket_line.proofs.release.release.Goals as goal

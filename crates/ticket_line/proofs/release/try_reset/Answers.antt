@@ -1,5 +1,5 @@
 use Rattle.std.proofs.Common.{rules}
-use Rattle.line_tickets.proofs.Turning.{goes_trans, goes_reset}
+use Rattle.line_cells.proofs.Turning.{goes_trans, goes_reset}
 use Rattle.ticket_line.proofs.release.try_reset.Goals as goal
 
 pub returns-clause-advances : goal.returns-clause-advances

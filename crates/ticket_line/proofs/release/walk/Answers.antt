@@ -2,14 +2,14 @@ use Rattle.std.proofs.Common.{rules, refl, sym, subst, ap, arith, ◌≡◌, ◌
 use Rattle.std.proofs.lemmas.Grind.{common_steps}
 use Rattle.ticket_line.specs.Layout.{ticket_after}
 use Rattle.ticket_line.specs.Slots.{slot_layout}
-use Rattle.line_tickets.specs.Layout.{ticket_of}
+use Rattle.line_cells.specs.Layout.{ticket_of}
 use Rattle.qolb_model.specs.declared.end.End.{End}
 use Rattle.qolb_model.specs.declared.config.LineConfig.{LineConfig}
-use Rattle.line_tickets.specs.Array.{ArrayGhost}
-use Rattle.line_tickets.specs.Steps.{ghost_of, single}
+use Rattle.line_cells.specs.Array.{ArrayGhost}
+use Rattle.line_cells.specs.Steps.{ghost_of, single}
 use Rattle.ticket_line.proofs.Numbers.{ticket_next}
-use Rattle.line_tickets.proofs.Turning.{goes_none}
-use Rattle.line_tickets.proofs.Walking.{walk_begins, stands_first, walked_steps, walk_over}
+use Rattle.line_cells.proofs.Turning.{goes_none}
+use Rattle.line_cells.proofs.Walking.{walk_begins, stands_first, walked_steps, walk_over}
 use Rattle.ticket_line.proofs.Walking.{IsWalking, walk_has, walk_carries, walk_step}
 use Rattle.ticket_line.proofs.release.walk.Goals as goal
 

@@ -2,9 +2,9 @@ use Rattle.std.proofs.Common.{rules, arith, mod-lt, refl, sym, ◌<◌, ap, subs
 use mathlib.Core.Option.{some}
 use lib.ListN.{get_elem?}
 use Rattle.std.specs.Slots.{slots_items, slots_filled, slots_len}
-use Rattle.line_tickets.specs.Layout.{ticket_at}
-use Rattle.line_tickets.specs.Counting.{cells_for}
-use Rattle.line_tickets.proofs.Counting.{some_cells}
+use Rattle.line_cells.specs.Layout.{ticket_at}
+use Rattle.line_cells.specs.Counting.{cells_for}
+use Rattle.line_cells.proofs.Counting.{some_cells}
 use Rattle.ticket_line.specs.Layout.{cell_of}
 use Rattle.ticket_line.specs.Slots.{slot_of, slot_count, last}
 use Rattle.ticket_line.proofs.Emptying.{emptied_none, empties, word_read}

@@ -1,9 +1,9 @@
 use Rattle.std.proofs.Common.{rules, ℕ, ap, sym, subst, ◌≡◌, ◌∙◌, ◌+◌, length, ⊎_elim}
-use Rattle.line_tickets.specs.Layout.{ticket_of}
-use Rattle.line_tickets.specs.Array.{has_line}
+use Rattle.line_cells.specs.Layout.{ticket_of}
+use Rattle.line_cells.specs.Array.{has_line}
 use Rattle.ticket_line.specs.Layout as layout
 use Rattle.ticket_line.specs.Layout.{granted}
-use Rattle.line_tickets.specs.Steps.{ghost_of, Passes}
+use Rattle.line_cells.specs.Steps.{ghost_of, Passes}
 use Rattle.ticket_line.specs.Steps.{withdrawn_by, turn_ticket, SlotsAtGrant, SlotsAtRelease}
 use Rattle.ticket_line.proofs.Stepping.{ticket_grants}
 use Rattle.ticket_line.proofs.steps.grant.Goals as goal

@@ -1,5 +1,5 @@
 use Rattle.std.proofs.Common.{rules}
-use Rattle.line_tickets.specs.Steps.{ghost_of}
+use Rattle.line_cells.specs.Steps.{ghost_of}
 use Rattle.ticket_line.proofs.Stepping.{ticket_loads}
 use Rattle.ticket_line.proofs.steps.load.Goals as goal
 

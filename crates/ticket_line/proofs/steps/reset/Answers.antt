@@ -1,8 +1,8 @@
 use Rattle.std.proofs.Common.{rules, arith, ap, ◌∙◌}
-use Rattle.line_tickets.specs.Layout.{node_at}
-use Rattle.line_tickets.specs.Steps.{ghost_of}
-use Rattle.line_tickets.proofs.Counting.{node_below}
-use Rattle.line_tickets.proofs.Renewing.{resets_next}
+use Rattle.line_cells.specs.Layout.{node_at}
+use Rattle.line_cells.specs.Steps.{ghost_of}
+use Rattle.line_cells.proofs.Counting.{node_below}
+use Rattle.line_cells.proofs.Renewing.{resets_next}
 use Rattle.ticket_line.specs.Slots.{slot_layout}
 use Rattle.ticket_line.specs.Ticket.{TicketCells}
 use Rattle.ticket_line.proofs.steps.reset.Goals as goal

@@ -1,7 +1,7 @@
 use Rattle.std.proofs.Common.{rules, subst, ◌∙◌, ◌≤◌}
 use Rattle.ticket_line.specs.Layout.{withdrawn}
 use Rattle.qolb_model.specs.declared.config.TheConstants.{MAX_NODES}
-use Rattle.line_tickets.specs.Steps.{ghost_of}
+use Rattle.line_cells.specs.Steps.{ghost_of}
 use Rattle.ticket_line.proofs.Stepping.{ticket_rolls}
 use Rattle.ticket_line.proofs.steps.roll.Goals as goal
 

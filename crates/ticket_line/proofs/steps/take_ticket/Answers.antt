@@ -1,6 +1,6 @@
 use Rattle.std.proofs.Common.{rules}
-use Rattle.line_tickets.specs.Steps.{ghost_of}
-use Rattle.line_tickets.proofs.Ask.{asks_next}
+use Rattle.line_cells.specs.Steps.{ghost_of}
+use Rattle.line_cells.proofs.Ask.{asks_next}
 use Rattle.ticket_line.specs.Slots.{slot_layout}
 use Rattle.ticket_line.specs.Ticket.{TicketCells}
 use Rattle.ticket_line.proofs.steps.take_ticket.Goals as goal

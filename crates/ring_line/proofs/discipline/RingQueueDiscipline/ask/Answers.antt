@@ -1,7 +1,7 @@
 use Rattle.std.proofs.Common.{rules, ◌∙◌}
 use Rattle.qolb_model.proofs.Going.{asks_from, asks_goes}
-use Rattle.line_tickets.specs.Steps.{ghost_of}
-use Rattle.line_tickets.proofs.Turning.{goes_trans}
+use Rattle.line_cells.specs.Steps.{ghost_of}
+use Rattle.line_cells.proofs.Turning.{goes_trans}
 use Rattle.ring_line.proofs.discipline.RingQueueDiscipline.ask.Goals as goal
 
 pub returns : goal.returns

@@ -1,13 +1,13 @@
 use Rattle.std.proofs.Common.{◌≡◌, ◌==◌, ◌%◌, ◌^◌, refl, arith, ap}
 use Rattle.std.proofs.lemmas.Bool.{eqb-true, eqb-false, not-true, not-false}
 use Rattle.line_generic.specs.Slots.{in_single_slot, open_in_single_slot}
-use Rattle.line_tickets.specs.SlotLayout.{one_slot}
-use Rattle.line_tickets.specs.declared.layout.TheConstants.{CELLS}
-use Rattle.line_tickets.specs.BetweenCalls.{wait_word}
-use Rattle.line_tickets.specs.Layout.{cell_at}
+use Rattle.line_cells.specs.SlotLayout.{one_slot}
+use Rattle.line_cells.specs.declared.layout.TheConstants.{CELLS}
+use Rattle.line_cells.specs.BetweenCalls.{wait_word}
+use Rattle.line_cells.specs.Layout.{cell_at}
 use Rattle.ring_line.specs.Layout.{cell_of}
-use Rattle.line_tickets.proofs.Slots.{one_take}
-use Rattle.line_tickets.proofs.Load.{looks_next}
+use Rattle.line_cells.proofs.Slots.{one_take}
+use Rattle.line_cells.proofs.Load.{looks_next}
 use Rattle.ring_line.specs.Ring.{RingCells}
 use Rattle.ring_line.specs.Steps.{is_blank_half, is_granted_half}
 use Rattle.ring_line.specs.Layout.{signals_turn}

@@ -1,8 +1,8 @@
 use Rattle.std.proofs.Common.{rules, ap, ◌∙◌}
 use Rattle.qolb_model.specs.declared.config.LineConfig.{LineConfig}
 use Rattle.qolb_model.proofs.Going.{asks_from, asks_goes}
-use Rattle.line_tickets.specs.Steps.{ghost_of}
-use Rattle.line_tickets.proofs.Turning.{goes_trans}
+use Rattle.line_cells.specs.Steps.{ghost_of}
+use Rattle.line_cells.proofs.Turning.{goes_trans}
 use Rattle.ticket_line.proofs.discipline.TicketQueueDiscipline.ask.Goals as goal
 
 pub returns : goal.returns

@@ -1,10 +1,10 @@
 use Rattle.std.proofs.Common.{◌≡◌, ◌%◌, ◌^◌, refl, sym, ap, ◌∙◌, subst}
 use Rattle.std.proofs.lemmas.Bool.{eqb-true, eqb-false}
-use Rattle.line_tickets.specs.Counting.{cells_for}
-use Rattle.line_tickets.specs.BetweenCalls.{wait_word}
-use Rattle.line_tickets.specs.Layout.{cell_at, ticket_of}
+use Rattle.line_cells.specs.Counting.{cells_for}
+use Rattle.line_cells.specs.BetweenCalls.{wait_word}
+use Rattle.line_cells.specs.Layout.{cell_at, ticket_of}
 use Rattle.ticket_line.specs.Layout.{cell_of}
-use Rattle.line_tickets.proofs.Load.{looks_next}
+use Rattle.line_cells.proofs.Load.{looks_next}
 use Rattle.ticket_line.specs.Steps.{is_other_half, is_granted_half}
 use Rattle.ticket_line.specs.Slots.{slot_layout, slots_at_grant, slots_in_turn, slots_at_release}
 use Rattle.ticket_line.specs.Ticket.{TicketCells}

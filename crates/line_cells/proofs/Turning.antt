@@ -1,0 +1,53 @@
+-- How a seat goes on, step by step.
+use Rattle.std.proofs.Common.{◌≡◌, ℕ, ◌+◌, List, [], ◌∷◌, sym, refl, ap, ◌∙◌, subst, arith}
+use Rattle.atomic_table.specs.Seated.{TableId}
+use Rattle.qolb_model.specs.declared.config.LineConfig.{LineConfig}
+use Rattle.qolb_model.specs.Views.{Extends}
+use Rattle.qolb_model.specs.Sound.{Continues}
+use Rattle.qolb_model.proofs.Agreeing.{extends_trans}
+use Rattle.qolb_model.proofs.Going.{extends_self, continues_on}
+use Rattle.line_generic.specs.declared.table.Payload.{Payload}
+use Rattle.line_cells.specs.Steps.{ArraySeat, SeatContents, IsSingle, single, Advances, SeatAdvances, IsSeatOfNode, after_reset}
+use Rattle.line_cells.specs.Array.{ArrayGhost}
+
+-- one counted step
+pub goes_step : (allows : List ℕ → List ℕ → Type 0) (m : SeatContents) (v w : ArrayGhost) (slots : List (ℕ × Payload)) → m.0 ≡ v ∷ [] → Continues allows v.view w.view → w.steps ≡ v.steps + 1 → Advances allows m (w ∷ [], slots) 1
+goes_step allows m v w slots is c n = record {
+  is_single = refl;
+  extends = subst (λ u. Extends (single u).view w.view) (sym is) c.extends;
+  continues = λ u before. continues_on allows u v.view w.view (subst (λ z. Continues allows u (single z).view) is before).extends c;
+  steps = subst (λ u. w.steps ≡ (single u).steps + 1) (sym is) n;
+}
+
+-- and the node makes no request by it
+pub same_count : (m : SeatContents) (v w : ArrayGhost) → m.0 ≡ v ∷ [] → w.view.count ≡ v.view.count → w.view.count ≡ (single m.0).view.count
+same_count m v w is same = same ∙ ap (λ es. (single es).view.count) (sym is)
+
+-- no step, and one after others
+pub goes_none : (allows : List ℕ → List ℕ → Type 0) (m : SeatContents) → IsSingle m → Advances allows m m 0
+goes_none allows m is_single = record { is_single = is_single; extends = extends_self (single m.0).view; continues = λ u before. before; steps = omega arith }
+
+pub goes_trans : (allows : List ℕ → List ℕ → Type 0) (a b c : SeatContents) (i j : ℕ) → Advances allows a b i → Advances allows b c j → Advances allows a c (i + j)
+goes_trans allows a b c i j f g = record {
+  is_single = g.is_single;
+  extends = extends_trans (single a.0).view (single b.0).view (single c.0).view f.extends g.extends;
+  continues = λ u before. g.continues u (f.continues u before);
+  steps = omega (arith, f.steps, g.steps);
+}
+
+-- a step by which the node learns nothing
+pub goes_same : (allows : List ℕ → List ℕ → Type 0) (a : SeatContents) (w : ArrayGhost) → w.view ≡ (single a.0).view → w.steps ≡ (single a.0).steps + 1 → Advances allows a (w ∷ [], a.1) 1
+goes_same allows a w same n = record {
+  is_single = refl;
+  extends = subst (Extends (single a.0).view) (sym same) (extends_self (single a.0).view);
+  continues = λ u before. subst (Continues allows u) (sym same) before;
+  steps = n;
+}
+
+-- the step that clears the own word
+pub goes_reset : (allows : List ℕ → List ℕ → Type 0) (a b : SeatContents) → b ≡ (after_reset (single a.0) ∷ [], a.1) → Advances allows a b 1
+goes_reset allows a b is = subst (λ m. Advances allows a m 1) (sym is) (goes_same allows a (after_reset (single a.0)) refl refl)
+
+-- a seat stays that of its node
+pub seat_goes : {allows : List ℕ → List ℕ → Type 0} {table_id : TableId} {nodes node i : ℕ} (cells : ℕ → ℕ) (s t : ArraySeat) → SeatAdvances allows s t i → IsSeatOfNode cells nodes table_id node s → IsSeatOfNode cells nodes table_id node t
+seat_goes cells s t advances seat = ((advances.seat.0 ∙ seat.0.0, seat.0.1, seat.0.2), (seat.1.0 ∙ sym advances.advances.extends.node, seat.1.1, seat.1.2, ap (λ (t : LineConfig). t.nodes) advances.advances.extends.config ∙ seat.1.3))

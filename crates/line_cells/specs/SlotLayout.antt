@@ -1,0 +1,40 @@
+-- The slots of a lock: one for all turns, for example, or one for each cell.
+use Rattle.std.specs.Prelude.{◌≡◌, ◌<◌, ℕ, List, [], ◌∷◌}
+use mathlib.Core.Option.{some}
+use mathlib.Core.Option as maybe
+use lib.ListN.{get_elem?}
+use Rattle.line_generic.specs.declared.table.Payload.{Payload}
+use Rattle.line_generic.specs.Slots.{Slots}
+use Rattle.line_cells.specs.declared.layout.TheConstants.{CELLS}
+use Rattle.std.proofs.Common.{lit<}
+
+-- the slots of a table: each is at home, with its payload, or in a node's seat
+abbrev pub Homes : Type 0
+Homes = List (maybe.Option Payload)
+
+abbrev pub IsAtHome : Homes → ℕ → Type 0
+IsAtHome homes k = (y : Payload) × (get_elem? homes k ≡ some (some y))
+
+-- The numbers of cells and slots of a lock. By the number of ended requests: the slot of the line if no node has it, and the
+-- slots that are out if some node does. And the slots of a node to which this payload was granted, and of one that has stored it
+-- for its successor.
+pub record SlotLayout : Type 1 where
+  pub cells : ℕ
+  pub some_cells : 0 < cells
+  pub count : ℕ
+  pub home_slot : ℕ → ℕ
+  pub is_out : ℕ → ℕ → Type 0
+  pub slots_at_grant : ℕ → Payload → Slots → Type 0
+  pub slots_at_release : ℕ → Payload → Slots → Type 0
+
+-- one slot for all turns
+abbrev pub one_slot : SlotLayout
+one_slot = record {
+  cells = CELLS;
+  some_cells = lit< tt;
+  count = 1;
+  home_slot = λ _. 0;
+  is_out = λ _ _. Unit {0};
+  slots_at_grant = λ _ y slots. slots ≡ (0, y) ∷ [];
+  slots_at_release = λ _ y slots. slots ≡ (0, y) ∷ [];
+}

@@ -1,0 +1,91 @@
+//! The words of a table: the ticket counter, a word for each node, and the cells. Polled words are
+//! apart, so that no two share a cache line.
+ghost use Rattle.std.specs.Prelude.{◌≡◌, ◌≢◌, ◌<◌, ◌≤◌, MatchBool};
+ghost use Rattle.qolb_model.specs.declared.config.TheConstants.{MAX_NODES};
+ghost use Rattle.line_cells.specs.declared.layout.TheConstants.{CELLS};
+ghost use Rattle.line_cells.specs.Counting as counting;
+ghost use Rattle.line_cells.specs.Layout as layout;
+
+/// The maximum number of cells. It is more than `MAX_NODES`, so no two open requests have one cell;
+/// and it divides 2^64, so that tickets may wrap.
+pub const CELLS: u64 = 256;
+
+/// The distance in words between two nodes' words, and between two cells.
+pub(crate) const STRIDE: usize = 16;
+
+/// The distance in words from the ticket counter to the first cell. So the cells are between the
+/// words of the nodes, which are seldom used.
+pub(crate) const BEHIND: usize = 8;
+
+/// The word of the ticket counter.
+pub const TICKET: usize = 0;
+
+/// The number of all words, with the maximum of cells.
+pub const WORDS: usize = STRIDE * CELLS as usize;
+
+/// Returns the number of words for `cells` cells, which are more than the nodes.
+pub fn word_count(cells: u64) -> usize
+    requires { cells ≤ CELLS }
+    ensures { result ≡ layout.word_count cells }
+{
+    STRIDE * cells as usize
+}
+
+/// Returns the number of cells of a line of `nodes` nodes: the least power of two above it, so that
+/// a mask finds a ticket's cell.
+pub fn cell_count(nodes: u64) -> u64
+    ensures cells { result ≡ counting.cells_for nodes }
+    ensures within { (2 ≤ result) × (result ≤ CELLS) }
+{
+    least_power(nodes)
+}
+
+/// Returns the least power of two above `nodes`, 2 to 256.
+fn least_power(nodes: u64) -> u64
+    ensures power { result ≡ counting.least_power nodes }
+    ensures within { (2 ≤ result) × (result ≤ CELLS) }
+{
+    if nodes < 2 {
+        2
+    } else if nodes < 4 {
+        4
+    } else if nodes < 8 {
+        8
+    } else if nodes < 16 {
+        16
+    } else if nodes < 32 {
+        32
+    } else if nodes < 64 {
+        64
+    } else if nodes < 128 {
+        128
+    } else {
+        256
+    }
+}
+
+/// Returns the word of a cell.
+#[inline]
+pub fn cell_word(cell: u64) -> usize
+    requires { cell < CELLS }
+    ensures { result ≡ layout.cell_at cell }
+{
+    BEHIND + STRIDE * cell as usize
+}
+
+/// Returns the word of a node.
+#[inline]
+pub fn node_word(node: u64) -> usize
+    requires { node ≤ MAX_NODES }
+    ensures { result ≡ layout.node_at node }
+{
+    STRIDE * node as usize
+}
+
+/// Returns `true` if a node's word says that its withdrawn request was passed.
+#[inline]
+pub fn is_freed(word: u64) -> bool
+    ensures { MatchBool result (word ≢ 0) (word ≡ 0) }
+{
+    word != 0
+}

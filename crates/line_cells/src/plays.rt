@@ -1,0 +1,46 @@
+//! The ghost updates of the word steps that are on no cell.
+ghost use Rattle.line_cells.specs.Steps.{drawn, freed, loaded_node, reset};
+
+use crate::local::Local;
+use atomic_table::Play;
+use line_generic::{NodeGhost, Payload};
+use qolb_model::Keep;
+use std::collections::LinkedList;
+use std::marker::PhantomData;
+
+/// The entries of a seat.
+pub type Entries = LinkedList<NodeGhost<Local>>;
+
+/// Takes a ticket.
+pub struct TakeTicket<K> {
+    law: PhantomData<K>,
+}
+
+impl<K: Keep> Play<Payload, Entries> for TakeTicket<K> {
+    ghost then = { drawn K.allows };
+}
+
+/// Frees a passed node.
+pub struct FreeNode<K> {
+    law: PhantomData<K>,
+}
+
+impl<K: Keep> Play<Payload, Entries> for FreeNode<K> {
+    ghost then = { freed K.allows };
+}
+
+/// Loads the node's own word.
+pub struct LoadNode<K> {
+    law: PhantomData<K>,
+}
+
+impl<K: Keep> Play<Payload, Entries> for LoadNode<K> {
+    ghost then = { loaded_node K.allows };
+}
+
+/// Clears the node's own word.
+pub struct Reset;
+
+impl Play<Payload, Entries> for Reset {
+    ghost then = { reset };
+}

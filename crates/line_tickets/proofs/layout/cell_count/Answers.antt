@@ -1,6 +1,0 @@
-use Rattle.line_tickets.specs.Counting.{cells_for}
-use Rattle.line_tickets.proofs.layout.cell_count.Goals as goal
-
-pub returns-clause-cells : goal.returns-clause-cells
-unfolding cells_for
-returns-clause-cells c = c.least_power.ensures.power

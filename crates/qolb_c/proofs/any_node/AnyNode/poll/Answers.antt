@@ -1,5 +1,0 @@
-use Rattle.qolb_c.proofs.Telling.{poll_of_wait}
-use Rattle.qolb_c.proofs.any_node.AnyNode.poll.Goals as goal
-
-pub returns : goal.returns
-returns c = poll_of_wait _ _ _ c.wait.ensures

@@ -1,7 +1,0 @@
-use Rattle.qolb_c.proofs.Opened.{opened}
-use Rattle.qolb_c.proofs.opening.open.Goals as goal
-
-pub returns-in-Ok-clause-opened : goal.returns-in-Ok-clause-opened
-returns-in-Ok-clause-opened c = λ _.
-    opened c.args.kind c.args.label c.args.config c.args.out.now c.are_empty.new.handles c.fill.new.out c.in-Ok.nodes.items c.in-Ok.ensures.nodes (c.are_empty.ensures.empty c.if-not-are_empty.false) c.are_empty.ensures.same
-    c.fill.ensures

@@ -1,0 +1,5 @@
+pub mod Looks
+pub mod AsBox
+pub mod Handles
+pub mod Filling
+pub mod Opened

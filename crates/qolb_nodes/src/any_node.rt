@@ -1,0 +1,242 @@
+//! A node of a line of any kind.
+ghost use Rattle.std.specs.Prelude.{◌≡◌, ◌≢◌, ℕ, ◌<◌, true, false, Some, MatchOption};
+ghost use Rattle.line_lanes.specs.Lane.{lane_of};
+ghost use Rattle.qolb_model.specs.PortStates.{may_ask};
+ghost use Rattle.qolb_nodes.specs.Calls.{view_of, turn_of, state_of, Enqolbs, Polls, Waits, Prepends, LinksUp, Withdraws, LooksIfClear, Reads, ReadsLane, Writes, WritesLane, AddsLane, Releases, TellsTurns, TellsWord};
+ghost use Rattle.qolb_nodes.specs.Waits.{went_to_of};
+ghost use Rattle.qolb_nodes.specs.declared.any_node.AnyNode.{AnyNode};
+
+use crate::answer::Answer;
+use crate::kinds::{List, Ring, Ticket};
+use crate::node::{Node, Shown};
+use line_lanes::{Line64, Mask, lane};
+use qolb_model::{Free, PortState};
+
+/// The number of lanes of a line.
+const LANES: u64 = 8;
+
+/// A node of a line of any kind.
+#[derive(Drop)]
+pub enum AnyNode {
+    /// A node of a ring.
+    Ring(Node<Ring>),
+    /// A node of a list.
+    List(Node<List>),
+    /// A node of a ticket line.
+    Ticket(Node<Ticket>),
+}
+
+/// Makes a call of the node, for each kind.
+macro_rules! of_any {
+    ($any:expr, $node:ident => $done:expr) => {
+        match $any {
+            AnyNode::Ring($node) => $done,
+            AnyNode::List($node) => $done,
+            AnyNode::Ticket($node) => $done,
+        }
+    };
+}
+
+impl AnyNode {
+    /// Returns what the node is, and where it waits.
+    #[inline(always)]
+    pub fn shown(&self) -> Shown
+        ensures number { result.number ≡ (view_of self.now).node }
+        ensures label { result.label ≡ (view_of self.now).label }
+        ensures state { result.state ≡ state_of self.now }
+        ensures turns { TellsTurns self.now result.turns_left }
+        ensures word { TellsWord self.now result.wait_word }
+        ensures went_to { went_to_of self.now ≡ Some result.went_to }
+    {
+        of_any!(self, node => node.shown())
+    }
+
+    /// Requests the line, and answers at once.
+    pub fn enqolb(&mut self) -> Answer
+        ensures { Enqolbs self.old self.new result }
+    {
+        match self {
+            AnyNode::Ring(node) => node.enqolb(),
+            AnyNode::List(node) => ask_list(node),
+            AnyNode::Ticket(node) => node.enqolb(),
+        }
+    }
+
+    /// Polls whether the request is at its turn.
+    pub fn poll(&mut self) -> Answer
+        ensures { Polls self.old self.new result }
+    {
+        self.wait(1)
+    }
+
+    /// Polls at most `polls` times, with a pause between two.
+    #[inline(always)]
+    pub fn wait(&mut self, polls: u64) -> Answer
+        ensures { Waits polls self.old self.new result }
+    {
+        of_any!(self, node => node.wait(polls))
+    }
+
+    /// Makes a request without its link; only of a list.
+    pub fn prepend(&mut self) -> Answer
+        ensures { Prepends self.old self.new result }
+    {
+        match self {
+            AnyNode::Ring(_) | AnyNode::Ticket(_) => Answer::Misuse,
+            AnyNode::List(node) => node.prepend(),
+        }
+    }
+
+    /// Links the request to its predecessor's; only of a list.
+    pub fn link(&mut self) -> Answer
+        ensures { LinksUp self.old self.new result }
+    {
+        match self {
+            AnyNode::Ring(_) | AnyNode::Ticket(_) => Answer::Misuse,
+            AnyNode::List(node) => node.link(),
+        }
+    }
+
+    /// Withdraws the request, unless it is at its turn.
+    pub fn withdraw(&mut self) -> Answer
+        ensures { Withdraws self.old self.new result }
+    {
+        of_any!(self, node => node.withdraw())
+    }
+
+    /// Returns `Done` if the node's last request is clear, else `Busy`. Makes no request.
+    pub fn is_clear(&mut self) -> Answer
+        ensures { LooksIfClear self.old self.new result }
+    {
+        of_any!(self, node => node.is_clear())
+    }
+
+    /// Returns the line's bytes, if the node holds the line.
+    fn bytes(&self) -> Option<&Line64>
+        ensures { MatchOption result (state_of self.now ≢ PortState.Holding) (λ line. (state_of self.now ≡ PortState.Holding) × (line.now ≡ (turn_of self.now).bytes)) }
+    {
+        of_any!(self, node => node.bytes())
+    }
+
+    /// Copies the holder's line to `out`.
+    pub fn read(&self, out: &mut [u8; 64]) -> Answer
+        ensures { Reads out.old out.new self.now self.now result }
+    {
+        match self.bytes() {
+            Some(line) => {
+                *out = line.bytes;
+                Answer::Done
+            }
+            None => Answer::Misuse,
+        }
+    }
+
+    /// Returns lane `k` of the eight, if the node holds the line.
+    fn lane(&self, k: u64) -> Option<u64>
+        ensures { MatchOption result ((state_of self.now ≡ PortState.Holding) × (k < 8) → ⊥) (λ value. (state_of self.now ≡ PortState.Holding) × (k < 8) × (value ≡ lane_of (turn_of self.now).bytes.bytes k)) }
+    {
+        if k >= LANES {
+            return None;
+        }
+        match self.bytes() {
+            Some(line) => Some(lane(line, k as usize)),
+            None => None,
+        }
+    }
+
+    /// Reads lane `k` of the eight, for the holder.
+    pub fn read_lane(&self, k: u64, out: &mut u64) -> Answer
+        ensures { ReadsLane k out.old out.new self.now self.now result }
+    {
+        match self.lane(k) {
+            Some(value) => {
+                *out = value;
+                Answer::Done
+            }
+            None => Answer::Misuse,
+        }
+    }
+
+    /// Writes lane `k` of the eight, for the holder.
+    pub fn write_lane(&mut self, k: u64, value: u64) -> Answer
+        ensures { WritesLane k value self.old self.new result }
+    {
+        if k >= LANES {
+            return Answer::Misuse;
+        }
+        of_any!(self, node => node.write_lane(k as usize, value))
+    }
+
+    /// Adds `by` modulo 2^64 to lane `k`, for the holder. `was` gets what the lane had before.
+    pub fn add_lane(&mut self, k: u64, by: u64, was: &mut u64) -> Answer
+        ensures { AddsLane k by was.old was.new self.old self.new result }
+    {
+        match self.lane(k) {
+            Some(value) => {
+                *was = value;
+                self.write_lane(k, value.wrapping_add(by))
+            }
+            None => Answer::Misuse,
+        }
+    }
+
+    /// Writes the bytes of the mask, for the holder.
+    #[inline(always)]
+    pub fn write(&mut self, mask: Mask, bytes: &Line64) -> Answer
+        ensures { Writes mask.0 bytes.now.bytes self.old self.new result }
+    {
+        of_any!(self, node => node.write(mask, bytes))
+    }
+
+    /// Releases the line, and closes it if `shut`.
+    #[inline(always)]
+    pub fn release(&mut self, shut: bool) -> Answer
+        ensures { Releases shut self.old self.new result }
+    {
+        of_any!(self, node => node.release(shut))
+    }
+}
+
+/// Requests a list's line.
+///
+/// Not inlined, so that the calls of other lines save no registers for it.
+#[inline(never)]
+fn ask_list(node: &mut Node<List>) -> Answer
+    ensures { Enqolbs (AnyNode.List node.old) (AnyNode.List node.new) result }
+{
+    node.enqolb()
+}
+
+/// A node of some kind of line, which can become an `AnyNode`.
+pub trait IntoAny: Drop {
+    /// The node as an `AnyNode`.
+    ghost as_any: { Self → AnyNode };
+
+    /// Converts the node to an `AnyNode`.
+    fn into_any(self) -> AnyNode
+        ensures { result ≡ as_any self };
+}
+
+impl IntoAny for Node<Ring> {
+    ghost as_any = { λ node. AnyNode.Ring node };
+
+    fn into_any(self) -> AnyNode {
+        AnyNode::Ring(self)
+    }
+}
+
+impl IntoAny for Node<List> {
+    ghost as_any = { λ node. AnyNode.List node };
+
+    fn into_any(self) -> AnyNode {
+        AnyNode::List(self)
+    }
+}
+
+impl IntoAny for Node<Ticket> {
+    ghost as_any = { λ node. AnyNode.Ticket node };
+
+    fn into_any(self) -> AnyNode {
+        AnyNode::Ticket(self)
+    }
+}

@@ -1,0 +1,334 @@
+//! A node of a shared line, for any kind of line.
+ghost use Rattle.std.specs.Prelude.{◌≡◌, ◌≢◌, ℕ, ◌+◌, ◌<◌, ◌≤◌, Bool, true, false, Some, MatchOption};
+ghost use Rattle.std.specs.Arc.{arc_value};
+ghost use Rattle.qolb_model.specs.Calls.{Enqueues, Prepends, LinksUp, Polls, Withdraws, LooksIfClear, Releases, MergesViews};
+ghost use Rattle.qolb_model.specs.Leases.{turns_left};
+ghost use Rattle.qolb_model.specs.OneOwner.{turn_after};
+ghost use Rattle.qolb_model.specs.PortStates.{may_ask};
+ghost use Rattle.qolb_model.specs.declared.answer.Enq.{Enq};
+ghost use Rattle.qolb_model.specs.declared.answer.Out.{Out};
+ghost use Rattle.qolb_model.specs.declared.answer.Poll.{Poll};
+ghost use Rattle.qolb_model.specs.declared.answer.Prep.{Prep};
+ghost use Rattle.qolb_model.specs.declared.view.View.{View};
+ghost use Rattle.line_generic.specs.AtTurn.{Names, SeesTurn};
+ghost use Rattle.link_line.specs.BetweenCalls as list;
+ghost use Rattle.qolb_nodes.specs.declared.answer.Answer.{Answer};
+ghost use Rattle.qolb_nodes.specs.Answers.{enq_told, prep_told, poll_told, out_told, clear_told};
+ghost use Rattle.qolb_nodes.specs.Nodes.{anything, PollsWithin, turns_number, with_lane};
+
+use crate::answer::Answer;
+use crate::kinds::{LineFor, List};
+use line_generic::{Discipline, Port, SleepersElsewhere};
+use line_lanes::{Line64, Mask};
+use qolb_model::{Enq, Free, LineSync, Out, Poll, PortState, Prep};
+use std::alloc::Global;
+use std::hint::spin_loop;
+use std::marker::Model;
+use std::sync::Arc;
+
+/// C's number for no lease.
+pub const NO_LEASE: u64 = u64::MAX;
+
+/// What a node is, and where it waits.
+#[derive(Clone, Copy)]
+pub struct Shown {
+    /// The node's number.
+    pub number: u64,
+    /// The label of its line.
+    pub label: u64,
+    /// The state after the node's last call.
+    pub state: PortState,
+    /// C's number of the turns left; 0 if the node does not hold the line.
+    pub turns_left: u64,
+    /// The word on which the node waits, if it does.
+    pub wait_word: u64,
+    /// The word of the next holder, as the node noted it at its last release.
+    pub went_to: u64,
+    /// The word of the waiter behind the next holder, as the node noted it.
+    pub went_ahead: u64,
+}
+
+/// A node: a share of a line, and a port of it.
+#[derive(Drop)]
+pub struct Node<L: LineSync<Free>> {
+    line: Arc<L, Global>,
+    port: L::Port,
+}
+
+impl<L: LineSync<Free>> Model for Node<L> {
+    ghost use Rattle.std.specs.Arc.{arc_value};
+    ghost use Rattle.qolb_nodes.specs.Nodes.{NodeOf};
+
+    ghost Value = { NodeOf L L.Port };
+
+    ghost view = { λ node. record { line = arc_value node.line; port = node.port } };
+
+    ghost invariant = { λ node. L.belongs (arc_value node.line) node.port };
+}
+
+impl<L: LineSync<Free>> Node<L> {
+    /// Returns the node of this port.
+    pub fn new(line: Arc<L, Global>, port: L::Port) -> Node<L>
+        requires { L.belongs (arc_value line) port }
+        ensures { result ≡ record { line = arc_value line; port = port } }
+    {
+        Node { line, port }
+    }
+
+    /// Returns the state after the node's last call.
+    fn state(&self) -> PortState
+        ensures { result ≡ (L.view self.now.port).state }
+    {
+        L::state(&self.port)
+    }
+
+    /// Returns `Done` if the node's last request is clear, so that the next is not answered `Busy`; else `Busy`.
+    ///
+    /// `Misuse` if the node waits or holds.
+    pub fn is_clear(&mut self) -> Answer
+        ensures line { self.new.line ≡ self.old.line }
+        ensures misuse { may_ask (L.view self.old.port).state ≢ true → (result ≡ Answer.Misuse) × (self.new ≡ self.old) }
+        ensures looks { may_ask (L.view self.old.port).state ≡ true → (clear : Bool) × (result ≡ clear_told clear) × LooksIfClear anything (L.view self.old.port) (L.view self.new.port) clear × ((L.counters self.new.port).poll_count ≡ (L.counters self.old.port).poll_count) }
+    {
+        if !self.state().may_ask() {
+            return Answer::Misuse;
+        }
+        Answer::of_clear(self.line.is_clear(&mut self.port))
+    }
+
+    /// Returns the line's bytes as the holder sees them; `None` if the node does not hold the line.
+    pub fn bytes(&self) -> Option<&Line64>
+        ensures { MatchOption result ((L.view self.now.port).state ≢ PortState.Holding) (λ line. ((L.view self.now.port).state ≡ PortState.Holding) × (line.now ≡ (L.turn self.now.port).bytes)) }
+    {
+        if self.state() == PortState::Holding {
+            Some(L::bytes(&self.port))
+        } else {
+            None
+        }
+    }
+
+    /// Returns C's number of the turns left, with the holder's own: at least 1. 0 if the node does not hold the line.
+    fn turns_left(&self) -> u64
+        ensures turns { (L.view self.now.port).state ≡ PortState.Holding → result ≡ turns_number (turns_left (L.view self.now.port).config.lease (L.view self.now.port).ends) }
+        ensures some { (L.view self.now.port).state ≡ PortState.Holding → 1 ≤ result }
+        ensures none { (L.view self.now.port).state ≢ PortState.Holding → result ≡ 0 }
+    {
+        if self.state() != PortState::Holding {
+            return 0;
+        }
+        match self.line.turns_left(&self.port) {
+            Some(turns) => turns,
+            None => NO_LEASE,
+        }
+    }
+
+    /// Writes the bytes of the mask, for the holder.
+    ///
+    /// `Misuse` if the node does not hold the line.
+    #[inline(always)]
+    pub fn write(&mut self, mask: Mask, bytes: &Line64) -> Answer
+        ensures line { self.new.line ≡ self.old.line }
+        ensures view { L.view self.new.port ≡ L.view self.old.port }
+        ensures misuse { (L.view self.old.port).state ≢ PortState.Holding → (result ≡ Answer.Misuse) × (self.new ≡ self.old) }
+        ensures writes { (L.view self.old.port).state ≡ PortState.Holding → (result ≡ Answer.Done) × (L.turn self.new.port ≡ turn_after (L.turn self.old.port) mask.0 bytes.now.bytes) }
+    {
+        if self.state() != PortState::Holding {
+            return Answer::Misuse;
+        }
+        L::write(&mut self.port, mask, bytes);
+        Answer::Done
+    }
+
+    /// Merges the views of two nodes of one line, which are of one history.
+    ///
+    /// C has no call for it: it defines that the nodes of an opened line are of one line.
+    pub fn meet(&mut self, other: &mut Node<L>)
+        requires one_line { other.old.line ≡ self.old.line }
+        ensures lines { (self.new.line ≡ self.old.line) × (other.new.line ≡ other.old.line) }
+        ensures tell { MergesViews anything (L.view self.old.port) (L.view other.old.port) (L.view self.new.port) (L.view other.new.port) }
+    {
+        self.line.meet(&mut self.port, &mut other.port);
+    }
+}
+
+impl<Q: Discipline<Free>> Node<LineFor<Q>> {
+    /// Returns what the node is, and where it waits.
+    #[inline(always)]
+    pub fn shown(&self) -> Shown
+        ensures number { result.number ≡ self.now.port.view.node }
+        ensures label { result.label ≡ self.now.port.view.label }
+        ensures state { result.state ≡ self.now.port.view.state }
+        ensures turns { self.now.port.view.state ≡ PortState.Holding → result.turns_left ≡ turns_number (turns_left self.now.port.view.config.lease self.now.port.view.ends) }
+        ensures some { self.now.port.view.state ≡ PortState.Holding → 1 ≤ result.turns_left }
+        ensures none { self.now.port.view.state ≢ PortState.Holding → result.turns_left ≡ 0 }
+        ensures word { result.wait_word ≡ Q.wait_word self.now.port.view.config.nodes self.now.port.view.node self.now.port.token }
+        ensures turn { self.now.port.view.state ≡ PortState.Holding → (u : View) → SeesTurn u self.now.port.view → result.wait_word ≡ Q.turn_word u }
+        ensures went_to { self.now.port.went_to ≡ Some result.went_to }
+    {
+        Shown {
+            number: LineFor::<Q>::node(&self.port),
+            label: self.line.label(),
+            state: self.state(),
+            turns_left: self.turns_left(),
+            wait_word: self.wait_word(),
+            went_to: self.went_to(),
+            went_ahead: self.went_ahead(),
+        }
+    }
+
+    /// Requests the line, and answers at once.
+    ///
+    /// `Misuse` if the node waits or holds.
+    pub fn enqolb(&mut self) -> Answer
+        ensures line { self.new.line ≡ self.old.line }
+        ensures misuse { may_ask self.old.port.view.state ≢ true → (result ≡ Answer.Misuse) × (self.new ≡ self.old) }
+        ensures enqueues { may_ask self.old.port.view.state ≡ true → (answer : Enq) × (result ≡ enq_told answer) × Enqueues anything self.old.port.view self.new.port.view self.new.port.turn answer × (self.new.port.counters.poll_count ≡ self.old.port.counters.poll_count) × (answer ≡ Enq.Closed → Names (Q.turn_word self.new.port.view) self.new.port.went_to) }
+    {
+        if self.state().may_ask() {
+            Answer::of_enq(self.line.enqolb(&mut self.port))
+        } else {
+            Answer::Misuse
+        }
+    }
+
+    /// Polls at most `polls` times whether the request is at its turn, with a pause between two.
+    ///
+    /// `Misuse` if the node does not wait, or `polls` is 0.
+    #[inline(always)]
+    pub fn wait(&mut self, polls: u64) -> Answer
+        ensures line { self.new.line ≡ self.old.line }
+        ensures misuse { ((self.old.port.view.state ≡ PortState.Queued) × (0 < polls) → ⊥) → (result ≡ Answer.Misuse) × (self.new ≡ self.old) }
+        ensures polls { (self.old.port.view.state ≡ PortState.Queued) × (0 < polls) → (answer : Poll) × (result ≡ poll_told answer) × Polls anything self.old.port.view self.new.port.view self.new.port.turn answer × PollsWithin polls self.old.port.counters.poll_count self.new.port.counters.poll_count answer × (answer ≡ Poll.Closed → Names (Q.turn_word self.new.port.view) self.new.port.went_to) }
+    {
+        if polls == 0 || self.state() != PortState::Queued {
+            return Answer::Misuse;
+        }
+        Answer::of_poll(poll_on(&*self.line, &mut self.port, polls))
+    }
+
+    /// Withdraws the request, unless it is at its turn.
+    ///
+    /// `Misuse` if the node does not wait.
+    pub fn withdraw(&mut self) -> Answer
+        ensures line { self.new.line ≡ self.old.line }
+        ensures misuse { self.old.port.view.state ≢ PortState.Queued → (result ≡ Answer.Misuse) × (self.new ≡ self.old) }
+        ensures withdraws { self.old.port.view.state ≡ PortState.Queued → (answer : Out) × (result ≡ out_told answer) × Withdraws anything self.old.port.view self.new.port.view self.new.port.turn answer × (self.new.port.counters.poll_count ≡ self.old.port.counters.poll_count) × (answer ≡ Out.Closed → Names (Q.turn_word self.new.port.view) self.new.port.went_to) }
+    {
+        if self.state() != PortState::Queued {
+            return Answer::Misuse;
+        }
+        Answer::of_out(self.line.withdraw(&mut self.port))
+    }
+
+    /// Writes lane `k`, for the holder.
+    ///
+    /// `Misuse` if the node does not hold the line.
+    pub fn write_lane(&mut self, k: usize, value: u64) -> Answer
+        requires { k < 8 }
+        ensures line { self.new.line ≡ self.old.line }
+        ensures view { self.new.port.view ≡ self.old.port.view }
+        ensures misuse { self.old.port.view.state ≢ PortState.Holding → (result ≡ Answer.Misuse) × (self.new ≡ self.old) }
+        ensures writes { self.old.port.view.state ≡ PortState.Holding → (result ≡ Answer.Done) × (self.new.port.turn ≡ with_lane self.old.port.turn k value) }
+    {
+        if self.state() != PortState::Holding {
+            return Answer::Misuse;
+        }
+        LineFor::<Q>::write_lane(&mut self.port, k, value);
+        Answer::Done
+    }
+
+    /// Releases the line, and closes it if `shut`.
+    ///
+    /// `Misuse` if the node does not hold the line.
+    #[inline(always)]
+    pub fn release(&mut self, shut: bool) -> Answer
+        ensures line { self.new.line ≡ self.old.line }
+        ensures misuse { self.old.port.view.state ≢ PortState.Holding → (result ≡ Answer.Misuse) × (self.new ≡ self.old) }
+        ensures releases { self.old.port.view.state ≡ PortState.Holding → (result ≡ Answer.Done) × Releases anything shut self.old.port.view self.new.port.view self.old.port.turn × Names (Q.turn_word self.new.port.view) self.new.port.went_to }
+    {
+        if self.state() != PortState::Holding {
+            return Answer::Misuse;
+        }
+        if shut {
+            self.line.shut(&mut self.port);
+        } else {
+            self.line.deqolb(&mut self.port);
+        }
+        Answer::Done
+    }
+
+    /// Returns the word on which the node waits.
+    ///
+    /// If the node holds, this is the word on which it was granted.
+    fn wait_word(&self) -> u64
+        ensures word { result ≡ Q.wait_word self.now.port.view.config.nodes self.now.port.view.node self.now.port.token }
+        ensures turn { self.now.port.view.state ≡ PortState.Holding → (u : View) → SeesTurn u self.now.port.view → result ≡ Q.turn_word u }
+    {
+        self.line.wait_word(&self.port) as u64
+    }
+
+    /// Returns the word of the next holder, as the node noted it at its last release.
+    fn went_to(&self) -> u64
+        ensures { self.now.port.went_to ≡ Some result }
+    {
+        self.line.went_to(&self.port) as u64
+    }
+
+    /// Returns the word of the waiter behind the next holder, as the node noted it.
+    fn went_ahead(&self) -> u64 {
+        self.line.went_ahead(&self.port) as u64
+    }
+}
+
+impl Node<List> {
+    /// Makes a request and leaves it to be linked to its predecessor's.
+    ///
+    /// `Misuse` if the node waits or holds.
+    pub fn prepend(&mut self) -> Answer
+        ensures line { self.new.line ≡ self.old.line }
+        ensures misuse { may_ask self.old.port.view.state ≢ true → (result ≡ Answer.Misuse) × (self.new ≡ self.old) }
+        ensures prepends { may_ask self.old.port.view.state ≡ true → (answer : Prep) × (result ≡ prep_told answer) × Prepends anything self.old.port.view self.new.port.view self.new.port.turn answer × (self.new.port.counters.poll_count ≡ self.old.port.counters.poll_count) × (answer ≡ Prep.Closed → Names (list.turn_word self.new.port.view) self.new.port.went_to) }
+    {
+        if !self.state().may_ask() {
+            return Answer::Misuse;
+        }
+        Answer::of_prep(self.line.prepend(&mut self.port))
+    }
+
+    /// Links the request to its predecessor's.
+    ///
+    /// `Misuse` if the node has no request to link.
+    pub fn link(&mut self) -> Answer
+        ensures line { self.new.line ≡ self.old.line }
+        ensures misuse { self.old.port.view.state ≢ PortState.Linking → (result ≡ Answer.Misuse) × (self.new ≡ self.old) }
+        ensures links { self.old.port.view.state ≡ PortState.Linking → (answer : Enq) × (result ≡ enq_told answer) × LinksUp anything self.old.port.view self.new.port.view self.new.port.turn answer × (self.new.port.counters.poll_count ≡ self.old.port.counters.poll_count) × (answer ≡ Enq.Closed → Names (list.turn_word self.new.port.view) self.new.port.went_to) }
+    {
+        if self.state() != PortState::Linking {
+            return Answer::Misuse;
+        }
+        Answer::of_enq(self.line.link(&mut self.port))
+    }
+}
+
+/// Polls at most `polls` times, with a pause between two: exactly `polls` times if the request still waits.
+fn poll_on<Q: Discipline<Free>>(
+    line: &LineFor<Q>,
+    port: &mut Port<Q, SleepersElsewhere>,
+    polls: u64,
+) -> Poll
+    requires belongs { ⟦<LineFor<Q> as LineSync<Free>>⟧.belongs line.now port.old }
+    requires state { port.old.view.state ≡ PortState.Queued }
+    requires some { 0 < polls }
+    ensures belongs { ⟦<LineFor<Q> as LineSync<Free>>⟧.belongs line.now port.new }
+    ensures polls { Polls anything port.old.view port.new.view port.new.turn result }
+    ensures within { PollsWithin polls port.old.counters.poll_count port.new.counters.poll_count result }
+    ensures went_to { result ≡ Poll.Closed → Names (Q.turn_word port.new.view) port.new.went_to }
+{
+    for _look in 1..polls {
+        match line.poll(port) {
+            Poll::Waiting => spin_loop(),
+            answer => return answer,
+        }
+    }
+    line.poll(port)
+}

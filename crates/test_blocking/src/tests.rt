@@ -1,0 +1,351 @@
+//! The examples, waiters and ports that are lent, over all lines. The tests are generic over the line, and the locks are named in one place,
+//! because the prover needs some seconds to see that a lock is a line, wherever it is named.
+mod again;
+mod ahead;
+mod asleep;
+mod counted;
+mod held;
+mod kept;
+mod noted;
+mod parked;
+mod passing;
+mod seats;
+mod together;
+
+use counted::Counting;
+use example_line::capacity::SeatLimit;
+use example_line::mailbox::Acquired;
+use example_line::{capacity, counter, fair, mailbox};
+use held::{expect, expect_at, for_nodes};
+use line_blocking::{Got, acquire};
+use line_generic::{Discipline, Line};
+use line_kinds::{ALL, Lines, for_kind};
+use parked::NoHooks;
+use qolb_model::{Free, OpenLine, PortState};
+use std::alloc::Global;
+use std::process::Abort;
+use std::rt::Clock;
+use std::sync::Wait;
+use std::test::Fail;
+use std::thread::Threads;
+use test_support::HookedLine;
+
+/// The tests that run over lines of one type.
+#[derive(Clone, Copy)]
+enum Row {
+    Additions,
+    Turns,
+    Mailbox,
+    Lanes,
+    Closing,
+    Fairness,
+    Patience,
+    Waits,
+    Sleeps,
+    LongSleeps,
+    Parking,
+    Ahead,
+    Busy,
+    LentPorts,
+    BusyPort,
+    OneThread,
+}
+
+/// Runs `row` over lines of this type.
+fn try_over<R: Threads + Wait + Clock + Abort + Sync, L: Counting + Sync + Drop>(
+    rt: &R,
+    alloc: Global,
+    row: Row,
+) -> Result<(), Fail>
+where
+    L::Port: Send + Drop,
+{
+    match row {
+        Row::Additions => no_addition_is_lost::<R, L>(rt, alloc),
+        Row::Turns => kept::each_addition_is_a_turn::<R, L>(rt, alloc)?,
+        Row::Mailbox => kept::each_value_is_taken_up::<R, L>(rt, alloc),
+        Row::Lanes => {
+            kept::a_value_lies_in_its_lane::<R, L>(rt, alloc, false)?;
+            kept::a_value_lies_in_its_lane::<R, L>(rt, alloc, true)?;
+        }
+        Row::Closing => {
+            let wanted = Some([
+                (Got::Granted, PortState::Shut),
+                (Got::Closed, PortState::Shut),
+            ]);
+            expect(
+                rt,
+                "granted and told",
+                granted_and_then_told::<R, L>(rt, alloc),
+                wanted,
+            );
+        }
+        Row::Fairness => {
+            let wanted = Some([Got::Granted, Got::Closed]);
+            expect(
+                rt,
+                "one after the other",
+                one_after_the_other::<R, L>(rt, alloc),
+                wanted,
+            );
+        }
+        Row::Patience => {
+            let wanted = Some([Acquired::Late, Acquired::Late, Acquired::Granted]);
+            expect(rt, "late", late::<L>(alloc), wanted);
+        }
+        Row::Waits => asleep::each_wait::<R, L>(rt, alloc),
+        Row::Sleeps => noted::each_sleep::<R, L>(rt, alloc),
+        Row::LongSleeps => {
+            parked::a_sleep_lasts_as_long_as_it_may::<R, L>(rt, alloc);
+            parked::a_sleep_lasts_as_long_as_it_may::<R, HookedLine<NoHooks, L>>(rt, alloc);
+        }
+        Row::Parking => {
+            counted::sleepers_are_counted::<R, L>(rt, alloc);
+            parked::all_sleep_at_the_same_time::<R, L>(rt, alloc);
+        }
+        Row::Ahead => ahead::each_release_wakes_one_ahead::<R, L>(rt, alloc),
+        Row::Busy => again::each_manner::<R, L>(rt, alloc),
+        Row::LentPorts => seats::no_addition_is_lost::<R, L>(rt, alloc),
+        Row::BusyPort => seats::a_busy_port_is_passed_over::<R, L>(rt, alloc),
+        Row::OneThread => seats::one_thread_is_granted_late_and_told::<R, L>(rt, alloc),
+    }
+    Ok(())
+}
+
+/// Runs `row` over lines of the kind `lines`.
+fn over<R: Threads + Wait + Clock + Abort + Sync>(
+    rt: &R,
+    alloc: Global,
+    lines: Lines,
+    row: Row,
+) -> Result<(), Fail> {
+    for_kind!(lines, try_by, [R], (rt, alloc, row))
+}
+
+/// Runs `row` over lines of this discipline.
+fn try_by<R: Threads + Wait + Clock + Abort + Sync, Q: Discipline<Free> + Send + Sync>(
+    rt: &R,
+    alloc: Global,
+    row: Row,
+) -> Result<(), Fail> {
+    try_over::<R, Line<Free, Q>>(rt, alloc, row)
+}
+
+/// Runs `row` over each kind of lock.
+fn over_each<R: Threads + Wait + Clock + Abort + Sync>(
+    rt: &R,
+    alloc: Global,
+    row: Row,
+) -> Result<(), Fail> {
+    for lines in ALL {
+        over(rt, alloc, lines, row)?;
+    }
+    Ok(())
+}
+
+/// Three threads count to 3,000; a line for 0 or for 201 nodes is refused.
+fn no_addition_is_lost<R: Threads + Wait + Abort + Sync, L: OpenLine<Free> + Sync + Drop>(
+    rt: &R,
+    alloc: Global,
+)
+where
+    L::Port: Send + Drop,
+{
+    for (nodes, rounds, wanted) in [(3, 1_000, Some(3_000)), (0, 1, None), (201, 1, None)] {
+        let counted = counter::count::<R, L>(rt, alloc, nodes, rounds);
+        expect_at(rt, nodes, counted, wanted);
+    }
+}
+
+/// Four clerks sell all 100 seats to 40 customers each, and 80 seats to 20 customers each; a line for 201 clerks is refused.
+fn the_house_is_sold_out<R: Threads + Wait + Abort + Sync, H: OpenLine<SeatLimit> + Sync + Drop>(
+    rt: &R,
+    alloc: Global,
+)
+where
+    H::Port: Send + Drop,
+{
+    for (clerks, customers, sold) in [(4, 40, Some(100)), (4, 20, Some(80)), (201, 1, None)] {
+        let found = capacity::sell::<R, H>(rt, alloc, clerks, customers);
+        expect_at(rt, customers, found, sold);
+    }
+}
+
+/// Sells the seats over lines of the kind `lines`.
+fn sell_over<R: Threads + Wait + Abort + Sync>(rt: &R, alloc: Global, lines: Lines) {
+    for_kind!(lines, sell_by, [R], (rt, alloc))
+}
+
+/// Sells the seats over lines of this discipline.
+fn sell_by<R: Threads + Wait + Abort + Sync, Q: Discipline<SeatLimit> + Send + Sync>(
+    rt: &R,
+    alloc: Global,
+) {
+    the_house_is_sold_out::<R, Line<SeatLimit, Q>>(rt, alloc)
+}
+
+/// The only node of a line is granted it, shuts it, and asks again. Returns both answers, each with the state after it.
+fn granted_and_then_told<R: Wait, L: OpenLine<Free> + Drop>(
+    rt: &R,
+    alloc: Global,
+) -> Option<[(Got, PortState); 2]>
+where
+    L::Port: Drop,
+{
+    let (line, mut ports) = L::open_with(alloc, 0, for_nodes(1)).ok()?;
+    let mut port = ports.pop()?;
+    let first = acquire(rt, &line, &mut port);
+    let Got::Granted = first else {
+        return None;
+    };
+    line.shut(&mut port);
+    let shut = L::state(&port);
+    let second = acquire(rt, &line, &mut port);
+    Some([(first, shut), (second, L::state(&port))])
+}
+
+/// Node 2 shuts the line in its turn, then node 1 asks. Returns both answers.
+fn one_after_the_other<R: Wait, L: OpenLine<Free> + Drop>(rt: &R, alloc: Global) -> Option<[Got; 2]>
+where
+    L::Port: Drop,
+{
+    let (line, ports) = L::open_with(alloc, 1, for_nodes(2)).ok()?;
+    let mut ports = ports;
+    let mut two = ports.pop()?;
+    let mut one = ports.pop()?;
+    let first = fair::after_the_other(rt, &line, &mut two);
+    let Got::Granted = first else {
+        return None;
+    };
+    line.shut(&mut two);
+    Some([first, fair::after_the_other(rt, &line, &mut one)])
+}
+
+/// Node 1 holds; node 2 asks twice with 3 polls; node 1 releases, and node 2 asks once more. Returns node 2's answers.
+fn late<L: OpenLine<Free> + Drop>(alloc: Global) -> Option<[Acquired; 3]>
+where
+    L::Port: Drop,
+{
+    let (line, ports) = L::open_with(alloc, 1, for_nodes(2)).ok()?;
+    let mut ports = ports;
+    let mut two = ports.pop()?;
+    let mut one = ports.pop()?;
+    let Acquired::Granted = mailbox::ask(&line, &mut one, 0) else {
+        return None;
+    };
+    let first = mailbox::ask(&line, &mut two, 3);
+    let again = match first {
+        Acquired::Late => mailbox::ask(&line, &mut two, 3),
+        _ => return None,
+    };
+    line.deqolb(&mut one);
+    let last = match again {
+        Acquired::Late => mailbox::ask(&line, &mut two, 3),
+        _ => return None,
+    };
+    Some([first, again, last])
+}
+
+#[test]
+fn no_addition_is_lost_over_any_lock(rt: HostRuntime) -> Result<(), Fail> {
+    over_each(&rt, rt.alloc(), Row::Additions)
+}
+
+#[test]
+fn each_addition_is_a_turn(rt: HostRuntime) -> Result<(), Fail> {
+    over_each(&rt, rt.alloc(), Row::Turns)
+}
+
+#[test]
+fn each_value_of_a_mailbox_is_taken_up(rt: HostRuntime) -> Result<(), Fail> {
+    over_each(&rt, rt.alloc(), Row::Mailbox)
+}
+
+#[test]
+fn a_value_lies_in_its_lane(rt: HostRuntime) -> Result<(), Fail> {
+    over_each(&rt, rt.alloc(), Row::Lanes)
+}
+
+#[test]
+fn no_more_seats_are_sold_than_there_are(rt: HostRuntime) -> Result<(), Fail> {
+    for lines in ALL {
+        sell_over(&rt, rt.alloc(), lines);
+    }
+    Ok(())
+}
+
+#[test]
+fn a_line_is_granted_and_then_closed(rt: HostRuntime) -> Result<(), Fail> {
+    over_each(&rt, rt.alloc(), Row::Closing)
+}
+
+#[test]
+fn a_turn_comes_or_the_line_is_closed(rt: HostRuntime) -> Result<(), Fail> {
+    over_each(&rt, rt.alloc(), Row::Fairness)
+}
+
+#[test]
+fn a_late_node_asks_again(rt: HostRuntime) -> Result<(), Fail> {
+    over_each(&rt, rt.alloc(), Row::Patience)
+}
+
+#[test]
+fn waiters_sleep_at_a_ring(rt: HostRuntime) -> Result<(), Fail> {
+    over(&rt, rt.alloc(), Lines::Ring, Row::Waits)
+}
+
+#[test]
+fn waiters_sleep_at_a_list(rt: HostRuntime) -> Result<(), Fail> {
+    over(&rt, rt.alloc(), Lines::Link, Row::Waits)
+}
+
+#[test]
+fn waiters_sleep_at_a_ticket_line(rt: HostRuntime) -> Result<(), Fail> {
+    over(&rt, rt.alloc(), Lines::Ticket, Row::Waits)
+}
+
+#[test]
+fn waiters_sleep_as_long_as_they_may(rt: HostRuntime) -> Result<(), Fail> {
+    over_each(&rt, rt.alloc(), Row::Sleeps)
+}
+
+#[test]
+fn sleeps_last_as_long_as_they_may(rt: HostRuntime) -> Result<(), Fail> {
+    over_each(&rt, rt.alloc(), Row::LongSleeps)
+}
+
+#[test]
+fn sleepers_are_counted(rt: HostRuntime) -> Result<(), Fail> {
+    over_each(&rt, rt.alloc(), Row::Parking)
+}
+
+#[test]
+fn a_release_wakes_one_turn_ahead(rt: HostRuntime) -> Result<(), Fail> {
+    over_each(&rt, rt.alloc(), Row::Ahead)
+}
+
+#[test]
+fn whoever_is_busy_asks_again(rt: HostRuntime) -> Result<(), Fail> {
+    over_each(&rt, rt.alloc(), Row::Busy)
+}
+
+#[test]
+fn no_addition_by_lent_ports_is_lost(rt: HostRuntime) -> Result<(), Fail> {
+    over_each(&rt, rt.alloc(), Row::LentPorts)
+}
+
+#[test]
+fn a_busy_port_is_passed_over(rt: HostRuntime) -> Result<(), Fail> {
+    over_each(&rt, rt.alloc(), Row::BusyPort)
+}
+
+#[test]
+fn one_thread_is_granted_late_and_told(rt: HostRuntime) -> Result<(), Fail> {
+    over_each(&rt, rt.alloc(), Row::OneThread)
+}
+
+#[test]
+fn late_linker_of_a_closed_list_wakes(rt: HostRuntime) -> Result<(), Fail> {
+    passing::late_linker_wakes(&rt, rt.alloc());
+    Ok(())
+}

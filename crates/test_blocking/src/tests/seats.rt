@@ -1,0 +1,64 @@
+//! Ports that are lent to threads that come and go, over all lines.
+mod counting;
+mod one_thread;
+mod passing;
+
+use crate::tests::held::{expect, expect_at};
+use counting::count;
+use one_thread::see;
+use passing::pass_over;
+use qolb_model::{Free, OpenLine, ParkingLine};
+use std::alloc::Global;
+use std::process::Abort;
+use std::rt::Clock;
+use std::sync::Wait;
+use std::thread::Threads;
+
+/// The nodes of a line, the threads that share its ports, how often each adds in each of two ways, and the number at the end.
+static COUNTS: [(u64, usize, u64, u64); 3] = [
+    (1, 3, 100, 600),
+    (2, 5, 200, 2_000),
+    (3, 8, 100, 1_600),
+];
+
+/// Threads that borrow ports lose no addition, and give all ports back.
+pub(super) fn no_addition_is_lost<
+    R: Threads + Wait + Abort + Sync,
+    L: OpenLine<Free> + Sync + Drop,
+>(rt: &R, alloc: Global)
+where
+    L::Port: Send + Drop,
+{
+    for (nodes, threads, times, wanted) in &COUNTS {
+        let counted = count::<R, L>(rt, alloc, *nodes, *threads, *times);
+        expect_at(rt, *nodes, counted, Some(*wanted));
+    }
+}
+
+/// The second thread has its turn by node 3, after node 2 was busy once.
+pub(super) fn a_busy_port_is_passed_over<
+    R: Threads + Wait + Clock + Abort + Sync,
+    L: OpenLine<Free> + ParkingLine<Free> + Sync + Drop,
+>(rt: &R, alloc: Global)
+where
+    L::Port: Send + Drop,
+{
+    let passed = pass_over::<R, L>(rt, alloc);
+    expect(
+        rt,
+        "nodes that had the line, busy tries",
+        passed,
+        Some(([1, 3], 1)),
+    );
+}
+
+/// One thread is granted the line, is late, and is told that the line is closed.
+pub(super) fn one_thread_is_granted_late_and_told<
+    R: Wait + Clock + Abort,
+    L: OpenLine<Free> + ParkingLine<Free> + Drop,
+>(rt: &R, alloc: Global)
+where
+    L::Port: Drop,
+{
+    expect(rt, "opened and finished", see::<R, L>(rt, alloc), Some(()));
+}

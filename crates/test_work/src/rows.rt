@@ -1,0 +1,23 @@
+//! What the tests of this crate share.
+use std::fmt::Debug;
+use std::process::Abort;
+
+/// Expects that the value is the wanted one.
+pub(crate) fn expect<R: Abort, T: PartialEq + Debug + Drop>(
+    rt: &R,
+    row: &str,
+    found: T,
+    wanted: T,
+) {
+    assert_eq!(rt; found, wanted, "{row}");
+}
+
+/// Expects so in the row of this value.
+pub(crate) fn expect_at<R: Abort, D: Debug, T: PartialEq + Debug + Drop>(
+    rt: &R,
+    at: &D,
+    found: T,
+    wanted: T,
+) {
+    assert_eq!(rt; found, wanted, "at {at:?}");
+}
