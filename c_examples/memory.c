@@ -1,13 +1,13 @@
 /* The heap bytes of a line, and of a lock: those that stay taken after qolb_open and after a lock's first use, by kind and number of nodes or of
- * seats, as malloc_usable_size counts them. qolb_memory must return what opening has allocated and keeps. The data of two nodes must be in no two
- * cache lines that are fetched together. */
+ * seats, as malloc_usable_size counts them. qolb_memory must return what opening has allocated and keeps, and opening may ask for at most three
+ * times that at a time. The data of two nodes must be in no two cache lines that are fetched together. */
 #include <malloc.h>
 #include <qolb.h>
 #include <stdio.h>
 #include <stdlib.h>
 
-/* For all allocated blocks: their usable bytes, and the requested ones. */
-static size_t taken, asked;
+/* For all allocated blocks: their usable bytes, and the requested ones; and the most that were requested at a time. */
+static size_t taken, asked, most;
 static struct {
     void *block;
     size_t asked;
@@ -30,6 +30,7 @@ static void *takes(void *block, size_t size) {
     blocks[k].block = block;
     blocks[k].asked = size;
     asked += size;
+    if (asked > most) most = asked;
     taken += malloc_usable_size(block);
     return block;
 }
@@ -68,18 +69,20 @@ static int apart(const qolb_node *node, uint64_t nodes) {
     return 1;
 }
 
-/* Returns whether qolb_memory returns what a line of this many nodes has allocated and keeps, and allocates nothing itself. */
+/* Returns whether qolb_memory returns what a line of this many nodes has allocated and keeps, and allocates nothing itself; and whether opening
+ * asks for no more than three times that at a time. */
 static int is_told(uint32_t kind, uint64_t nodes) {
     qolb_bytes zeros = {{0}};
     qolb_node node[200] = {{0}};
     size_t before = asked;
     uint64_t told = qolb_memory(kind, nodes);
+    most = before;
     if (asked != before || qolb_open(kind, 1, nodes, QOLB_NO_LEASE, &zeros, node, 200) != QOLB_DONE) return 0;
-    size_t keeps = asked - before;
+    size_t keeps = asked - before, needs = most - before;
     for (uint64_t n = 0; n < nodes; n++)
         if (qolb_close(&node[n]) != QOLB_DONE) return 0;
-    if (told == keeps && asked == before) return 1;
-    return printf("kind %d nodes %d: keeps %zu, and is told to keep %zu\n", (int)kind, (int)nodes, keeps, (size_t)told), 0;
+    if (told == keeps && needs <= 3 * keeps && asked == before) return 1;
+    return printf("kind %d nodes %d: asks for %zu, keeps %zu, and is told to keep %zu\n", (int)kind, (int)nodes, needs, keeps, (size_t)told), 0;
 }
 
 /* The same for few nodes and many; and 0 for a line that opening refuses. */

@@ -1,9 +1,6 @@
 /* Each allocation of an opening is refused in turn: the opening is then refused, the handles stay empty, and its memory is freed. Only opening and
  * closing allocate or free, or write to a handle: the proved calls put the same node back. The same for a lock, which its first use may open. Linked
- * with --wrap for malloc, realloc and free. Prints only errors.
- * but opening and closing takes memory or gives any back, or writes to its handle: the proved ones put the same node back. So it is with a lock, which its
- * first use may open.
- * Linked with --wrap for malloc, realloc and free. Prints nothing but what went wrong. */
+ * with --wrap for malloc, realloc and free. Prints only errors. */
 #define _DEFAULT_SOURCE
 #include <proved.h>
 #include <stdio.h>

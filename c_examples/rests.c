@@ -29,9 +29,10 @@ enum { US = 1000, MS = 1000000 };
  * waiter must not make. */
 static uint64_t now, clocks, yields, sleeps, longest, asks, spins, spun, looks, names, wakes, wrong;
 
-/* The words of the first sleeps and wakes since then, in their order. */
 /* How often a waiter yields before it sleeps, as qolb.h says. */
 enum { YIELDS = 16 };
+
+/* The words of the first sleeps and wakes since then, in their order. */
 enum { NOTED = 8 };
 static const void *slept_at[NOTED], *woken_at[NOTED];
 

@@ -99,7 +99,7 @@ static int refusals(void) {
     return 0;
 }
 
-/* With enough memory, a line of each number of nodes opens, with short leases and long ones, with large labels, and with more handles than it
+/* With enough memory, a line of each number of nodes opens, with short leases and long ones, with large labels up to the largest, and with more handles than it
  * needs; a line of 200 with each of the leases. */
 static int opens(uint32_t kind) {
     static const uint64_t leases[] = {1, UINT32_MAX, (uint64_t)UINT32_MAX + 1, (uint64_t)1 << 63, UINT64_MAX - 1, QOLB_NO_LEASE};
@@ -108,7 +108,7 @@ static int opens(uint32_t kind) {
     for (uint64_t many = 1; many <= 200; many++)
         for (uint64_t k = 0; k < 6; k++) {
             if (many < 200 && k != many % 6) continue;
-            uint64_t label = k % 2 ? UINT64_MAX - many : many << 32;
+            uint64_t label = k % 2 ? UINT64_MAX - many + 1 : many << 32;
             WANT(qolb_open(kind, label, many, leases[k], &zeros, nodes, k < 3 ? 1000 : many), QOLB_DONE);
             WANT(nodes[many].own == NULL, 1);
             WANT(qolb_enqolb(&nodes[many - 1]), QOLB_GRANTED);

@@ -28,10 +28,6 @@ class Crate:
         """The files that the proof of the crate reads."""
         return [it for part in PARTS for it in sorted((self.folder / part).rglob("*")) if it.is_file()]
 
-    def lines(self):
-        """The number of lines that the proof of the crate reads."""
-        return sum(it.read_bytes().count(b"\n") for it in self.files())
-
 
 def locks():
     """The crates of locks: those of crates.txt below a line that begins with `# lock:`."""

@@ -58,6 +58,23 @@ pub fn compare<R: Threads + Wait + Sync>(
     Ok(())
 }
 
+/// Returns an error unless `compare` takes a right answer, and refuses a wrong one and another form.
+pub fn refuses_others<R: Threads + Wait + Sync>(rt: &R, alloc: Global) -> anyhow::Result<()> {
+    let script = b"nodes 1 lines 1\nenq 1 0\n";
+    let right = b"granted\nline 0 served 0 withdrawn 0 told 0 left 1\n";
+    let wrong = b"queued\nline 0 served 0 withdrawn 0 told 0 left 1\n";
+    compare(rt, alloc, Form::Schedule, script, right)?;
+    ensure!(
+        compare(rt, alloc, Form::Schedule, script, wrong).is_err(),
+        "a wrong answer is taken"
+    );
+    ensure!(
+        compare(rt, alloc, Form::Steps, script, right).is_err(),
+        "a schedule is taken for steps"
+    );
+    Ok(())
+}
+
 /// Returns an error if `said` is not `wanted`.
 fn expect(said: &[u8], wanted: &[u8]) -> anyhow::Result<()>
     ensures { IsOk result ↔ (said.now ≡ wanted.now) }
@@ -117,21 +134,5 @@ fn report<R: Threads + Wait + Sync>(
     match done {
         Ok(()) => Ok(said),
         Err(why) => bail!("it is refused: {why}"),
-    }
-}
-
-#[cfg(test)]
-mod tests {
-    use super::*;
-
-    #[test]
-    fn another_answer_is_an_error(rt: HostRuntime) {
-        let alloc = rt.alloc();
-        let script = b"nodes 1 lines 1\nenq 1 0\n";
-        let right = b"granted\nline 0 served 0 withdrawn 0 told 0 left 1\n";
-        let wrong = b"queued\nline 0 served 0 withdrawn 0 told 0 left 1\n";
-        assert!(rt; compare(&rt, alloc, Form::Schedule, script, right).is_ok());
-        assert!(rt; compare(&rt, alloc, Form::Schedule, script, wrong).is_err());
-        assert!(rt; compare(&rt, alloc, Form::Steps, script, right).is_err());
     }
 }

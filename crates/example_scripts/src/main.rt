@@ -4,7 +4,7 @@
 mod compare;
 
 use anyhow::{Context, ensure};
-use compare::{Form, compare};
+use compare::{Form, compare, refuses_others};
 use qolb_script::WorkKind;
 use std::alloc::Global;
 use std::fs;
@@ -90,6 +90,8 @@ fn main(rt: HostRuntime) -> anyhow::Result<()> {
         scripts == EXAMPLES.len(),
         "{scripts} scripts, and not each is named"
     );
+    refuses_others(&rt, rt.alloc())?;
+    println!(rt; "another answer: refused")?;
     for example in EXAMPLES {
         check(&rt, rt.alloc(), example)?;
         println!(rt; "{}: answered", example.name)?;

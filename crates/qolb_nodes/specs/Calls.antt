@@ -8,18 +8,21 @@ use Rattle.qolb_model.specs.declared.answer.Out.TheVariants as out
 use Rattle.qolb_model.specs.declared.answer.PortState.{PortState}
 use Rattle.qolb_model.specs.declared.answer.PortState.TheVariants.{Linking, Queued, Holding}
 use Rattle.qolb_model.specs.declared.view.View.{View}
+use Rattle.qolb_model.specs.Counting.{Counters}
 use Rattle.qolb_model.specs.declared.write.Write.{Write}
 use Rattle.qolb_model.specs.Calls as line
 use Rattle.qolb_model.specs.Leases.{turns_left}
 use Rattle.qolb_model.specs.OneOwner.{turn_after}
 use Rattle.qolb_model.specs.PortStates.{may_ask}
 use Rattle.line_generic.specs.AtTurn.{Names, SeesTurn}
+use Rattle.line_cells.specs.BetweenCalls as array
+use Rattle.link_line.specs.BetweenCalls as list
 use Rattle.qolb_nodes.specs.declared.answer.Answer.{Answer}
 use Rattle.qolb_nodes.specs.declared.answer.Answer.TheVariants as answer
 use Rattle.qolb_nodes.specs.declared.any_node.AnyNode.{AnyNode}
 use Rattle.qolb_nodes.specs.declared.any_node.AnyNode.TheVariants as kind
 use Rattle.qolb_nodes.specs.Answers.{enq_told, poll_told, out_told, prep_told, clear_told}
-use Rattle.qolb_nodes.specs.Nodes.{anything, PollsWithin, turns_number, with_lane, with_added}
+use Rattle.qolb_nodes.specs.Nodes.{anything, IsOneCall, PollsWithin, turns_number, with_lane, with_added}
 use Rattle.qolb_nodes.specs.Waits.{wait_word_of, turn_word_of, went_to_of}
 
 -- the view of the node's port
@@ -34,11 +37,24 @@ turn_of (kind.Ring node) = node.port.turn
 turn_of (kind.List node) = node.port.turn
 turn_of (kind.Ticket node) = node.port.turn
 
--- the number of the node's polls
+-- the node's counters of word steps and polls
+abbrev pub counters_of : AnyNode → Counters
+counters_of (kind.Ring node) = node.port.counters
+counters_of (kind.List node) = node.port.counters
+counters_of (kind.Ticket node) = node.port.counters
+
 abbrev pub poll_count_of : AnyNode → ℕ
-poll_count_of (kind.Ring node) = node.port.counters.poll_count
-poll_count_of (kind.List node) = node.port.counters.poll_count
-poll_count_of (kind.Ticket node) = node.port.counters.poll_count
+poll_count_of node = (counters_of node).poll_count
+
+-- the most word steps that one call of the node's line takes
+abbrev pub max_steps_of : AnyNode → ℕ
+max_steps_of (kind.Ring node) = array.max_steps 3 node.line.table.shared.key.config.nodes + 3
+max_steps_of (kind.List node) = list.max_steps node.line.table.shared.key.config.nodes + 3
+max_steps_of (kind.Ticket node) = array.max_steps 2 node.line.table.shared.key.config.nodes + 3
+
+-- the node made one call of its line, which did not poll
+abbrev pub CallsOnce : AnyNode → AnyNode → Type 0
+CallsOnce was now = IsOneCall (max_steps_of was) (counters_of was) (counters_of now)
 
 abbrev pub state_of : AnyNode → PortState
 state_of node = (view_of node).state
@@ -74,7 +90,7 @@ IsDone Allowed Promise was now a = IsCall Allowed (λ (made : Unit {0}). answer.
 -- `enqolb`: allowed if the node neither waits nor holds. It does not poll. If the line is closed, the node has forwarded it, and has noted
 -- the next word.
 abbrev pub Enqolbs : AnyNode → AnyNode → Answer → Type 0
-Enqolbs was now a = IsCall (may_ask (state_of was) ≡ true) enq_told (λ made. line.Enqueues anything (view_of was) (view_of now) (turn_of now) made × (poll_count_of now ≡ poll_count_of was) × (made ≡ enq.Closed → NamesNext now)) was now a
+Enqolbs was now a = IsCall (may_ask (state_of was) ≡ true) enq_told (λ made. line.Enqueues anything (view_of was) (view_of now) (turn_of now) made × CallsOnce was now × (made ≡ enq.Closed → NamesNext now)) was now a
 
 -- `poll`: allowed if the node waits. It polls once.
 abbrev pub Polls : AnyNode → AnyNode → Answer → Type 0
@@ -87,18 +103,18 @@ Waits polls was now a =
 
 -- `prepend` and `link`, of a list: allowed if the node neither waits nor holds; and if it is linking. Neither polls.
 abbrev pub Prepends : AnyNode → AnyNode → Answer → Type 0
-Prepends was now a = IsCall ((kind_of was ≡ 1) × (may_ask (state_of was) ≡ true)) prep_told (λ made. line.Prepends anything (view_of was) (view_of now) (turn_of now) made × (poll_count_of now ≡ poll_count_of was) × (made ≡ prep.Closed → NamesNext now)) was now a
+Prepends was now a = IsCall ((kind_of was ≡ 1) × (may_ask (state_of was) ≡ true)) prep_told (λ made. line.Prepends anything (view_of was) (view_of now) (turn_of now) made × CallsOnce was now × (made ≡ prep.Closed → NamesNext now)) was now a
 
 abbrev pub LinksUp : AnyNode → AnyNode → Answer → Type 0
-LinksUp was now a = IsCall ((kind_of was ≡ 1) × (state_of was ≡ Linking)) enq_told (λ made. line.LinksUp anything (view_of was) (view_of now) (turn_of now) made × (poll_count_of now ≡ poll_count_of was) × (made ≡ enq.Closed → NamesNext now)) was now a
+LinksUp was now a = IsCall ((kind_of was ≡ 1) × (state_of was ≡ Linking)) enq_told (λ made. line.LinksUp anything (view_of was) (view_of now) (turn_of now) made × CallsOnce was now × (made ≡ enq.Closed → NamesNext now)) was now a
 
 -- `withdraw`: allowed if the node waits. It does not poll.
 abbrev pub Withdraws : AnyNode → AnyNode → Answer → Type 0
-Withdraws was now a = IsCall (state_of was ≡ Queued) out_told (λ made. line.Withdraws anything (view_of was) (view_of now) (turn_of now) made × (poll_count_of now ≡ poll_count_of was) × (made ≡ out.Closed → NamesNext now)) was now a
+Withdraws was now a = IsCall (state_of was ≡ Queued) out_told (λ made. line.Withdraws anything (view_of was) (view_of now) (turn_of now) made × CallsOnce was now × (made ≡ out.Closed → NamesNext now)) was now a
 
 -- `clear`: allowed if the node neither waits nor holds. It makes no request, and does not poll.
 abbrev pub LooksIfClear : AnyNode → AnyNode → Answer → Type 0
-LooksIfClear was now a = IsCall (may_ask (state_of was) ≡ true) clear_told (λ clear. line.LooksIfClear anything (view_of was) (view_of now) clear × (poll_count_of now ≡ poll_count_of was)) was now a
+LooksIfClear was now a = IsCall (may_ask (state_of was) ≡ true) clear_told (λ clear. line.LooksIfClear anything (view_of was) (view_of now) clear × CallsOnce was now) was now a
 
 -- `read`: if the node holds, its bytes are written to `out`, and nothing else changes
 abbrev pub Reads : List ℕ → List ℕ → AnyNode → AnyNode → Answer → Type 0
@@ -125,7 +141,7 @@ AddsLane k by out_was out_now was now a =
 
 -- `deqolb`, and `shut` with true: allowed if the node holds. The node has noted the next holder's word.
 abbrev pub Releases : Bool → AnyNode → AnyNode → Answer → Type 0
-Releases shut was now a = IsDone (state_of was ≡ Holding) (line.Releases anything shut (view_of was) (view_of now) (turn_of was) × NamesNext now) was now a
+Releases shut was now a = IsDone (state_of was ≡ Holding) (line.Releases anything shut (view_of was) (view_of now) (turn_of was) × CallsOnce was now × NamesNext now) was now a
 
 -- the number of turns left, with the holder's own, if the node holds the line, and so at least 1; else 0
 pub record TellsTurns (node : AnyNode) (n : ℕ) : Type 0 where

@@ -5,6 +5,7 @@ use Rattle.line_lanes.specs.Mask.{placed_mask}
 use Rattle.qolb_model.specs.declared.answer.Poll.{Poll}
 use Rattle.qolb_model.specs.declared.answer.Poll.TheVariants.{Waiting}
 use Rattle.qolb_model.specs.declared.write.Write.{Write}
+use Rattle.qolb_model.specs.Counting.{Counters}
 use Rattle.qolb_model.specs.OneOwner.{turn_after}
 
 -- the node's line, and its port of that line
@@ -18,6 +19,12 @@ any_bytes bytes = Unit {0}
 
 abbrev pub anything : List ℕ → List ℕ → Type 0
 anything old new = Unit {0}
+
+-- the counters of a port after one call of the line that does not poll: it took at most `max` word steps, and they are counted
+pub record IsOneCall (max : ℕ) (old new : Counters) : Type 0 where
+  pub bound : new.steps ≤ max
+  pub total_steps : new.total_steps ≡ old.total_steps + new.steps
+  pub poll_count : new.poll_count ≡ old.poll_count
 
 -- a call that may poll `polls` times: by its port's counts before and after, it polled at least once and at most that often, and exactly
 -- that often if its request still waits

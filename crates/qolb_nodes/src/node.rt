@@ -14,7 +14,7 @@ ghost use Rattle.line_generic.specs.AtTurn.{Names, SeesTurn};
 ghost use Rattle.link_line.specs.BetweenCalls as list;
 ghost use Rattle.qolb_nodes.specs.declared.answer.Answer.{Answer};
 ghost use Rattle.qolb_nodes.specs.Answers.{enq_told, prep_told, poll_told, out_told, clear_told};
-ghost use Rattle.qolb_nodes.specs.Nodes.{anything, PollsWithin, turns_number, with_lane};
+ghost use Rattle.qolb_nodes.specs.Nodes.{anything, IsOneCall, PollsWithin, turns_number, with_lane};
 
 use crate::answer::Answer;
 use crate::kinds::{LineFor, List};
@@ -75,11 +75,24 @@ impl<L: LineSync<Free>> Node<L> {
         Node { line, port }
     }
 
+    /// Merges the views of two nodes of one line, which are of one history.
+    ///
+    /// C has no call for it: it defines that the nodes of an opened line are of one line.
+    pub fn meet(&mut self, other: &mut Node<L>)
+        requires one_line { other.old.line ≡ self.old.line }
+        ensures lines { (self.new.line ≡ self.old.line) × (other.new.line ≡ other.old.line) }
+        ensures tell { MergesViews anything (L.view self.old.port) (L.view other.old.port) (L.view self.new.port) (L.view other.new.port) }
+    {
+        self.line.meet(&mut self.port, &mut other.port);
+    }
+}
+
+impl<Q: Discipline<Free>> Node<LineFor<Q>> {
     /// Returns the state after the node's last call.
     fn state(&self) -> PortState
-        ensures { result ≡ (L.view self.now.port).state }
+        ensures { result ≡ self.now.port.view.state }
     {
-        L::state(&self.port)
+        LineFor::<Q>::state(&self.port)
     }
 
     /// Returns `Done` if the node's last request is clear, so that the next is not answered `Busy`; else `Busy`.
@@ -87,8 +100,8 @@ impl<L: LineSync<Free>> Node<L> {
     /// `Misuse` if the node waits or holds.
     pub fn is_clear(&mut self) -> Answer
         ensures line { self.new.line ≡ self.old.line }
-        ensures misuse { may_ask (L.view self.old.port).state ≢ true → (result ≡ Answer.Misuse) × (self.new ≡ self.old) }
-        ensures looks { may_ask (L.view self.old.port).state ≡ true → (clear : Bool) × (result ≡ clear_told clear) × LooksIfClear anything (L.view self.old.port) (L.view self.new.port) clear × ((L.counters self.new.port).poll_count ≡ (L.counters self.old.port).poll_count) }
+        ensures misuse { may_ask self.old.port.view.state ≢ true → (result ≡ Answer.Misuse) × (self.new ≡ self.old) }
+        ensures looks { may_ask self.old.port.view.state ≡ true → (clear : Bool) × (result ≡ clear_told clear) × LooksIfClear anything self.old.port.view self.new.port.view clear × IsOneCall (Q.max_steps self.old.line.table.shared.key.config.nodes + 3) self.old.port.counters self.new.port.counters }
     {
         if !self.state().may_ask() {
             return Answer::Misuse;
@@ -98,10 +111,10 @@ impl<L: LineSync<Free>> Node<L> {
 
     /// Returns the line's bytes as the holder sees them; `None` if the node does not hold the line.
     pub fn bytes(&self) -> Option<&Line64>
-        ensures { MatchOption result ((L.view self.now.port).state ≢ PortState.Holding) (λ line. ((L.view self.now.port).state ≡ PortState.Holding) × (line.now ≡ (L.turn self.now.port).bytes)) }
+        ensures { MatchOption result (self.now.port.view.state ≢ PortState.Holding) (λ line. (self.now.port.view.state ≡ PortState.Holding) × (line.now ≡ self.now.port.turn.bytes)) }
     {
         if self.state() == PortState::Holding {
-            Some(L::bytes(&self.port))
+            Some(LineFor::<Q>::bytes(&self.port))
         } else {
             None
         }
@@ -109,9 +122,9 @@ impl<L: LineSync<Free>> Node<L> {
 
     /// Returns C's number of the turns left, with the holder's own: at least 1. 0 if the node does not hold the line.
     fn turns_left(&self) -> u64
-        ensures turns { (L.view self.now.port).state ≡ PortState.Holding → result ≡ turns_number (turns_left (L.view self.now.port).config.lease (L.view self.now.port).ends) }
-        ensures some { (L.view self.now.port).state ≡ PortState.Holding → 1 ≤ result }
-        ensures none { (L.view self.now.port).state ≢ PortState.Holding → result ≡ 0 }
+        ensures turns { self.now.port.view.state ≡ PortState.Holding → result ≡ turns_number (turns_left self.now.port.view.config.lease self.now.port.view.ends) }
+        ensures some { self.now.port.view.state ≡ PortState.Holding → 1 ≤ result }
+        ensures none { self.now.port.view.state ≢ PortState.Holding → result ≡ 0 }
     {
         if self.state() != PortState::Holding {
             return 0;
@@ -128,30 +141,17 @@ impl<L: LineSync<Free>> Node<L> {
     #[inline(always)]
     pub fn write(&mut self, mask: Mask, bytes: &Line64) -> Answer
         ensures line { self.new.line ≡ self.old.line }
-        ensures view { L.view self.new.port ≡ L.view self.old.port }
-        ensures misuse { (L.view self.old.port).state ≢ PortState.Holding → (result ≡ Answer.Misuse) × (self.new ≡ self.old) }
-        ensures writes { (L.view self.old.port).state ≡ PortState.Holding → (result ≡ Answer.Done) × (L.turn self.new.port ≡ turn_after (L.turn self.old.port) mask.0 bytes.now.bytes) }
+        ensures view { self.new.port.view ≡ self.old.port.view }
+        ensures misuse { self.old.port.view.state ≢ PortState.Holding → (result ≡ Answer.Misuse) × (self.new ≡ self.old) }
+        ensures writes { self.old.port.view.state ≡ PortState.Holding → (result ≡ Answer.Done) × (self.new.port.turn ≡ turn_after self.old.port.turn mask.0 bytes.now.bytes) }
     {
         if self.state() != PortState::Holding {
             return Answer::Misuse;
         }
-        L::write(&mut self.port, mask, bytes);
+        LineFor::<Q>::write(&mut self.port, mask, bytes);
         Answer::Done
     }
 
-    /// Merges the views of two nodes of one line, which are of one history.
-    ///
-    /// C has no call for it: it defines that the nodes of an opened line are of one line.
-    pub fn meet(&mut self, other: &mut Node<L>)
-        requires one_line { other.old.line ≡ self.old.line }
-        ensures lines { (self.new.line ≡ self.old.line) × (other.new.line ≡ other.old.line) }
-        ensures tell { MergesViews anything (L.view self.old.port) (L.view other.old.port) (L.view self.new.port) (L.view other.new.port) }
-    {
-        self.line.meet(&mut self.port, &mut other.port);
-    }
-}
-
-impl<Q: Discipline<Free>> Node<LineFor<Q>> {
     /// Returns what the node is, and where it waits.
     #[inline(always)]
     pub fn shown(&self) -> Shown
@@ -182,7 +182,7 @@ impl<Q: Discipline<Free>> Node<LineFor<Q>> {
     pub fn enqolb(&mut self) -> Answer
         ensures line { self.new.line ≡ self.old.line }
         ensures misuse { may_ask self.old.port.view.state ≢ true → (result ≡ Answer.Misuse) × (self.new ≡ self.old) }
-        ensures enqueues { may_ask self.old.port.view.state ≡ true → (answer : Enq) × (result ≡ enq_told answer) × Enqueues anything self.old.port.view self.new.port.view self.new.port.turn answer × (self.new.port.counters.poll_count ≡ self.old.port.counters.poll_count) × (answer ≡ Enq.Closed → Names (Q.turn_word self.new.port.view) self.new.port.went_to) }
+        ensures enqueues { may_ask self.old.port.view.state ≡ true → (answer : Enq) × (result ≡ enq_told answer) × Enqueues anything self.old.port.view self.new.port.view self.new.port.turn answer × IsOneCall (Q.max_steps self.old.line.table.shared.key.config.nodes + 3) self.old.port.counters self.new.port.counters × (answer ≡ Enq.Closed → Names (Q.turn_word self.new.port.view) self.new.port.went_to) }
     {
         if self.state().may_ask() {
             Answer::of_enq(self.line.enqolb(&mut self.port))
@@ -212,7 +212,7 @@ impl<Q: Discipline<Free>> Node<LineFor<Q>> {
     pub fn withdraw(&mut self) -> Answer
         ensures line { self.new.line ≡ self.old.line }
         ensures misuse { self.old.port.view.state ≢ PortState.Queued → (result ≡ Answer.Misuse) × (self.new ≡ self.old) }
-        ensures withdraws { self.old.port.view.state ≡ PortState.Queued → (answer : Out) × (result ≡ out_told answer) × Withdraws anything self.old.port.view self.new.port.view self.new.port.turn answer × (self.new.port.counters.poll_count ≡ self.old.port.counters.poll_count) × (answer ≡ Out.Closed → Names (Q.turn_word self.new.port.view) self.new.port.went_to) }
+        ensures withdraws { self.old.port.view.state ≡ PortState.Queued → (answer : Out) × (result ≡ out_told answer) × Withdraws anything self.old.port.view self.new.port.view self.new.port.turn answer × IsOneCall (Q.max_steps self.old.line.table.shared.key.config.nodes + 3) self.old.port.counters self.new.port.counters × (answer ≡ Out.Closed → Names (Q.turn_word self.new.port.view) self.new.port.went_to) }
     {
         if self.state() != PortState::Queued {
             return Answer::Misuse;
@@ -244,7 +244,7 @@ impl<Q: Discipline<Free>> Node<LineFor<Q>> {
     pub fn release(&mut self, shut: bool) -> Answer
         ensures line { self.new.line ≡ self.old.line }
         ensures misuse { self.old.port.view.state ≢ PortState.Holding → (result ≡ Answer.Misuse) × (self.new ≡ self.old) }
-        ensures releases { self.old.port.view.state ≡ PortState.Holding → (result ≡ Answer.Done) × Releases anything shut self.old.port.view self.new.port.view self.old.port.turn × Names (Q.turn_word self.new.port.view) self.new.port.went_to }
+        ensures releases { self.old.port.view.state ≡ PortState.Holding → (result ≡ Answer.Done) × Releases anything shut self.old.port.view self.new.port.view self.old.port.turn × IsOneCall (Q.max_steps self.old.line.table.shared.key.config.nodes + 3) self.old.port.counters self.new.port.counters × Names (Q.turn_word self.new.port.view) self.new.port.went_to }
     {
         if self.state() != PortState::Holding {
             return Answer::Misuse;
@@ -287,7 +287,7 @@ impl Node<List> {
     pub fn prepend(&mut self) -> Answer
         ensures line { self.new.line ≡ self.old.line }
         ensures misuse { may_ask self.old.port.view.state ≢ true → (result ≡ Answer.Misuse) × (self.new ≡ self.old) }
-        ensures prepends { may_ask self.old.port.view.state ≡ true → (answer : Prep) × (result ≡ prep_told answer) × Prepends anything self.old.port.view self.new.port.view self.new.port.turn answer × (self.new.port.counters.poll_count ≡ self.old.port.counters.poll_count) × (answer ≡ Prep.Closed → Names (list.turn_word self.new.port.view) self.new.port.went_to) }
+        ensures prepends { may_ask self.old.port.view.state ≡ true → (answer : Prep) × (result ≡ prep_told answer) × Prepends anything self.old.port.view self.new.port.view self.new.port.turn answer × IsOneCall (list.max_steps self.old.line.table.shared.key.config.nodes + 3) self.old.port.counters self.new.port.counters × (answer ≡ Prep.Closed → Names (list.turn_word self.new.port.view) self.new.port.went_to) }
     {
         if !self.state().may_ask() {
             return Answer::Misuse;
@@ -301,7 +301,7 @@ impl Node<List> {
     pub fn link(&mut self) -> Answer
         ensures line { self.new.line ≡ self.old.line }
         ensures misuse { self.old.port.view.state ≢ PortState.Linking → (result ≡ Answer.Misuse) × (self.new ≡ self.old) }
-        ensures links { self.old.port.view.state ≡ PortState.Linking → (answer : Enq) × (result ≡ enq_told answer) × LinksUp anything self.old.port.view self.new.port.view self.new.port.turn answer × (self.new.port.counters.poll_count ≡ self.old.port.counters.poll_count) × (answer ≡ Enq.Closed → Names (list.turn_word self.new.port.view) self.new.port.went_to) }
+        ensures links { self.old.port.view.state ≡ PortState.Linking → (answer : Enq) × (result ≡ enq_told answer) × LinksUp anything self.old.port.view self.new.port.view self.new.port.turn answer × IsOneCall (list.max_steps self.old.line.table.shared.key.config.nodes + 3) self.old.port.counters self.new.port.counters × (answer ≡ Enq.Closed → Names (list.turn_word self.new.port.view) self.new.port.went_to) }
     {
         if self.state() != PortState::Linking {
             return Answer::Misuse;
