@@ -3,8 +3,8 @@
 
     tools/clauses.py [COMMIT]
 
-It prints, in this order: the words of clauses and ghost members of a shared line's interface and its one body; the lines of contract, the
-functions and the files that a release of a ticket line goes through from the C call to the atomic step; the number of clauses, and of those wider
+It prints, in this order: the words of clauses and ghost members of a shared line's interface and its one body; the clauses, the functions and
+the files that a release of a ticket line goes through from the C call to the atomic step; the number of clauses, and of those wider
 than 100 columns; and by crate the lines of source, specs and proofs. Run it before and after a change that removes repetition.
 """
 
@@ -68,9 +68,18 @@ class Tree:
         return [name for name in self.names if name.startswith(folder) and name.endswith(ending)]
 
 
-def contract_lines(text, name):
-    """The lines of contract of each function of this name, as a list for each."""
-    found, lines = [], text.splitlines()
+def joined(lines):
+    """The lines, each clause that goes on over several of them joined to one."""
+    rest = iter(lines)
+    for line in rest:
+        while CLAUSE.match(line) and line.count("{") > line.count("}"):
+            line += "\n" + next(rest)
+        yield line
+
+
+def contract_of(text, name):
+    """The clauses of each function of this name, as a list for each."""
+    found, lines = [], list(joined(text.splitlines()))
     for at, line in enumerate(lines):
         if re.search(rf"\bfn {name}\b", line) is None:
             continue
@@ -90,17 +99,17 @@ def main(commit):
     tree = Tree(commit)
     sources = tree.under("crates/", ".rt")
 
-    said = [line for name in INTERFACE + tree.under(BODY, ".rt") for line in tree.text(name).splitlines() if CLAUSE.match(line)]
+    said = [line for name in INTERFACE + tree.under(BODY, ".rt") for line in joined(tree.text(name).splitlines()) if CLAUSE.match(line)]
     print(f"interface and body: {sum(len(line.split()) for line in said):,} words in {len(said)} clauses and ghost members")
 
-    contracts = {name: [own for each in functions for own in contract_lines(tree.text(name), each)] for name, functions in RELEASE.items()}
+    contracts = {name: [own for each in functions for own in contract_of(tree.text(name), each)] for name, functions in RELEASE.items()}
     passed = {name: found for name, found in contracts.items() if found}
     clauses = [line for found in passed.values() for own in found for line in own]
     words = sum(len(line.split()) for line in clauses)
-    print(f"a release from C: {len(clauses)} lines of contract ({words:,} words), {sum(map(len, passed.values()))} functions, {len(passed)} files")
+    print(f"a release from C: {len(clauses)} clauses ({words:,} words), {sum(map(len, passed.values()))} functions, {len(passed)} files")
 
-    every = [line for name in sources for line in tree.text(name).splitlines() if CONTRACT.match(line)]
-    print(f"clauses: {len(every):,}, of which {sum(len(line) > WIDE for line in every)} are wider than {WIDE} columns")
+    every = [clause for name in sources for clause in joined(tree.text(name).splitlines()) if CONTRACT.match(clause)]
+    print(f"clauses: {len(every):,}, of which {sum(max(map(len, clause.splitlines())) > WIDE for clause in every)} are wider than {WIDE} columns")
 
     print(f"{'crate':16}{'source':>8}{'specs':>8}{'proofs':>8}")
     for crate in sorted({name.split("/")[1] for name in sources}):

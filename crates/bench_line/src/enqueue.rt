@@ -21,7 +21,8 @@ pub trait EnqueueStrategy<L: LineSync<NonDecreasing>> {
         ensures belongs { L.belongs line.now port.new }
         ensures granted { result ≡ Enq.Granted → IsGranted (L.view port.new) (L.turn port.new) }
         ensures queued { result ≡ Enq.Queued → (L.view port.new).state ≡ PortState.Queued }
-        ensures ended { (result ≡ Enq.Busy) ⊎ (result ≡ Enq.Closed) → IsTrue (may_ask (L.view port.new).state) };
+        ensures ended { (result ≡ Enq.Busy) ⊎ (result ≡ Enq.Closed)
+            → IsTrue (may_ask (L.view port.new).state) };
 
     /// Returns how many requests found the line waiting when they linked, left there by a release that did not wait for the link.
     fn late_links(&self) -> u64;

@@ -18,7 +18,8 @@ impl Pace {
     pub fn of(threads: u64, rounds: u64, time: Duration) -> Pace
         ensures rounds { result.rounds ≡ threads * rounds }
         ensures tenths { result.tenths ≡ as_nanos time * 10 / max result.rounds 1 }
-        ensures each_second { result.each_second ≡ min (result.rounds * 1_000_000_000) (2 ^ 128 - 1) / max (as_nanos time) 1 }
+        ensures each_second { result.each_second ≡ min (result.rounds * 1_000_000_000)
+            (2 ^ 128 - 1) / max (as_nanos time) 1 }
     {
         let all = u128::from(threads) * u128::from(rounds);
         let nanos = time.as_nanos();

@@ -33,7 +33,8 @@ pub fn open<L: OpenLine<NonDecreasing>>(
     nodes: u64,
 ) -> Result<(L, Vec<L::Port>), RunError>
     ensures ports { IfOk result (λ r. All (λ port. L.belongs r.0 port) r.1.items) }
-    ensures state { IfOk result (λ r. All (λ port. IsTrue (may_ask (L.view port).state)) r.1.items) }
+    ensures state { IfOk result (λ r.
+        All (λ port. IsTrue (may_ask (L.view port).state)) r.1.items) }
 {
     let config = LineConfig {
         nodes,

@@ -124,8 +124,11 @@ impl<R: Wait + Clock, L: ParkingLine<Free>> ScopedTask<R, L, L::Port> for Turns 
 fn add_one<L: LineSync<Free>>(port: &mut L::Port)
     requires { (L.view port.old).state ≡ PortState.Holding }
     ensures view { L.view port.new ≡ L.view port.old }
-    ensures added { lane_of (L.turn port.new).bytes.bytes 0 ≡ (lane_of (L.turn port.old).bytes.bytes 0 + 1) % 2 ^ 64 }
-    ensures writes { L.turn port.new ≡ turn_after (L.turn port.old) 0xff (with_lane_of (L.turn port.old).bytes.bytes 0 ((lane_of (L.turn port.old).bytes.bytes 0 + 1) % 2 ^ 64)) }
+    ensures added { lane_of (L.turn port.new).bytes.bytes 0
+        ≡ (lane_of (L.turn port.old).bytes.bytes 0 + 1) % 2 ^ 64 }
+    ensures writes { L.turn port.new ≡ turn_after (L.turn port.old) 0xff
+        (with_lane_of (L.turn port.old).bytes.bytes 0
+        ((lane_of (L.turn port.old).bytes.bytes 0 + 1) % 2 ^ 64)) }
     ensures belongs { (line : L) → L.belongs line port.old → L.belongs line port.new }
 {
     let held = L::bytes(port);

@@ -38,7 +38,8 @@ impl Keep for SeatLimit {
 fn sell_one<L: LineSync<SeatLimit>>(port: &mut L::Port)
     requires { IsGranted (L.view port.old) (L.turn port.old) }
     ensures view { L.view port.new ≡ L.view port.old }
-    ensures sold { lane_of (L.turn port.new).bytes.bytes 0 ≡ sold_after (lane_of (bytes_of (L.view port.old)) 0) }
+    ensures sold { lane_of (L.turn port.new).bytes.bytes 0
+        ≡ sold_after (lane_of (bytes_of (L.view port.old)) 0) }
     ensures others { drop 8 (L.turn port.new).bytes.bytes ≡ drop 8 (bytes_of (L.view port.old)) }
     ensures allowed { MayRelease StaysWithin (L.view port.new) (L.turn port.new) }
     ensures belongs { (line : L) → L.belongs line port.old → L.belongs line port.new }

@@ -23,7 +23,8 @@ const WHOLE: Mask = Mask(0xffff_ffff_ffff_ffff);
 pub fn add_one<L: LineSync<Free>>(port: &mut L::Port)
     requires { IsGranted (L.view port.old) (L.turn port.old) }
     ensures view { L.view port.new ≡ L.view port.old }
-    ensures added { lane_of (L.turn port.new).bytes.bytes 0 ≡ (lane_of (bytes_of (L.view port.old)) 0 + 1) % 2 ^ 64 }
+    ensures added { lane_of (L.turn port.new).bytes.bytes 0
+        ≡ (lane_of (bytes_of (L.view port.old)) 0 + 1) % 2 ^ 64 }
     ensures others { drop 8 (L.turn port.new).bytes.bytes ≡ drop 8 (bytes_of (L.view port.old)) }
     ensures belongs { (line : L) → L.belongs line port.old → L.belongs line port.new }
 {
@@ -38,8 +39,10 @@ pub fn add<R: Wait, L: LineSync<Free>>(rt: &R, line: &L, port: &mut L::Port, rou
     requires state { IsTrue (may_ask (L.view port.old).state) }
     ensures belongs { L.belongs line.now port.new }
     ensures state { IsTrue (may_ask (L.view port.new).state) }
-    ensures asks { ((L.view port.new).count ≡ (L.view port.old).count + rounds) ⊎ IsTold (L.view port.new) }
-    ensures adds { KnowsOwnPlaces (L.view port.old) → Adds rounds (L.view port.old) (L.view port.new) }
+    ensures asks { ((L.view port.new).count ≡ (L.view port.old).count + rounds)
+        ⊎ IsTold (L.view port.new) }
+    ensures adds { KnowsOwnPlaces (L.view port.old)
+        → Adds rounds (L.view port.old) (L.view port.new) }
 {
     for _round in 0..rounds {
         match acquire(rt, line, port) {
@@ -61,9 +64,11 @@ struct Rounds {
 impl<R: Wait, L: LineSync<Free>> ScopedTask<R, L, L::Port> for Rounds {
     type Output = L::Port;
 
-    ghost pre = { λ _ line _ port. L.belongs line port × IsTrue (may_ask (L.view port).state) × ((L.view port).count ≡ 0) };
+    ghost pre = { λ _ line _ port. L.belongs line port × IsTrue (may_ask (L.view port).state)
+        × ((L.view port).count ≡ 0) };
 
-    ghost post = { λ work line _ port. L.belongs line port × IsTrue (may_ask (L.view port).state) × HasAdded work.rounds (L.view port) };
+    ghost post = { λ work line _ port. L.belongs line port × IsTrue (may_ask (L.view port).state)
+        × HasAdded work.rounds (L.view port) };
 
     fn work(&self, rt: &R, line: &L, _place: usize, port: L::Port) -> L::Port {
         let mut port = port;

@@ -19,7 +19,10 @@ pub fn after_the_other<R: Wait, L: LineSync<Free>>(rt: &R, line: &L, port: &mut 
     ensures belongs { L.belongs line.now port.new }
     ensures granted { result ≡ Got.Granted → IsGranted (L.view port.new) (L.turn port.new) }
     ensures told { result ≡ Got.Closed → IsTold (L.view port.new) }
-    ensures one_turn { result ≡ Got.Granted → (asked : L.Port) × ((L.counters asked).poll_count ≡ (L.counters port.old).poll_count) × Asks (L.view port.old) (L.view asked) × (length (L.view port.new).ends ≤ length (L.view asked).ends + 1) }
+    ensures one_turn { result ≡ Got.Granted → (asked : L.Port)
+        × ((L.counters asked).poll_count ≡ (L.counters port.old).poll_count)
+        × Asks (L.view port.old) (L.view asked)
+        × (length (L.view port.new).ends ≤ length (L.view asked).ends + 1) }
 {
     acquire(rt, line, port)
 }

@@ -41,9 +41,12 @@ pub fn ask<L: LineSync<Free>>(line: &L, port: &mut L::Port, patience: u64) -> Ac
     ensures late { result ≡ Acquired.Late → IsLate (L.view port.old) (L.view port.new) }
     ensures told { result ≡ Acquired.Closed → IsTold (L.view port.new) }
     ensures ended { result ≢ Acquired.Granted → IsTrue (may_ask (L.view port.new).state) }
-    ensures once { IsBusy (L.view port.old) (L.view port.new) ⊎ ((L.view port.new).count ≡ (L.view port.old).count + 1) }
-    ensures patient { (L.counters port.new).poll_count ≤ (L.counters port.old).poll_count + patience }
-    ensures in_time { result ≡ Acquired.Late → IsBusy (L.view port.old) (L.view port.new) ⊎ ((L.counters port.new).poll_count ≡ (L.counters port.old).poll_count + patience) }
+    ensures once { IsBusy (L.view port.old) (L.view port.new)
+        ⊎ ((L.view port.new).count ≡ (L.view port.old).count + 1) }
+    ensures patient { (L.counters port.new).poll_count
+        ≤ (L.counters port.old).poll_count + patience }
+    ensures in_time { result ≡ Acquired.Late → IsBusy (L.view port.old) (L.view port.new)
+        ⊎ ((L.counters port.new).poll_count ≡ (L.counters port.old).poll_count + patience) }
 {
     match line.enqolb(port) {
         Enq::Granted => return Acquired::Granted,
@@ -76,8 +79,10 @@ pub fn try_put<L: LineSync<Free>>(line: &L, port: &mut L::Port, value: u64) -> b
     ensures state { IsTrue (may_ask (L.view port.new).state) }
     ensures put { IsTrue result → HadTurn 0 value (L.view port.new) }
     ensures once { (L.view port.new).count ≤ (L.view port.old).count + 1 }
-    ensures patient { (L.counters port.new).poll_count ≤ (L.counters port.old).poll_count + PATIENCE }
-    ensures full { result ≡ false → HadNoTurn (L.view port.old) (L.view port.new) ⊎ WasFull (L.view port.new) }
+    ensures patient { (L.counters port.new).poll_count
+        ≤ (L.counters port.old).poll_count + PATIENCE }
+    ensures full { result ≡ false → HadNoTurn (L.view port.old) (L.view port.new)
+        ⊎ WasFull (L.view port.new) }
 {
     if ask(line, port, PATIENCE) != Acquired::Granted {
         return false;
@@ -102,8 +107,10 @@ pub fn try_take<L: LineSync<Free>>(line: &L, port: &mut L::Port) -> Option<u64>
     ensures value { IfSome result (λ value. value ≢ 0) }
     ensures taken { IfSome result (λ value. HadTurn value 0 (L.view port.new)) }
     ensures once { (L.view port.new).count ≤ (L.view port.old).count + 1 }
-    ensures patient { (L.counters port.new).poll_count ≤ (L.counters port.old).poll_count + PATIENCE }
-    ensures empty { IfNone result (HadNoTurn (L.view port.old) (L.view port.new) ⊎ HadTurn 0 0 (L.view port.new)) }
+    ensures patient { (L.counters port.new).poll_count
+        ≤ (L.counters port.old).poll_count + PATIENCE }
+    ensures empty { IfNone result (HadNoTurn (L.view port.old) (L.view port.new)
+        ⊎ HadTurn 0 0 (L.view port.new)) }
 {
     if ask(line, port, PATIENCE) != Acquired::Granted {
         return None;

@@ -30,8 +30,10 @@ pub fn add_within<R: Wait + Clock, L: ParkingLine<Free>>(
     ensures asks { result ≢ TimedAcquire.TimedOut → Asks (L.view port.old) (L.view port.new) }
     ensures told { result ≡ TimedAcquire.Closed → IsTold (L.view port.new) }
     ensures late { result ≡ TimedAcquire.TimedOut → IsLate (L.view port.old) (L.view port.new) }
-    ensures adds { result ≡ TimedAcquire.Granted → KnowsOwnPlaces (L.view port.old) → AddsJust 1 (L.view port.old) (L.view port.new) }
-    ensures adds_nothing { result ≢ TimedAcquire.Granted → KnowsOwnPlaces (L.view port.old) → AddsJust 0 (L.view port.old) (L.view port.new) }
+    ensures adds { result ≡ TimedAcquire.Granted → KnowsOwnPlaces (L.view port.old)
+        → AddsJust 1 (L.view port.old) (L.view port.new) }
+    ensures adds_nothing { result ≢ TimedAcquire.Granted → KnowsOwnPlaces (L.view port.old)
+        → AddsJust 0 (L.view port.old) (L.view port.new) }
 {
     let got = acquire_timeout(rt, line, port, at_most);
     if let TimedAcquire::Granted = got {

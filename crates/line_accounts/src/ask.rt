@@ -20,8 +20,10 @@ pub fn ask<L: LineSync<AccountLaw>>(
     ensures belongs { L.belongs line.now port.new }
     ensures holds { IfOk result (λ _. Holds (L.view port.old) (L.view port.new) (L.turn port.new)) }
     ensures refused { IfErr result (IsRefused (L.view port.old) (L.view port.new)) }
-    ensures patient { (L.counters port.new).poll_count ≤ (L.counters port.old).poll_count + patience }
-    ensures late { result ≡ Err Reply.Late → HasWaited L.counters L.view patience port.old port.new }
+    ensures patient { (L.counters port.new).poll_count
+        ≤ (L.counters port.old).poll_count + patience }
+    ensures late { result ≡ Err Reply.Late
+        → HasWaited L.counters L.view patience port.old port.new }
 {
     match acquire_bounded(line, port, patience) {
         Acquired::Granted => Ok(()),

@@ -26,12 +26,19 @@ fn ask_both<L: LineSync<AccountLaw>>(
     requires rest_second { IsAtRest (L.view second_port.old) }
     ensures belongs_first { L.belongs first.now first_port.new }
     ensures belongs_second { L.belongs second.now second_port.new }
-    ensures holds_first { IfOk result (λ _. Holds (L.view first_port.old) (L.view first_port.new) (L.turn first_port.new)) }
-    ensures holds_second { IfOk result (λ _. Holds (L.view second_port.old) (L.view second_port.new) (L.turn second_port.new)) }
-    ensures refused { IfErr result (IsRefusedEither (L.view first_port.old) (L.view first_port.new) (L.view second_port.old) (L.view second_port.new)) }
-    ensures patient_first { (L.counters first_port.new).poll_count ≤ (L.counters first_port.old).poll_count + patience }
-    ensures patient_second { (L.counters second_port.new).poll_count ≤ (L.counters second_port.old).poll_count + patience }
-    ensures late { result ≡ Err Reply.Late → HasWaited L.counters L.view patience first_port.old first_port.new ⊎ HasWaited L.counters L.view patience second_port.old second_port.new }
+    ensures holds_first { IfOk result (λ _.
+        Holds (L.view first_port.old) (L.view first_port.new) (L.turn first_port.new)) }
+    ensures holds_second { IfOk result (λ _.
+        Holds (L.view second_port.old) (L.view second_port.new) (L.turn second_port.new)) }
+    ensures refused { IfErr result (IsRefusedEither (L.view first_port.old) (L.view first_port.new)
+        (L.view second_port.old) (L.view second_port.new)) }
+    ensures patient_first { (L.counters first_port.new).poll_count
+        ≤ (L.counters first_port.old).poll_count + patience }
+    ensures patient_second { (L.counters second_port.new).poll_count
+        ≤ (L.counters second_port.old).poll_count + patience }
+    ensures late { result ≡ Err Reply.Late
+        → HasWaited L.counters L.view patience first_port.old first_port.new
+        ⊎ HasWaited L.counters L.view patience second_port.old second_port.new }
 {
     ask(first, first_port, patience)?;
     if let Err(reply) = ask(second, second_port, patience) {
@@ -61,9 +68,12 @@ fn carry<L: LineSync<AccountLaw>>(
     ensures belongs_target { L.belongs target.now target_port.new }
     ensures long_source { length (bytes_of (L.view source_port.old)) ≡ 64 }
     ensures long_target { length (bytes_of (L.view target_port.old)) ≡ 64 }
-    ensures carries { Carries (L.view source_port.old) (L.view source_port.new) (L.view target_port.old) (L.view target_port.new) from to amount result }
-    ensures polls_source { (L.counters source_port.new).poll_count ≡ (L.counters source_port.old).poll_count }
-    ensures polls_target { (L.counters target_port.new).poll_count ≡ (L.counters target_port.old).poll_count }
+    ensures carries { Carries (L.view source_port.old) (L.view source_port.new)
+        (L.view target_port.old) (L.view target_port.new) from to amount result }
+    ensures polls_source { (L.counters source_port.new).poll_count
+        ≡ (L.counters source_port.old).poll_count }
+    ensures polls_target { (L.counters target_port.new).poll_count
+        ≡ (L.counters target_port.old).poll_count }
     ensures not_late { result ≢ Reply.Late }
 {
     let paying = held_line::<L>(source_port);
@@ -103,10 +113,15 @@ pub fn move_between<L: LineSync<AccountLaw>>(
     requires to_lane { to < 8 }
     ensures belongs_low { L.belongs low.now low_port.new }
     ensures belongs_high { L.belongs high.now high_port.new }
-    ensures moves { MovesBetween up (L.view low_port.old) (L.view low_port.new) (L.view high_port.old) (L.view high_port.new) from to amount result }
-    ensures patient_low { (L.counters low_port.new).poll_count ≤ (L.counters low_port.old).poll_count + patience }
-    ensures patient_high { (L.counters high_port.new).poll_count ≤ (L.counters high_port.old).poll_count + patience }
-    ensures late { result ≡ Reply.Late → HasWaited L.counters L.view patience low_port.old low_port.new ⊎ HasWaited L.counters L.view patience high_port.old high_port.new }
+    ensures moves { MovesBetween up (L.view low_port.old) (L.view low_port.new)
+        (L.view high_port.old) (L.view high_port.new) from to amount result }
+    ensures patient_low { (L.counters low_port.new).poll_count
+        ≤ (L.counters low_port.old).poll_count + patience }
+    ensures patient_high { (L.counters high_port.new).poll_count
+        ≤ (L.counters high_port.old).poll_count + patience }
+    ensures late { result ≡ Reply.Late
+        → HasWaited L.counters L.view patience low_port.old low_port.new
+        ⊎ HasWaited L.counters L.view patience high_port.old high_port.new }
 {
     if let Err(reply) = ask_both(low, low_port, high, high_port, patience) {
         return reply;

@@ -25,14 +25,20 @@ impl<L: LineSync<AccountLaw>> Model for Desk<L> {
 
     ghost Value = { DeskOf L.Port };
 
-    ghost view = { λ desk. record { ports = desk.ports.items; paid_in = desk.paid_in; paid_out = desk.paid_out } };
+    ghost view = { λ desk. record {
+      ports = desk.ports.items;
+      paid_in = desk.paid_in;
+      paid_out = desk.paid_out;
+    } };
 }
 
 impl<L: LineSync<AccountLaw>> Desk<L> {
     /// Makes a desk of these ports, one of each line. None of them has made a request; nothing was paid at the desk.
     pub fn new(ports: Vec<L::Port>) -> Desk<L>
-        requires { All (λ port. ((L.view port).state ≡ PortState.Idle) × ((L.view port).count ≡ 0)) ports.items }
-        ensures over { (lines : List L) → AreOver L.belongs lines ports.items → IsDeskOver L.belongs L.view lines result }
+        requires { All (λ port. ((L.view port).state ≡ PortState.Idle)
+            × ((L.view port).count ≡ 0)) ports.items }
+        ensures over { (lines : List L) → AreOver L.belongs lines ports.items
+            → IsDeskOver L.belongs L.view lines result }
         ensures ports { result.ports ≡ ports.items }
         ensures paid_in { result.paid_in ≡ 0 }
         ensures paid_out { result.paid_out ≡ 0 }
@@ -68,7 +74,8 @@ impl<L: LineSync<AccountLaw>> Desk<L> {
 
     /// Removes the last port, and returns it; `None` if there is none.
     pub(crate) fn take_last(&mut self) -> Option<L::Port>
-        ensures { MatchOption result (self.new ≡ self.old) (λ port. self.old ≡ record self.new { ports = self.new.ports ++ port ∷ [] }) }
+        ensures { MatchOption result (self.new ≡ self.old) (λ port.
+            self.old ≡ record self.new { ports = self.new.ports ++ port ∷ [] }) }
     {
         self.ports.pop()
     }
@@ -86,7 +93,8 @@ pub fn deposit<L: LineSync<AccountLaw>>(
     ensures over { IsDeskOver L.belongs L.view lines.now desk.new }
     ensures deposits { Deposits L.view (length lines.now) account amount desk.old desk.new result }
     ensures patient { ArePatient L.counters patience desk.old.ports desk.new.ports }
-    ensures late { result ≡ Reply.Late → HasOneWaited L.counters L.view patience desk.old.ports desk.new.ports }
+    ensures late { result ≡ Reply.Late
+        → HasOneWaited L.counters L.view patience desk.old.ports desk.new.ports }
 {
     let Some((i, lane)) = place_of(account, lines.len()) else {
         return Reply::NoAccount;
@@ -113,7 +121,8 @@ pub fn take_out<L: LineSync<AccountLaw>>(
     ensures over { IsDeskOver L.belongs L.view lines.now desk.new }
     ensures takes_out { TakesOut L.view (length lines.now) account amount desk.old desk.new result }
     ensures patient { ArePatient L.counters patience desk.old.ports desk.new.ports }
-    ensures late { result ≡ Reply.Late → HasOneWaited L.counters L.view patience desk.old.ports desk.new.ports }
+    ensures late { result ≡ Reply.Late
+        → HasOneWaited L.counters L.view patience desk.old.ports desk.new.ports }
 {
     let Some((i, lane)) = place_of(account, lines.len()) else {
         return Reply::NoAccount;
@@ -141,9 +150,11 @@ pub fn transfer<L: LineSync<AccountLaw>>(
 ) -> Reply
     requires over { IsDeskOver L.belongs L.view lines.now desk.old }
     ensures over { IsDeskOver L.belongs L.view lines.now desk.new }
-    ensures transfers { Transfers L.view (length lines.now) from to amount desk.old desk.new result }
+    ensures transfers { Transfers L.view (length lines.now) from to amount desk.old
+        desk.new result }
     ensures patient { ArePatient L.counters patience desk.old.ports desk.new.ports }
-    ensures late { result ≡ Reply.Late → HasOneWaited L.counters L.view patience desk.old.ports desk.new.ports }
+    ensures late { result ≡ Reply.Late
+        → HasOneWaited L.counters L.view patience desk.old.ports desk.new.ports }
 {
     let Some((i, source)) = place_of(from, lines.len()) else {
         return Reply::NoAccount;

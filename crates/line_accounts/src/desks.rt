@@ -23,7 +23,8 @@ where
     requires new { All (λ line. All (IsNewPort L.belongs L.view line.0) line.1.items) opened.items }
     ensures lines { IfOk result (λ made. made.0.items ≡ map (λ line. line.0) opened.items) }
     ensures len { IfOk result (λ made. vec_len made.1 ≡ count) }
-    ensures over { IfOk result (λ made. All (IsDeskOver L.belongs L.view made.0.items) made.1.items) }
+    ensures over { IfOk result (λ made.
+        All (IsDeskOver L.belongs L.view made.0.items) made.1.items) }
     ensures unpaid { IfOk result (λ made. All IsUnpaid made.1.items) }
     ensures dealt { IfOk result (λ made. AreDealt opened.items made.1.items) }
     ensures why { IfErr result (MayHaveNoDesks count opened.items) }
@@ -62,7 +63,8 @@ where
     requires enough { AreEnough count opened.items }
     ensures lines { IfOk result (λ made. made.0.items ≡ map (λ line. line.0) opened.items) }
     ensures len { IfOk result (λ made. vec_len made.1 ≡ count) }
-    ensures over { IfOk result (λ made. All (IsDeskOver L.belongs L.view made.0.items) made.1.items) }
+    ensures over { IfOk result (λ made.
+        All (IsDeskOver L.belongs L.view made.0.items) made.1.items) }
     ensures unpaid { IfOk result (λ made. All IsUnpaid made.1.items) }
     ensures dealt { IfOk result (λ made. AreDealt opened.items made.1.items) }
 {
@@ -99,12 +101,14 @@ fn add_line<L: LineSync<AccountLaw> + Drop>(
 ) -> Result<(), AllocError>
 where
     L::Port: Drop,
-    requires columns { All (λ ports. IsColumn L.belongs L.view lines.old.items ports.items) columns.old.items }
+    requires columns { All (λ ports. IsColumn L.belongs L.view lines.old.items ports.items)
+        columns.old.items }
     requires ports { All (IsNewPort L.belongs L.view line) ports.items }
     requires enough { vec_len columns.old ≤ vec_len ports }
     ensures lines { OnOk result (lines.new.items ≡ lines.old.items ++ line ∷ []) }
     ensures len { vec_len columns.new ≡ vec_len columns.old }
-    ensures columns { OnOk result (All (λ ports. IsColumn L.belongs L.view lines.new.items ports.items) columns.new.items) }
+    ensures columns { OnOk result
+        (All (λ ports. IsColumn L.belongs L.view lines.new.items ports.items) columns.new.items) }
     ensures gains { OnOk result (GainEach ports.items columns.old.items columns.new.items) }
 {
     let mut ports = ports.into_iter();

@@ -22,7 +22,8 @@ pub struct Unsettled<L: LineSync<AccountLaw>> {
 /// Returns `true` if some desk has the node's port of line `i`.
 fn is_there<L: LineSync<AccountLaw>>(desks: &[Desk<L>], i: usize, node: u64) -> bool
     requires { All (λ desk. i < length desk.ports) desks.now }
-    ensures { MatchBool result (HasPort L.view desks.now i node) (LacksPort L.view desks.now i node) }
+    ensures { MatchBool result (HasPort L.view desks.now i node)
+        (LacksPort L.view desks.now i node) }
 {
     for desk in desks {
         if L::node(desk.port(i)) == node {
@@ -35,8 +36,10 @@ fn is_there<L: LineSync<AccountLaw>>(desks: &[Desk<L>], i: usize, node: u64) -> 
 /// Returns the least node without a port of line `i`, or `None` if each node has one.
 fn first_missing<L: LineSync<AccountLaw>>(line: &L, desks: &[Desk<L>], i: usize) -> Option<u64>
     requires { All (λ desk. i < length desk.ports) desks.now }
-    ensures { MatchOption result (EachNode (L.config_of line.now).nodes (HasPort L.view desks.now i))
-        (λ node. IsLeast (L.config_of line.now).nodes (LacksPort L.view desks.now i) (HasPort L.view desks.now i) node) }
+    ensures { MatchOption result (EachNode (L.config_of line.now).nodes
+        (HasPort L.view desks.now i)) (λ node.
+        IsLeast (L.config_of line.now).nodes (LacksPort L.view desks.now i)
+        (HasPort L.view desks.now i) node) }
 {
     for before in 0..line.nodes() {
         let node = before + 1;
@@ -50,7 +53,8 @@ fn first_missing<L: LineSync<AccountLaw>>(line: &L, desks: &[Desk<L>], i: usize)
 /// Returns the least line with a node without a port, and the least such node; `None` if there is none.
 fn find_missing<L: LineSync<AccountLaw>>(lines: &[L], desks: &[Desk<L>]) -> Option<(usize, u64)>
     requires { All (λ desk. length desk.ports ≡ length lines.now) desks.now }
-    ensures { MatchOption result (AreAllThere L.view L.config_of lines.now desks.now) (λ found. IsFirstMissing L.view L.config_of lines.now desks.now found.0 found.1) }
+    ensures { MatchOption result (AreAllThere L.view L.config_of lines.now desks.now) (λ found.
+        IsFirstMissing L.view L.config_of lines.now desks.now found.0 found.1) }
 {
     for i in 0..lines.len() {
         if let Some(node) = first_missing(&lines[i], desks, i) {
@@ -87,8 +91,11 @@ where
     L::Port: Drop,
     requires over { All (IsDeskOver L.belongs L.view lines.items) desks.items }
     requires there { AreAllThere L.view L.config_of lines.items desks.items }
-    ensures total { IfSome result (λ total. total + all_paid_out desks.items ≡ all_opened L.config_of lines.items + all_paid_in desks.items) }
-    ensures settled { IfSome result (λ _. AreSettled L.view L.label_of L.config_of lines.items desks.items) }
+    ensures total { IfSome result (λ total.
+        total + all_paid_out desks.items
+        ≡ all_opened L.config_of lines.items + all_paid_in desks.items) }
+    ensures settled { IfSome result (λ _.
+        AreSettled L.view L.label_of L.config_of lines.items desks.items) }
 {
     let mut lines = lines;
     let mut desks = desks;
@@ -111,10 +118,14 @@ pub fn settle<L: LineSync<AccountLaw> + Drop>(
 where
     L::Port: Drop,
     requires over { All (IsDeskOver L.belongs L.view lines.items) desks.items }
-    ensures total { IfOk result (λ total. total + all_paid_out desks.items ≡ all_opened L.config_of lines.items + all_paid_in desks.items) }
-    ensures settled { IfOk result (λ _. AreSettled L.view L.label_of L.config_of lines.items desks.items) }
+    ensures total { IfOk result (λ total.
+        total + all_paid_out desks.items
+        ≡ all_opened L.config_of lines.items + all_paid_in desks.items) }
+    ensures settled { IfOk result (λ _.
+        AreSettled L.view L.label_of L.config_of lines.items desks.items) }
     ensures there { IfOk result (λ _. AreAllThere L.view L.config_of lines.items desks.items) }
-    ensures why { IfErr result (λ refused. MayNotSettle L.view L.config_of lines.items desks.items refused.why) }
+    ensures why { IfErr result (λ refused.
+        MayNotSettle L.view L.config_of lines.items desks.items refused.why) }
     ensures back { IfErr result (λ refused. IsBack (lines, desks) refused.why refused.back) }
 {
     if let Some((line, node)) = find_missing(&lines, &desks) {

@@ -60,8 +60,10 @@ pub fn pay_in<L: LineSync<AccountLaw>>(
     requires at_rest { IsAtRest (L.view port.old) }
     requires lane { k < 8 }
     ensures belongs { L.belongs line.now port.new }
-    ensures pays { PaysIn (L.view port.old) (L.view port.new) k amount paid_in.old paid_in.new result }
-    ensures patient { (L.counters port.new).poll_count ≤ (L.counters port.old).poll_count + patience }
+    ensures pays { PaysIn (L.view port.old)
+        (L.view port.new) k amount paid_in.old paid_in.new result }
+    ensures patient { (L.counters port.new).poll_count
+        ≤ (L.counters port.old).poll_count + patience }
     ensures late { result ≡ Reply.Late → HasWaited L.counters L.view patience port.old port.new }
 {
     if let Err(reply) = ask(line, port, patience) {
@@ -94,8 +96,10 @@ pub fn pay_out<L: LineSync<AccountLaw>>(
     requires at_rest { IsAtRest (L.view port.old) }
     requires lane { k < 8 }
     ensures belongs { L.belongs line.now port.new }
-    ensures pays { PaysOut (L.view port.old) (L.view port.new) k amount paid_out.old paid_out.new result }
-    ensures patient { (L.counters port.new).poll_count ≤ (L.counters port.old).poll_count + patience }
+    ensures pays { PaysOut (L.view port.old)
+        (L.view port.new) k amount paid_out.old paid_out.new result }
+    ensures patient { (L.counters port.new).poll_count
+        ≤ (L.counters port.old).poll_count + patience }
     ensures late { result ≡ Reply.Late → HasWaited L.counters L.view patience port.old port.new }
 {
     if let Err(reply) = ask(line, port, patience) {
@@ -131,7 +135,8 @@ pub fn move_within<L: LineSync<AccountLaw>>(
     requires apart { from ≢ to }
     ensures belongs { L.belongs line.now port.new }
     ensures moves { MovesWithin (L.view port.old) (L.view port.new) from to amount result }
-    ensures patient { (L.counters port.new).poll_count ≤ (L.counters port.old).poll_count + patience }
+    ensures patient { (L.counters port.new).poll_count
+        ≤ (L.counters port.old).poll_count + patience }
     ensures late { result ≡ Reply.Late → HasWaited L.counters L.view patience port.old port.new }
 {
     if let Err(reply) = ask(line, port, patience) {

@@ -10,7 +10,8 @@ use qolb_model::{Keep, LineSync};
 pub fn meet_all<K: Keep, L: LineSync<K>>(line: &L, ports: &mut [L::Port])
     requires { All (L.belongs line.now) ports.old }
     ensures belongs { All (L.belongs line.now) ports.new }
-    ensures met { HaveMet K.allows (map (view_and_turn L.view L.turn) ports.old) (length ports.old) (map (view_and_turn L.view L.turn) ports.new) }
+    ensures met { HaveMet K.allows (map (view_and_turn L.view L.turn) ports.old) (length ports.old)
+        (map (view_and_turn L.view L.turn) ports.new) }
     ensures len { length ports.new ≡ length ports.old }
 {
     for place in 0..ports.len() {
@@ -24,7 +25,9 @@ fn meet_each<K: Keep, L: LineSync<K>>(line: &L, port: &mut L::Port, others: &mut
     requires others { All (L.belongs line.now) others.old }
     ensures belongs { L.belongs line.now port.new }
     ensures others { All (L.belongs line.now) others.new }
-    ensures meets { MeetsEach K.allows (view_and_turn L.view L.turn port.old) (map (view_and_turn L.view L.turn) others.old) (view_and_turn L.view L.turn port.new) (map (view_and_turn L.view L.turn) others.new) }
+    ensures meets { MeetsEach K.allows (view_and_turn L.view L.turn port.old)
+        (map (view_and_turn L.view L.turn) others.old) (view_and_turn L.view L.turn port.new)
+        (map (view_and_turn L.view L.turn) others.new) }
 {
     for other in others.iter_mut() {
         line.meet(port, other);
@@ -36,7 +39,8 @@ pub fn meet_others<K: Keep, L: LineSync<K>>(line: &L, ports: &mut [L::Port], pla
     requires place { place < length ports.old }
     requires belongs { All (L.belongs line.now) ports.old }
     ensures belongs { All (L.belongs line.now) ports.new }
-    ensures meets { MeetsOthers K.allows place (map (view_and_turn L.view L.turn) ports.old) (map (view_and_turn L.view L.turn) ports.new) }
+    ensures meets { MeetsOthers K.allows place (map (view_and_turn L.view L.turn) ports.old)
+        (map (view_and_turn L.view L.turn) ports.new) }
 {
     let (before, rest) = ports.split_at_mut(place);
     if let Some((port, behind)) = rest.split_first_mut() {

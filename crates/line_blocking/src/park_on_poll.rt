@@ -121,9 +121,14 @@ impl<'r, R: Wait, K: Keep, L: ParkingLine<K>> LineSync<K> for ParkOnPoll<'r, R, 
         alloc: Global,
         ports: Vec<L::Port>,
     ) -> Result<Line64, Unfinished<ParkOnPoll<'r, R, L>, L::Port>>
-        requires belongs { All (λ port. (L.view port).label ≡ L.label_of self.line → L.belongs self.line port) ports.items }
-        ensures finished { IfOk result (λ line. IsFinished K.good K.allows (L.label_of self.entry.line) (L.config_of self.entry.line) (map L.view ports.items) line.bytes) }
-        ensures why { IfErr result (λ back. MayRefuse (L.label_of self.entry.line) (L.config_of self.entry.line).nodes (map L.view ports.items) back.why) }
+        requires belongs { All (λ port. (L.view port).label ≡ L.label_of self.line
+            → L.belongs self.line port) ports.items }
+        ensures finished { IfOk result (λ line.
+            IsFinished K.good K.allows (L.label_of self.entry.line) (L.config_of self.entry.line)
+            (map L.view ports.items) line.bytes) }
+        ensures why { IfErr result (λ back.
+            MayRefuse (L.label_of self.entry.line) (L.config_of self.entry.line).nodes
+            (map L.view ports.items) back.why) }
         ensures line { IfErr result (λ back. back.line ≡ self.entry) }
         ensures ports { IfErr result (λ back. back.ports.items ≡ ports.items) }
     {

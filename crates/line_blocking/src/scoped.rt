@@ -48,7 +48,8 @@ impl<R, S, P, W> Drop for Done<R, S, P, W> {
 }
 
 impl<R: Wait, S, P, W: ScopedTask<R, S, P>> Promise<W::Output> for Done<R, S, P, W> {
-    ghost kept_by = { λ promise back. W.post promise.work.value promise.shared.value promise.place back };
+    ghost kept_by = { λ promise back.
+        W.post promise.work.value promise.shared.value promise.place back };
 }
 
 /// Runs a thread for each part, joins them all, and returns their outputs. The outputs are in the order of the parts. Allocates a list of
@@ -78,7 +79,8 @@ where
             requires back { IsSend W.Output.row }
             requires fit { AllAt (W.pre work.now shared.now) parts.items }
             ensures len { IfSome result (λ back. vec_len back ≡ vec_len parts) }
-            ensures post { IfSome result (λ all. AllAt (W.post work.entry.now shared.entry.now) all.items) }
+            ensures post { IfSome result (λ all.
+                AllAt (W.post work.entry.now shared.entry.now) all.items) }
         {
             let mut handles: Vec<PromisedHandle<W::Output, Done<R, S, P, W>>> = Vec::with_capacity(
                 alloc,

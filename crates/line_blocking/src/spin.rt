@@ -59,7 +59,8 @@ pub fn acquire<R: Wait, K: Keep, L: LineSync<K>>(rt: &R, line: &L, port: &mut L:
     requires belongs { L.belongs line.now port.old }
     requires state { IsTrue (may_ask (L.view port.old).state) }
     ensures belongs { L.belongs line.now port.new }
-    ensures acquires { Acquires K.allows (L.view port.old) (L.view port.new) (L.turn port.new) result }
+    ensures acquires { Acquires K.allows (L.view port.old) (L.view port.new)
+        (L.turn port.new) result }
     ensures soon { result ≡ Got.Granted → ComesSoon L.view L.counters port.old port.new }
 {
     let mut pauses = Pauses::new();

@@ -106,7 +106,8 @@ impl Deadline {
 
     /// Returns what is left of the span, or `None` if it is over. Reads the clock once.
     pub fn left<R: Clock>(&self, rt: &R) -> Option<Duration>
-        ensures { (now : Option Instant) × IsLeft result (nanos_left self.now.since self.now.at_most now) }
+        ensures { (now : Option Instant) × IsLeft result
+            (nanos_left self.now.since self.now.at_most now) }
     {
         self.left_at(Instant::now(rt).ok())
     }
@@ -140,7 +141,8 @@ pub fn acquire_parking<R: Wait, K: Keep, L: ParkingLine<K>>(
     requires belongs { L.belongs line.now port.old }
     requires state { IsTrue (may_ask (L.view port.old).state) }
     ensures belongs { L.belongs line.now port.new }
-    ensures acquires { Acquires K.allows (L.view port.old) (L.view port.new) (L.turn port.new) result }
+    ensures acquires { Acquires K.allows (L.view port.old) (L.view port.new)
+        (L.turn port.new) result }
     ensures soon { result ≡ Got.Granted → ComesSoon L.view L.counters port.old port.new }
 {
     let mut patience = Backoff::new();
@@ -202,9 +204,11 @@ pub fn acquire_timeout<R: Wait + Clock, K: Keep, L: ParkingLine<K>>(
     requires belongs { L.belongs line.now port.old }
     requires state { IsTrue (may_ask (L.view port.old).state) }
     ensures belongs { L.belongs line.now port.new }
-    ensures acquires { AcquiresTimed K.allows (L.view port.old) (L.view port.new) (L.turn port.new) result }
+    ensures acquires { AcquiresTimed K.allows (L.view port.old) (L.view port.new)
+        (L.turn port.new) result }
     ensures soon { result ≡ TimedAcquire.Granted → ComesSoon L.view L.counters port.old port.new }
-    ensures looked { result ≡ TimedAcquire.TimedOut → IsBusy (L.view port.old) (L.view port.new) ⊎ ((L.counters port.old).poll_count + 1 ≤ (L.counters port.new).poll_count) }
+    ensures looked { result ≡ TimedAcquire.TimedOut → IsBusy (L.view port.old) (L.view port.new)
+        ⊎ ((L.counters port.old).poll_count + 1 ≤ (L.counters port.new).poll_count) }
 {
     let span = Deadline::begin(rt, at_most);
     let mut patience = Backoff::new();
@@ -241,7 +245,8 @@ pub fn wait_timeout<R: Wait + Clock, K: Keep, L: ParkingLine<K>>(
     ensures belongs { L.belongs line.now port.new }
     ensures continues { Continues K.allows (L.view port.old) (L.view port.new) }
     ensures count { (L.view port.new).count ≡ (L.view port.old).count }
-    ensures granted { result ≡ TimedAcquire.Granted → IsGranted (L.view port.new) (L.turn port.new) }
+    ensures granted { result ≡ TimedAcquire.Granted
+        → IsGranted (L.view port.new) (L.turn port.new) }
     ensures told { result ≡ TimedAcquire.Closed → IsTold (L.view port.new) }
     ensures late { result ≡ TimedAcquire.TimedOut → IsWithdrawn (L.view port.new) }
     ensures looked { (L.counters port.old).poll_count + 1 ≤ (L.counters port.new).poll_count }
@@ -272,7 +277,8 @@ fn give_up<K: Keep, L: LineSync<K>>(line: &L, port: &mut L::Port) -> TimedAcquir
     ensures belongs { L.belongs line.now port.new }
     ensures continues { Continues K.allows (L.view port.old) (L.view port.new) }
     ensures count { (L.view port.new).count ≡ (L.view port.old).count }
-    ensures granted { result ≡ TimedAcquire.Granted → IsGranted (L.view port.new) (L.turn port.new) }
+    ensures granted { result ≡ TimedAcquire.Granted
+        → IsGranted (L.view port.new) (L.turn port.new) }
     ensures told { result ≡ TimedAcquire.Closed → IsTold (L.view port.new) }
     ensures late { result ≡ TimedAcquire.TimedOut → IsWithdrawn (L.view port.new) }
     ensures poll_count { (L.counters port.new).poll_count ≡ (L.counters port.old).poll_count }

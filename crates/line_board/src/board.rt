@@ -14,7 +14,8 @@ pub type Tasks = ArrayVec<u64, MAX_TASKS>;
 
 /// Returns the tasks of the line, or `None` if the line is no board.
 pub fn decode(line: &Line64) -> Option<Tasks>
-    ensures { MatchOption result (tasks_of line.now.bytes ≡ None) (λ tasks. Stand line.now.bytes tasks.items) }
+    ensures { MatchOption result (tasks_of line.now.bytes ≡ None) (λ tasks.
+        Stand line.now.bytes tasks.items) }
 {
     let count = usize::from(line.bytes[0]);
     if count > MAX_TASKS || !are_zeros(&line.bytes[1..8]) {
@@ -35,7 +36,8 @@ pub fn decode(line: &Line64) -> Option<Tasks>
 /// Returns the board of these tasks.
 pub fn encode(tasks: &Tasks) -> Line64
     ensures tasks { Stand result.bytes tasks.now.items }
-    ensures only { (line : List ℕ) → length line ≡ 64 → All (λ byte. byte < 256) line → Stand line tasks.now.items → line ≡ result.bytes }
+    ensures only { (line : List ℕ) → length line ≡ 64 → All (λ byte. byte < 256) line
+        → Stand line tasks.now.items → line ≡ result.bytes }
 {
     // A count below 256 in lane 0 is byte 0, with zeros in bytes 1 to 7.
     let mut line = with_lane(&Line64::zero(), 0, tasks.len() as u64);

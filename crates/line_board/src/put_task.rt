@@ -22,8 +22,10 @@ pub fn put<L: LineSync<BoardLaw>>(line: &L, port: &mut L::Port, task: u64, patie
     requires state { IsTrue (may_ask (L.view port.old).state) }
     ensures belongs { L.belongs line.now port.new }
     ensures puts { Puts task (L.view port.old) (L.view port.new) result }
-    ensures patient { (L.counters port.new).poll_count ≤ (L.counters port.old).poll_count + patience }
-    ensures late { result ≡ Put.Late → (L.counters port.new).poll_count ≡ (L.counters port.old).poll_count + patience }
+    ensures patient { (L.counters port.new).poll_count
+        ≤ (L.counters port.old).poll_count + patience }
+    ensures late { result ≡ Put.Late → (L.counters port.new).poll_count
+        ≡ (L.counters port.old).poll_count + patience }
 {
     match acquire_bounded(line, port, patience) {
         Acquired::Granted => {
@@ -65,7 +67,9 @@ fn store<L: LineSync<BoardLaw>>(line: &L, port: &mut L::Port, task: u64) -> bool
 
 /// Returns the board with one more task, or `None` if there is no room.
 fn with_last(board: &Line64, task: u64) -> Option<Line64>
-    ensures { (tasks : List ℕ) → Stand board.now.bytes tasks → MatchOption result (length tasks ≡ MAX_TASKS) (λ new. Stand new.bytes (tasks ++ task ∷ [])) }
+    ensures { (tasks : List ℕ) → Stand board.now.bytes tasks
+        → MatchOption result (length tasks ≡ MAX_TASKS) (λ new.
+        Stand new.bytes (tasks ++ task ∷ [])) }
 {
     let mut tasks = decode(board)?;
     tasks.try_push(task).ok()?;

@@ -22,8 +22,10 @@ pub fn take<L: LineSync<BoardLaw>>(line: &L, port: &mut L::Port, patience: u64) 
     requires state { IsTrue (may_ask (L.view port.old).state) }
     ensures belongs { L.belongs line.now port.new }
     ensures takes { Takes (L.view port.old) (L.view port.new) result }
-    ensures patient { (L.counters port.new).poll_count ≤ (L.counters port.old).poll_count + patience }
-    ensures late { result ≡ Take.Late → (L.counters port.new).poll_count ≡ (L.counters port.old).poll_count + patience }
+    ensures patient { (L.counters port.new).poll_count
+        ≤ (L.counters port.old).poll_count + patience }
+    ensures late { result ≡ Take.Late → (L.counters port.new).poll_count
+        ≡ (L.counters port.old).poll_count + patience }
 {
     match acquire_bounded(line, port, patience) {
         Acquired::Granted => match remove(line, port) {
@@ -45,7 +47,8 @@ fn remove<L: LineSync<BoardLaw>>(line: &L, port: &mut L::Port) -> Option<u64>
     ensures count { (L.view port.new).count ≡ (L.view port.old).count }
     ensures poll_count { (L.counters port.new).poll_count ≡ (L.counters port.old).poll_count }
     ensures state { IsTrue (may_ask (L.view port.new).state) }
-    ensures taken { MatchOption result (HasFound 0 (L.view port.new)) (λ task. HasTaken task (L.view port.new)) }
+    ensures taken { MatchOption result (HasFound 0 (L.view port.new)) (λ task.
+        HasTaken task (L.view port.new)) }
 {
     match without_first(L::bytes(port)) {
         Some((task, new)) => {
@@ -61,7 +64,9 @@ fn remove<L: LineSync<BoardLaw>>(line: &L, port: &mut L::Port) -> Option<u64>
 
 /// Returns the oldest task and the board without it, or `None` if there is no task.
 fn without_first(board: &Line64) -> Option<(u64, Line64)>
-    ensures { (tasks : List ℕ) → Stand board.now.bytes tasks → MatchOption result (tasks ≡ []) (λ r. (left : List ℕ) × (tasks ≡ r.0 ∷ left) × Stand r.1.bytes left) }
+    ensures { (tasks : List ℕ) → Stand board.now.bytes tasks
+        → MatchOption result (tasks ≡ []) (λ r.
+        (left : List ℕ) × (tasks ≡ r.0 ∷ left) × Stand r.1.bytes left) }
 {
     let mut tasks = decode(board)?;
     let first = tasks.pop_at(0)?;

@@ -25,7 +25,9 @@ pub(crate) fn replace<L: LineSync<BoardLaw>>(line: &L, port: &mut L::Port, new: 
     ensures count { (L.view port.new).count ≡ (L.view port.old).count }
     ensures poll_count { (L.counters port.new).poll_count ≡ (L.counters port.old).poll_count }
     ensures state { IsTrue (may_ask (L.view port.new).state) }
-    ensures turn { (found left : List ℕ) → Stand (bytes_of (L.view port.old)) found → Stand new.bytes left → HadTurn found left (put_between found left) (taken_between found left) (L.view port.new) }
+    ensures turn { (found left : List ℕ) → Stand (bytes_of (L.view port.old)) found
+        → Stand new.bytes left → HadTurn found left (put_between found left)
+        (taken_between found left) (L.view port.new) }
 {
     // The end of a turn keeps its mask: if that has only the bytes that differ, it says what this turn changed.
     let mask = changed(L::bytes(port), &new);
@@ -42,7 +44,8 @@ pub(crate) fn keep<L: LineSync<BoardLaw>>(line: &L, port: &mut L::Port)
     ensures count { (L.view port.new).count ≡ (L.view port.old).count }
     ensures poll_count { (L.counters port.new).poll_count ≡ (L.counters port.old).poll_count }
     ensures state { IsTrue (may_ask (L.view port.new).state) }
-    ensures found { (tasks : List ℕ) → Stand (bytes_of (L.view port.old)) tasks → HasFound (length tasks) (L.view port.new) }
+    ensures found { (tasks : List ℕ) → Stand (bytes_of (L.view port.old)) tasks
+        → HasFound (length tasks) (L.view port.new) }
 {
     release(line, port);
 }
@@ -54,7 +57,8 @@ fn release<L: LineSync<BoardLaw>>(line: &L, port: &mut L::Port)
     requires allowed { MayRelease Changes (L.view port.old) (L.turn port.old) }
     ensures belongs { L.belongs line.now port.new }
     ensures poll_count { (L.counters port.new).poll_count ≡ (L.counters port.old).poll_count }
-    ensures releases { Releases Changes false (L.view port.old) (L.view port.new) (L.turn port.old) }
+    ensures releases { Releases Changes false (L.view port.old) (L.view port.new)
+        (L.turn port.old) }
 {
     line.deqolb(port);
 }

@@ -31,18 +31,26 @@ impl<K: Keep, Q: Discipline<K>, W: WakePolicy> Line<K, Q, W> {
         granted: A,
         closed: A,
     ) -> A
-        requires seat { IsSeated K.good K.allows self.now.table.shared.key self.now.table.shared.table_id Q.phases.initial node seat.old }
+        requires seat { IsSeated K.good K.allows self.now.table.shared.key
+            self.now.table.shared.table_id Q.phases.initial node seat.old }
         requires at_turn { HasGrant Q.phases self.now.table.shared.key.config.nodes token seat.old }
         requires no_overflow { steps.old ≤ 4 }
-        ensures seat { IsSeated K.good K.allows self.now.table.shared.key self.now.table.shared.table_id Q.phases.initial node seat.new }
-        ensures port { (label : ℕ) → (ghost_of Q.phases.initial seat.old).view.label ≡ label → IsPort Q.phases label node seat.new payload.new token state.new }
+        ensures seat { IsSeated K.good K.allows self.now.table.shared.key
+            self.now.table.shared.table_id Q.phases.initial node seat.new }
+        ensures port { (label : ℕ) → (ghost_of Q.phases.initial seat.old).view.label ≡ label
+            → IsPort Q.phases label node seat.new payload.new token state.new }
         ensures more { steps.old ≤ steps.new }
-        ensures advances { SeatAdvances K.allows Q.phases.initial seat.old seat.new (steps.new - steps.old) }
-        ensures count { (ghost_of Q.phases.initial seat.new).view.count ≡ (ghost_of Q.phases.initial seat.old).view.count }
-        ensures at_turn { IsGrantedOrTold granted closed result (ghost_of Q.phases.initial seat.new).view (write_in payload.new) }
+        ensures advances { SeatAdvances K.allows Q.phases.initial seat.old seat.new
+            (steps.new - steps.old) }
+        ensures count { (ghost_of Q.phases.initial seat.new).view.count
+            ≡ (ghost_of Q.phases.initial seat.old).view.count }
+        ensures at_turn { IsGrantedOrTold granted closed result
+            (ghost_of Q.phases.initial seat.new).view (write_in payload.new) }
         ensures steps { result ≢ closed → steps.new ≡ steps.old }
-        ensures bound { steps.new + 1 ≤ steps.old + Q.max_steps self.now.table.shared.key.config.nodes }
-        ensures went_to { granted ≢ closed → result ≡ closed → Names (Q.turn_word (ghost_of Q.phases.initial seat.new).view) (W.went_to note.new) }
+        ensures bound { steps.new + 1 ≤ steps.old
+            + Q.max_steps self.now.table.shared.key.config.nodes }
+        ensures went_to { granted ≢ closed → result ≡ closed
+            → Names (Q.turn_word (ghost_of Q.phases.initial seat.new).view) (W.went_to note.new) }
     {
         let table = &self.table.shared;
         let size = self.width.size;
@@ -74,7 +82,8 @@ fn forward_closed<K: Keep, Q: Discipline<K>>(
     token: u64,
 ) -> Released
     requires { IsForwarder Q.phases Q.word_count Q.size_for table.now size node token seat.old }
-    ensures { HasForwarded Q.DisciplineSpec Q.word_count table.now K.allows seat.old seat.new result }
+    ensures { HasForwarded Q.DisciplineSpec Q.word_count table.now K.allows seat.old
+        seat.new result }
 {
     Q::release(table, seat, size, node, token, true)
 }

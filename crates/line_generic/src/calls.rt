@@ -25,7 +25,8 @@ impl<K: Keep, Q: Discipline<K>, W: WakePolicy> LineSync<K> for Line<K, Q, W> {
 
     ghost allowed_states = { Q.allowed_states };
 
-    ghost call_steps = { λ line. call_steps Q.enqueue_steps Q.release_steps (Q.max_steps line.table.shared.key.config.nodes) };
+    ghost call_steps = { λ line. call_steps Q.enqueue_steps Q.release_steps
+        (Q.max_steps line.table.shared.key.config.nodes) };
 
     ghost max_steps = { λ line. Q.max_steps line.table.shared.key.config.nodes + 3 };
 
@@ -77,7 +78,8 @@ impl<K: Keep, Q: Discipline<K>, W: WakePolicy> LineSync<K> for Line<K, Q, W> {
 
     fn enqolb(&self, port: &mut Port<Q, W>) -> Enq
         requires { IsRestingPort K.Keep self.now.table.shared port.old }
-        ensures { HasEnqueued K.Keep Q.DisciplineSpec self.now.table.shared port.old port.new result }
+        ensures { HasEnqueued K.Keep Q.DisciplineSpec self.now.table.shared port.old
+            port.new result }
     {
         let table = &self.table.shared;
         let made = Q::ask(
@@ -144,7 +146,8 @@ impl<K: Keep, Q: Discipline<K>, W: WakePolicy> LineSync<K> for Line<K, Q, W> {
 
     fn withdraw(&self, port: &mut Port<Q, W>) -> Out
         requires { IsWaitingPort K.Keep self.now.table.shared port.old }
-        ensures { HasWithdrawn K.Keep Q.DisciplineSpec self.now.table.shared port.old port.new result }
+        ensures { HasWithdrawn K.Keep Q.DisciplineSpec self.now.table.shared port.old
+            port.new result }
     {
         let table = &self.table.shared;
         port.steps = 1;
@@ -182,14 +185,16 @@ impl<K: Keep, Q: Discipline<K>, W: WakePolicy> LineSync<K> for Line<K, Q, W> {
     #[inline(always)]
     fn deqolb(&self, port: &mut Port<Q, W>)
         requires { IsHoldingPort K.Keep self.now.table.shared port.old }
-        ensures { HasEndedTurn K.Keep Q.DisciplineSpec self.now.table.shared false port.old port.new }
+        ensures { HasEndedTurn K.Keep Q.DisciplineSpec self.now.table.shared false
+            port.old port.new }
     {
         self.release_with(port, false);
     }
 
     fn shut(&self, port: &mut Port<Q, W>)
         requires { IsHoldingPort K.Keep self.now.table.shared port.old }
-        ensures { HasEndedTurn K.Keep Q.DisciplineSpec self.now.table.shared true port.old port.new }
+        ensures { HasEndedTurn K.Keep Q.DisciplineSpec self.now.table.shared true
+            port.old port.new }
     {
         self.release_with(port, true);
     }
@@ -215,7 +220,8 @@ impl<K: Keep, Q: Discipline<K>, W: WakePolicy> LineSync<K> for Line<K, Q, W> {
         ports: Vec<Port<Q, W>>,
     ) -> Result<Line64, Unfinished<Line<K, Q, W>, Port<Q, W>>>
         requires belongs { AreOwnPorts K.Keep self.table.shared ports.items }
-        ensures finished { IfOk result (λ line. HasFinished K.Keep self.table.shared ports.items line.bytes) }
+        ensures finished { IfOk result (λ line.
+            HasFinished K.Keep self.table.shared ports.items line.bytes) }
         ensures why { IfErr result (λ back. MayNotFinish self.table.shared ports.items back.why) }
         ensures line { IfErr result (λ back. back.line ≡ self) }
         ensures ports { IfErr result (λ back. back.ports.items ≡ ports.items) }
@@ -233,7 +239,8 @@ impl<K: Keep, Q: Discipline<K>, W: WakePolicy> Line<K, Q, W> {
     #[inline(always)]
     fn release_with(&self, port: &mut Port<Q, W>, shut: bool)
         requires { IsHoldingPort K.Keep self.now.table.shared port.old }
-        ensures { HasEndedTurn K.Keep Q.DisciplineSpec self.now.table.shared shut port.old port.new }
+        ensures { HasEndedTurn K.Keep Q.DisciplineSpec self.now.table.shared shut
+            port.old port.new }
     {
         let table = &self.table.shared;
         let size = self.width.size;

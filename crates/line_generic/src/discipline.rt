@@ -135,7 +135,8 @@ pub trait Discipline<K: Keep>: DisciplineInvariant<K> {
     fn first_words(alloc: Global, nodes: u64) -> Result<Vec<u64>, AllocError>
         requires { AreNodes nodes }
         ensures first { IfOk result (λ words. are_first nodes words.items) }
-        ensures wide { IfOk result (λ words. (length words.items ≡ word_count nodes) × (0 < word_count nodes)) };
+        ensures wide { IfOk result (λ words. (length words.items ≡ word_count nodes)
+            × (0 < word_count nodes)) };
 
     /// The number of slots of a line of this number of nodes.
     ghost slot_count: { ℕ → ℕ };
@@ -167,7 +168,8 @@ pub trait Discipline<K: Keep>: DisciplineInvariant<K> {
         payload: &mut LocalCopy,
     )
         requires { MayTake Self.phases size_for table.now size token seat.old }
-        ensures { Takes Self.phases table.now.key.config.nodes token seat.old seat.new payload.new };
+        ensures { Takes Self.phases table.now.key.config.nodes token seat.old seat.new
+            payload.new };
 
     /// Stores `payload` in the successor's slot when a turn is over, as closed if `closed` is set. No word step.
     fn put(
@@ -179,14 +181,16 @@ pub trait Discipline<K: Keep>: DisciplineInvariant<K> {
         closed: bool,
     )
         requires { MayPut Self.phases size_for table.now size token seat.old payload.now }
-        ensures { Puts Self.phases table.now.key.config.nodes token seat.old seat.new payload.now closed };
+        ensures { Puts Self.phases table.now.key.config.nodes token seat.old seat.new
+            payload.now closed };
 
     /// Takes the line out of a table that no thread shares any more, and frees the table.
     fn take_final(closed: Closed<Payload, Global>, nodes: u64) -> Payload
         requires nodes { AreNodes nodes }
         requires words { (slots_len closed.words ≡ word_count nodes) × IsFull closed.words }
         requires slots { (slots_len closed.slots ≡ slot_count nodes) × IsFull closed.slots }
-        ensures { get_elem? (slots_items closed.slots) (Self.last nodes (slots_items closed.words)) ≡ some result };
+        ensures { get_elem? (slots_items closed.slots) (Self.last nodes (slots_items closed.words))
+            ≡ some result };
 
     /// Makes a request, unless the node's last one is not clear. Does not block.
     fn ask(
@@ -197,7 +201,8 @@ pub trait Discipline<K: Keep>: DisciplineInvariant<K> {
         state: PortState,
     ) -> EnqueueResult
         requires { IsRequester Self.phases word_count size_for table.now size node state seat.old }
-        ensures { HasRequested Self.DisciplineSpec table.now K.allows state seat.old seat.new result };
+        ensures { HasRequested Self.DisciplineSpec table.now K.allows state seat.old
+            seat.new result };
 
     /// Polls whether the last request of a node that may ask is clear; makes no request.
     fn look_at_rest(
@@ -240,8 +245,10 @@ pub trait Discipline<K: Keep>: DisciplineInvariant<K> {
         token: u64,
         closed: bool,
     ) -> Released
-        requires { IsReleaser Self.phases word_count size_for table.now K.allows size node token closed seat.old }
-        ensures { HasReleased Self.DisciplineSpec word_count table.now K.allows token seat.old seat.new result };
+        requires { IsReleaser Self.phases word_count size_for table.now K.allows size node token
+            closed seat.old }
+        ensures { HasReleased Self.DisciplineSpec word_count table.now K.allows token seat.old
+            seat.new result };
 
     /// Returns the word on which a waiting node polls.
     fn wait_word(table: &SharedTable<K, Self>, size: u64, node: u64, token: u64) -> usize
@@ -256,7 +263,8 @@ pub trait Discipline<K: Keep>: DisciplineInvariant<K> {
     /// park while the half is unchanged.
     fn signals_turn(token: u64, low: u32) -> bool
         ensures result { result ≡ Self.signals_turn token low }
-        ensures polls { HasPollOutcome Self.holds Self.phases Self.wait_word Self.signals_turn token };
+        ensures polls { HasPollOutcome Self.holds Self.phases Self.wait_word
+            Self.signals_turn token };
 
     /// Seats are split and joined: behind the first entry, into a seat and an empty one, and into one with the entries of both.
     ghost cuts: { HasFirstSplit Self.holds };
@@ -269,7 +277,8 @@ pub trait Discipline<K: Keep>: DisciplineInvariant<K> {
     ghost slots: { HasSlots Self.holds slot_count };
 
     /// A new line satisfies the invariant.
-    ghost starts: { HasOpening Self.holds K.good word_count are_first slot_count Self.phases.initial };
+    ghost starts: { HasOpening Self.holds K.good word_count are_first slot_count
+        Self.phases.initial };
 
     /// Two entries of one seat merge their views.
     ghost meets: { HasMeeting Self.holds K.allows Self.phases.initial };
@@ -296,7 +305,8 @@ pub trait SplitEnqueue<K: Keep>: Discipline<K> {
         state: PortState,
     ) -> EnqueueResult
         requires { IsNodeAtRest Self.phases Self.word_count table.now node state seat.old }
-        ensures { HasPrepended Self.phases table.now K.allows prepend_steps state seat.old seat.new result };
+        ensures { HasPrepended Self.phases table.now K.allows prepend_steps state seat.old
+            seat.new result };
 
     /// Links the request to its predecessor's in one word step.
     ///

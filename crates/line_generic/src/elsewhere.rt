@@ -66,8 +66,10 @@ impl<K: Keep, Q: Discipline<K>, W: WakePolicy> Line<K, Q, W> {
     /// If the port holds, this is the word on which it was granted.
     pub fn wait_word(&self, port: &Port<Q, W>) -> usize
         requires { IsPortOf K.Keep self.now.table.shared port.now }
-        ensures word { result ≡ Q.wait_word port.now.view.config.nodes port.now.view.node port.now.token }
-        ensures turn { port.now.view.state ≡ port_state.Holding → (u : View) → SeesTurn u port.now.view → result ≡ Q.turn_word u }
+        ensures word { result ≡ Q.wait_word port.now.view.config.nodes port.now.view.node
+            port.now.token }
+        ensures turn { port.now.view.state ≡ port_state.Holding → (u : View)
+            → SeesTurn u port.now.view → result ≡ Q.turn_word u }
     {
         Q::wait_word(&self.table.shared, self.width.size, port.node, port.token)
     }

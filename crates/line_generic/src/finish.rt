@@ -24,7 +24,8 @@ impl<K: Keep, Q: Discipline<K>, W: WakePolicy> Line<K, Q, W> {
         ports: Vec<Port<Q, W>>,
     ) -> Result<Line64, Unfinished<Line<K, Q, W>, Port<Q, W>>>
         requires belongs { AreOwnPorts K.Keep self.table.shared ports.items }
-        ensures finished { IfOk result (λ line. HasFinished K.Keep self.table.shared ports.items line.bytes) }
+        ensures finished { IfOk result (λ line.
+            HasFinished K.Keep self.table.shared ports.items line.bytes) }
         ensures why { IfErr result (λ back. MayNotFinish self.table.shared ports.items back.why) }
         ensures line { IfErr result (λ back. back.line ≡ self) }
         ensures ports { IfErr result (λ back. back.ports.items ≡ ports.items) }
@@ -77,7 +78,8 @@ fn close<K: Keep, Q: Discipline<K>, W: WakePolicy>(
 ) -> Line64
     requires table { seat.table_id ≡ line.table.shared.table_id }
     requires at_rest { AllInState Q.phases.in_state line.table.shared.key.config.nodes seat.me.0 }
-    ensures { IsFinalLine K.good K.allows line.table.shared.key.config (views_of seat.me.0) result.bytes }
+    ensures { IsFinalLine K.good K.allows line.table.shared.key.config
+        (views_of seat.me.0) result.bytes }
 {
     let Line {
         table,

@@ -62,7 +62,8 @@ impl<K: Keep, Q: Discipline<K>, W: WakePolicy> Line<K, Q, W> {
         requires state { port.old.view.state ≡ PortState.Holding }
         requires lane { k < 8 }
         ensures view { port.new.view ≡ port.old.view }
-        ensures turn { port.new.turn ≡ turn_after port.old.turn (placed_mask (8 * k) 8) (with_lane_of port.old.turn.bytes.bytes k value) }
+        ensures turn { port.new.turn ≡ turn_after port.old.turn (placed_mask (8 * k) 8)
+            (with_lane_of port.old.turn.bytes.bytes k value) }
         ensures counters { port.new.counters ≡ port.old.counters }
         ensures table { port.new.table ≡ port.old.table }
     {

@@ -30,7 +30,8 @@ impl<K: Keep, Q: Discipline<K>, W: WakePolicy> Line<K, Q, W> {
         opening: Line64,
     ) -> Result<(Line<K, Q, W>, Vec<Port<Q, W>>), OpenError>
         requires { K.good opening.bytes }
-        ensures opened { IfOk result (λ r. HasOpened K.Keep r.0.table.shared label (config_with nodes opening None) r.1.items) }
+        ensures opened { IfOk result (λ r.
+            HasOpened K.Keep r.0.table.shared label (config_with nodes opening None) r.1.items) }
         ensures why { IfErr result (MayNotOpen (config_with nodes opening None)) }
     {
         let config = LineConfig {
@@ -50,7 +51,9 @@ impl<K: Keep, Q: Discipline<K>, W: WakePolicy> Line<K, Q, W> {
         lease: u64,
     ) -> Result<(Line<K, Q, W>, Vec<Port<Q, W>>), OpenError>
         requires { K.good opening.bytes }
-        ensures opened { IfOk result (λ r. HasOpened K.Keep r.0.table.shared label (config_with nodes opening (Some lease)) r.1.items) }
+        ensures opened { IfOk result (λ r.
+            HasOpened K.Keep r.0.table.shared label
+            (config_with nodes opening (Some lease)) r.1.items) }
         ensures why { IfErr result (MayNotOpen (config_with nodes opening (Some lease))) }
     {
         let config = LineConfig {
@@ -68,7 +71,8 @@ impl<K: Keep, Q: Discipline<K>, W: WakePolicy> Line<K, Q, W> {
         config: LineConfig,
     ) -> Result<(Line<K, Q, W>, Vec<Port<Q, W>>), OpenError>
         requires { K.good config.opening.bytes }
-        ensures opened { IfOk result (λ r. HasOpened K.Keep r.0.table.shared label config r.1.items) }
+        ensures opened { IfOk result (λ r.
+            HasOpened K.Keep r.0.table.shared label config r.1.items) }
         ensures why { IfErr result (MayNotOpen config) }
     {
         config.check()?;
@@ -90,7 +94,9 @@ impl<K: Keep, Q: Discipline<K>, W: WakePolicy> Line<K, Q, W> {
         requires config { MayOpen key.now.config }
         requires line { length key.now.config.opening.bytes ≡ 64 }
         requires good { K.good key.now.config.opening.bytes }
-        ensures { IfOk result (λ t. (t.1.table_id ≡ t.0.table.shared.table_id) × (t.0.table.shared.key ≡ key.now) × (t.1.me ≡ (initial_nodes Q.phases.initial key.now, []))) }
+        ensures { IfOk result (λ t. (t.1.table_id ≡ t.0.table.shared.table_id)
+            × (t.0.table.shared.key ≡ key.now)
+            × (t.1.me ≡ (initial_nodes Q.phases.initial key.now, []))) }
     {
         let TableKey { label, config } = *key;
         let words = Q::first_words(alloc, config.nodes)?;
@@ -156,7 +162,8 @@ fn split_ports<K: Keep, Q: Discipline<K>, W: WakePolicy>(
     requires table { (rest.table_id ≡ table.now.table_id) × (0 < table.now.table_id.words) }
     requires config { MayOpen key.now.config }
     requires whole { rest.me ≡ (initial_nodes Q.phases.initial key.now, []) }
-    ensures { IfOk result (λ ports. AreSplit table.now.table_id key.now key.now.config.nodes ports.items) }
+    ensures { IfOk result (λ ports.
+        AreSplit table.now.table_id key.now key.now.config.nodes ports.items) }
 {
     let mut rest = rest;
     let label = key.label;

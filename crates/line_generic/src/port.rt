@@ -33,7 +33,8 @@ impl<Q: DisciplineSpec, W: WakePolicy> Model for Port<Q, W> {
 
     ghost Value = { PortModel };
 
-    ghost view = { λ p. port_model Q.phases.initial p.seat p.payload p.steps p.poll_count.count p.token (W.went_to p.note) };
+    ghost view = { λ p. port_model Q.phases.initial p.seat p.payload p.steps p.poll_count.count
+        p.token (W.went_to p.note) };
 
     ghost invariant = { λ p. IsPort Q.phases p.label p.node p.seat p.payload p.token p.state };
 }

@@ -29,8 +29,10 @@ pub fn load_from_slot<K: Keep, Q: DisciplineInvariant<K>>(
     requires at_turn { (y : Payload) × in_single_slot 0 y seat.old.me.1 }
     ensures seat { IsSameSeat seat.old seat.new × (seat.new.me.0 ≡ seat.old.me.0) }
     ensures copied { (y : Payload) → in_single_slot 0 y seat.old.me.1 → IsCopy payload.new y }
-    ensures kept { (y : Payload) → in_single_slot 0 y seat.old.me.1 → y.closed ≡ false → open_in_single_slot 0 y.turns_left seat.new.me.1 }
-    ensures stored { (y : Payload) → in_single_slot 0 y seat.old.me.1 → in_single_slot 0 y seat.new.me.1 }
+    ensures kept { (y : Payload) → in_single_slot 0 y seat.old.me.1 → y.closed ≡ false
+        → open_in_single_slot 0 y.turns_left seat.new.me.1 }
+    ensures stored { (y : Payload) → in_single_slot 0 y seat.old.me.1
+        → in_single_slot 0 y seat.new.me.1 }
 {
     let slot = seat.slot_mut(table, 0);
     payload.bytes = slot.bytes;
@@ -53,7 +55,8 @@ pub fn store_to_slot<K: Keep, Q: DisciplineInvariant<K>>(
     requires kept { open_in_single_slot 0 payload.now.turns_left seat.old.me.1 }
     requires left { payload.now.turns_left ≢ Some 0 }
     ensures seat { IsSameSeat seat.old seat.new × (seat.new.me.0 ≡ seat.old.me.0) }
-    ensures stored { (y : Payload) × in_single_slot 0 y seat.new.me.1 × IsStored payload.now closed y }
+    ensures stored { (y : Payload) × in_single_slot 0 y seat.new.me.1
+        × IsStored payload.now closed y }
 {
     let slot = seat.slot_mut(table, 0);
     slot.bytes = payload.bytes;
@@ -85,9 +88,12 @@ pub(crate) fn return_slots<K: Keep, Q: Discipline<K>>(
     table: &SharedTable<K, Q>,
     seat: &mut LineSeat<Q::Local>,
 )
-    requires table { IsSeatOf (Q.word_count table.now.key.config.nodes) table.now.table_id seat.old }
-    requires phase { IsSingle Q.phases.initial seat.old.me × ((ghost_of Q.phases.initial seat.old).view.state ≡ PortState.Holding) }
-    requires kept { (token : ℕ) × (left : Option ℕ) × Q.phases.slots_in_turn (nodes_of Q.phases.initial seat.old) token left seat.old.me.1 }
+    requires table { IsSeatOf (Q.word_count table.now.key.config.nodes)
+        table.now.table_id seat.old }
+    requires phase { IsSingle Q.phases.initial seat.old.me
+        × ((ghost_of Q.phases.initial seat.old).view.state ≡ PortState.Holding) }
+    requires kept { (token : ℕ) × (left : Option ℕ)
+        × Q.phases.slots_in_turn (nodes_of Q.phases.initial seat.old) token left seat.old.me.1 }
     ensures { (seat.new.table_id ≡ seat.old.table_id) × (seat.new.me ≡ (seat.old.me.0, [])) }
 {
     table.load::<ReturnSlots>(seat, 0);

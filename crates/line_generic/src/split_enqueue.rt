@@ -13,7 +13,8 @@ impl<K: Keep, Q: SplitEnqueue<K>, W: WakePolicy> Line<K, Q, W> {
     /// Behind a predecessor it is `Linking`, still to be linked.
     pub fn prepend(&self, port: &mut Port<Q, W>) -> Prep
         requires { IsRestingPort K.Keep self.now.table.shared port.old }
-        ensures { HasPutRequest K.Keep Q.DisciplineSpec self.now.table.shared Q.prepend_steps port.old port.new result }
+        ensures { HasPutRequest K.Keep Q.DisciplineSpec self.now.table.shared Q.prepend_steps
+            port.old port.new result }
     {
         let table = &self.table.shared;
         let made = Q::prepend(table, &mut port.seat, port.node, port.state);
@@ -45,7 +46,8 @@ impl<K: Keep, Q: SplitEnqueue<K>, W: WakePolicy> Line<K, Q, W> {
     /// Links the request to its predecessor's, as the second half of `enqolb`. Never returns `Busy`.
     pub fn link(&self, port: &mut Port<Q, W>) -> Enq
         requires { IsLinkingPort K.Keep self.now.table.shared port.old }
-        ensures { HasLinkedRequest K.Keep Q.DisciplineSpec self.now.table.shared port.old port.new result }
+        ensures { HasLinkedRequest K.Keep Q.DisciplineSpec self.now.table.shared port.old
+            port.new result }
     {
         let table = &self.table.shared;
         port.steps = 1;

@@ -197,7 +197,8 @@ impl<K: Keep, Q: Discipline<K>> Line<K, Q> {
         low: u32,
         at_most: Duration,
     )
-        requires seat { IsSeatOfNode Q.word_count self.now.table.shared.key.config.nodes self.now.table.shared.table_id Q.phases.initial node seat.now }
+        requires seat { IsSeatOfNode Q.word_count self.now.table.shared.key.config.nodes
+            self.now.table.shared.table_id Q.phases.initial node seat.now }
         requires in_state { IsInState Q.phases PortState.Queued token seat.now }
         requires no_signal { Q.signals_turn token low ≡ false }
     {

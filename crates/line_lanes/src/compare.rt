@@ -26,7 +26,8 @@ pub fn agrees(a: &Line64, b: &Line64, mask: Mask) -> bool
 
 /// Returns the places at which two halves differ, as the low 32 bits.
 fn differing(a: u8x32, b: u8x32) -> u64
-    ensures bits { (k : ℕ) → k < 32 → is_masked result k ≡ not (slice_index a k == slice_index b k) }
+    ensures bits { (k : ℕ) → k < 32 → is_masked result k
+        ≡ not (slice_index a k == slice_index b k) }
     ensures bound { result < 2 ^ 32 }
 {
     a.simd_ne(b).to_bitmask()

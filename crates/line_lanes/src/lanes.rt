@@ -115,14 +115,16 @@ fn repeated(value: u64) -> u8x32
 /// The half with the bytes of `value` at each place whose lane is `k`.
 fn replaced(half: u8x32, lanes: u8x32, k: u8, value: u8x32) -> u8x32
     ensures len { length result ≡ 32 }
-    ensures bytes { (i : ℕ) → i < 32 → slice_index result i ≡ (if slice_index lanes i == k then slice_index value i else slice_index half i) }
+    ensures bytes { (i : ℕ) → i < 32 → slice_index result i
+        ≡ (if slice_index lanes i == k then slice_index value i else slice_index half i) }
 {
     lanes.simd_eq(u8x32::splat(k)).select(value, half)
 }
 
 /// The sum of four lanes.
 fn sum_of(lanes: u64x4) -> u128
-    ensures total { result ≡ slice_index lanes 0 + slice_index lanes 1 + slice_index lanes 2 + slice_index lanes 3 }
+    ensures total { result ≡ slice_index lanes 0 + slice_index lanes 1 + slice_index lanes 2
+        + slice_index lanes 3 }
     ensures bound { result < 2 ^ 66 }
 {
     let [first, second, third, fourth] = lanes.to_array();

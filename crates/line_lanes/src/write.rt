@@ -47,7 +47,8 @@ pub fn placed(off: usize, bytes: &[u8]) -> Option<(Mask, Line64)>
 /// Writes half a line under the low 32 bits of the mask.
 fn merge_half(old: u8x32, new: u8x32, mask: u64) -> u8x32
     ensures len { length result ≡ 32 }
-    ensures bytes { (k : ℕ) → k < 32 → slice_index result k ≡ (if is_masked mask k then slice_index new k else slice_index old k) }
+    ensures bytes { (k : ℕ) → k < 32 → slice_index result k
+        ≡ (if is_masked mask k then slice_index new k else slice_index old k) }
 {
     blend(old, new, mask_bytes(mask))
 }
@@ -78,7 +79,9 @@ fn two_bytes(mask: u64) -> u8x16
 
 /// Takes the new byte if the mask's byte there has the bit of that place, else the old one.
 fn blend(old: u8x32, new: u8x32, mask: u8x32) -> u8x32
-    ensures { (k : ℕ) → k < 32 → slice_index result k ≡ (if is_masked (slice_index mask k) (k % 8) then slice_index new k else slice_index old k) }
+    ensures { (k : ℕ) → k < 32 → slice_index result k
+        ≡ (if is_masked (slice_index mask k) (k % 8) then slice_index new k
+        else slice_index old k) }
 {
     let bits = u8x32::from_array(BITS);
     (mask & bits).simd_eq(bits).select(new, old)
@@ -87,7 +90,8 @@ fn blend(old: u8x32, new: u8x32, mask: u8x32) -> u8x32
 /// Writes the bytes over the line's from place `off` on.
 pub(crate) fn write_at(line: &mut [u8], off: usize, bytes: &[u8])
     requires { off + length bytes.now ≤ length line.old }
-    ensures { line.new ≡ take off line.old ++ (bytes.now ++ drop (off + length bytes.now) line.old) }
+    ensures { line.new ≡ take off line.old ++
+        (bytes.now ++ drop (off + length bytes.now) line.old) }
 {
     let end = off + bytes.len();
     line[off..end].copy_from_slice(bytes);

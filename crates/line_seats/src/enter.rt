@@ -32,8 +32,10 @@ impl<K: Keep, L: LineSync<K>, S: PortSet<L::Port>> Seats<K, L, S> {
     ///
     /// Returns a turn, or `None` if the line is closed.
     pub fn enter<R: Wait>(&self, rt: &R) -> Option<Turn<K, L>>
-        ensures granted { IfSome result (Enters K.allows (L.belongs self.now) L.view L.turn L.counters Got.Granted) }
-        ensures closed { IfNone result (FindsClosed K.allows (L.belongs self.now) L.view L.turn L.counters) }
+        ensures granted { IfSome result
+            (Enters K.allows (L.belongs self.now) L.view L.turn L.counters Got.Granted) }
+        ensures closed { IfNone result (FindsClosed K.allows
+            (L.belongs self.now) L.view L.turn L.counters) }
     {
         let backoff = Backoff::new();
         for _ in rt.forever() {
@@ -83,8 +85,10 @@ impl<K: Keep, L: ParkingLine<K>, S: PortSet<L::Port>> Seats<K, L, S> {
         rt: &R,
         at_most: Duration,
     ) -> Result<Turn<K, L>, EnterError>
-        ensures granted { IfOk result (Enters K.allows (L.belongs self.now) L.view L.turn L.counters Got.Granted) }
-        ensures closed { result ≡ Err EnterError.Closed → FindsClosed K.allows (L.belongs self.now) L.view L.turn L.counters }
+        ensures granted { IfOk result
+            (Enters K.allows (L.belongs self.now) L.view L.turn L.counters Got.Granted) }
+        ensures closed { result ≡ Err EnterError.Closed
+            → FindsClosed K.allows (L.belongs self.now) L.view L.turn L.counters }
     {
         let span = Deadline::begin(rt, at_most);
         let backoff = Backoff::new();
@@ -106,8 +110,11 @@ impl<K: Keep, L: ParkingLine<K>, S: PortSet<L::Port>> Seats<K, L, S> {
         rt: &R,
         span: &Deadline,
     ) -> Option<Result<Turn<K, L>, EnterError>>
-        ensures granted { IfSome result (λ answer. IfOk answer (Enters K.allows (L.belongs self.now) L.view L.turn L.counters Got.Granted)) }
-        ensures closed { result ≡ Some (Err EnterError.Closed) → FindsClosed K.allows (L.belongs self.now) L.view L.turn L.counters }
+        ensures granted { IfSome result (λ answer.
+            IfOk answer
+            (Enters K.allows (L.belongs self.now) L.view L.turn L.counters Got.Granted)) }
+        ensures closed { result ≡ Some (Err EnterError.Closed)
+            → FindsClosed K.allows (L.belongs self.now) L.view L.turn L.counters }
     {
         let mut borrowed = self.try_borrow(rt)?;
         match ask_within(rt, self.line(), &mut borrowed.port, span) {
@@ -133,8 +140,10 @@ fn ask<R: Wait, K: Keep, L: LineSync<K>>(rt: &R, line: &L, port: &mut L::Port) -
     requires belongs { L.belongs line.now port.old }
     requires state { IsTrue (may_ask (L.view port.old).state) }
     ensures belongs { L.belongs line.now port.new }
-    ensures acquires { IfSome result (Acquires K.allows (L.view port.old) (L.view port.new) (L.turn port.new)) }
-    ensures soon { IfSome result (λ got. got ≡ Got.Granted → ComesSoon L.view L.counters port.old port.new) }
+    ensures acquires { IfSome result (Acquires K.allows (L.view port.old) (L.view port.new)
+        (L.turn port.new)) }
+    ensures soon { IfSome result (λ got. got ≡ Got.Granted
+        → ComesSoon L.view L.counters port.old port.new) }
     ensures busy { IfNone result (IsBusy (L.view port.old) (L.view port.new)) }
 {
     match line.enqolb(port) {
@@ -155,8 +164,10 @@ fn ask_within<R: Wait + Clock, K: Keep, L: ParkingLine<K>>(
     requires belongs { L.belongs line.now port.old }
     requires state { IsTrue (may_ask (L.view port.old).state) }
     ensures belongs { L.belongs line.now port.new }
-    ensures acquires { IfSome result (AcquiresTimed K.allows (L.view port.old) (L.view port.new) (L.turn port.new)) }
-    ensures soon { IfSome result (λ got. got ≡ TimedAcquire.Granted → ComesSoon L.view L.counters port.old port.new) }
+    ensures acquires { IfSome result (AcquiresTimed K.allows (L.view port.old) (L.view port.new)
+        (L.turn port.new)) }
+    ensures soon { IfSome result (λ got. got ≡ TimedAcquire.Granted
+        → ComesSoon L.view L.counters port.old port.new) }
     ensures busy { IfNone result (IsBusy (L.view port.old) (L.view port.new)) }
 {
     match line.enqolb(port) {

@@ -99,10 +99,14 @@ impl<K: Keep, L: LineSync<K>, S: PortSet<L::Port>> Seats<K, L, S> {
     pub fn finish(self, alloc: Global) -> Result<Line64, Unfinished<L, L::Port>>
     where
         L::Port: Drop,
-        ensures finished { IfOk result (λ last. IsFinishedBySome K.good K.allows (L.label_of self) (L.config_of self) last.bytes) }
-        ensures why { IfErr result (λ back. MayRefuse (L.label_of self) (L.config_of self).nodes (map L.view back.ports.items) back.why) }
+        ensures finished { IfOk result (λ last.
+            IsFinishedBySome K.good K.allows (L.label_of self) (L.config_of self) last.bytes) }
+        ensures why { IfErr result (λ back.
+            MayRefuse (L.label_of self) (L.config_of self).nodes
+            (map L.view back.ports.items) back.why) }
         ensures line { IfErr result (λ back. back.line ≡ self) }
-        ensures ports { IfErr result (λ back. All (MayAsk (L.belongs self) L.view) back.ports.items) }
+        ensures ports { IfErr result (λ back.
+            All (MayAsk (L.belongs self) L.view) back.ports.items) }
     {
         let Seats { line, free, room } = self;
         let ports = take_all(free, room.into_inner());

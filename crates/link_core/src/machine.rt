@@ -42,8 +42,16 @@ impl Core {
     ///
     /// Returns `None` if `nodes` is not 1 to `MAX_NODES`.
     pub fn start(nodes: u64, opening: Line64) -> Option<Core>
-        ensures state { let config : LineConfig = record { nodes = nodes; opening = opening; lease = None } in IfSome result (λ c. c ≡ first config) }
-        ensures shows { let config : LineConfig = record { nodes = nodes; opening = opening; lease = None } in IfSome result (λ c. Shows config c empty_queue) }
+        ensures state { let config : LineConfig = record {
+          nodes = nodes;
+          opening = opening;
+          lease = None;
+        } in IfSome result (λ c. c ≡ first config) }
+        ensures shows { let config : LineConfig = record {
+          nodes = nodes;
+          opening = opening;
+          lease = None;
+        } in IfSome result (λ c. Shows config c empty_queue) }
         ensures some { IsSome result ↔ AreNodes nodes }
     {
         Core::with_config(LineConfig {
@@ -57,8 +65,16 @@ impl Core {
     ///
     /// Returns `None` as `start`, and if `lease` is 0.
     pub fn start_leased(nodes: u64, opening: Line64, lease: u64) -> Option<Core>
-        ensures state { let config : LineConfig = record { nodes = nodes; opening = opening; lease = Some lease } in IfSome result (λ c. c ≡ first config) }
-        ensures shows { let config : LineConfig = record { nodes = nodes; opening = opening; lease = Some lease } in IfSome result (λ c. Shows config c empty_queue) }
+        ensures state { let config : LineConfig = record {
+          nodes = nodes;
+          opening = opening;
+          lease = Some lease;
+        } in IfSome result (λ c. c ≡ first config) }
+        ensures shows { let config : LineConfig = record {
+          nodes = nodes;
+          opening = opening;
+          lease = Some lease;
+        } in IfSome result (λ c. Shows config c empty_queue) }
         ensures some { IsSome result ↔ (AreNodes nodes × (1 ≤ lease)) }
     {
         Core::with_config(LineConfig {
@@ -88,7 +104,9 @@ impl Core {
         ensures step { IfOk result (λ t. Step self.old event t self.new) }
         ensures refused { IfErr result (λ e. IsRefused self.old event e) }
         ensures unchanged { OnErr result (self.new ≡ self.old) }
-        ensures shows { (config : LineConfig) (q : Queue) → Shows config self.old q → IfOk result (λ t. (step : Step self.old event t self.new) × Keeps config self.old event t self.new step q) }
+        ensures shows { (config : LineConfig) (q : Queue) → Shows config self.old q
+            → IfOk result (λ t. (step : Step self.old event t self.new)
+            × Keeps config self.old event t self.new step q) }
     {
         self.state.apply(event)
     }

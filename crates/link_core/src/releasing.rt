@@ -37,8 +37,10 @@ impl State {
     /// Tries to take the line home from e, in n's release.
     pub fn go_home_from(&mut self, n: u64, e: u64) -> Told
         requires { n < PLACES }
-        ensures home { self.old.home ≡ e → (result ≡ told_home n self.old) × (self.new ≡ gone_home n self.old) }
-        ensures failed { self.old.home ≢ e → (result ≡ Told.Went) × (self.new ≡ at_point n (Point.Marking e) self.old) }
+        ensures home { self.old.home ≡ e → (result ≡ told_home n self.old)
+            × (self.new ≡ gone_home n self.old) }
+        ensures failed { self.old.home ≢ e → (result ≡ Told.Went)
+            × (self.new ≡ at_point n (Point.Marking e) self.old) }
     {
         if self.home == e {
             self.use_turn(n);
@@ -119,7 +121,12 @@ impl State {
         requires node { n < PLACES }
         requires room { length (seat self.old n).passed < MAX_PASSED }
         requires other { m ≤ MAX_NODES }
-        ensures { self.new ≡ put_seat n (record { point = Point.Leaving m; passed = (seat self.old n).passed ++ m ∷ []; reason = (seat self.old n).reason }) self.old }
+        ensures { self.new ≡ put_seat n
+            (record {
+              point = Point.Leaving m;
+              passed = (seat self.old n).passed ++ m ∷ [];
+              reason = (seat self.old n).reason;
+            }) self.old }
     {
         let seat = &mut self.seats[n as usize];
         seat.passed.push(m);
@@ -131,8 +138,9 @@ impl State {
         requires node { n < PLACES }
         requires some { (seat self.old n).passed ≢ [] }
         ensures { (rest : List ℕ) × ((seat self.old n).passed ≡ result.0 ∷ rest)
-            × (self.new ≡ put_seat n (seat_with rest (point_at_end (seat self.old n).reason) (seat self.old n).reason) self.old)
-            × (result.1 ≡ told_with rest (seat self.old n).reason) }
+            × (self.new ≡ put_seat n
+            (seat_with rest (point_at_end (seat self.old n).reason) (seat self.old n).reason)
+            self.old) × (result.1 ≡ told_with rest (seat self.old n).reason) }
     {
         let seat = &mut self.seats[n as usize];
         let Some(first) = seat.passed.take_first() else {

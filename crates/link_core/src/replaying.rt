@@ -15,8 +15,20 @@ use qolb_model::LineConfig;
 ///
 /// A refused event is returned by its index, with its cause; `(0, Node)` if `nodes` is out of range, for any events.
 pub fn replay(nodes: u64, opening: Line64, events: &[Event]) -> Result<Core, (usize, NotEnabled)>
-    ensures ok { let config : LineConfig = record { nodes = nodes; opening = opening; lease = None } in IfOk result (λ c. AreNodes nodes × (q : Queue) × Run config events.now c q × IsLegal None q.order q.ends × Shows config c q) }
-    ensures err { let config : LineConfig = record { nodes = nodes; opening = opening; lease = None } in IfErr result (λ e. ((AreNodes nodes → ⊥) × (e.0 ≡ 0) × (e.1 ≡ NotEnabled.Node)) ⊎ (AreNodes nodes × Stops config events.now e.0 e.1)) }
+    ensures ok { let config : LineConfig = record {
+      nodes = nodes;
+      opening = opening;
+      lease = None;
+    } in IfOk result (λ c.
+        AreNodes nodes × (q : Queue) × Run config events.now c q × IsLegal None q.order q.ends
+        × Shows config c q) }
+    ensures err { let config : LineConfig = record {
+      nodes = nodes;
+      opening = opening;
+      lease = None;
+    } in IfErr result (λ e.
+        ((AreNodes nodes → ⊥) × (e.0 ≡ 0) × (e.1 ≡ NotEnabled.Node))
+        ⊎ (AreNodes nodes × Stops config events.now e.0 e.1)) }
 {
     let Some(mut core) = Core::start(nodes, opening) else {
         return Err((0, NotEnabled::Node));

@@ -29,12 +29,17 @@ pub(crate) fn request<K: Keep>(
     requires in_state { (token : ℕ) × IsInState state token seat.old }
     requires may_ask { IsTrue (states.may_ask state) }
     ensures advances { SeatAdvances K.allows seat.old seat.new result.steps }
-    ensures stays { result.answer ≡ Enqueued.Busy → (token : ℕ) → IsInState state token seat.old → IsInState state token seat.new }
-    ensures busy { result.answer ≡ Enqueued.Busy → IsBusy (ghost_of seat.old).view (ghost_of seat.new).view }
-    ensures asks { result.answer ≢ Enqueued.Busy → Asks (ghost_of seat.old).view (ghost_of seat.new).view }
+    ensures stays { result.answer ≡ Enqueued.Busy → (token : ℕ) → IsInState state token seat.old
+        → IsInState state token seat.new }
+    ensures busy { result.answer ≡ Enqueued.Busy
+        → IsBusy (ghost_of seat.old).view (ghost_of seat.new).view }
+    ensures asks { result.answer ≢ Enqueued.Busy
+        → Asks (ghost_of seat.old).view (ghost_of seat.new).view }
     ensures joined { result.answer ≡ Enqueued.AtTurn → IsJoined (ghost_of seat.new).view }
-    ensures must_link { result.answer ≡ Enqueued.Queued → HasNoSlot seat.new × LinksTo result.token (ghost_of seat.new) }
-    ensures at_turn { result.answer ≡ Enqueued.AtTurn → (y : Payload) × HasSlot seat.new y × IsAtTurn (ghost_of seat.new) y }
+    ensures must_link { result.answer ≡ Enqueued.Queued
+        → HasNoSlot seat.new × LinksTo result.token (ghost_of seat.new) }
+    ensures at_turn { result.answer ≡ Enqueued.AtTurn → (y : Payload) × HasSlot seat.new y
+        × IsAtTurn (ghost_of seat.new) y }
     ensures steps_if_busy { result.answer ≡ Enqueued.Busy → result.steps ≡ 1 }
     ensures steps { result.answer ≢ Enqueued.Busy → result.steps ≡ steps_to_ask state }
 {

@@ -62,7 +62,7 @@ impl Handoff {
 /// Releases the line that this seat has. Never waits for a link.
 ///
 /// `closed`: the line is closed, by this turn or an earlier one. At most `4 * nodes - 3` word steps: three for each passed node and one to
-/// free it, and one to three for the last attempt, but one if all other nodes were passed. The line is given up before the first node is
+/// free it; the last attempt takes one to three, and only one if all other nodes were passed. The line is given up before the first node is
 /// freed. Returns the port's state, the word steps, and the words whose waiters are to be unparked.
 #[inline]
 pub(crate) fn release<K: Keep>(
@@ -74,12 +74,16 @@ pub(crate) fn release<K: Keep>(
     requires seat { IsSeatOfNode table.now.key.config.nodes table.now.table_id node seat.old }
     requires is_single { IsSingle seat.old.me }
     requires none_passed { (ghost_of seat.old).own.passed ≡ [] }
-    requires nodes { (1 ≤ (ghost_of seat.old).view.config.nodes) × ((ghost_of seat.old).view.config.nodes ≤ MAX_NODES) }
-    requires payload { (y : Payload) × HasSlot seat.old y × MayHandOff K.allows (ghost_of seat.old) y node × (y.closed ≡ closed) }
+    requires nodes { (1 ≤ (ghost_of seat.old).view.config.nodes)
+        × ((ghost_of seat.old).view.config.nodes ≤ MAX_NODES) }
+    requires payload { (y : Payload) × HasSlot seat.old y
+        × MayHandOff K.allows (ghost_of seat.old) y node × (y.closed ≡ closed) }
     ensures slot { HasNoSlot seat.new }
     ensures advances { SeatAdvances K.allows seat.old seat.new result.steps }
-    ensures releases { (y : Payload) → HasSlot seat.old y → ReleasesLine (ghost_of seat.old) y result.state (ghost_of seat.new) }
-    ensures steps { release_steps (length (ghost_of seat.old).view.ends) (length (ghost_of seat.new).view.ends) result.steps }
+    ensures releases { (y : Payload) → HasSlot seat.old y
+        → ReleasesLine (ghost_of seat.old) y result.state (ghost_of seat.new) }
+    ensures steps { release_steps (length (ghost_of seat.old).view.ends)
+        (length (ghost_of seat.new).view.ends) result.steps }
     ensures unpark { result.unpark.word < layout.word_count table.now.key.config.nodes }
     ensures wakes { result.unpark.word ≡ turn_word (ghost_of seat.new).view }
     ensures bound { result.steps + 3 ≤ 4 * (ghost_of seat.old).view.config.nodes }
@@ -117,14 +121,17 @@ fn try_handoff<K: Keep>(
     requires in_range { layout.IsWithin table.now.key.config.nodes at }
     requires size { IsSized table.now.key.config.nodes seat.old }
     requires no_overflow { AreFew steps.old }
-    requires payload { (y : Payload) × HasSlot seat.old y × MayHandOff K.allows (ghost_of seat.old) y at }
+    requires payload { (y : Payload) × HasSlot seat.old y
+        × MayHandOff K.allows (ghost_of seat.old) y at }
     ensures seat { IsSameSeat seat.old seat.new }
-    ensures outcome { (n : ℕ) × (steps.new ≡ steps.old + n) × Advances K.allows seat.old.me seat.new.me n × ((y : Payload) → HasSlot seat.old y → HandsOff seat.old y seat.new n result) }
+    ensures outcome { (n : ℕ) × (steps.new ≡ steps.old + n)
+        × Advances K.allows seat.old.me seat.new.me n
+        × ((y : Payload) → HasSlot seat.old y → HandsOff seat.old y seat.new n result) }
     ensures within { granted_word result < layout.word_count table.now.key.config.nodes }
     ensures wakes { NamesTurn (ghost_of seat.new) result }
 {
-    // `home` first, though a look at the link would save its step where there is a successor: if it fails there is one, so a missing link is
-    // a late linker's, which takes the line as it links, and no release waits for a link.
+    // No look at the link first, though it would save the step of `home` where there is a successor: if `home` fails there is one, so a
+    // missing link is only late. The late linker takes the line as it links, and no release waits for a link.
     *steps += 1;
     if home(table, seat, at) {
         return Handoff::HandedOn {
@@ -168,19 +175,28 @@ fn walk<K: Keep>(
     requires phase { IsAt (Leaving first) seat.old }
     requires in_range { layout.IsWithin table.now.key.config.nodes first }
     requires passed { (ghost_of seat.old).own.passed ≡ length (ghost_of seat.old).view.ends ∷ [] }
-    requires others { AreOfOthers (ghost_of seat.old).view.node (ghost_of seat.old).view.order (ghost_of seat.old).own.passed }
-    requires first { (r : Request) × At (ghost_of seat.old).view.order (length (ghost_of seat.old).view.ends) r × (r.node ≡ first) }
-    requires nodes { (2 ≤ (ghost_of seat.old).view.config.nodes) × ((ghost_of seat.old).view.config.nodes ≤ MAX_NODES) }
+    requires others { AreOfOthers (ghost_of seat.old).view.node (ghost_of seat.old).view.order
+        (ghost_of seat.old).own.passed }
+    requires first { (r : Request) × At (ghost_of seat.old).view.order
+        (length (ghost_of seat.old).view.ends) r × (r.node ≡ first) }
+    requires nodes { (2 ≤ (ghost_of seat.old).view.config.nodes)
+        × ((ghost_of seat.old).view.config.nodes ≤ MAX_NODES) }
     requires size { IsSized table.now.key.config.nodes seat.old }
     requires no_overflow { steps ≤ 6 }
     requires payload { HasSlot seat.old (ghost_of seat.old).own.line }
-    requires state { (ghost_of seat.old).view.state ≡ states.state_after (ghost_of seat.old).own.line.closed }
+    requires state { (ghost_of seat.old).view.state ≡ states.state_after
+        (ghost_of seat.old).own.line.closed }
     ensures seat { IsSameSeat seat.old seat.new }
     ensures slot { HasNoSlot seat.new }
-    ensures advances { (n : ℕ) × (result.steps ≡ steps + n) × Advances K.allows seat.old.me seat.new.me n }
+    ensures advances { (n : ℕ) × (result.steps ≡ steps + n)
+        × Advances K.allows seat.old.me seat.new.me n }
     ensures finishes_walk { FinishesWalk (ghost_of seat.old) (ghost_of seat.new) }
     ensures state { result.state ≡ states.state_after closed }
-    ensures steps { (n : ℕ) × (result.steps ≡ steps + n) × (4 * length (ghost_of seat.new).view.ends ≤ 4 * length (ghost_of seat.old).view.ends + n + 2) × (n + 4 * length (ghost_of seat.old).view.ends ≤ 4 * length (ghost_of seat.new).view.ends) }
+    ensures steps { (n : ℕ) × (result.steps ≡ steps + n)
+        × (4 * length (ghost_of seat.new).view.ends
+        ≤ 4 * length (ghost_of seat.old).view.ends + n + 2)
+        × (n + 4 * length (ghost_of seat.old).view.ends
+        ≤ 4 * length (ghost_of seat.new).view.ends) }
     ensures within { result.unpark.word < layout.word_count table.now.key.config.nodes }
     ensures wakes { result.unpark.word ≡ turn_word (ghost_of seat.new).view }
     ensures bound { result.steps + 6 ≤ steps + 4 * (ghost_of seat.old).view.config.nodes }
@@ -192,7 +208,7 @@ fn walk<K: Keep>(
         passed.push(node);
         handoff = try_handoff(table, seat, &mut steps, node);
     }
-    // Freed only now: a freed node may make a request, which this walk must not pass.
+    // Freed only now: a freed node may ask again, and a walk that passed it twice would have no bound.
     free_passed(table, seat, &passed);
     Released {
         state: state_after(closed),
@@ -218,7 +234,9 @@ fn free_passed<K: Keep>(table: &SharedTable<K>, seat: &mut LinkSeat, nodes: &[u6
     }
 }
 
-/// The state of a port that did not leave the line in its own entry: `Shut` if the line is closed, by this turn or an earlier one, else `Idle`.
+/// Returns the state of a port that did not leave the line in its own entry: `Shut` if the line is closed, else `Idle`.
+///
+/// The line is closed by this turn or an earlier one.
 #[inline]
 fn state_after(closed: bool) -> PortState
     ensures { result ≡ states.state_after closed }

@@ -1,9 +1,11 @@
-//! The word steps: each is one atomic operation on one word. Its type argument, from `plays`, is the ghost transition, which counts the step.
+//! The word steps: each is one atomic operation on one word. The operation's type argument, from `plays`, is the ghost transition, which
+//! counts the step.
 //!
-//! A node is a participant and no queue record; it has one entry, which is one word. A seat is a node's side of the shared table: its ghost
-//! state, and the line while the seat has it. The home word names the last node of the queue, as MCS's tail does, and is 0 if the line is at
-//! home. A late linker is a node that has swapped the home word and has not linked to its predecessor yet. The current request is that of
-//! the releasing node, or in a walk the withdrawn one that was passed last. A request at its turn has the line, but its port holds it only
+//! A node is a participant, whose queue node (in the sense of MCS) is one word: its entry. A seat is a node's side of the shared table: its
+//! ghost state, and the line while the seat has it. The home word names the last node of the queue, as MCS's tail does, and is 0 if the line
+//! is at home. No step moves the line's 64 bytes, which have one slot: that the line is at home, or left in an entry, says whose next step
+//! takes it. A late linker is a node that has swapped the home word and has not linked to its predecessor yet. The current request is that
+//! of the releasing node, or in a walk the withdrawn one that was passed last. A request at its turn has the line, but its port holds it only
 //! if the line is not closed. A node's last request is clear if no other node will use its entry any more, so that the node may ask again.
 //! Each mark, and the link, is added to an entry at most once between two resets, so no addition carries into another field. All steps are
 //! sequentially consistent.
@@ -49,7 +51,8 @@ pub(crate) fn prepend<K: Keep>(table: &SharedTable<K>, seat: &mut LinkSeat, node
     ensures advances { SeatAdvances K.allows seat.old seat.new 1 }
     ensures asks { Asks (ghost_of seat.old).view (ghost_of seat.new).view }
     ensures joined { result ≡ 0 → IsJoined (ghost_of seat.new).view }
-    ensures at_turn { result ≡ 0 → (y : Payload) × HasSlot seat.new y × IsAtTurn (ghost_of seat.new) y }
+    ensures at_turn { result ≡ 0 → (y : Payload) × HasSlot seat.new y
+        × IsAtTurn (ghost_of seat.new) y }
     ensures must_link { result ≢ 0 → HasNoSlot seat.new × LinksTo result (ghost_of seat.new) }
 {
     table.swap::<Prepend<K>>(seat, HOME, node)
@@ -69,7 +72,8 @@ pub(crate) fn link<K: Keep>(
     ensures advances { SeatAdvances K.allows seat.old seat.new 1 }
     ensures links { Links (ghost_of seat.old).view (ghost_of seat.new).view }
     ensures queued { result ≡ false → HasNoSlot seat.new × IsStillQueued (ghost_of seat.new) }
-    ensures at_turn { result ≡ true → (y : Payload) × HasSlot seat.new y × IsAtTurn (ghost_of seat.new) y }
+    ensures at_turn { result ≡ true → (y : Payload) × HasSlot seat.new y
+        × IsAtTurn (ghost_of seat.new) y }
 {
     is_done(table.fetch_add::<Link<K>>(seat, entry_word(predecessor), LINK * node))
 }
@@ -82,7 +86,8 @@ pub(crate) fn load<K: Keep>(table: &SharedTable<K>, seat: &mut LinkSeat, node: u
     ensures advances { SeatAdvances K.allows seat.old seat.new 1 }
     ensures count { (ghost_of seat.new).view.count ≡ (ghost_of seat.old).view.count }
     ensures queued { result ≡ false → HasNoSlot seat.new × IsStillQueued (ghost_of seat.new) }
-    ensures at_turn { result ≡ true → (y : Payload) × HasSlot seat.new y × IsAtTurn (ghost_of seat.new) y }
+    ensures at_turn { result ≡ true → (y : Payload) × HasSlot seat.new y
+        × IsAtTurn (ghost_of seat.new) y }
 {
     is_granted(table.load::<Load<K>>(seat, entry_word(node)))
 }
@@ -97,7 +102,8 @@ pub(crate) fn roll<K: Keep>(table: &SharedTable<K>, seat: &mut LinkSeat, node: u
     ensures advances { SeatAdvances K.allows seat.old seat.new 1 }
     ensures count { (ghost_of seat.new).view.count ≡ (ghost_of seat.old).view.count }
     ensures withdrawn { result ≡ false → HasNoSlot seat.new × IsRolled (ghost_of seat.new) }
-    ensures at_turn { result ≡ true → (y : Payload) × HasSlot seat.new y × IsAtTurn (ghost_of seat.new) y }
+    ensures at_turn { result ≡ true → (y : Payload) × HasSlot seat.new y
+        × IsAtTurn (ghost_of seat.new) y }
 {
     is_granted(table.fetch_add::<Roll<K>>(seat, entry_word(node), ROLLED))
 }
@@ -117,8 +123,8 @@ pub(crate) fn look_left<K: Keep>(table: &SharedTable<K>, seat: &mut LinkSeat, no
 
 /// Loads the node's own entry after its request was withdrawn. Returns `true` if the request is clear.
 ///
-/// It is clear if the entry is freed, and not done without a link: a release that passed this node may have left the line in this entry,
-/// for a late linker.
+/// It is clear if the entry is freed, unless that is done without a link: then a release that passed this node has left the line in this
+/// entry, for a late linker.
 pub(crate) fn look_rolled<K: Keep>(table: &SharedTable<K>, seat: &mut LinkSeat, node: u64) -> bool
     requires seat { IsSeatOfNode table.now.key.config.nodes table.now.table_id node seat.old }
     requires phase { IsAt Rolled seat.old }
@@ -132,16 +138,21 @@ pub(crate) fn look_rolled<K: Keep>(table: &SharedTable<K>, seat: &mut LinkSeat, 
 
 /// Tries to return the line to the home slot from the entry of node `at`, which ends the current request if it succeeds.
 ///
-/// A compare-exchange, so that a concurrent request finds either the line at home or a predecessor to link to. `true`: home named `at`,
-/// which had no successor, and is 0 now. `false`: `at` has a successor, linked or late, and the seat still has the line.
+/// A compare-exchange, so that a concurrent request finds either the line at home or a predecessor to link to. `true`: the home word
+/// was `at`, which had no successor, and is 0 now. `false`: `at` has a successor, linked or late, and the seat still has the line.
 pub(crate) fn home<K: Keep>(table: &SharedTable<K>, seat: &mut LinkSeat, at: u64) -> bool
     requires table { IsSeatOf table.now.key.config.nodes table.now.table_id seat.old }
     requires is_single { IsSingle seat.old.me }
-    requires payload { (y : Payload) × HasSlot seat.old y × MayHandOff K.allows (ghost_of seat.old) y at }
+    requires payload { (y : Payload) × HasSlot seat.old y
+        × MayHandOff K.allows (ghost_of seat.old) y at }
     ensures advances { SeatAdvances K.allows seat.old seat.new 1 }
-    ensures home { result ≡ true → HasNoSlot seat.new × ((y : Payload) → HasSlot seat.old y → Ended (ghost_of seat.old) (ghost_of seat.new) y × LeavesNode (ghost_of seat.old) (ghost_of seat.new) y) }
+    ensures home { result ≡ true → HasNoSlot seat.new
+        × ((y : Payload) → HasSlot seat.old y → Ended (ghost_of seat.old) (ghost_of seat.new) y
+        × LeavesNode (ghost_of seat.old) (ghost_of seat.new) y) }
     ensures wakes { result ≡ true → turn_word (ghost_of seat.new).view ≡ layout.home_at }
-    ensures keeps { result ≡ false → (seat.new.me.1 ≡ seat.old.me.1) × IsOneLeft (ghost_of seat.new) × ((y : Payload) → HasSlot seat.old y → KeepsPayload (ghost_of seat.old) (ghost_of seat.new) y (Marking at)) }
+    ensures keeps { result ≡ false → (seat.new.me.1 ≡ seat.old.me.1) × IsOneLeft (ghost_of seat.new)
+        × ((y : Payload) → HasSlot seat.old y
+        → KeepsPayload (ghost_of seat.old) (ghost_of seat.new) y (Marking at)) }
 {
     table.compare_exchange::<Home<K>>(seat, HOME, at, 0) == at
 }
@@ -156,16 +167,21 @@ pub(crate) fn done<K: Keep>(table: &SharedTable<K>, seat: &mut LinkSeat, at: u64
     requires in_range { layout.IsWithin table.now.key.config.nodes at }
     requires payload { HasSlot seat.old (ghost_of seat.old).own.line }
     ensures advances { SeatAdvances K.allows seat.old seat.new 1 }
-    ensures left { result ≡ 0 → HasNoSlot seat.new × Ended (ghost_of seat.old) (ghost_of seat.new) (ghost_of seat.old).own.line × IsLeft (ghost_of seat.old) (ghost_of seat.new) (ghost_of seat.old).own.line }
+    ensures left { result ≡ 0 → HasNoSlot seat.new
+        × Ended (ghost_of seat.old) (ghost_of seat.new) (ghost_of seat.old).own.line
+        × IsLeft (ghost_of seat.old) (ghost_of seat.new) (ghost_of seat.old).own.line }
     ensures wakes { result ≡ 0 → turn_word (ghost_of seat.new).view ≡ layout.home_at }
-    ensures keeps { result ≢ 0 → (seat.new.me.1 ≡ seat.old.me.1) × layout.IsWithin (ghost_of seat.new).view.config.nodes result × KeepsPayload (ghost_of seat.old) (ghost_of seat.new) (ghost_of seat.old).own.line (Granting result) }
+    ensures keeps { result ≢ 0 → (seat.new.me.1 ≡ seat.old.me.1)
+        × layout.IsWithin (ghost_of seat.new).view.config.nodes result
+        × KeepsPayload (ghost_of seat.old) (ghost_of seat.new) (ghost_of seat.old).own.line
+        (Granting result) }
 {
     link_of(table.fetch_add::<Done<K>>(seat, entry_word(at), DONE))
 }
 
-/// Ends the current request and adds the granted mark to the entry of node `next`.
+/// Ends the current request and adds the granted mark to the entry of node `next`. Returns `true` if `next` had withdrawn.
 ///
-/// `false`: `next` has the line. `true`: `next` had withdrawn; it is passed, and the seat keeps the line. Sets `behind` to the node that is
+/// `false`: `next` has the line. `true`: `next` is passed, and the seat keeps the line. Sets `behind` to the node that is
 /// linked to that entry by now, or to 0 if none is yet: its waiter is unparked one turn ahead, so that it is awake at its turn. No
 /// contract uses it.
 pub(crate) fn grant<K: Keep>(
@@ -180,24 +196,30 @@ pub(crate) fn grant<K: Keep>(
     requires payload { HasSlot seat.old (ghost_of seat.old).own.line }
     ensures advances { SeatAdvances K.allows seat.old seat.new 1 }
     ensures ended { Ended (ghost_of seat.old) (ghost_of seat.new) (ghost_of seat.old).own.line }
-    ensures handed_on { result ≡ false → HasNoSlot seat.new × LeavesNode (ghost_of seat.old) (ghost_of seat.new) (ghost_of seat.old).own.line }
+    ensures handed_on { result ≡ false → HasNoSlot seat.new
+        × LeavesNode (ghost_of seat.old) (ghost_of seat.new) (ghost_of seat.old).own.line }
     ensures wakes { result ≡ false → turn_word (ghost_of seat.new).view ≡ layout.entry_at next }
-    ensures passes { result ≡ true → (seat.new.me.1 ≡ seat.old.me.1) × Passes (ghost_of seat.old) (ghost_of seat.new) next }
+    ensures passes { result ≡ true → (seat.new.me.1 ≡ seat.old.me.1)
+        × Passes (ghost_of seat.old) (ghost_of seat.new) next }
 {
     let found = table.fetch_add::<Grant<K>>(seat, entry_word(next), GRANTED);
     *behind = link_of(found);
     is_rolled(found)
 }
 
-/// Frees `node`, whose request is the first of those that were passed and are not freed yet.
+/// Frees the entry of `node`, whose request is the first of those that were passed and are not freed yet. The node may then ask again.
 pub(crate) fn free<K: Keep>(table: &SharedTable<K>, seat: &mut LinkSeat, node: u64)
     requires table { IsSeatOf table.now.key.config.nodes table.now.table_id seat.old }
     requires phase { IsAt Freeing seat.old }
     requires in_range { layout.IsWithin table.now.key.config.nodes node }
-    requires next { (p : ℕ) × (ps : List ℕ) × (r : Request) × ((ghost_of seat.old).own.passed ≡ p ∷ ps) × At (ghost_of seat.old).view.order p r × (r.node ≡ node) }
+    requires next { (p : ℕ) × (ps : List ℕ) × (r : Request)
+        × ((ghost_of seat.old).own.passed ≡ p ∷ ps) × At (ghost_of seat.old).view.order p r
+        × (r.node ≡ node) }
     ensures slot { seat.new.me.1 ≡ seat.old.me.1 }
     ensures advances { SeatAdvances K.allows seat.old seat.new 1 }
-    ensures frees { (p : ℕ) (ps : List ℕ) (r : Request) → (ghost_of seat.old).own.passed ≡ p ∷ ps → At (ghost_of seat.old).view.order p r → Frees (ghost_of seat.old) p ps r (ghost_of seat.new) }
+    ensures frees { (p : ℕ) (ps : List ℕ) (r : Request) → (ghost_of seat.old).own.passed ≡ p ∷ ps
+        → At (ghost_of seat.old).view.order p r
+        → Frees (ghost_of seat.old) p ps r (ghost_of seat.new) }
 {
     table.fetch_add::<FreeNode<K>>(seat, entry_word(node), FREED);
 }

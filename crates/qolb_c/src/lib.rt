@@ -77,7 +77,8 @@ pub extern "C" fn qolb_open(
     opening: &Bytes,
     out: &mut [Handle],
 ) -> u32
-    ensures { (answer : Answer) × (result ≡ number_of answer) × Opens kind label (config_by nodes lease opening.now.bytes) out.old out.new answer }
+    ensures { (answer : Answer) × (result ≡ number_of answer)
+        × Opens kind label (config_by nodes lease opening.now.bytes) out.old out.new answer }
 {
     let config = LineConfig {
         nodes,
@@ -274,18 +275,7 @@ pub extern "C" fn qolb_went_ahead(node: &mut Handle) -> u64
 pub extern "C" fn qolb_close(alloc: Global, node: &mut Handle) -> u32
     ensures { Closes node.old.held node.new.held result }
 {
-    match node.take(alloc) {
-        None => number(Answer::Misuse),
-        Some(taken) => {
-            if taken.shown().state.may_ask() {
-                drop(taken);
-                number(Answer::Done)
-            } else {
-                node.put(taken);
-                number(Answer::Misuse)
-            }
-        }
-    }
+    number(node.close(alloc))
 }
 
 /// Returns the node's number, from 1; 0 if there is no node.

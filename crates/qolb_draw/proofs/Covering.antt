@@ -1,5 +1,5 @@
 -- The bars of a timeline, over the marks that have one.
-use Rattle.std.proofs.Common.{◌≡◌, ℕ, zero, suc, ◌+◌, ◌*◌, ◌<◌, ◌≤◌, ◌==◌, ◌&&◌, nat_le, nat_lt, cond, Bool, true, false, List, [], ◌∷◌, ◌++◌, length, map, filter, flat_map, slice_get, option_map, Option, Some, None, refl, sym, ap, ◌∙◌, arith, append-nil, eq-eqb, eqb-true}
+use Rattle.std.proofs.Common.{◌≡◌, ℕ, zero, suc, ◌+◌, ◌*◌, ◌<◌, ◌≤◌, ◌==◌, ◌&&◌, cond, Bool, true, false, List, [], ◌∷◌, ◌++◌, length, map, filter, flat_map, slice_get, option_map, Option, Some, None, refl, sym, ap, ◌∙◌, arith, append-nil, eq-eqb, eqb-true}
 use Rattle.std.specs.List.{list_any, range_with_len, slice_index_or}
 use Rattle.std.proofs.lemmas.Bool.Decides.{nat_tests}
 use Rattle.std.proofs.lemmas.Grind.{flat_map-append}
@@ -9,33 +9,15 @@ use Rattle.qolb_script.specs.declared.command.Command.TheVariants.{Write}
 use Rattle.qolb_script.specs.declared.reply_text.Said.{Said}
 use Rattle.qolb_script.specs.declared.reply_text.Said.TheVariants as said
 use Rattle.qolb_script.specs.Commands.{node_of}
-use Rattle.qolb_draw.specs.declared.bar.Stand.{Stand}
-use Rattle.qolb_draw.specs.declared.bar.Stand.TheVariants as stand
-use Rattle.qolb_draw.specs.declared.event.Event.{Event}
-use Rattle.qolb_draw.specs.declared.timeline.TheConstants.{NAMED_EVERY}
+use Rattle.qolb_shapes.specs.declared.bar.Stand.{Stand}
+use Rattle.qolb_shapes.specs.declared.bar.Stand.TheVariants as stand
+use Rattle.qolb_shapes.specs.declared.event.Event.{Event}
+use Rattle.qolb_shapes.specs.declared.svg.TheConstants.{NAMED_EVERY}
 use Rattle.qolb_draw.specs.Laws.{BarsCoverMarks, kind_over, kinds_over, shown_as}
 use Rattle.qolb_draw.specs.LineRuns.{Step, callers, event_of, mark_at, steps_on}
-use Rattle.qolb_draw.specs.Timelines.{Arrow, Call, Lane, Name, Number, Shape, arrow_of, bar_of, bars_from, bytes_of, column_shapes, columns_of, is_same, name_count, names_of, no_event, row_of, row_shapes, stand_of, stands_of}
-
--- a bar is over a column, or not
-abbrev pub is_over : ℕ → ℕ → ℕ → Bool
-is_over start end column = nat_le start column && nat_lt column end
-
-pub over : (start end column : ℕ) → start ≤ column → column < end → is_over start end column ≡ true
-over start end column from to =
-    let begun : nat_le start column ≡ true = grind (arith, nat_tests) in
-    let going : nat_lt column end ≡ true = grind (arith, nat_tests) in
-    ap (λ b. b && nat_lt column end) begun ∙ going
-
-pub not_yet : (start end column : ℕ) → column < start → is_over start end column ≡ false
-not_yet start end column lt = let ahead : nat_le start column ≡ false = grind (arith, nat_tests) in ap (λ b. b && nat_lt column end) ahead
-
-pub and_false : (b : Bool) → (b && false) ≡ false
-and_false true = refl
-and_false false = refl
-
-pub no_more : (start end column : ℕ) → end ≤ column → is_over start end column ≡ false
-no_more start end column le = let past : nat_lt column end ≡ false = grind (arith, nat_tests) in ap (λ b. nat_le start column && b) past ∙ and_false (nat_le start column)
+use Rattle.qolb_shapes.specs.Shapes.{Arrow, Call, Lane, Name, Number, Shape, is_same, name_count, stand_of}
+use Rattle.qolb_draw.specs.Timelines.{arrow_of, bar_of, bars_from, bytes_of, column_shapes, columns_of, names_of, no_event, row_of, row_shapes, stands_of}
+use Rattle.qolb_shapes.proofs.Bars.{is_over, over, not_yet, no_more}
 
 -- one bar
 same_if : (b : Bool) (xs : List Stand) → cond b xs xs ≡ xs

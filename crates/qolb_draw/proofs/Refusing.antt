@@ -1,8 +1,7 @@
 -- A picture that could not be written.
-use Rattle.std.proofs.Common.{◌≡◌, ◌≤◌, ℕ, List, Option, Some, None, Ok, Err, Result, length, ap, ◌∙◌, sym, subst}
-use Rattle.std.specs.Prelude.{IfSome, IfErr, IsErrAnd}
+use Rattle.std.proofs.Common.{◌≡◌, ◌≤◌, ℕ, List, Option, Some, None, Ok, length, ap, ◌∙◌, sym, subst}
+use Rattle.std.specs.Prelude.{IfSome}
 use Rattle.qolb_replay.specs.declared.input.TheConstants.{MAX_BYTES}
-use Rattle.qolb_replay.specs.declared.replay.ReplayError.{ReplayError}
 use Rattle.qolb_replay.specs.declared.replay.ReplayError.TheVariants as error
 use Rattle.qolb_replay.specs.Outcome.{ReplayMayFail}
 use Rattle.qolb_script.specs.Script.{Script, script_of}
@@ -14,9 +13,3 @@ pub may_fail_to_write : (remaining : Option (List ℕ)) (input : List ℕ) (scri
 may_fail_to_write None input script is fits read = tt
 may_fail_to_write (Some rest) input script is fits read =
     (reply_of script, record { fits = subst (λ (i : List ℕ). length i ≤ MAX_BYTES) is fits; reply = ap (λ (i : List ℕ). replied (script_of i)) (sym is) ∙ ap replied read })
-
--- an error of a write is one that a run of the script may have
-pub refused_to_write : (MayFail : List ℕ → ReplayError → Type 0) (r : Result (Unit {0}) ReplayError) (remaining : Option (List ℕ)) → IsErrAnd r (λ e. e ≡ error.Write) → IfSome remaining (λ rest. MayFail rest error.Write)
-    → IfErr r (λ e. IfSome remaining (λ rest. MayFail rest e))
-refused_to_write MayFail (Ok u) remaining is may = tt
-refused_to_write MayFail (Err e) remaining is may = subst (λ (x : ReplayError). IfSome remaining (λ rest. MayFail rest x)) (sym is) may

@@ -1,23 +1,20 @@
 -- Lemmas on the shapes of a timeline, and on their texts.
-use Rattle.std.proofs.Common.{◌≡◌, ℕ, suc, ◌+◌, ◌-◌, ◌<◌, ◌≤◌, cond, Bool, true, false, List, [], ◌∷◌, ◌++◌, length, map, not, take, get_or, refl, sym, ap, ◌∙◌, subst, arith, append_assoc, append-nil, ne_eqb, ◌==◌, Option, Some}
-use Rattle.std.specs.Prelude.{codes}
+use Rattle.std.proofs.Common.{◌≡◌, ℕ, suc, ◌+◌, ◌-◌, ◌<◌, ◌≤◌, cond, Bool, true, false, List, [], ◌∷◌, ◌++◌, map, not, refl, sym, ap, ◌∙◌, subst, arith, append_assoc, append-nil, ne_eqb, ◌==◌, Option, Some}
 use Rattle.std.specs.List.{flat_map, range_with_len}
-use Rattle.std.proofs.Math.Seq.{take-append_seam}
 use Rattle.std.proofs.lemmas.Grind.{flat_map-append}
-use Rattle.line_lanes.specs.Mask.{is_masked}
 use Rattle.line_lanes.specs.declared.line.Line64.{Line64}
 use Rattle.line_lanes.specs.declared.line.Mask.{Mask}
 use Rattle.qolb_script.specs.declared.command.Command.{Command}
 use Rattle.qolb_script.specs.declared.command.Command.TheVariants.{Write}
 use Rattle.qolb_script.specs.declared.reply_text.Said.{Said}
 use Rattle.qolb_script.specs.declared.reply_text.Said.TheVariants as said
-use Rattle.qolb_draw.specs.declared.bar.Stand.{Stand}
-use Rattle.qolb_draw.specs.declared.bar.Stand.TheVariants as stand
-use Rattle.qolb_draw.specs.declared.symbol.Symbol.{Symbol}
+use Rattle.qolb_shapes.specs.declared.bar.Stand.{Stand}
+use Rattle.qolb_shapes.specs.declared.bar.Stand.TheVariants as stand
+use Rattle.qolb_shapes.specs.declared.symbol.Symbol.{Symbol}
 use Rattle.qolb_draw.specs.Grids.{mark_out_of, stands_out_of}
-use Rattle.qolb_draw.specs.Svg.{arrow_text, bytes_text, field, hex_of, shape_text, texts, written_words}
-use Rattle.qolb_draw.specs.Timelines.{Arrow, Bytes, Shape, arrow_of, bar_of, bars_from, bytes_of, is_same, place_if, places_in, row_of, stand_of}
-use Rattle.qolb_draw.proofs.Rows.{piece_pushed}
+use Rattle.qolb_shapes.specs.Svg.{arrow_text, bytes_text, shape_text, texts}
+use Rattle.qolb_shapes.specs.Shapes.{Arrow, Bytes, Shape, is_same, places_in, stand_of}
+use Rattle.qolb_draw.specs.Timelines.{arrow_of, bar_of, bars_from, bytes_of, row_of}
 
 -- the texts of shapes one behind another
 pub texts-append : (xs ys : List Shape) → texts (xs ++ ys) ≡ texts xs ++ texts ys
@@ -99,24 +96,6 @@ pub bars_ended : (row node : ℕ) (s : Stand) (start column end : ℕ) (now all 
 bars_ended row node s start column end now all before text after had none at pushed =
     pushed ∙ ap (λ e. text ++ texts (bar_of row start e s node)) (sym at) ∙ ap (λ ss. text ++ texts (bars_from row node s start column ss)) (sym none) ∙ had.text_is
 
--- one place of a mask more, or not
-pub place_kept : (mask k : ℕ) (places after : List ℕ) → places ≡ flat_map (place_if mask) (range_with_len 0 k) → is_masked mask k ≡ true → after ≡ places ++ k ∷ [] → after ≡ flat_map (place_if mask) (range_with_len 0 (k + 1))
-place_kept mask k places after was here pushed =
-    piece_pushed (place_if mask) [] k places after (k ∷ []) was (ap (λ b. cond b (k ∷ []) []) (sym here)) pushed
-
-pub place_left_out : (mask k : ℕ) (places after : List ℕ) → places ≡ flat_map (place_if mask) (range_with_len 0 k) → is_masked mask k ≡ false → after ≡ places → after ≡ flat_map (place_if mask) (range_with_len 0 (k + 1))
-place_left_out mask k places after was there same =
-    piece_pushed (place_if mask) [] k places after [] was (ap (λ b. cond b (k ∷ []) []) (sym there)) (same ∙ sym (append-nil places))
-
-pub all_places : (mask k : ℕ) (places : List ℕ) → places ≡ flat_map (place_if mask) (range_with_len 0 k) → k ≡ 64 → places ≡ places_in mask
-unfolding places_in
-all_places mask k places was end = was ∙ ap (λ n. flat_map (place_if mask) (range_with_len 0 n)) end
-
--- a text without its last byte
-pub last_taken : (text words pushed after : List ℕ) (n : ℕ) → pushed ≡ text ++ (words ++ 10 ∷ []) → n ≡ length (text ++ words) → after ≡ take n pushed → after ≡ text ++ words
-last_taken text words pushed after n is count taken =
-    taken ∙ ap (take n) (is ∙ sym (append_assoc text words (10 ∷ []))) ∙ ap (λ k. take k ((text ++ words) ++ 10 ∷ [])) count ∙ take-append_seam (text ++ words) (10 ∷ [])
-
 -- a row, made of its line, bars and names
 pub row_whole : (before : List ℕ) (lane : Shape) (bars names : List Shape) (a b after : List ℕ) → a ≡ before ++ shape_text lane → b ≡ a ++ texts bars → after ≡ b ++ texts names
     → after ≡ before ++ texts (lane ∷ bars ++ names)
@@ -146,10 +125,6 @@ line_whole before begin end rows columns shown n a b c after is then next last =
     ∙ ap (λ t. before ++ (begin ++ t ++ end)) (sym (texts-append (flat_map rows shown) (flat_map columns (range_with_len 0 n)) ∙ ap (λ t. t ++ texts (flat_map columns (range_with_len 0 n))) (texts-flat_map rows shown)
     ∙ ap (λ t. flat_map (λ k. texts (rows k)) shown ++ t) (texts-flat_map columns (range_with_len 0 n))))
 
--- one text more
-pub onward : (t p a : List ℕ) {s after : List ℕ} → s ≡ t ++ p → after ≡ s ++ a → after ≡ t ++ (p ++ a)
-onward t p a was pushed = pushed ∙ ap (λ x. x ++ a) was ∙ append_assoc t p a
-
 -- the arrow of a handoff
 pub arrow_pushed : (shown : List ℕ) (column number from to : ℕ) (before after : Option ℕ) (svg pushed : List ℕ) → before ≡ Some from → after ≡ Some to → (from ≡ to → ⊥)
     → pushed ≡ svg ++ arrow_text column number (row_of shown from) from (row_of shown to) to → pushed ≡ svg ++ texts (arrow_of shown column number before after)
@@ -165,12 +140,3 @@ pub bytes_pushed : (shown : List ℕ) (column node line : ℕ) (mask : Mask) (by
 bytes_pushed shown column node line mask bytes c what svg pushed is answered last =
     last ∙ ap (λ t. svg ++ t) (sym (texts-one (Bytes (row_of shown node) column bytes.bytes (places_in mask.0))))
     ∙ ap (λ (a : Said). svg ++ texts (bytes_of shown column (Write node line mask bytes) a)) (sym answered) ∙ ap (λ (b : Command). svg ++ texts (bytes_of shown column b what)) (sym is)
-
--- the words of a write behind its line
-pub written_pushed : (node line : ℕ) (mask : Mask) (bytes : Line64) (c : Command) (places text a b after : List ℕ) (first : ℕ) → c ≡ Write node line mask bytes → places ≡ places_in mask.0 → first ≡ get_or places 0 0
-    → a ≡ text ++ field (codes " ") first → b ≡ a ++ codes " " → after ≡ b ++ hex_of bytes.bytes places → after ≡ text ++ written_words c
-written_pushed node line mask bytes c places text a b after first is all at begins then last =
-    onward text (field (codes " ") first ++ codes " ") (hex_of bytes.bytes places) (onward text (field (codes " ") first) (codes " ") begins then) last
-    ∙ ap (λ n. text ++ (field (codes " ") n ++ codes " " ++ hex_of bytes.bytes places)) at
-    ∙ ap (λ ps. text ++ (field (codes " ") (get_or ps 0 0) ++ codes " " ++ hex_of bytes.bytes ps)) all
-    ∙ ap (λ (b : Command). text ++ written_words b) (sym is)

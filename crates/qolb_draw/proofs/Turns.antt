@@ -32,10 +32,11 @@ use Rattle.qolb_script.specs.declared.reply_text.Said.{Said}
 use Rattle.qolb_script.specs.declared.reply_text.Said.TheVariants as said
 use Rattle.qolb_script.specs.Commands.{node_of}
 use Rattle.qolb_script.specs.Reply.{is_queued, is_holding, said_of, after_command}
-use Rattle.qolb_draw.specs.declared.symbol.Change.{Change}
-use Rattle.qolb_draw.specs.Marks.{waiting_nodes}
+use Rattle.qolb_shapes.specs.declared.symbol.Change.{Change}
+use Rattle.qolb_draw.specs.Changes.{waiting_nodes}
 use Rattle.qolb_draw.specs.Following as following
 use Rattle.qolb_draw.specs.Following.{has_asked, after_ended, Follows}
+use Rattle.qolb_shapes.proofs.Bars.{or_none}
 
 -- these requests were made, and some more have ended
 pub record Grew (old new : Queue) (asked : List Request) : Type 0 where
@@ -138,10 +139,6 @@ AreDistinct (n ∷ rest) = (list_any (λ m. m == n) rest ≡ false) × AreDistin
 any_map : (p : ℕ → Bool) (ws : List Waiter) → list_any p (map (λ w. w.node) ws) ≡ list_any (λ w. p w.node) ws
 any_map p [] = refl
 any_map p (w ∷ ws) = ap (λ b. p w.node || b) (any_map p ws)
-
-pub or_none : (a b : Bool) → (a || b) ≡ false → (a ≡ false) × (b ≡ false)
-or_none false b h = (refl, h)
-or_none true b h = absurd (let not_so : true ≡ false = h in cc not_so)
 
 any_drop : (p : ℕ → Bool) (j : ℕ) (xs : List ℕ) → list_any p xs ≡ false → list_any p (drop j xs) ≡ false
 any_drop p zero xs h = h

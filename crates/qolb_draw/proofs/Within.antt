@@ -1,10 +1,10 @@
 -- The shapes of a timeline lie within it.
-use Rattle.std.proofs.Common.{◌≡◌, ℕ, zero, suc, ◌+◌, ◌-◌, ◌*◌, ◌/◌, ◌<◌, ◌≤◌, ◌==◌, ◌||◌, max, nat_lt, cond, Bool, true, false, List, [], ◌∷◌, ◌++◌, length, map, filter, flat_map, count_by, fold, get_or, slice_get, Option, Some, None, refl, sym, ap, ◌∙◌, subst, arith, All, eqb-true, eq-eqb}
+use Rattle.std.proofs.Common.{◌≡◌, ℕ, zero, suc, ◌+◌, ◌-◌, ◌*◌, ◌<◌, ◌≤◌, ◌==◌, ◌||◌, nat_lt, cond, Bool, true, false, List, [], ◌∷◌, ◌++◌, length, map, filter, flat_map, fold, get_or, slice_get, Option, Some, None, refl, sym, ap, ◌∙◌, subst, arith, All, eqb-true, eq-eqb}
 use Rattle.std.specs.List.{list_any, range_with_len}
-use Rattle.std.proofs.lemmas.Bool.{or_left, or_right}
+use Rattle.std.proofs.lemmas.Bool.{or_right}
 use Rattle.std.proofs.lemmas.Bool.Decides.{nat_tests}
 use Rattle.std.proofs.lemmas.List.{get_or-map, length-map}
-use Rattle.std.proofs.lemmas.List.Elements.{All-append, All-cons, All-drop, All-filter, All-head, All-map, All-nil, All-push, All-tail, All-weaker, filter_passes}
+use Rattle.std.proofs.lemmas.List.Elements.{All-append, All-cons, All-drop, All-head, All-map, All-nil, All-push, All-tail, All-weaker, filter_passes}
 use Rattle.std.proofs.lemmas.List.Folds.{list_any-append}
 use Rattle.std.proofs.lemmas.List.FromFn.{get_or-range_with_len, length-range_with_len}
 use Rattle.std.proofs.lemmas.List.Sums.{count_by-le-length, sum_by-cons}
@@ -14,22 +14,24 @@ use Rattle.qolb_model.specs.Histories.{open_of}
 use Rattle.qolb_model.specs.OneOwner.{OwnerState}
 use Rattle.qolb_model.specs.Requests.{next_of}
 use Rattle.qolb_script.specs.declared.command.Command.{Command}
-use Rattle.qolb_script.specs.declared.command.Command.TheVariants.{Enq, Write}
+use Rattle.qolb_script.specs.declared.command.Command.TheVariants.{Write}
 use Rattle.qolb_script.specs.declared.reply_text.Said.{Said}
 use Rattle.qolb_script.specs.declared.reply_text.Said.TheVariants as said
 use Rattle.qolb_script.specs.Commands.{line_of, node_of}
-use Rattle.qolb_script.specs.Reply.{after_command, no_line, said_of, config_of}
+use Rattle.qolb_script.specs.Reply.{after_command, said_of, config_of}
 use Rattle.qolb_script.specs.Script.{IsInRange, Script}
-use Rattle.qolb_draw.specs.declared.bar.Stand.{Stand}
-use Rattle.qolb_draw.specs.declared.bar.Stand.TheVariants as stand
-use Rattle.qolb_draw.specs.declared.event.Event.{Event}
-use Rattle.qolb_draw.specs.declared.timeline.TheConstants.{NAMED_EVERY}
+use Rattle.qolb_shapes.specs.declared.bar.Stand.{Stand}
+use Rattle.qolb_shapes.specs.declared.bar.Stand.TheVariants as stand
+use Rattle.qolb_shapes.specs.declared.event.Event.{Event}
+use Rattle.qolb_shapes.specs.declared.svg.TheConstants.{NAMED_EVERY}
 use Rattle.qolb_draw.specs.Following.{has_asked}
 use Rattle.qolb_draw.specs.Laws.{IsWithin, ShapesLieWithin, foot_of, right_of}
 use Rattle.qolb_draw.specs.LineRuns.{LineRun, Step, callers, event_of, run_of, run_start, run_step, steps_on}
-use Rattle.qolb_draw.specs.Marks.{turn_node, waiting_nodes}
-use Rattle.qolb_draw.specs.Svg.{columns_on, height_of, name_y, rows_on, top_of, widest, width_of, x_of, y_of}
-use Rattle.qolb_draw.specs.Timelines.{Arrow, Bar, Bytes, Call, Lane, Name, Number, Shape, arrow_of, bar_of, bars_from, bytes_of, column_shapes, columns_of, is_same, name_count, names_of, no_event, places_in, row_of, row_shapes, stands_of, timeline_of}
+use Rattle.qolb_draw.specs.Changes.{turn_node, waiting_nodes}
+use Rattle.qolb_draw.specs.Svg.{top_of, widest}
+use Rattle.qolb_shapes.specs.Svg.{height_of, name_y, width_of, y_of}
+use Rattle.qolb_shapes.specs.Shapes.{Arrow, Bar, Bytes, Call, Lane, Name, Number, Shape, is_same, name_count, places_in}
+use Rattle.qolb_draw.specs.Timelines.{arrow_of, bar_of, bars_from, bytes_of, column_shapes, columns_of, names_of, no_event, row_of, row_shapes, stands_of, timeline_of}
 use Rattle.qolb_draw.proofs.Outs.{no_step, top_more, widest_more}
 use Rattle.qolb_draw.proofs.SameRuns.{run_by, stepped}
 use Rattle.qolb_draw.proofs.Turns.{asked_if, grew}

@@ -7,7 +7,7 @@ use Rattle.qolb_model.specs.Plain.{PlainView, node_state, Agrees}
 use Rattle.qolb_model.specs.OneOwner.{OwnerState}
 use Rattle.qolb_script.specs.declared.reply_text.Said.{Said}
 use Rattle.qolb_script.specs.declared.reply_text.Said.TheVariants as said
-use Rattle.qolb_draw.specs.Marks.{waiting_nodes}
+use Rattle.qolb_draw.specs.Changes.{waiting_nodes}
 
 -- answers to a node that has made a request
 abbrev pub has_asked : Said → Bool

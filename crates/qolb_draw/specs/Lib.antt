@@ -1,4 +1,4 @@
-pub mod Marks
+pub mod Changes
 pub mod LineRuns
 pub mod Pictures
 pub mod Timelines

@@ -1,17 +1,18 @@
 -- The picture of a schedule as plain text: for each line, blocks of commands with a row of marks for each node that calls; and in
 -- either form. (Of this project.)
-use Rattle.std.specs.Prelude.{◌≡◌, ℕ, ◌+◌, ◌-◌, ◌≤◌, ◌*◌, ◌/◌, ◌%◌, nat_lt, nat_le, if◌then◌else◌, List, [], ◌∷◌, ◌++◌, length, map, filter, flat_map, take, drop, replicate, codes, Result, Ok, Err}
-use Rattle.std.specs.List.{range_with_len, slice_index_or}
+use Rattle.std.specs.Prelude.{◌≡◌, ℕ, ◌+◌, ◌-◌, ◌≤◌, ◌*◌, ◌/◌, List, [], ◌∷◌, ◌++◌, length, map, flat_map, take, drop, replicate, codes, Result, Ok, Err}
+use Rattle.std.specs.List.{range_with_len}
 use Rattle.qolb_replay.specs.declared.input.TheConstants.{MAX_BYTES}
 use Rattle.qolb_script.specs.declared.error.ScriptError.{ScriptError}
 use Rattle.qolb_script.specs.Script.{Script, script_of}
-use Rattle.qolb_draw.specs.declared.draw.Form.{Form}
-use Rattle.qolb_draw.specs.declared.draw.Form.TheVariants as form
-use Rattle.qolb_draw.specs.declared.symbol.Symbol.{Symbol}
-use Rattle.qolb_draw.specs.declared.symbol.Symbol.TheVariants as symbol
+use Rattle.qolb_shapes.specs.declared.form.Form.{Form}
+use Rattle.qolb_shapes.specs.declared.form.Form.TheVariants as form
+use Rattle.qolb_shapes.specs.declared.symbol.Symbol.{Symbol}
+use Rattle.qolb_shapes.specs.declared.symbol.Symbol.TheVariants as symbol
 use Rattle.qolb_draw.specs.declared.text.TheConstants.{COLUMNS}
 use Rattle.qolb_draw.specs.Svg.{svg_of}
 use Rattle.qolb_draw.specs.LineRuns.{Step, mark_at, steps_on, callers}
+use Rattle.qolb_shapes.specs.Heads.{digit_at, heads_text}
 
 -- the letter of each mark
 abbrev pub letter_of : Symbol → ℕ
@@ -24,22 +25,6 @@ letter_of symbol.Shut = 45
 letter_of symbol.Told = 99
 letter_of symbol.Gives = 62
 letter_of symbol.Takes = 60
-
--- the digit of a number at a place of this value; a space if the number has none there
-abbrev pub digit_at : ℕ → ℕ → ℕ
-digit_at value n = if nat_lt n value then 32 else 48 + n / value % 10
-
--- a row of digits, at one place of each number, behind a margin
-abbrev pub head_text : List ℕ → List ℕ → ℕ → List ℕ
-head_text margin numbers value = margin ++ map (digit_at value) numbers ++ 10 ∷ []
-
--- the values of the places that a number has, of at most six
-abbrev pub places_of : ℕ → List ℕ
-places_of n = filter (λ value. nat_le value n) (100000 ∷ 10000 ∷ 1000 ∷ 100 ∷ 10 ∷ 1 ∷ [])
-
--- some numbers, digit below digit; the last is the greatest
-abbrev pub heads_text : List ℕ → List ℕ → List ℕ
-heads_text margin numbers = flat_map (head_text margin numbers) (places_of (slice_index_or numbers (length numbers - 1) 0))
 
 -- a node's row: its number, in three places, and its mark after each command
 abbrev pub label_of : ℕ → List ℕ

@@ -7,22 +7,13 @@ ghost use Rattle.qolb_draw.specs.Pictures.{picture_of, in_form, IsPicture};
 ghost use Rattle.qolb_draw.specs.Svg.{svg_of};
 
 use crate::grid::draw_line;
-use crate::svg;
 use crate::text::{LEGEND, push_line};
 use crate::timeline::push_timeline;
 use qolb_replay::{ReplayError, read_input};
 use qolb_script::{Schedule, ScriptError, Watched, read_schedule};
+use qolb_shapes::{Form, svg};
 use std::alloc::{AllocError, Allocator};
 use std::io::{Read, Write};
-
-/// The form of a picture.
-#[derive(Clone, Copy, Debug, PartialEq, Eq)]
-pub enum Form {
-    /// Plain text.
-    Text,
-    /// A timeline as an SVG.
-    Svg,
-}
 
 /// Draws the schedule that the reader gives, and writes its picture in this form. The states are those of a replay by plain lines.
 ///
@@ -34,9 +25,13 @@ pub fn draw_schedule<A: Allocator, R: Read, W: Write>(
     writer: &mut Watched<W>,
     form: Form,
 ) -> Result<(), ReplayError>
-    ensures ok { OnOk result (IfSome (R.remaining (inner_of reader.old)) (λ input. (text : List ℕ) × IsPicture form input text × Appends (W.contents (inner_of writer.old)) (W.contents (inner_of writer.new)) text)) }
-    ensures refused { IfErr result (λ error. IfSome (R.remaining (inner_of reader.old)) (λ input. ReplayMayFail input error)) }
-    ensures unwritten { IfErr result (λ error. error ≢ ReplayError.Write → writer.new ≡ writer.old) }
+    ensures ok { OnOk result (IfSome (R.remaining (inner_of reader.old)) (λ input.
+        (text : List ℕ) × IsPicture form input text
+        × Appends (W.contents (inner_of writer.old)) (W.contents (inner_of writer.new)) text)) }
+    ensures refused { IfErr result (λ error.
+        IfSome (R.remaining (inner_of reader.old)) (λ input. ReplayMayFail input error)) }
+    ensures unwritten { IfErr result (λ error. error ≢ ReplayError.Write
+        → writer.new ≡ writer.old) }
     ensures read_fault { (result ≡ Err ReplayError.Read) ↔ (has_failed reader.new ≡ true) }
     ensures write_fault { result ≡ Err ReplayError.Write → has_failed writer.new ≡ true }
     ensures written { OnOk result (has_failed writer.new ≡ false) }

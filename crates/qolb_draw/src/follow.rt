@@ -5,11 +5,11 @@ ghost use Rattle.qolb_script.specs.Commands.{node_of};
 ghost use Rattle.qolb_script.specs.Reply as reply;
 ghost use Rattle.qolb_draw.specs.Following as spec;
 
-use crate::symbol::Change;
 use link_core::Told;
 use qolb_model::{Enq, Out, PlainLine, Poll, PortState};
 use qolb_replay::ReplayLine;
 use qolb_script::{Command, Said};
+use qolb_shapes::Change;
 use std::alloc::{AllocError, Allocator};
 
 /// A plain line, with the nodes whose requests have no end yet, oldest first.
@@ -23,7 +23,7 @@ impl<A: Allocator> TracedLine<A> {
     ghost use Rattle.qolb_model.specs.OneOwner.{OwnerState};
     ghost use Rattle.qolb_script.specs.Commands.{node_of};
     ghost use Rattle.qolb_script.specs.Reply.{after_command};
-    ghost use Rattle.qolb_draw.specs.Marks.{change_of};
+    ghost use Rattle.qolb_draw.specs.Changes.{change_of};
     ghost use Rattle.qolb_draw.specs.Following.{Follows};
 
     /// Wraps a line that was just opened.
@@ -41,8 +41,11 @@ impl<A: Allocator> TracedLine<A> {
     pub fn take(&mut self, command: &Command) -> Result<Change, AllocError>
         requires first { 1 ≤ node_of command.now }
         requires last { node_of command.now ≤ self.old.line.nodes }
-        ensures change { IfOk result (λ change. (s : OwnerState) → Follows self.old.line self.old.waiting.items s → change ≡ change_of s command.now) }
-        ensures follows { IfOk result (λ change. (s : OwnerState) → Follows self.old.line self.old.waiting.items s → Follows self.new.line self.new.waiting.items (after_command s command.now)) }
+        ensures change { IfOk result (λ change. (s : OwnerState)
+            → Follows self.old.line self.old.waiting.items s → change ≡ change_of s command.now) }
+        ensures follows { IfOk result (λ change. (s : OwnerState)
+            → Follows self.old.line self.old.waiting.items s
+            → Follows self.new.line self.new.waiting.items (after_command s command.now)) }
         ensures nodes { self.new.line.nodes ≡ self.old.line.nodes }
     {
         let before = self.waiting.first().copied();

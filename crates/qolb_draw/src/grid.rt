@@ -5,12 +5,11 @@ ghost use Rattle.qolb_script.specs.declared.schedule.TheConstants.{MAX_COMMANDS}
 ghost use Rattle.qolb_draw.specs.LineRuns.{steps_on};
 ghost use Rattle.qolb_draw.specs.Grids.{IsGrid, column_out_of};
 
-use crate::event::Event;
 use crate::follow::TracedLine;
-use crate::symbol::{Change, Symbol};
 use line_lanes::Line64;
 use qolb_model::{LineConfig, PlainLine};
 use qolb_script::Schedule;
+use qolb_shapes::{Change, Event, Symbol};
 use std::alloc::{AllocError, Allocator};
 
 /// The marks of a line's nodes after each command on it.
@@ -49,10 +48,14 @@ impl<A: Allocator + Copy> Grid<A> {
     fn push(&mut self, event: &Event, line: &PlainLine) -> Result<(), AllocError>
         requires { self.old.nodes ≤ MAX_NODES }
         ensures nodes { self.new.nodes ≡ self.old.nodes }
-        ensures numbers { OnOk result (self.new.numbers.items ≡ self.old.numbers.items ++ event.now.number ∷ []) }
-        ensures callers { OnOk result (self.new.callers.items ≡ self.old.callers.items ++ event.now.change.node ∷ []) }
-        ensures events { OnOk result (self.new.events.items ≡ self.old.events.items ++ event.now ∷ []) }
-        ensures marks { OnOk result (self.new.marks.items ≡ self.old.marks.items ++ column_out_of line.now event.now.change self.old.nodes) }
+        ensures numbers { OnOk result (self.new.numbers.items
+            ≡ self.old.numbers.items ++ event.now.number ∷ []) }
+        ensures callers { OnOk result (self.new.callers.items
+            ≡ self.old.callers.items ++ event.now.change.node ∷ []) }
+        ensures events { OnOk result (self.new.events.items
+            ≡ self.old.events.items ++ event.now ∷ []) }
+        ensures marks { OnOk result (self.new.marks.items
+            ≡ self.old.marks.items ++ column_out_of line.now event.now.change self.old.nodes) }
     {
         self.numbers.push(event.number)?;
         self.callers.push(event.change.node)?;
@@ -70,7 +73,8 @@ fn push_column<A: Allocator>(
     nodes: u64,
 ) -> Result<(), AllocError>
     requires { nodes ≤ MAX_NODES }
-    ensures { OnOk result (marks.new.items ≡ marks.old.items ++ column_out_of line.now change.now nodes) }
+    ensures { OnOk result (marks.new.items ≡ marks.old.items
+        ++ column_out_of line.now change.now nodes) }
 {
     for before in 0..nodes {
         let node = before + 1;
@@ -86,9 +90,13 @@ pub fn draw_line<A: Allocator + Copy>(
     number: u64,
 ) -> Result<Grid<A>, AllocError>
     requires { number < schedule.now.lines }
-    ensures grid { IfOk result (λ grid. IsGrid schedule.now.nodes (steps_on number schedule.now) grid.nodes grid.numbers.items grid.callers.items grid.events.items grid.marks.items) }
+    ensures grid { IfOk result (λ grid.
+        IsGrid schedule.now.nodes
+        (steps_on number schedule.now) grid.nodes grid.numbers.items grid.callers.items
+        grid.events.items grid.marks.items) }
     ensures nodes { IfOk result (λ grid. grid.nodes ≤ MAX_NODES) }
-    ensures size { IfOk result (λ grid. length grid.marks.items ≡ length grid.numbers.items * grid.nodes) }
+    ensures size { IfOk result (λ grid. length grid.marks.items
+        ≡ length grid.numbers.items * grid.nodes) }
     ensures few { IfOk result (λ grid. length grid.numbers.items ≤ MAX_COMMANDS) }
 {
     let Ok(line) = PlainLine::with_config(LineConfig {

@@ -5,8 +5,8 @@ ghost use Rattle.qolb_draw.specs.Pictures as spec;
 ghost use Rattle.qolb_draw.specs.Grids.{row_out_of, block_out_of, blocks_out_of, shown_out_of, line_out_of};
 
 use crate::grid::Grid;
-use crate::symbol::Symbol;
 use qolb_model::MAX_NODES;
+use qolb_shapes::{Symbol, digit_at, push_heads};
 use std::alloc::{AllocError, Allocator};
 
 /// The largest number of commands of a block.
@@ -14,9 +14,6 @@ pub const COLUMNS: usize = 70;
 
 /// As many spaces as the label of a row has characters.
 const MARGIN: &[u8] = b"         ";
-
-/// The values of the places of a number.
-const PLACES: [u64; 6] = [100_000, 10_000, 1000, 100, 10, 1];
 
 /// The legend of the letters.
 pub const LEGEND: &[u8] =
@@ -37,53 +34,6 @@ fn letter(mark: Symbol) -> u8
         Symbol::Gives => b'>',
         Symbol::Takes => b'<',
     }
-}
-
-/// Returns the digit of a number at a place of this value, or a space.
-fn digit_at(value: u64, number: u64) -> u8
-    requires { 1 ≤ value }
-    ensures { result ≡ spec.digit_at value number }
-{
-    if number < value {
-        b' '
-    } else {
-        b'0' + (number / value % 10) as u8
-    }
-}
-
-/// Appends a row of digits, at one place of each number, behind a margin.
-fn push_head<A: Allocator>(
-    text: &mut Vec<u8, A>,
-    margin: &[u8],
-    numbers: &[u64],
-    value: u64,
-) -> Result<(), AllocError>
-    requires { 1 ≤ value }
-    ensures { OnOk result (text.new.items ≡ text.old.items ++ spec.head_text margin.now numbers.now value) }
-{
-    text.extend_from_slice(margin)?;
-    for number in numbers {
-        text.push(digit_at(value, *number))?;
-    }
-    text.push(b'\n')?;
-    Ok(())
-}
-
-/// Appends some numbers, digit below digit, behind a margin. The last is the greatest.
-pub fn push_heads<A: Allocator>(
-    text: &mut Vec<u8, A>,
-    margin: &[u8],
-    numbers: &[u64],
-) -> Result<(), AllocError>
-    ensures { OnOk result (text.new.items ≡ text.old.items ++ spec.heads_text margin.now numbers.now) }
-{
-    let last = numbers.last().copied().unwrap_or(0);
-    for value in PLACES.iter() {
-        if *value <= last {
-            push_head(text, margin, numbers, *value)?;
-        }
-    }
-    Ok(())
 }
 
 /// Appends the label of a node's row.
@@ -110,7 +60,8 @@ fn push_row<A: Allocator>(
     requires size { length grid.now.marks.items ≡ length grid.now.numbers.items * grid.now.nodes }
     requires ordered { start ≤ end }
     requires within { end ≤ length grid.now.numbers.items }
-    ensures { OnOk result (text.new.items ≡ text.old.items ++ row_out_of grid.now.nodes grid.now.marks.items start (end - start) node) }
+    ensures { OnOk result (text.new.items ≡ text.old.items
+        ++ row_out_of grid.now.nodes grid.now.marks.items start (end - start) node) }
 {
     push_label(text, node)?;
     let nodes = grid.nodes as usize;
@@ -133,7 +84,9 @@ fn push_block<A: Allocator>(
     requires size { length grid.now.marks.items ≡ length grid.now.numbers.items * grid.now.nodes }
     requires ordered { start ≤ end }
     requires within { end ≤ length grid.now.numbers.items }
-    ensures { OnOk result (text.new.items ≡ text.old.items ++ block_out_of grid.now.nodes grid.now.marks.items grid.now.numbers.items shown.now start (end - start)) }
+    ensures { OnOk result (text.new.items ≡ text.old.items
+        ++ block_out_of grid.now.nodes grid.now.marks.items grid.now.numbers.items shown.now start
+        (end - start)) }
 {
     text.push(b'\n')?;
     push_heads(text, MARGIN, &grid.numbers[start..end])?;
@@ -152,7 +105,8 @@ fn push_blocks<A: Allocator>(
     requires nodes { All (λ n. (1 ≤ n) × (n ≤ grid.now.nodes)) shown.now }
     requires size { length grid.now.marks.items ≡ length grid.now.numbers.items * grid.now.nodes }
     requires few { length grid.now.numbers.items ≤ MAX_COMMANDS }
-    ensures { OnOk result (text.new.items ≡ text.old.items ++ blocks_out_of grid.now.nodes grid.now.marks.items grid.now.numbers.items shown.now) }
+    ensures { OnOk result (text.new.items ≡ text.old.items
+        ++ blocks_out_of grid.now.nodes grid.now.marks.items grid.now.numbers.items shown.now) }
 {
     let count = grid.numbers.len();
     for block in 0..(count + (COLUMNS - 1)) / COLUMNS {
@@ -165,7 +119,8 @@ fn push_blocks<A: Allocator>(
 /// Returns the nodes that called, in order.
 pub fn shown<A: Allocator + Copy>(alloc: A, grid: &Grid<A>) -> Result<Vec<u64, A>, AllocError>
     requires { grid.now.nodes ≤ MAX_NODES }
-    ensures { IfOk result (λ nodes. nodes.items ≡ shown_out_of grid.now.nodes grid.now.callers.items) }
+    ensures { IfOk result (λ nodes.
+        nodes.items ≡ shown_out_of grid.now.nodes grid.now.callers.items) }
 {
     let mut nodes = Vec::new(alloc);
     for before in 0..grid.nodes {
@@ -188,7 +143,9 @@ pub fn push_line<A: Allocator + Copy>(
     requires nodes { grid.now.nodes ≤ MAX_NODES }
     requires size { length grid.now.marks.items ≡ length grid.now.numbers.items * grid.now.nodes }
     requires few { length grid.now.numbers.items ≤ MAX_COMMANDS }
-    ensures { OnOk result (text.new.items ≡ text.old.items ++ line_out_of number grid.now.nodes grid.now.numbers.items grid.now.callers.items grid.now.marks.items) }
+    ensures { OnOk result (text.new.items ≡ text.old.items
+        ++ line_out_of number grid.now.nodes grid.now.numbers.items grid.now.callers.items
+        grid.now.marks.items) }
 {
     let nodes = shown(alloc, grid)?;
     text.extend_from_slice(b"line ")?;

@@ -3,23 +3,19 @@ ghost use Rattle.std.specs.Prelude.{◌≡◌, ◌++◌, ◌≤◌, ◌<◌, ◌
 ghost use Rattle.std.specs.List.{range_with_len, slice_index_or};
 ghost use Rattle.qolb_model.specs.declared.config.TheConstants.{MAX_NODES};
 ghost use Rattle.qolb_script.specs.declared.schedule.TheConstants.{MAX_COMMANDS, MAX_LINES};
-ghost use Rattle.qolb_draw.specs.Svg.{texts};
+ghost use Rattle.qolb_shapes.specs.Svg.{texts};
 ghost use Rattle.qolb_draw.specs.Grids.{row_shapes_out_of, bars_out_of, shown_out_of, line_svg_out_of};
 ghost use Rattle.qolb_draw.specs.Timelines as spec;
 
-use crate::bar::Stand;
-use crate::call::places;
-use crate::event::Event;
 use crate::grid::Grid;
-use crate::svg::{
-    push_arrow, push_bar, push_bytes, push_call, push_lane, push_line_begin, push_name, push_number,
-};
 use crate::text::shown;
 use qolb_script::{Command, Said};
+use qolb_shapes::svg::{
+    NAMED_EVERY, push_arrow, push_bar, push_bytes, push_call, push_lane, push_line_begin,
+    push_name, push_number,
+};
+use qolb_shapes::{Event, Stand, places};
 use std::alloc::{AllocError, Allocator};
-
-/// The number of columns after which the name of a node is repeated.
-pub const NAMED_EVERY: usize = 20;
 
 /// Returns the row of a node: the number of shown nodes before it.
 fn row_of(shown: &[u64], node: u64) -> u8
@@ -39,7 +35,8 @@ fn push_stand<A: Allocator>(
     node: u64,
 ) -> Result<(), AllocError>
     requires { start ≤ end }
-    ensures { OnOk result (svg.new.items ≡ svg.old.items ++ texts (spec.bar_of row start end stand node)) }
+    ensures { OnOk result (svg.new.items ≡ svg.old.items
+        ++ texts (spec.bar_of row start end stand node)) }
 {
     if stand != Stand::Away {
         push_bar(svg, row, start, end, stand, node)?;
@@ -58,7 +55,9 @@ fn push_bars<A: Allocator>(
     requires last { node ≤ grid.now.nodes }
     requires size { length grid.now.marks.items ≡ length grid.now.numbers.items * grid.now.nodes }
     requires few { length grid.now.numbers.items ≤ MAX_COMMANDS }
-    ensures { OnOk result (svg.new.items ≡ svg.old.items ++ texts (bars_out_of grid.now.nodes grid.now.marks.items (length grid.now.numbers.items) row node)) }
+    ensures { OnOk result (svg.new.items ≡ svg.old.items
+        ++ texts (bars_out_of grid.now.nodes grid.now.marks.items
+        (length grid.now.numbers.items) row node)) }
 {
     let nodes = grid.nodes as usize;
     let end = grid.numbers.len();
@@ -84,7 +83,8 @@ fn push_names<A: Allocator>(
     node: u64,
 ) -> Result<(), AllocError>
     requires { columns ≤ MAX_COMMANDS }
-    ensures { OnOk result (svg.new.items ≡ svg.old.items ++ texts (spec.names_of row columns node)) }
+    ensures { OnOk result (svg.new.items ≡ svg.old.items
+        ++ texts (spec.names_of row columns node)) }
 {
     for count in 0..(columns + (NAMED_EVERY - 1)) / NAMED_EVERY {
         push_name(svg, row, (NAMED_EVERY * count) as u32, node)?;
@@ -104,7 +104,9 @@ fn push_row<A: Allocator>(
     requires last { node ≤ grid.now.nodes }
     requires size { length grid.now.marks.items ≡ length grid.now.numbers.items * grid.now.nodes }
     requires few { length grid.now.numbers.items ≤ MAX_COMMANDS }
-    ensures { OnOk result (svg.new.items ≡ svg.old.items ++ texts (row_shapes_out_of shown.now grid.now.nodes grid.now.marks.items (length grid.now.numbers.items) node)) }
+    ensures { OnOk result (svg.new.items ≡ svg.old.items
+        ++ texts (row_shapes_out_of shown.now grid.now.nodes grid.now.marks.items
+        (length grid.now.numbers.items) node)) }
 {
     let row = row_of(shown, node);
     let columns = grid.numbers.len();
@@ -122,7 +124,10 @@ fn push_handoff<A: Allocator>(
     event: &Event,
 ) -> Result<(), AllocError>
     requires { length shown.now ≤ MAX_NODES }
-    ensures { OnOk result (svg.new.items ≡ svg.old.items ++ texts (spec.arrow_of shown.now column event.now.number event.now.change.before event.now.change.after)) }
+    ensures { OnOk result (svg.new.items ≡ svg.old.items
+        ++ texts
+        (spec.arrow_of shown.now column event.now.number event.now.change.before
+        event.now.change.after)) }
 {
     if let (Some(from), Some(to)) = (event.change.before, event.change.after) {
         if from != to {
@@ -143,7 +148,8 @@ fn push_written<A: Allocator + Copy>(
     event: &Event,
 ) -> Result<(), AllocError>
     requires { length shown.now ≤ MAX_NODES }
-    ensures { OnOk result (svg.new.items ≡ svg.old.items ++ texts (spec.bytes_of shown.now column event.now.command event.now.change.said)) }
+    ensures { OnOk result (svg.new.items ≡ svg.old.items
+        ++ texts (spec.bytes_of shown.now column event.now.command event.now.change.said)) }
 {
     if let (
         Command::Write {
@@ -170,7 +176,8 @@ fn push_column<A: Allocator + Copy>(
     event: &Event,
 ) -> Result<(), AllocError>
     requires { length shown.now ≤ MAX_NODES }
-    ensures { OnOk result (svg.new.items ≡ svg.old.items ++ texts (spec.column_shapes shown.now column event.now)) }
+    ensures { OnOk result (svg.new.items ≡ svg.old.items
+        ++ texts (spec.column_shapes shown.now column event.now)) }
 {
     push_number(svg, column, event.number)?;
     push_handoff(svg, shown, column, event)?;
@@ -189,7 +196,10 @@ fn push_rows<A: Allocator>(
     requires nodes { All (λ n. (1 ≤ n) × (n ≤ grid.now.nodes)) shown.now }
     requires size { length grid.now.marks.items ≡ length grid.now.numbers.items * grid.now.nodes }
     requires few { length grid.now.numbers.items ≤ MAX_COMMANDS }
-    ensures { OnOk result (svg.new.items ≡ svg.old.items ++ flat_map (λ n. texts (row_shapes_out_of shown.now grid.now.nodes grid.now.marks.items (length grid.now.numbers.items) n)) shown.now) }
+    ensures { OnOk result (svg.new.items ≡ svg.old.items
+        ++ flat_map (λ n.
+        texts (row_shapes_out_of shown.now grid.now.nodes grid.now.marks.items
+        (length grid.now.numbers.items) n)) shown.now) }
 {
     for node in shown {
         push_row(svg, grid, shown, *node)?;
@@ -206,7 +216,10 @@ fn push_columns<A: Allocator + Copy>(
 ) -> Result<(), AllocError>
     requires shown { length shown.now ≤ MAX_NODES }
     requires few { length events.now ≤ MAX_COMMANDS }
-    ensures { OnOk result (svg.new.items ≡ svg.old.items ++ flat_map (λ k. texts (spec.column_shapes shown.now k (slice_index_or events.now k spec.no_event))) (range_with_len 0 (length events.now))) }
+    ensures { OnOk result (svg.new.items ≡ svg.old.items
+        ++ flat_map (λ k.
+        texts (spec.column_shapes shown.now k (slice_index_or events.now k spec.no_event)))
+        (range_with_len 0 (length events.now))) }
 {
     for column in 0..events.len() {
         push_column(alloc, svg, shown, column as u32, &events[column])?;
@@ -226,8 +239,12 @@ pub fn push_timeline<A: Allocator + Copy>(
     requires size { length grid.now.marks.items ≡ length grid.now.numbers.items * grid.now.nodes }
     requires few { length grid.now.numbers.items ≤ MAX_COMMANDS }
     requires events { length grid.now.events.items ≤ MAX_COMMANDS }
-    ensures svg { OnOk result (svg.new.items ≡ svg.old.items ++ line_svg_out_of top number grid.now.nodes (length grid.now.numbers.items) grid.now.callers.items grid.now.events.items grid.now.marks.items) }
-    ensures rows { IfOk result (λ rows. rows ≡ length (shown_out_of grid.now.nodes grid.now.callers.items)) }
+    ensures svg { OnOk result (svg.new.items ≡ svg.old.items
+        ++ line_svg_out_of top number grid.now.nodes
+        (length grid.now.numbers.items) grid.now.callers.items grid.now.events.items
+        grid.now.marks.items) }
+    ensures rows { IfOk result (λ rows.
+        rows ≡ length (shown_out_of grid.now.nodes grid.now.callers.items)) }
     ensures few { IfOk result (λ rows. rows ≤ MAX_NODES) }
 {
     let nodes = shown(alloc, grid)?;

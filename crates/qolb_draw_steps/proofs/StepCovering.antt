@@ -15,12 +15,12 @@ use Rattle.link_core.specs.Steps.{Step, closed_by, node_of}
 use Rattle.link_core.specs.Steps as row
 use Rattle.qolb_replay.specs.StepRuns.{line_of}
 use Rattle.qolb_script.specs.StepScript.{StepScript}
-use Rattle.qolb_draw.specs.declared.timeline.TheConstants.{NAMED_EVERY}
+use Rattle.qolb_shapes.specs.declared.svg.TheConstants.{NAMED_EVERY}
 use Rattle.qolb_draw_steps.specs.StepLaws.{BarsCoverPoints, has_acted, point_over, points_over}
 use Rattle.qolb_draw_steps.specs.StepShapes.{StepShape, Lane, Name, Number, At, Lies, Home, Word, Act, Seen, Watches, nothing, made, refused, entries_of, event_shapes, home_shapes, is_same_entry, lane_shapes, rows_shapes, seen_shapes, step_timeline, until, word_shapes, words_shapes}
-use Rattle.qolb_draw.specs.Timelines.{name_count}
-use Rattle.qolb_draw.proofs.Covering.{and_false, is_over, no_more, not_yet, over}
-use Rattle.qolb_draw.proofs.Turns.{or_none}
+use Rattle.qolb_shapes.specs.Shapes.{name_count}
+use Rattle.qolb_shapes.proofs.Bars.{and_false, is_over, no_more, not_yet, over}
+use Rattle.qolb_shapes.proofs.Bars.{or_none}
 use Rattle.qolb_draw_steps.proofs.Watching.{seen_by}
 
 -- an event leaves the points of other nodes

@@ -17,12 +17,12 @@ use Rattle.link_core.proofs.Steady.{first_sound, step_sound}
 use Rattle.qolb_model.specs.declared.config.TheConstants.{MAX_NODES}
 use Rattle.qolb_replay.specs.StepRuns.{line_of}
 use Rattle.qolb_script.specs.StepScript.{IsOfItsNodes, StepScript}
-use Rattle.qolb_draw.specs.declared.timeline.TheConstants.{NAMED_EVERY}
+use Rattle.qolb_shapes.specs.declared.svg.TheConstants.{NAMED_EVERY}
 use Rattle.qolb_draw_steps.specs.StepLaws.{IsWithinSteps, StepShapesLieWithin, step_foot_of, step_right_of}
 use Rattle.qolb_draw_steps.specs.StepShapes.{StepShape, Lane, Name, Number, At, Home, Word, Act, Seen, Watches, nothing, made, refused, entries_of, event_shapes, home_shapes, is_same_entry, lane_shapes, rows_shapes, seen_shapes, step_timeline, until, word_shapes, words_shapes}
 use Rattle.qolb_draw_steps.specs.StepShapes as shape
 use Rattle.qolb_draw_steps.specs.StepSvg.{row_name_y, row_of_place, step_x, step_y}
-use Rattle.qolb_draw.specs.Timelines.{name_count}
+use Rattle.qolb_shapes.specs.Shapes.{name_count}
 use Rattle.qolb_draw_steps.proofs.StepCovering.{Chained, chained}
 use Rattle.qolb_draw_steps.proofs.Watching.{seen_by}
 

@@ -8,13 +8,13 @@ use Rattle.link_core.specs.State.{first, point}
 use Rattle.qolb_replay.specs.declared.input.TheConstants.{MAX_BYTES}
 use Rattle.qolb_replay.specs.StepRuns.{line_of}
 use Rattle.qolb_script.specs.StepScript.{StepScript, steps_of}
-use Rattle.qolb_draw.specs.declared.draw.Form.{Form}
-use Rattle.qolb_draw.specs.declared.draw.Form.TheVariants as form
+use Rattle.qolb_shapes.specs.declared.form.Form.{Form}
+use Rattle.qolb_shapes.specs.declared.form.Form.TheVariants as form
 use Rattle.qolb_draw_steps.specs.declared.step_text.TheConstants.{LETTERS}
 use Rattle.qolb_draw_steps.specs.declared.step_svg.TheConstants.{STEPS_LEGEND}
-use Rattle.qolb_draw.specs.declared.svg.TheConstants.{TAIL}
-use Rattle.qolb_draw.specs.Pictures.{heads_text}
-use Rattle.qolb_draw.specs.Svg.{svg_head}
+use Rattle.qolb_shapes.specs.declared.svg.TheConstants.{TAIL}
+use Rattle.qolb_shapes.specs.Heads.{heads_text}
+use Rattle.qolb_shapes.specs.Svg.{svg_head}
 use Rattle.qolb_draw_steps.specs.StepShapes.{Seen, Watches, step_timeline}
 use Rattle.qolb_draw_steps.specs.StepSvg.{place_words, step_texts, step_x, step_y, told_words}
 

@@ -13,8 +13,8 @@ use Rattle.link_core.specs.declared.told.NotEnabled.{NotEnabled}
 use Rattle.link_core.specs.State.{empty, entry, point}
 use Rattle.link_core.specs.Steps.{Step, IsRefused, node_of}
 use Rattle.qolb_script.specs.StepScript.{StepScript}
-use Rattle.qolb_draw.specs.declared.timeline.TheConstants.{NAMED_EVERY}
-use Rattle.qolb_draw.specs.Timelines.{name_count}
+use Rattle.qolb_shapes.specs.declared.svg.TheConstants.{NAMED_EVERY}
+use Rattle.qolb_shapes.specs.Shapes.{name_count}
 
 -- an event, what it told if it was enabled, and the core before and after
 pub record Seen : Type 0 where

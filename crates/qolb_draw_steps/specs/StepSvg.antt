@@ -14,7 +14,7 @@ use Rattle.qolb_model.specs.declared.config.TheConstants.{MAX_NODES}
 use Rattle.qolb_script.specs.declared.command.Command.TheVariants.{Write}
 use Rattle.qolb_script.specs.Said.{said_words}
 use Rattle.qolb_script.specs.StepReply.{step_said}
-use Rattle.qolb_draw.specs.Svg.{field, written_words}
+use Rattle.qolb_shapes.specs.Svg.{field, written_words}
 use Rattle.qolb_draw_steps.specs.StepShapes.{StepShape, Lane, Name, Number, At, Lies, Home, Word, Act}
 
 -- the place of an event, from the left; the middle of a row, from the top

@@ -64,7 +64,8 @@ fn push_other_home<A: Allocator>(
     was: u64,
     is: u64,
 ) -> Result<(), AllocError>
-    ensures { OnOk result (svg.new.items ≡ svg.old.items ++ step_texts (spec.home_shapes column was is)) }
+    ensures { OnOk result (svg.new.items ≡ svg.old.items
+        ++ step_texts (spec.home_shapes column was is)) }
 {
     if is != was {
         push_home(svg, column, is)?;
@@ -81,7 +82,8 @@ fn push_other_word<A: Allocator>(
     is: &Entry,
 ) -> Result<(), AllocError>
     requires { node ≤ MAX_NODES }
-    ensures { OnOk result (svg.new.items ≡ svg.old.items ++ step_texts (spec.word_shapes column node was.now is.now)) }
+    ensures { OnOk result (svg.new.items ≡ svg.old.items
+        ++ step_texts (spec.word_shapes column node was.now is.now)) }
 {
     if is != was {
         push_word(svg, column, node, is)?;
@@ -98,7 +100,8 @@ fn push_other_words<A: Allocator>(
 ) -> Result<(), AllocError>
     requires nodes { core.now.nodes ≤ MAX_NODES }
     requires size { length were.now ≡ core.now.nodes }
-    ensures { OnOk result (svg.new.items ≡ svg.old.items ++ step_texts (spec.words_shapes column were.now core.now)) }
+    ensures { OnOk result (svg.new.items ≡ svg.old.items
+        ++ step_texts (spec.words_shapes column were.now core.now)) }
 {
     for before in 0..core.nodes() {
         let entry = core.entry(before + 1);
@@ -123,7 +126,15 @@ pub fn push_event_shapes<A: Allocator>(
     requires size { length words.now.entries.items ≡ core.now.nodes }
     requires column { column ≤ MAX_COMMANDS }
     requires rest { length rest.now ≤ MAX_COMMANDS }
-    ensures { OnOk result ((s : State) → words.now.home ≡ s.home → words.now.entries.items ≡ spec.entries_of s → let seen : Seen = record { event = event.now; told = told; before = s; after = core.now } in svg.new.items ≡ svg.old.items ++ step_texts (spec.event_shapes column seen rest.now)) }
+    ensures { OnOk result ((s : State) → words.now.home ≡ s.home
+        → words.now.entries.items ≡ spec.entries_of s
+        → let seen : Seen = record {
+          event = event.now;
+          told = told;
+          before = s;
+          after = core.now;
+        } in svg.new.items ≡ svg.old.items
+        ++ step_texts (spec.event_shapes column seen rest.now)) }
 {
     let node = event.node();
     let end = column + (until(node, rest) + 1);

@@ -11,7 +11,7 @@ use crate::step_words::{
     class_at, class_of_place, push_entry, push_place, push_point, push_told, row_of_place, sign_at,
 };
 use link_core::{Entry, Event, Place, Point, Told};
-use qolb_draw::pieces::{NAMED_EVERY, push_field};
+use qolb_shapes::svg::{NAMED_EVERY, push_field};
 use std::alloc::{AllocError, Allocator};
 
 /// The text before the shapes: the colours that a timeline does not have, and the legend.
@@ -135,7 +135,8 @@ fn push_row_name<A: Allocator>(
 fn push_row<A: Allocator>(svg: &mut Vec<u8, A>, row: u64, columns: usize) -> Result<(), AllocError>
     requires row { row ≤ MAX_NODES }
     requires columns { columns ≤ MAX_COMMANDS }
-    ensures { OnOk result (svg.new.items ≡ svg.old.items ++ spec.step_texts (lane_shapes columns row)) }
+    ensures { OnOk result (svg.new.items ≡ svg.old.items
+        ++ spec.step_texts (lane_shapes columns row)) }
 {
     push_step_lane(svg, row, columns as u32)?;
     for count in 0..(columns + (NAMED_EVERY - 1)) / NAMED_EVERY {
@@ -152,7 +153,8 @@ pub fn push_lanes<A: Allocator>(
 ) -> Result<(), AllocError>
     requires nodes { nodes ≤ MAX_NODES }
     requires columns { columns ≤ MAX_COMMANDS }
-    ensures { OnOk result (svg.new.items ≡ svg.old.items ++ spec.step_texts (rows_shapes nodes columns)) }
+    ensures { OnOk result (svg.new.items ≡ svg.old.items
+        ++ spec.step_texts (rows_shapes nodes columns)) }
 {
     for row in 0..nodes + 1 {
         push_row(svg, row, columns)?;

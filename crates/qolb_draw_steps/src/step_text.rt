@@ -8,7 +8,7 @@ ghost use Rattle.qolb_draw_steps.specs.StepShapes.{Seen};
 
 use crate::step_words::{push_place, push_told};
 use link_core::{Core, Event, Point, Told};
-use qolb_draw::pieces::push_heads;
+use qolb_shapes::push_heads;
 use std::alloc::{AllocError, Allocator};
 
 /// The legend of the letters.
@@ -80,7 +80,13 @@ pub fn push_event_line<A: Allocator>(
     told: Option<Told>,
     core: &Core,
 ) -> Result<(), AllocError>
-    ensures { OnOk result ((s : State) → let seen : Seen = record { event = event.now; told = told; before = s; after = core.now } in text.new.items ≡ text.old.items ++ spec.event_line column seen) }
+    ensures { OnOk result ((s : State)
+        → let seen : Seen = record {
+          event = event.now;
+          told = told;
+          before = s;
+          after = core.now;
+        } in text.new.items ≡ text.old.items ++ spec.event_line column seen) }
 {
     push_letters(text, core)?;
     text.extend_from_slice(b"  ")?;

@@ -4,9 +4,10 @@ ghost use Rattle.qolb_script.specs.StepReply.{step_said};
 ghost use Rattle.qolb_draw_steps.specs.StepSvg as spec;
 
 use link_core::{Entry, Event, Place, Point, Told};
-use qolb_draw::pieces::{push_answer, push_field, push_written};
 use qolb_model::MAX_NODES;
 use qolb_script::{Command, Said};
+use qolb_shapes::svg::push_field;
+use qolb_shapes::{push_answer, push_written};
 use std::alloc::{AllocError, Allocator};
 
 /// Appends some words, and a node behind them if there is one.
@@ -220,7 +221,8 @@ pub fn push_told<A: Allocator>(
     event: &Event,
     told: Option<Told>,
 ) -> Result<(), AllocError>
-    ensures { OnOk result (text.new.items ≡ text.old.items ++ spec.told_words column event.now told) }
+    ensures { OnOk result (text.new.items ≡ text.old.items
+        ++ spec.told_words column event.now told) }
 {
     push_field(text, b"", u64::from(column) + 1)?;
     text.extend_from_slice(b": ")?;

@@ -11,18 +11,18 @@ ghost use Rattle.qolb_replay.specs.declared.steps.Detail.TheVariants as detail;
 ghost use Rattle.qolb_draw_steps.specs.StepPictures.{IsDrawn, IsStepPicture, event_lines};
 ghost use Rattle.qolb_draw_steps.specs.StepShapes.{Seen, Watches, seen_shapes};
 ghost use Rattle.qolb_draw_steps.specs.StepSvg.{step_texts};
-ghost use Rattle.qolb_draw.specs.declared.draw.Form.TheVariants as form;
+ghost use Rattle.qolb_shapes.specs.declared.form.Form.TheVariants as form;
 
 use crate::step_event::{push_event_shapes, words_of};
 use crate::step_svg::{STEPS_LEGEND, push_lanes, step_height, step_width};
 use crate::step_text::{LETTERS, push_event_line, push_node_heads};
 use line_lanes::Line64;
 use link_core::Core;
-use qolb_draw::Form;
-use qolb_draw::pieces::svg_of;
 use qolb_model::LineConfig;
 use qolb_replay::{ReplayError, read_input};
 use qolb_script::{ScriptError, Steps, Watched, read_steps};
+use qolb_shapes::Form;
+use qolb_shapes::svg::svg_of;
 use std::alloc::{AllocError, Allocator};
 use std::io::{Read, Write};
 
@@ -37,9 +37,14 @@ pub fn draw_steps<A: Allocator, R: Read, W: Write>(
     writer: &mut Watched<W>,
     form: Form,
 ) -> Result<(), ReplayError>
-    ensures ok { OnOk result (IfSome (R.remaining (inner_of reader.old)) (λ input. (text : List ℕ) × IsStepPicture form input text × Appends (W.contents (inner_of writer.old)) (W.contents (inner_of writer.new)) text)) }
-    ensures refused { IfErr result (λ error. IfSome (R.remaining (inner_of reader.old)) (λ input. StepsMayFail detail.Words input error)) }
-    ensures unwritten { IfErr result (λ error. error ≢ ReplayError.Write → writer.new ≡ writer.old) }
+    ensures ok { OnOk result (IfSome (R.remaining (inner_of reader.old)) (λ input.
+        (text : List ℕ) × IsStepPicture form input text
+        × Appends (W.contents (inner_of writer.old)) (W.contents (inner_of writer.new)) text)) }
+    ensures refused { IfErr result (λ error.
+        IfSome (R.remaining (inner_of reader.old)) (λ input.
+        StepsMayFail detail.Words input error)) }
+    ensures unwritten { IfErr result (λ error. error ≢ ReplayError.Write
+        → writer.new ≡ writer.old) }
     ensures read_fault { (result ≡ Err ReplayError.Read) ↔ (has_failed reader.new ≡ true) }
     ensures write_fault { result ≡ Err ReplayError.Write → has_failed writer.new ≡ true }
     ensures written { OnOk result (has_failed writer.new ≡ false) }
@@ -114,7 +119,9 @@ fn push_lines<A: Allocator + Copy>(
     text: &mut Vec<u8, A>,
     steps: &Steps<A>,
 ) -> Result<(), AllocError>
-    ensures { OnOk result ((all : List Seen) × (last : State) × Watches (first (line_of steps.now)) steps.now.events all last × (text.new.items ≡ text.old.items ++ event_lines 0 all)) }
+    ensures { OnOk result ((all : List Seen) × (last : State)
+        × Watches (first (line_of steps.now)) steps.now.events all last
+        × (text.new.items ≡ text.old.items ++ event_lines 0 all)) }
 {
     let mut core = opened(steps);
     let events = steps.events();
@@ -132,7 +139,9 @@ fn push_shapes<A: Allocator + Copy>(
     svg: &mut Vec<u8, A>,
     steps: &Steps<A>,
 ) -> Result<(), AllocError>
-    ensures { OnOk result ((all : List Seen) × (last : State) × Watches (first (line_of steps.now)) steps.now.events all last × (svg.new.items ≡ svg.old.items ++ step_texts (seen_shapes 0 steps.now.events all))) }
+    ensures { OnOk result ((all : List Seen) × (last : State)
+        × Watches (first (line_of steps.now)) steps.now.events all last
+        × (svg.new.items ≡ svg.old.items ++ step_texts (seen_shapes 0 steps.now.events all))) }
 {
     let mut core = opened(steps);
     let events = steps.events();

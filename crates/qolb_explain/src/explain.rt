@@ -60,9 +60,10 @@ const NO_HEADER: Complaint<'static> = Complaint {
 
 /// Returns the first refused line below a header, with its fault.
 fn explain_items<'a, R: ExplainItem>(reader: &R, rest: NumberedLines<'a>) -> Option<Complaint<'a>>
-    ensures { MatchOption result
-        (spec.first_refused (R.item_of reader.now) (R.why_of reader.now) 0 (lines_left rest.entry) ≡ None)
-        (λ it. spec.first_refused (R.item_of reader.now) (R.why_of reader.now) 0 (lines_left rest.entry) ≡ Some (it.number, it.line.now, it.reason)) }
+    ensures { MatchOption result (spec.first_refused (R.item_of reader.now) (R.why_of reader.now) 0
+        (lines_left rest.entry) ≡ None) (λ it.
+        spec.first_refused (R.item_of reader.now) (R.why_of reader.now) 0 (lines_left rest.entry)
+        ≡ Some (it.number, it.line.now, it.reason)) }
 {
     let mut before: u64 = 0;
     for (number, line) in rest {

@@ -71,7 +71,8 @@ fn why_put(workers: u64, worker: &[u8], mut words: Words) -> Reason
 fn why_bank_job(workers: u64, lines: u64, worker: &[u8], verb: &[u8], words: Words) -> Reason
     requires some { 1 ≤ lines }
     requires few { lines ≤ MAX_LINES }
-    ensures { result ≡ spec.why_bank_verb workers lines worker.now verb.now (words_left words.entry) }
+    ensures { result ≡ spec.why_bank_verb workers lines worker.now verb.now
+        (words_left words.entry) }
 {
     if verb == PAY_IN || verb == PAY_OUT {
         why_payment(workers, lines, worker, words)

@@ -102,7 +102,8 @@ impl<R: ReplayLine> CountingLine<R> {
     pub fn summary(&self, number: u64, nodes: u64) -> Said
         requires few { nodes ≤ MAX_NODES }
         requires nodes { nodes ≤ R.nodes_of self.now.line }
-        ensures { (r : Replay) → IsLineOf R.represents R.nodes_of nodes r number self.now → result ≡ summary_of nodes r number }
+        ensures { (r : Replay) → IsLineOf R.represents R.nodes_of nodes r number self.now
+            → result ≡ summary_of nodes r number }
     {
         self.counts
             .summary(number, nodes_left_at(&self.line, nodes))

@@ -27,7 +27,8 @@ pub trait ReplayLine {
         requires first { 1 ≤ node_of command.now }
         requires last { node_of command.now ≤ nodes_of self.old }
         ensures said { (s : OwnerState) → represents self.old s → result ≡ said_of s command.now }
-        ensures represents { (s : OwnerState) → represents self.old s → represents self.new (after_command s command.now) }
+        ensures represents { (s : OwnerState) → represents self.old s
+            → represents self.new (after_command s command.now) }
         ensures nodes { nodes_of self.new ≡ nodes_of self.old };
 }
 

@@ -28,7 +28,8 @@ fn answer(line: &mut PlainLine, command: &Command) -> Said
     requires first { 1 ≤ node_of command.now }
     requires last { node_of command.now ≤ line.old.nodes }
     ensures said { (s : OwnerState) → Agrees line.old s → result ≡ said_of s command.now }
-    ensures agrees { (s : OwnerState) → Agrees line.old s → Agrees line.new (after_command s command.now) }
+    ensures agrees { (s : OwnerState) → Agrees line.old s
+        → Agrees line.new (after_command s command.now) }
     ensures nodes { line.new.nodes ≡ line.old.nodes }
 {
     if !allows(PlainLine::state(line, command.node()), command) {

@@ -80,7 +80,8 @@ fn answer<L: LineSync<Free>>(line: &L, ports: &mut [L::Port], command: &Command)
     requires last { node_of command.now ≤ length ports.old }
     requires belongs { All (L.belongs line.now) ports.old }
     ensures belongs { All (L.belongs line.now) ports.new }
-    ensures answers { AnswersByPort command.now result (map (view_and_turn L.view L.turn) ports.old) (map (view_and_turn L.view L.turn) ports.new) }
+    ensures answers { AnswersByPort command.now result (map (view_and_turn L.view L.turn) ports.old)
+        (map (view_and_turn L.view L.turn) ports.new) }
 {
     let place = command.node() as usize - 1;
     meet_others(line, ports, place);
@@ -93,7 +94,8 @@ fn answer<L: LineSync<Free>>(line: &L, ports: &mut [L::Port], command: &Command)
 fn call<L: LineSync<Free>>(line: &L, port: &mut L::Port, command: &Command) -> Said
     requires belongs { L.belongs line.now port.old }
     ensures belongs { L.belongs line.now port.new }
-    ensures does { Calls command.now result (view_and_turn L.view L.turn port.old) (view_and_turn L.view L.turn port.new) }
+    ensures does { Calls command.now result (view_and_turn L.view L.turn port.old)
+        (view_and_turn L.view L.turn port.new) }
 {
     if !allows(L::state(port), command) {
         return Said::Misuse;

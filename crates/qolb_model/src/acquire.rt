@@ -30,9 +30,12 @@ pub fn acquire_bounded<K: Keep, L: LineSync<K>>(
     requires belongs { L.belongs line.now port.old }
     requires state { IsTrue (may_ask (L.view port.old).state) }
     ensures belongs { L.belongs line.now port.new }
-    ensures acquires { AcquiresBounded K.allows (L.view port.old) (L.view port.new) (L.turn port.new) result }
-    ensures patient { (L.counters port.new).poll_count ≤ (L.counters port.old).poll_count + patience }
-    ensures late { result ≡ Acquired.Late → (L.counters port.new).poll_count ≡ (L.counters port.old).poll_count + patience }
+    ensures acquires { AcquiresBounded K.allows (L.view port.old) (L.view port.new)
+        (L.turn port.new) result }
+    ensures patient { (L.counters port.new).poll_count
+        ≤ (L.counters port.old).poll_count + patience }
+    ensures late { result ≡ Acquired.Late → (L.counters port.new).poll_count
+        ≡ (L.counters port.old).poll_count + patience }
 {
     match line.enqolb(port) {
         Enq::Granted => Acquired::Granted,
@@ -51,9 +54,12 @@ fn wait_bounded<K: Keep, L: LineSync<K>>(line: &L, port: &mut L::Port, patience:
     requires belongs { L.belongs line.now port.old }
     requires state { (L.view port.old).state ≡ PortState.Queued }
     ensures belongs { L.belongs line.now port.new }
-    ensures withdraws { Withdraws K.allows (L.view port.old) (L.view port.new) (L.turn port.new) result }
-    ensures patient { (L.counters port.new).poll_count ≤ (L.counters port.old).poll_count + patience }
-    ensures late { result ≡ Out.Withdrawn → (L.counters port.new).poll_count ≡ (L.counters port.old).poll_count + patience }
+    ensures withdraws { Withdraws K.allows (L.view port.old) (L.view port.new)
+        (L.turn port.new) result }
+    ensures patient { (L.counters port.new).poll_count
+        ≤ (L.counters port.old).poll_count + patience }
+    ensures late { result ≡ Out.Withdrawn → (L.counters port.new).poll_count
+        ≡ (L.counters port.old).poll_count + patience }
 {
     for _ in 0..patience {
         match line.poll(port) {

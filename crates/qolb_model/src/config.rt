@@ -24,7 +24,8 @@ impl LineConfig {
     ///
     /// Returns `Nodes` if there are not 1 to `MAX_NODES` nodes, else `Lease` if the lease is 0.
     pub fn check(&self) -> Result<(), OpenError>
-        ensures { MatchResult result (λ _. MayOpen self.now) (λ error. (error ≢ OpenError.Memory) × MayNotOpen self.now error) }
+        ensures { MatchResult result (λ _. MayOpen self.now) (λ error.
+            (error ≢ OpenError.Memory) × MayNotOpen self.now error) }
     {
         if self.nodes < 1 || self.nodes > MAX_NODES {
             return Err(OpenError::Nodes);

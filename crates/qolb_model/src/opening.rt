@@ -21,7 +21,9 @@ pub trait OpenLine<K: Keep>: LineSync<K> {
         config: LineConfig,
     ) -> Result<(Self, Vec<Self::Port>), OpenError>
         requires good { K.good config.opening.bytes }
-        ensures opens { IfOk result (λ r. Opens Self.view (Self.belongs r.0) (Self.label_of r.0) (Self.config_of r.0) label config r.1.items) }
+        ensures opens { IfOk result (λ r.
+            Opens Self.view (Self.belongs r.0) (Self.label_of r.0)
+            (Self.config_of r.0) label config r.1.items) }
         ensures may_open { IfOk result (λ r. MayOpen config) }
         ensures why { IfErr result (λ error. MayNotOpen config error) };
 }

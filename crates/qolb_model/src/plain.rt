@@ -42,7 +42,14 @@ impl Model for PlainLine {
 
     ghost Value = { PlainView };
 
-    ghost view = { λ p. record { nodes = p.nodes; waiting = p.waiting.items; granted = p.granted; closed = p.closed; left = p.left; turn = p.turn } };
+    ghost view = { λ p. record {
+      nodes = p.nodes;
+      waiting = p.waiting.items;
+      granted = p.granted;
+      closed = p.closed;
+      left = p.left;
+      turn = p.turn;
+    } };
 
     ghost invariant = { λ p. (p.nodes ≤ MAX_NODES) × AreWaiting p.nodes p.waiting.items };
 }
@@ -52,7 +59,12 @@ impl PlainLine {
     ///
     /// Returns `Nodes` if `nodes` is not 1 to `MAX_NODES`.
     pub fn open(nodes: u64, opening: Line64) -> Result<PlainLine, OpenError>
-        ensures { let config : LineConfig = record { nodes = nodes; opening = opening; lease = None } in MatchResult result (λ line. Agrees line (opened config)) (λ error. (error ≢ OpenError.Memory) × MayNotOpen config error) }
+        ensures { let config : LineConfig = record {
+          nodes = nodes;
+          opening = opening;
+          lease = None;
+        } in MatchResult result (λ line. Agrees line (opened config)) (λ error.
+            (error ≢ OpenError.Memory) × MayNotOpen config error) }
     {
         PlainLine::with_config(LineConfig {
             nodes,
@@ -65,7 +77,12 @@ impl PlainLine {
     ///
     /// Returns `Nodes` as `open`, or else `Lease` if `lease` is 0.
     pub fn open_leased(nodes: u64, opening: Line64, lease: u64) -> Result<PlainLine, OpenError>
-        ensures { let config : LineConfig = record { nodes = nodes; opening = opening; lease = Some lease } in MatchResult result (λ line. Agrees line (opened config)) (λ error. (error ≢ OpenError.Memory) × MayNotOpen config error) }
+        ensures { let config : LineConfig = record {
+          nodes = nodes;
+          opening = opening;
+          lease = Some lease;
+        } in MatchResult result (λ line. Agrees line (opened config))
+            (λ error. (error ≢ OpenError.Memory) × MayNotOpen config error) }
     {
         PlainLine::with_config(LineConfig {
             nodes,
@@ -76,7 +93,8 @@ impl PlainLine {
 
     /// Opens a line by `config`: its nodes, opening bytes and lease.
     pub fn with_config(config: LineConfig) -> Result<PlainLine, OpenError>
-        ensures { MatchResult result (λ line. Agrees line (opened config)) (λ error. (error ≢ OpenError.Memory) × MayNotOpen config error) }
+        ensures { MatchResult result (λ line. Agrees line (opened config)) (λ error.
+            (error ≢ OpenError.Memory) × MayNotOpen config error) }
     {
         config.check()?;
         Ok(PlainLine {
@@ -117,7 +135,8 @@ impl PlainLine {
     /// Returns the number of turns left, with the holder's own: at least 1. `None` without a lease.
     pub fn turns_left(&self, node: u64) -> Option<u64>
         requires { node_state self.now node ≡ PortState.Holding }
-        ensures left { (s : OwnerState) → Agrees self.now s → result ≡ turns_left s.config.lease s.queue.ends }
+        ensures left { (s : OwnerState) → Agrees self.now s
+            → result ≡ turns_left s.config.lease s.queue.ends }
         ensures not_zero { (s : OwnerState) → Agrees self.now s → result ≢ Some 0 }
     {
         self.left
@@ -126,7 +145,8 @@ impl PlainLine {
     /// Writes the bytes of `mask` for the holder `node`.
     pub fn write(&mut self, node: u64, mask: Mask, bytes: &Line64)
         requires { node_state self.old node ≡ PortState.Holding }
-        ensures agrees { (s : OwnerState) → Agrees self.old s → Agrees self.new (after_write s mask.0 bytes.now.bytes) }
+        ensures agrees { (s : OwnerState) → Agrees self.old s
+            → Agrees self.new (after_write s mask.0 bytes.now.bytes) }
         ensures nodes { self.new.nodes ≡ self.old.nodes }
     {
         self.turn.bytes = merge(&self.turn.bytes, bytes, mask);
@@ -139,7 +159,8 @@ impl PlainLine {
         requires last { node ≤ self.old.nodes }
         requires may_ask { IsTrue (may_ask (node_state self.old node)) }
         ensures answer { (s : OwnerState) → Agrees self.old s → result ≡ enq_answer s node }
-        ensures moves { (s : OwnerState) → Agrees self.old s → Runs s.config s.queue (enq_moves s node) (after_enq s node).queue }
+        ensures moves { (s : OwnerState) → Agrees self.old s
+            → Runs s.config s.queue (enq_moves s node) (after_enq s node).queue }
         ensures agrees { (s : OwnerState) → Agrees self.old s → Agrees self.new (after_enq s node) }
         ensures nodes { self.new.nodes ≡ self.old.nodes }
     {
@@ -167,8 +188,10 @@ impl PlainLine {
     pub fn poll(&mut self, node: u64) -> Poll
         requires { node_state self.old node ≡ PortState.Queued }
         ensures answer { (s : OwnerState) → Agrees self.old s → result ≡ poll_answer s node }
-        ensures moves { (s : OwnerState) → Agrees self.old s → Runs s.config s.queue (poll_moves result s) (after_poll result s).queue }
-        ensures agrees { (s : OwnerState) → Agrees self.old s → Agrees self.new (after_poll result s) }
+        ensures moves { (s : OwnerState) → Agrees self.old s
+            → Runs s.config s.queue (poll_moves result s) (after_poll result s).queue }
+        ensures agrees { (s : OwnerState) → Agrees self.old s
+            → Agrees self.new (after_poll result s) }
         ensures nodes { self.new.nodes ≡ self.old.nodes }
     {
         self.look(node)
@@ -178,7 +201,8 @@ impl PlainLine {
     pub fn withdraw(&mut self, node: u64) -> Out
         requires { node_state self.old node ≡ PortState.Queued }
         ensures answer { (s : OwnerState) → Agrees self.old s → result ≡ out_answer s node }
-        ensures moves { (s : OwnerState) → Agrees self.old s → Runs s.config s.queue (out_moves s node) (after_out s node).queue }
+        ensures moves { (s : OwnerState) → Agrees self.old s
+            → Runs s.config s.queue (out_moves s node) (after_out s node).queue }
         ensures agrees { (s : OwnerState) → Agrees self.old s → Agrees self.new (after_out s node) }
         ensures nodes { self.new.nodes ≡ self.old.nodes }
     {
@@ -195,8 +219,10 @@ impl PlainLine {
     /// Releases the line for the holder `node`. The last turn of a lease closes the line, as `shut` does.
     pub fn deqolb(&mut self, node: u64)
         requires { node_state self.old node ≡ PortState.Holding }
-        ensures moves { (s : OwnerState) → Agrees self.old s → Runs s.config s.queue (release_moves s false) (after_release s false).queue }
-        ensures agrees { (s : OwnerState) → Agrees self.old s → Agrees self.new (after_release s false) }
+        ensures moves { (s : OwnerState) → Agrees self.old s
+            → Runs s.config s.queue (release_moves s false) (after_release s false).queue }
+        ensures agrees { (s : OwnerState) → Agrees self.old s
+            → Agrees self.new (after_release s false) }
         ensures nodes { self.new.nodes ≡ self.old.nodes }
     {
         self.serve(false);
@@ -205,8 +231,10 @@ impl PlainLine {
     /// Releases and closes the line for the holder `node`. No later request is served.
     pub fn shut(&mut self, node: u64)
         requires { node_state self.old node ≡ PortState.Holding }
-        ensures moves { (s : OwnerState) → Agrees self.old s → Runs s.config s.queue (release_moves s true) (after_release s true).queue }
-        ensures agrees { (s : OwnerState) → Agrees self.old s → Agrees self.new (after_release s true) }
+        ensures moves { (s : OwnerState) → Agrees self.old s
+            → Runs s.config s.queue (release_moves s true) (after_release s true).queue }
+        ensures agrees { (s : OwnerState) → Agrees self.old s
+            → Agrees self.new (after_release s true) }
         ensures nodes { self.new.nodes ≡ self.old.nodes }
     {
         self.serve(true);

@@ -22,16 +22,16 @@ use crate::view::View;
 use line_lanes::{Line64, Mask};
 use std::alloc::Global;
 
-/// A queue lock that hands 64 bytes from node to node, each with its own port.
+/// A FIFO queue lock that hands 64 bytes from holder to holder.
 ///
-/// The calls are those of QOLB (Scalable Coherent Interface, IEEE 1596; as QOSB by Goodman, Vernon and Woest 1989). `K` says which bytes the
-/// line may have and which changes a turn may make. Each call promises one record of `specs/Calls` about the port's view before and after
-/// it, with a field for each answer.
+/// Each node calls it through its own port. `enqolb` and `deqolb` are QOLB's (Scalable Coherent Interface, IEEE 1596; as QOSB by Goodman,
+/// Vernon and Woest 1989); withdrawal, closing and leases are this project's. `K` says which bytes the line may have and which changes a
+/// turn may make. Each call promises one record of `specs/Calls` about the port's view before and after it, with a field for each answer.
 ///
-/// A word step is one atomic operation on a word that nodes share, sequentially consistent in all locks. A call takes at most `max_steps`
-/// of them, whatever other nodes do meanwhile: a constant number, but for a release, and for a call that finds the line closed and releases
-/// it. These take two to four for each withdrawn request that they pass. Only `finish` allocates. No lock blocks in a call, as it has no
-/// handle of the system (`Wait`); a wrapper that keeps one may park in `poll`. Of all ports, a call changes only those that it is passed.
+/// A word step is one atomic operation on a word that nodes share, sequentially consistent in all locks. Calls are wait-free: one takes at
+/// most `max_steps` of them, whatever other nodes do meanwhile: a constant number, but for a release, and for a call that finds the line
+/// closed and releases it. These take two to four for each withdrawn request that they pass. Only `finish` allocates. No lock can park in a
+/// call, as it is given no `Wait`; a wrapper that keeps one may park in `poll`. A call changes no port but its arguments.
 pub trait LineSync<K: Keep> {
     /// A node's handle of the line.
     type Port;
@@ -48,7 +48,7 @@ pub trait LineSync<K: Keep> {
     /// The states that a port may show.
     ghost allowed_states: { PortState → Type 0 };
 
-    /// The numbers of word steps that a call may take, by the views before and after.
+    /// `call_steps line call before after n`: the call may take `n` word steps, by the port's views before and after it.
     ghost call_steps: { Self → Call → View → View → ℕ → Type 0 };
 
     /// The maximum of word steps of one call of a port, whatever other nodes do meanwhile.
@@ -90,7 +90,7 @@ pub trait LineSync<K: Keep> {
         ensures bytes { result.now ≡ (turn port.now).bytes }
         ensures turn { IsTurn (view port.now) (turn port.now) };
 
-    /// Returns the number of turns left, counting the current one: at least 1. `None` without a lease, a limit of the line's turns.
+    /// Returns the number of turns left, counting the current one: at least 1. `None` if the line has no lease, a limit of its turns.
     fn turns_left(&self, port: &Self::Port) -> Option<u64>
         requires belongs { belongs self.now port.now }
         requires state { (view port.now).state ≡ PortState.Holding }
@@ -105,46 +105,53 @@ pub trait LineSync<K: Keep> {
         ensures counters { counters port.new ≡ counters port.old }
         ensures belongs { (line : Self) → belongs line port.old → belongs line port.new };
 
-    /// Requests the line, and answers at once: granted, queued or closed. `Busy`: the node's own last request is not clear, and none was made.
+    /// Requests the line, and answers at once: granted, queued or closed. `Busy`: no request was made, as the node's last is not clear (`is_clear`).
     ///
-    /// `Closed`: the node was granted a closed line, and this call has released it for the next node.
+    /// `Closed`: the request was at its turn on a closed line, and this call has released the line for the next node.
     fn enqolb(&self, port: &mut Self::Port) -> Enq
         requires belongs { belongs self.now port.old }
         requires state { IsTrue (may_ask (view port.old).state) }
         ensures belongs { belongs self.now port.new }
-        ensures enqueues { Enqueues K.allows (view port.old) (view port.new) (turn port.new) result }
-        ensures counts { Counts (call_steps self.now) (max_steps self.now) (call.asks result) (view port.old) (view port.new) (counters port.old) (counters port.new) };
+        ensures enqueues { Enqueues K.allows (view port.old) (view port.new)
+            (turn port.new) result }
+        ensures counts { Counts (call_steps self.now) (max_steps self.now) (call.asks result)
+            (view port.old) (view port.new) (counters port.old) (counters port.new) };
 
     /// Polls the request. If it is at its turn, the port takes the line and holds it.
     ///
-    /// `Closed`: it was at the turn of a closed line, and this call has released it for the next node.
+    /// `Closed`: the request was at its turn on a closed line, and this call has released the line for the next node.
     fn poll(&self, port: &mut Self::Port) -> Poll
         requires belongs { belongs self.now port.old }
         requires state { (view port.old).state ≡ PortState.Queued }
         ensures belongs { belongs self.now port.new }
         ensures polls { Polls K.allows (view port.old) (view port.new) (turn port.new) result }
-        ensures counts { Counts (call_steps self.now) (max_steps self.now) (call.polls result) (view port.old) (view port.new) (counters port.old) (counters port.new) };
+        ensures counts { Counts (call_steps self.now) (max_steps self.now) (call.polls result)
+            (view port.old) (view port.new) (counters port.old) (counters port.new) };
 
     /// Withdraws the request. If it is at its turn, the port takes the line and holds it instead.
     ///
-    /// `Closed`: it was at the turn of a closed line, and this call has released it for the next node. A withdrawn request is not clear
-    /// before a release has passed it and freed the node's word.
+    /// `Closed`: the request was at its turn on a closed line, and this call has released the line for the next node. A withdrawn request
+    /// stays unclear at least until a release has passed it and freed the node's word.
     fn withdraw(&self, port: &mut Self::Port) -> Out
         requires belongs { belongs self.now port.old }
         requires state { (view port.old).state ≡ PortState.Queued }
         ensures belongs { belongs self.now port.new }
-        ensures withdraws { Withdraws K.allows (view port.old) (view port.new) (turn port.new) result }
-        ensures counts { Counts (call_steps self.now) (max_steps self.now) (call.withdraws result) (view port.old) (view port.new) (counters port.old) (counters port.new) };
+        ensures withdraws { Withdraws K.allows (view port.old) (view port.new)
+            (turn port.new) result }
+        ensures counts { Counts (call_steps self.now) (max_steps self.now) (call.withdraws result)
+            (view port.old) (view port.new) (counters port.old) (counters port.new) };
 
     /// Returns `true` if the port's last request is clear, so that the next is not answered `Busy`. Makes no request.
     ///
-    /// A request is clear once no other node uses its node's word. At most a few word steps; the port's view records what the look found.
+    /// A request is clear once no other node uses its node's word. At most one word step; the port's view records what the look found.
     fn is_clear(&self, port: &mut Self::Port) -> bool
         requires belongs { belongs self.now port.old }
         requires state { IsTrue (may_ask (view port.old).state) }
         ensures belongs { belongs self.now port.new }
         ensures found { LooksIfClear K.allows (view port.old) (view port.new) result }
-        ensures counts { Counts (call_steps self.now) (max_steps self.now) (call.looks_if_clear result) (view port.old) (view port.new) (counters port.old) (counters port.new) };
+        ensures counts { Counts (call_steps self.now) (max_steps self.now)
+            (call.looks_if_clear result) (view port.old) (view port.new) (counters port.old)
+            (counters port.new) };
 
     /// Ends the holder's request as served and releases the line. If this turn is the lease's last, the line closes, as by `shut`.
     fn deqolb(&self, port: &mut Self::Port)
@@ -153,7 +160,8 @@ pub trait LineSync<K: Keep> {
         requires allowed { MayRelease K.allows (view port.old) (turn port.old) }
         ensures belongs { belongs self.now port.new }
         ensures releases { Releases K.allows false (view port.old) (view port.new) (turn port.old) }
-        ensures counts { Counts (call_steps self.now) (max_steps self.now) call.releases (view port.old) (view port.new) (counters port.old) (counters port.new) };
+        ensures counts { Counts (call_steps self.now) (max_steps self.now) call.releases
+            (view port.old) (view port.new) (counters port.old) (counters port.new) };
 
     /// Ends the holder's request as served and releases the line closed: no request behind it is served, not even one queued now.
     fn shut(&self, port: &mut Self::Port)
@@ -162,11 +170,12 @@ pub trait LineSync<K: Keep> {
         requires allowed { MayRelease K.allows (view port.old) (turn port.old) }
         ensures belongs { belongs self.now port.new }
         ensures releases { Releases K.allows true (view port.old) (view port.new) (turn port.old) }
-        ensures counts { Counts (call_steps self.now) (max_steps self.now) call.releases (view port.old) (view port.new) (counters port.old) (counters port.new) };
+        ensures counts { Counts (call_steps self.now) (max_steps self.now) call.releases
+            (view port.old) (view port.new) (counters port.old) (counters port.new) };
 
     /// Merges the views of two ports, and proves that at most one of them holds. For proofs: it returns nothing.
     ///
-    /// A lock loads one word, so that its rule can be read; `steps` does not count that load.
+    /// It costs one load, which `steps` does not count: there the proof reads the invariant.
     fn meet(&self, a: &mut Self::Port, b: &mut Self::Port)
         requires belongs_a { belongs self.now a.old }
         requires belongs_b { belongs self.now b.old }
@@ -180,19 +189,24 @@ pub trait LineSync<K: Keep> {
 
     /// Finishes the line and returns its bytes, given the ports of all its nodes in any order.
     ///
-    /// A port with this line's label must be this line's. Refused if a node has an open request or holds the line, if its port is missing, or
-    /// if a port is of another line; also without memory. Then returns the cause with the line, and the ports in the order given.
+    /// A port with this line's label must be this line's. Refused if a node has an open request or holds the line, if its port is missing, if a
+    /// port is of another line, or if an allocation fails. A refusal returns its cause, the line, and the ports in the order given.
     fn finish(
         self,
         alloc: Global,
         ports: Vec<Self::Port>,
     ) -> Result<Line64, Unfinished<Self, Self::Port>>
-        requires belongs { All (λ port. (view port).label ≡ label_of self → belongs self port) ports.items }
-        ensures finished { IfOk result (λ line. IsFinished K.good K.allows (label_of self) (config_of self) (map view ports.items) line.bytes) }
-        ensures why { IfErr result (λ back. MayRefuse (label_of self) (config_of self).nodes (map view ports.items) back.why) }
+        requires belongs { All (λ port. (view port).label ≡ label_of self
+            → belongs self port) ports.items }
+        ensures finished { IfOk result (λ line.
+            IsFinished K.good K.allows (label_of self) (config_of self)
+            (map view ports.items) line.bytes) }
+        ensures why { IfErr result (λ back.
+            MayRefuse (label_of self) (config_of self).nodes (map view ports.items) back.why) }
         ensures line { IfErr result (λ back. back.line ≡ self) }
         ensures ports { IfErr result (λ back. back.ports.items ≡ ports.items) };
 
     /// What is true of each port of the line between calls.
-    ghost sound: { (line : Self) (port : Self.Port) → belongs line port → IsSound K.good K.allows (label_of line) (config_of line) (view port) };
+    ghost sound: { (line : Self) (port : Self.Port) → belongs line port
+        → IsSound K.good K.allows (label_of line) (config_of line) (view port) };
 }

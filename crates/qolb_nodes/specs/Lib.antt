@@ -3,6 +3,9 @@ pub mod Nodes
 pub mod Held
 pub mod Lent
 pub mod Waits
+pub mod NodeCalls
 pub mod Calls
+pub mod HolderBytes
 pub mod Opens
+pub mod Closing
 pub mod Memory

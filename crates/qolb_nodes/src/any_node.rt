@@ -1,8 +1,7 @@
 //! A node of a line of any kind.
-ghost use Rattle.std.specs.Prelude.{◌≡◌, ◌≢◌, ℕ, ◌<◌, true, false, Some, MatchOption};
-ghost use Rattle.line_lanes.specs.Lane.{lane_of};
-ghost use Rattle.qolb_model.specs.PortStates.{may_ask};
-ghost use Rattle.qolb_nodes.specs.Calls.{view_of, turn_of, state_of, Enqolbs, Polls, Waits, Prepends, LinksUp, Withdraws, LooksIfClear, Reads, ReadsLane, Writes, WritesLane, AddsLane, Releases, TellsTurns, TellsWord};
+ghost use Rattle.std.specs.Prelude.{◌≡◌, Some, MatchOption};
+ghost use Rattle.qolb_nodes.specs.Calls.{view_of, state_of, Enqolbs, Polls, Waits, Prepends, LinksUp, Withdraws, LooksIfClear, Reads, ReadsLane, Writes, WritesLane, AddsLane, Releases, TellsTurns, TellsWord};
+ghost use Rattle.qolb_nodes.specs.HolderBytes.{Holds, HasBytes, HasLane, IsLane};
 ghost use Rattle.qolb_nodes.specs.Waits.{went_to_of};
 ghost use Rattle.qolb_nodes.specs.declared.any_node.AnyNode.{AnyNode};
 
@@ -10,7 +9,6 @@ use crate::answer::Answer;
 use crate::kinds::{List, Ring, Ticket};
 use crate::node::{Node, Shown};
 use line_lanes::{Line64, Mask, lane};
-use qolb_model::{Free, PortState};
 
 /// The number of lanes of a line.
 const LANES: u64 = 8;
@@ -113,7 +111,7 @@ impl AnyNode {
 
     /// Returns the line's bytes, if the node holds the line.
     fn bytes(&self) -> Option<&Line64>
-        ensures { MatchOption result (state_of self.now ≢ PortState.Holding) (λ line. (state_of self.now ≡ PortState.Holding) × (line.now ≡ (turn_of self.now).bytes)) }
+        ensures { MatchOption result (¬ Holds self.now) (λ line. HasBytes self.now line.now) }
     {
         of_any!(self, node => node.bytes())
     }
@@ -133,7 +131,7 @@ impl AnyNode {
 
     /// Returns lane `k` of the eight, if the node holds the line.
     fn lane(&self, k: u64) -> Option<u64>
-        ensures { MatchOption result ((state_of self.now ≡ PortState.Holding) × (k < 8) → ⊥) (λ value. (state_of self.now ≡ PortState.Holding) × (k < 8) × (value ≡ lane_of (turn_of self.now).bytes.bytes k)) }
+        ensures { MatchOption result (¬ HasLane self.now k) (λ value. IsLane self.now k value) }
     {
         if k >= LANES {
             return None;

@@ -8,6 +8,7 @@ ghost use Rattle.qolb_nodes.specs.Held.{held_coded, handle_owns};
 
 mod parts;
 
+use crate::answer::Answer;
 use crate::any_node::AnyNode;
 use parts::Parts;
 use std::alloc::Global;
@@ -30,6 +31,7 @@ impl Model for Handle {
 impl Handle {
     ghost use Rattle.std.specs.Borrow.{sem};
     ghost use Rattle.qolb_nodes.specs.Lent.{LendsNode};
+    ghost use Rattle.qolb_nodes.specs.Closing.{HasClosed};
 
     /// Returns a handle without a node.
     fn empty() -> Handle
@@ -41,7 +43,8 @@ impl Handle {
     /// Borrows the handle's node, if it has one.
     pub fn get_mut(&mut self) -> Option<&mut AnyNode>
         ensures* writes_back { sem 𝓛 (LendsNode self.entry result) }
-        ensures node { MatchOption result (self.old.held ≡ None) (λ node. self.old.held ≡ Some node.now) }
+        ensures node { MatchOption result (self.old.held ≡ None) (λ node.
+            self.old.held ≡ Some node.now) }
     {
         let at = self.at;
         if at.is_null() {
@@ -53,12 +56,31 @@ impl Handle {
 
     /// Takes the node out of the handle, if it has one.
     pub fn take(&mut self, alloc: Global) -> Option<Box<AnyNode>>
-        ensures node { MatchOption result (self.old.held ≡ None) (λ node. self.old.held ≡ Some node.value) }
+        ensures node { MatchOption result (self.old.held ≡ None) (λ node.
+            self.old.held ≡ Some node.value) }
         ensures empty { self.new.held ≡ None }
     {
         match mem::replace(self, Handle::empty()).into_parts(alloc) {
             None => None,
             Some(parts) => Some(parts.into_box()),
+        }
+    }
+
+    /// Frees the handle's node, if it neither waits nor holds; else the node stays.
+    pub fn close(&mut self, alloc: Global) -> Answer
+        ensures { HasClosed self.old.held self.new.held result }
+    {
+        match self.take(alloc) {
+            None => Answer::Misuse,
+            Some(taken) => {
+                if taken.shown().state.may_ask() {
+                    drop(taken);
+                    Answer::Done
+                } else {
+                    self.put(taken);
+                    Answer::Misuse
+                }
+            }
         }
     }
 

@@ -1,20 +1,10 @@
 //! A node of a shared line, for any kind of line.
-ghost use Rattle.std.specs.Prelude.{◌≡◌, ◌≢◌, ℕ, ◌+◌, ◌<◌, ◌≤◌, Bool, true, false, Some, MatchOption};
+ghost use Rattle.std.specs.Prelude.{◌≡◌, ◌<◌, ◌≤◌, Some, MatchOption};
 ghost use Rattle.std.specs.Arc.{arc_value};
-ghost use Rattle.qolb_model.specs.Calls.{Enqueues, Prepends, LinksUp, Polls, Withdraws, LooksIfClear, Releases, MergesViews};
-ghost use Rattle.qolb_model.specs.Leases.{turns_left};
-ghost use Rattle.qolb_model.specs.OneOwner.{turn_after};
-ghost use Rattle.qolb_model.specs.PortStates.{may_ask};
-ghost use Rattle.qolb_model.specs.declared.answer.Enq.{Enq};
-ghost use Rattle.qolb_model.specs.declared.answer.Out.{Out};
-ghost use Rattle.qolb_model.specs.declared.answer.Poll.{Poll};
-ghost use Rattle.qolb_model.specs.declared.answer.Prep.{Prep};
-ghost use Rattle.qolb_model.specs.declared.view.View.{View};
-ghost use Rattle.line_generic.specs.AtTurn.{Names, SeesTurn};
-ghost use Rattle.link_line.specs.BetweenCalls as list;
-ghost use Rattle.qolb_nodes.specs.declared.answer.Answer.{Answer};
-ghost use Rattle.qolb_nodes.specs.Answers.{enq_told, prep_told, poll_told, out_told, clear_told};
-ghost use Rattle.qolb_nodes.specs.Nodes.{anything, IsOneCall, PollsWithin, turns_number, with_lane};
+ghost use Rattle.qolb_model.specs.Calls.{Polls};
+ghost use Rattle.line_generic.specs.AtTurn.{Names};
+ghost use Rattle.qolb_nodes.specs.NodeCalls.{IsMisuse, Meets, MayAsk, IsLinking, IsQueued, MayPoll, Holds, HasBytes, turns_of, word_of, IsTurnWord, Waits, Writes, WritesLane, Enqolbs, Withdraws, LooksIfClear, Releases, Prepends, LinksUp};
+ghost use Rattle.qolb_nodes.specs.Nodes.{anything, PollsWithin};
 
 use crate::answer::Answer;
 use crate::kinds::{LineFor, List};
@@ -81,7 +71,7 @@ impl<L: LineSync<Free>> Node<L> {
     pub fn meet(&mut self, other: &mut Node<L>)
         requires one_line { other.old.line ≡ self.old.line }
         ensures lines { (self.new.line ≡ self.old.line) × (other.new.line ≡ other.old.line) }
-        ensures tell { MergesViews anything (L.view self.old.port) (L.view other.old.port) (L.view self.new.port) (L.view other.new.port) }
+        ensures tell { Meets L.view self.old other.old self.new other.new }
     {
         self.line.meet(&mut self.port, &mut other.port);
     }
@@ -100,8 +90,8 @@ impl<Q: Discipline<Free>> Node<LineFor<Q>> {
     /// `Misuse` if the node waits or holds.
     pub fn is_clear(&mut self) -> Answer
         ensures line { self.new.line ≡ self.old.line }
-        ensures misuse { may_ask self.old.port.view.state ≢ true → (result ≡ Answer.Misuse) × (self.new ≡ self.old) }
-        ensures looks { may_ask self.old.port.view.state ≡ true → (clear : Bool) × (result ≡ clear_told clear) × LooksIfClear anything self.old.port.view self.new.port.view clear × IsOneCall (Q.max_steps self.old.line.table.shared.key.config.nodes + 3) self.old.port.counters self.new.port.counters }
+        ensures misuse { ¬ MayAsk self.old → IsMisuse self.old self.new result }
+        ensures does { MayAsk self.old → LooksIfClear Q.DisciplineSpec self.old self.new result }
     {
         if !self.state().may_ask() {
             return Answer::Misuse;
@@ -111,7 +101,7 @@ impl<Q: Discipline<Free>> Node<LineFor<Q>> {
 
     /// Returns the line's bytes as the holder sees them; `None` if the node does not hold the line.
     pub fn bytes(&self) -> Option<&Line64>
-        ensures { MatchOption result (self.now.port.view.state ≢ PortState.Holding) (λ line. (self.now.port.view.state ≡ PortState.Holding) × (line.now ≡ self.now.port.turn.bytes)) }
+        ensures { MatchOption result (¬ Holds self.now) (λ line. HasBytes self.now line.now) }
     {
         if self.state() == PortState::Holding {
             Some(LineFor::<Q>::bytes(&self.port))
@@ -122,9 +112,9 @@ impl<Q: Discipline<Free>> Node<LineFor<Q>> {
 
     /// Returns C's number of the turns left, with the holder's own: at least 1. 0 if the node does not hold the line.
     fn turns_left(&self) -> u64
-        ensures turns { self.now.port.view.state ≡ PortState.Holding → result ≡ turns_number (turns_left self.now.port.view.config.lease self.now.port.view.ends) }
-        ensures some { self.now.port.view.state ≡ PortState.Holding → 1 ≤ result }
-        ensures none { self.now.port.view.state ≢ PortState.Holding → result ≡ 0 }
+        ensures turns { Holds self.now → result ≡ turns_of self.now }
+        ensures some { Holds self.now → 1 ≤ result }
+        ensures none { ¬ Holds self.now → result ≡ 0 }
     {
         if self.state() != PortState::Holding {
             return 0;
@@ -142,8 +132,8 @@ impl<Q: Discipline<Free>> Node<LineFor<Q>> {
     pub fn write(&mut self, mask: Mask, bytes: &Line64) -> Answer
         ensures line { self.new.line ≡ self.old.line }
         ensures view { self.new.port.view ≡ self.old.port.view }
-        ensures misuse { self.old.port.view.state ≢ PortState.Holding → (result ≡ Answer.Misuse) × (self.new ≡ self.old) }
-        ensures writes { self.old.port.view.state ≡ PortState.Holding → (result ≡ Answer.Done) × (self.new.port.turn ≡ turn_after self.old.port.turn mask.0 bytes.now.bytes) }
+        ensures misuse { ¬ Holds self.old → IsMisuse self.old self.new result }
+        ensures does { Holds self.old → Writes mask.0 bytes.now.bytes self.old self.new result }
     {
         if self.state() != PortState::Holding {
             return Answer::Misuse;
@@ -158,11 +148,11 @@ impl<Q: Discipline<Free>> Node<LineFor<Q>> {
         ensures number { result.number ≡ self.now.port.view.node }
         ensures label { result.label ≡ self.now.port.view.label }
         ensures state { result.state ≡ self.now.port.view.state }
-        ensures turns { self.now.port.view.state ≡ PortState.Holding → result.turns_left ≡ turns_number (turns_left self.now.port.view.config.lease self.now.port.view.ends) }
-        ensures some { self.now.port.view.state ≡ PortState.Holding → 1 ≤ result.turns_left }
-        ensures none { self.now.port.view.state ≢ PortState.Holding → result.turns_left ≡ 0 }
-        ensures word { result.wait_word ≡ Q.wait_word self.now.port.view.config.nodes self.now.port.view.node self.now.port.token }
-        ensures turn { self.now.port.view.state ≡ PortState.Holding → (u : View) → SeesTurn u self.now.port.view → result.wait_word ≡ Q.turn_word u }
+        ensures turns { Holds self.now → result.turns_left ≡ turns_of self.now }
+        ensures some { Holds self.now → 1 ≤ result.turns_left }
+        ensures none { ¬ Holds self.now → result.turns_left ≡ 0 }
+        ensures word { result.wait_word ≡ word_of Q.wait_word self.now }
+        ensures turn { Holds self.now → IsTurnWord Q.turn_word self.now result.wait_word }
         ensures went_to { self.now.port.went_to ≡ Some result.went_to }
     {
         Shown {
@@ -181,8 +171,8 @@ impl<Q: Discipline<Free>> Node<LineFor<Q>> {
     /// `Misuse` if the node waits or holds.
     pub fn enqolb(&mut self) -> Answer
         ensures line { self.new.line ≡ self.old.line }
-        ensures misuse { may_ask self.old.port.view.state ≢ true → (result ≡ Answer.Misuse) × (self.new ≡ self.old) }
-        ensures enqueues { may_ask self.old.port.view.state ≡ true → (answer : Enq) × (result ≡ enq_told answer) × Enqueues anything self.old.port.view self.new.port.view self.new.port.turn answer × IsOneCall (Q.max_steps self.old.line.table.shared.key.config.nodes + 3) self.old.port.counters self.new.port.counters × (answer ≡ Enq.Closed → Names (Q.turn_word self.new.port.view) self.new.port.went_to) }
+        ensures misuse { ¬ MayAsk self.old → IsMisuse self.old self.new result }
+        ensures does { MayAsk self.old → Enqolbs Q.DisciplineSpec self.old self.new result }
     {
         if self.state().may_ask() {
             Answer::of_enq(self.line.enqolb(&mut self.port))
@@ -197,8 +187,8 @@ impl<Q: Discipline<Free>> Node<LineFor<Q>> {
     #[inline(always)]
     pub fn wait(&mut self, polls: u64) -> Answer
         ensures line { self.new.line ≡ self.old.line }
-        ensures misuse { ((self.old.port.view.state ≡ PortState.Queued) × (0 < polls) → ⊥) → (result ≡ Answer.Misuse) × (self.new ≡ self.old) }
-        ensures polls { (self.old.port.view.state ≡ PortState.Queued) × (0 < polls) → (answer : Poll) × (result ≡ poll_told answer) × Polls anything self.old.port.view self.new.port.view self.new.port.turn answer × PollsWithin polls self.old.port.counters.poll_count self.new.port.counters.poll_count answer × (answer ≡ Poll.Closed → Names (Q.turn_word self.new.port.view) self.new.port.went_to) }
+        ensures misuse { ¬ MayPoll polls self.old → IsMisuse self.old self.new result }
+        ensures does { MayPoll polls self.old → Waits Q.turn_word polls self.old self.new result }
     {
         if polls == 0 || self.state() != PortState::Queued {
             return Answer::Misuse;
@@ -211,8 +201,8 @@ impl<Q: Discipline<Free>> Node<LineFor<Q>> {
     /// `Misuse` if the node does not wait.
     pub fn withdraw(&mut self) -> Answer
         ensures line { self.new.line ≡ self.old.line }
-        ensures misuse { self.old.port.view.state ≢ PortState.Queued → (result ≡ Answer.Misuse) × (self.new ≡ self.old) }
-        ensures withdraws { self.old.port.view.state ≡ PortState.Queued → (answer : Out) × (result ≡ out_told answer) × Withdraws anything self.old.port.view self.new.port.view self.new.port.turn answer × IsOneCall (Q.max_steps self.old.line.table.shared.key.config.nodes + 3) self.old.port.counters self.new.port.counters × (answer ≡ Out.Closed → Names (Q.turn_word self.new.port.view) self.new.port.went_to) }
+        ensures misuse { ¬ IsQueued self.old → IsMisuse self.old self.new result }
+        ensures does { IsQueued self.old → Withdraws Q.DisciplineSpec self.old self.new result }
     {
         if self.state() != PortState::Queued {
             return Answer::Misuse;
@@ -227,8 +217,8 @@ impl<Q: Discipline<Free>> Node<LineFor<Q>> {
         requires { k < 8 }
         ensures line { self.new.line ≡ self.old.line }
         ensures view { self.new.port.view ≡ self.old.port.view }
-        ensures misuse { self.old.port.view.state ≢ PortState.Holding → (result ≡ Answer.Misuse) × (self.new ≡ self.old) }
-        ensures writes { self.old.port.view.state ≡ PortState.Holding → (result ≡ Answer.Done) × (self.new.port.turn ≡ with_lane self.old.port.turn k value) }
+        ensures misuse { ¬ Holds self.old → IsMisuse self.old self.new result }
+        ensures does { Holds self.old → WritesLane k value self.old self.new result }
     {
         if self.state() != PortState::Holding {
             return Answer::Misuse;
@@ -243,8 +233,8 @@ impl<Q: Discipline<Free>> Node<LineFor<Q>> {
     #[inline(always)]
     pub fn release(&mut self, shut: bool) -> Answer
         ensures line { self.new.line ≡ self.old.line }
-        ensures misuse { self.old.port.view.state ≢ PortState.Holding → (result ≡ Answer.Misuse) × (self.new ≡ self.old) }
-        ensures releases { self.old.port.view.state ≡ PortState.Holding → (result ≡ Answer.Done) × Releases anything shut self.old.port.view self.new.port.view self.old.port.turn × IsOneCall (Q.max_steps self.old.line.table.shared.key.config.nodes + 3) self.old.port.counters self.new.port.counters × Names (Q.turn_word self.new.port.view) self.new.port.went_to }
+        ensures misuse { ¬ Holds self.old → IsMisuse self.old self.new result }
+        ensures does { Holds self.old → Releases Q.DisciplineSpec shut self.old self.new result }
     {
         if self.state() != PortState::Holding {
             return Answer::Misuse;
@@ -261,8 +251,8 @@ impl<Q: Discipline<Free>> Node<LineFor<Q>> {
     ///
     /// If the node holds, this is the word on which it was granted.
     fn wait_word(&self) -> u64
-        ensures word { result ≡ Q.wait_word self.now.port.view.config.nodes self.now.port.view.node self.now.port.token }
-        ensures turn { self.now.port.view.state ≡ PortState.Holding → (u : View) → SeesTurn u self.now.port.view → result ≡ Q.turn_word u }
+        ensures word { result ≡ word_of Q.wait_word self.now }
+        ensures turn { Holds self.now → IsTurnWord Q.turn_word self.now result }
     {
         self.line.wait_word(&self.port) as u64
     }
@@ -286,8 +276,8 @@ impl Node<List> {
     /// `Misuse` if the node waits or holds.
     pub fn prepend(&mut self) -> Answer
         ensures line { self.new.line ≡ self.old.line }
-        ensures misuse { may_ask self.old.port.view.state ≢ true → (result ≡ Answer.Misuse) × (self.new ≡ self.old) }
-        ensures prepends { may_ask self.old.port.view.state ≡ true → (answer : Prep) × (result ≡ prep_told answer) × Prepends anything self.old.port.view self.new.port.view self.new.port.turn answer × IsOneCall (list.max_steps self.old.line.table.shared.key.config.nodes + 3) self.old.port.counters self.new.port.counters × (answer ≡ Prep.Closed → Names (list.turn_word self.new.port.view) self.new.port.went_to) }
+        ensures misuse { ¬ MayAsk self.old → IsMisuse self.old self.new result }
+        ensures does { MayAsk self.old → Prepends self.old self.new result }
     {
         if !self.state().may_ask() {
             return Answer::Misuse;
@@ -300,8 +290,8 @@ impl Node<List> {
     /// `Misuse` if the node has no request to link.
     pub fn link(&mut self) -> Answer
         ensures line { self.new.line ≡ self.old.line }
-        ensures misuse { self.old.port.view.state ≢ PortState.Linking → (result ≡ Answer.Misuse) × (self.new ≡ self.old) }
-        ensures links { self.old.port.view.state ≡ PortState.Linking → (answer : Enq) × (result ≡ enq_told answer) × LinksUp anything self.old.port.view self.new.port.view self.new.port.turn answer × IsOneCall (list.max_steps self.old.line.table.shared.key.config.nodes + 3) self.old.port.counters self.new.port.counters × (answer ≡ Enq.Closed → Names (list.turn_word self.new.port.view) self.new.port.went_to) }
+        ensures misuse { ¬ IsLinking self.old → IsMisuse self.old self.new result }
+        ensures does { IsLinking self.old → LinksUp self.old self.new result }
     {
         if self.state() != PortState::Linking {
             return Answer::Misuse;
@@ -321,7 +311,8 @@ fn poll_on<Q: Discipline<Free>>(
     requires some { 0 < polls }
     ensures belongs { ⟦<LineFor<Q> as LineSync<Free>>⟧.belongs line.now port.new }
     ensures polls { Polls anything port.old.view port.new.view port.new.turn result }
-    ensures within { PollsWithin polls port.old.counters.poll_count port.new.counters.poll_count result }
+    ensures within { PollsWithin polls port.old.counters.poll_count
+        port.new.counters.poll_count result }
     ensures went_to { result ≡ Poll.Closed → Names (Q.turn_word port.new.view) port.new.went_to }
 {
     for _look in 1..polls {

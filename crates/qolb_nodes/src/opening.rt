@@ -103,7 +103,8 @@ fn nodes_of_kind(
     config: LineConfig,
 ) -> Result<Vec<Box<AnyNode>>, OpenError>
     requires { IsKind kind }
-    ensures nodes { IfOk result (λ boxes. AreNewNodes kind label config (map (λ node. node.value) boxes.items)) }
+    ensures nodes { IfOk result (λ boxes.
+        AreNewNodes kind label config (map (λ node. node.value) boxes.items)) }
     ensures why { IfErr result (λ error. MayNotOpen config error) }
 {
     if kind == RING {
@@ -155,7 +156,8 @@ where
 ///
 /// `Memory` if the allocator returns none.
 fn boxed<N: IntoAny>(alloc: Global, nodes: Vec<N>) -> Result<Vec<Box<AnyNode>>, OpenError>
-    ensures nodes { IfOk result (λ boxes. map (λ node. node.value) boxes.items ≡ map N.as_any nodes.items) }
+    ensures nodes { IfOk result (λ boxes.
+        map (λ node. node.value) boxes.items ≡ map N.as_any nodes.items) }
     ensures why { IfErr result (λ error. error ≡ OpenError.Memory) }
 {
     let Ok(mut boxes) = Vec::with_capacity(alloc, nodes.len()) else {
@@ -176,7 +178,8 @@ fn boxed<N: IntoAny>(alloc: Global, nodes: Vec<N>) -> Result<Vec<Box<AnyNode>>, 
 fn fill(out: &mut [Handle], nodes: Vec<Box<AnyNode>>)
     requires room { length nodes.items ≤ length out.old }
     requires empty { AreEmpty (length nodes.items) out.old }
-    ensures { held_by out.new ≡ map (λ node. Some node.value) nodes.items ++ drop (length nodes.items) (held_by out.old) }
+    ensures { held_by out.new ≡ map (λ node. Some node.value) nodes.items
+        ++ drop (length nodes.items) (held_by out.old) }
 {
     let mut place = 0;
     for node in nodes {

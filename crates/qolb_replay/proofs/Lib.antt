@@ -1,3 +1,4 @@
 pub mod InTurn
 pub mod Replayed
 pub mod StepsRun
+pub mod Refusing

@@ -29,11 +29,14 @@ pub fn read_all<A: Allocator, R: Read>(
     alloc: A,
     reader: &mut Watched<R>,
 ) -> Result<Vec<u8, A>, ReplayError>
-    ensures whole { IfOk result (λ bytes. IfSome (R.remaining (inner_of reader.old)) (λ rest. bytes.items ≡ rest)) }
+    ensures whole { IfOk result (λ bytes.
+        IfSome (R.remaining (inner_of reader.old)) (λ rest. bytes.items ≡ rest)) }
     ensures fits { IfOk result (λ bytes. vec_len bytes ≤ MAX_BYTES) }
     ensures read { (result ≡ Err ReplayError.Read) ↔ (has_failed reader.new ≡ true) }
-    ensures long { result ≡ Err ReplayError.Long → IfSome (R.remaining (inner_of reader.old)) (λ rest. MAX_BYTES < length rest) }
-    ensures of_input { IfErr result (λ error. (fault : InputError) × (error ≡ as_replay_error fault)) }
+    ensures long { result ≡ Err ReplayError.Long
+        → IfSome (R.remaining (inner_of reader.old)) (λ rest. MAX_BYTES < length rest) }
+    ensures of_input { IfErr result (λ error. (fault : InputError)
+        × (error ≡ as_replay_error fault)) }
 {
     Ok(read_input(alloc, reader)?)
 }
@@ -43,10 +46,12 @@ pub fn read_input<A: Allocator, R: Read>(
     alloc: A,
     reader: &mut Watched<R>,
 ) -> Result<Vec<u8, A>, InputError>
-    ensures whole { IfOk result (λ bytes. IfSome (R.remaining (inner_of reader.old)) (λ rest. bytes.items ≡ rest)) }
+    ensures whole { IfOk result (λ bytes.
+        IfSome (R.remaining (inner_of reader.old)) (λ rest. bytes.items ≡ rest)) }
     ensures fits { IfOk result (λ bytes. vec_len bytes ≤ MAX_BYTES) }
     ensures read { (result ≡ Err InputError.Read) ↔ (has_failed reader.new ≡ true) }
-    ensures long { result ≡ Err InputError.Long → IfSome (R.remaining (inner_of reader.old)) (λ rest. MAX_BYTES < length rest) }
+    ensures long { result ≡ Err InputError.Long
+        → IfSome (R.remaining (inner_of reader.old)) (λ rest. MAX_BYTES < length rest) }
 {
     let mut all = Vec::new(alloc);
     let mut part = [0u8; 4096];

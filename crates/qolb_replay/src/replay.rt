@@ -109,9 +109,13 @@ pub fn run_schedule_over<L: OpenLine<Free> + Drop, R: Read, W: Write>(
 ) -> Result<(), ReplayError>
 where
     L::Port: Drop,
-    ensures ok { OnOk result (IfSome (R.remaining (inner_of reader.old)) (λ input. (text : List ℕ) × IsReply input text × Appends (W.contents (inner_of writer.old)) (W.contents (inner_of writer.new)) text)) }
-    ensures refused { IfErr result (λ error. IfSome (R.remaining (inner_of reader.old)) (λ input. ReplayMayFail input error)) }
-    ensures unwritten { IfErr result (λ error. error ≢ ReplayError.Write → writer.new ≡ writer.old) }
+    ensures ok { OnOk result (IfSome (R.remaining (inner_of reader.old)) (λ input.
+        (text : List ℕ) × IsReply input text
+        × Appends (W.contents (inner_of writer.old)) (W.contents (inner_of writer.new)) text)) }
+    ensures refused { IfErr result (λ error.
+        IfSome (R.remaining (inner_of reader.old)) (λ input. ReplayMayFail input error)) }
+    ensures unwritten { IfErr result (λ error. error ≢ ReplayError.Write
+        → writer.new ≡ writer.old) }
     ensures read_fault { (result ≡ Err ReplayError.Read) ↔ (has_failed reader.new ≡ true) }
     ensures write_fault { result ≡ Err ReplayError.Write → has_failed writer.new ≡ true }
     ensures written { OnOk result (has_failed writer.new ≡ false) }
@@ -170,7 +174,8 @@ fn reply<A: Allocator, R: ReplayLine + Drop>(
     schedule: &Schedule<A>,
     lines: Vec<CountingLine<R>, A>,
 ) -> Result<Vec<u8, A>, AllocError>
-    requires { AreLinesOf R.represents R.nodes_of schedule.now.nodes (replay_start (config_of schedule.now) schedule.now.lines) lines.items }
+    requires { AreLinesOf R.represents R.nodes_of schedule.now.nodes
+        (replay_start (config_of schedule.now) schedule.now.lines) lines.items }
     ensures { IfOk result (λ text. text.items ≡ reply_of schedule.now) }
 {
     let nodes = schedule.nodes();
@@ -194,7 +199,8 @@ fn open_lines<A: Allocator>(
 ) -> Result<Vec<CountingLine<PlainLine>, A>, AllocError>
     requires bytes { length config.now.opening.bytes ≡ 64 }
     requires may_open { MayOpen config.now }
-    ensures { IfOk result (λ all. AreLinesOf Agrees (λ (line : PlainView). line.nodes) config.now.nodes (replay_start config.now lines) all.items) }
+    ensures { IfOk result (λ all. AreLinesOf Agrees (λ (line : PlainView).
+        line.nodes) config.now.nodes (replay_start config.now lines) all.items) }
 {
     let mut all = Vec::with_capacity(alloc, lines as usize)?;
     for _ in 0..lines {
@@ -217,7 +223,9 @@ where
     L::Port: Drop,
     requires bytes { length config.now.opening.bytes ≡ 64 }
     requires may_open { MayOpen config.now }
-    ensures { IfOk result (λ all. AreLinesOf (λ (ports : List ViewAndTurn) (s : OwnerState). AreSynced s ports) (λ (ports : List ViewAndTurn). length ports) config.now.nodes (replay_start config.now lines) all.items) }
+    ensures { IfOk result (λ all. AreLinesOf (λ (ports : List ViewAndTurn) (s : OwnerState).
+        AreSynced s ports) (λ (ports : List ViewAndTurn). length ports) config.now.nodes
+        (replay_start config.now lines) all.items) }
 {
     let mut all = Vec::with_capacity(alloc, lines as usize)?;
     for number in 0..lines {

@@ -36,9 +36,14 @@ pub fn run_steps<A: Allocator, R: Read, W: Write>(
     reader: &mut Watched<R>,
     writer: &mut Watched<W>,
 ) -> Result<(), ReplayError>
-    ensures ok { OnOk result (IfSome (R.remaining (inner_of reader.old)) (λ input. (text : List ℕ) × IsStepReplyTo detail.Words input text × Appends (W.contents (inner_of writer.old)) (W.contents (inner_of writer.new)) text)) }
-    ensures refused { IfErr result (λ error. IfSome (R.remaining (inner_of reader.old)) (λ input. StepsMayFail detail.Words input error)) }
-    ensures unwritten { IfErr result (λ error. error ≢ ReplayError.Write → writer.new ≡ writer.old) }
+    ensures ok { OnOk result (IfSome (R.remaining (inner_of reader.old)) (λ input.
+        (text : List ℕ) × IsStepReplyTo detail.Words input text
+        × Appends (W.contents (inner_of writer.old)) (W.contents (inner_of writer.new)) text)) }
+    ensures refused { IfErr result (λ error.
+        IfSome (R.remaining (inner_of reader.old)) (λ input.
+        StepsMayFail detail.Words input error)) }
+    ensures unwritten { IfErr result (λ error. error ≢ ReplayError.Write
+        → writer.new ≡ writer.old) }
     ensures read_fault { (result ≡ Err ReplayError.Read) ↔ (has_failed reader.new ≡ true) }
     ensures write_fault { result ≡ Err ReplayError.Write → has_failed writer.new ≡ true }
     ensures written { OnOk result (has_failed writer.new ≡ false) }
@@ -57,9 +62,13 @@ pub fn run_steps_with<A: Allocator, R: Read, W: Write>(
     writer: &mut Watched<W>,
     detail: Detail,
 ) -> Result<(), ReplayError>
-    ensures ok { OnOk result (IfSome (R.remaining (inner_of reader.old)) (λ input. (text : List ℕ) × IsStepReplyTo detail input text × Appends (W.contents (inner_of writer.old)) (W.contents (inner_of writer.new)) text)) }
-    ensures refused { IfErr result (λ error. IfSome (R.remaining (inner_of reader.old)) (λ input. StepsMayFail detail input error)) }
-    ensures unwritten { IfErr result (λ error. error ≢ ReplayError.Write → writer.new ≡ writer.old) }
+    ensures ok { OnOk result (IfSome (R.remaining (inner_of reader.old)) (λ input.
+        (text : List ℕ) × IsStepReplyTo detail input text
+        × Appends (W.contents (inner_of writer.old)) (W.contents (inner_of writer.new)) text)) }
+    ensures refused { IfErr result (λ error.
+        IfSome (R.remaining (inner_of reader.old)) (λ input. StepsMayFail detail input error)) }
+    ensures unwritten { IfErr result (λ error. error ≢ ReplayError.Write
+        → writer.new ≡ writer.old) }
     ensures read_fault { (result ≡ Err ReplayError.Read) ↔ (has_failed reader.new ≡ true) }
     ensures write_fault { result ≡ Err ReplayError.Write → has_failed writer.new ≡ true }
     ensures written { OnOk result (has_failed writer.new ≡ false) }
@@ -107,7 +116,8 @@ fn push_heard<A: Allocator>(
     core: &Core,
     detail: Detail,
 ) -> Result<(), AllocError>
-    ensures ok { let heard : Heard = record { told = told; rank = rank core.now } in OnOk result (text.new.items ≡ text.old.items ++ heard_text detail heard) }
+    ensures ok { let heard : Heard = record { told = told; rank = rank core.now } in
+        OnOk result (text.new.items ≡ text.old.items ++ heard_text detail heard) }
     ensures err { OnErr result (text.new.items ≡ text.old.items) }
 {
     match detail {

@@ -57,9 +57,14 @@ pub fn run_schedule<R: Read, W: Write>(
     writer: &mut Watched<W>,
     kind: Kind,
 ) -> Result<(), ReplayError>
-    ensures ok { OnOk result (IfSome (R.remaining (inner_of reader.old)) (λ input. (text : List ℕ) × IsReply input text × Appends (W.contents (inner_of writer.old)) (W.contents (inner_of writer.new)) text)) }
-    ensures refused { IfErr result (λ error. IfSome (R.remaining (inner_of reader.old)) (λ input. MayFail (task.Replay kind) input error)) }
-    ensures unwritten { IfErr result (λ error. error ≢ ReplayError.Write → writer.new ≡ writer.old) }
+    ensures ok { OnOk result (IfSome (R.remaining (inner_of reader.old)) (λ input.
+        (text : List ℕ) × IsReply input text
+        × Appends (W.contents (inner_of writer.old)) (W.contents (inner_of writer.new)) text)) }
+    ensures refused { IfErr result (λ error.
+        IfSome (R.remaining (inner_of reader.old)) (λ input.
+        MayFail (task.Replay kind) input error)) }
+    ensures unwritten { IfErr result (λ error. error ≢ ReplayError.Write
+        → writer.new ≡ writer.old) }
     ensures read_fault { (result ≡ Err ReplayError.Read) ↔ (has_failed reader.new ≡ true) }
     ensures write_fault { result ≡ Err ReplayError.Write → has_failed writer.new ≡ true }
     ensures written { OnOk result (has_failed writer.new ≡ false) }

@@ -62,12 +62,20 @@ pub fn report_work<T: Threads + Wait + Sync, G: Gate + Sync, R: Read, W: Write>(
     lines: Lines,
     waits: WaitMode,
 ) -> Result<(), TaskError>
-    ensures ok { OnOk result (IfSome (R.remaining (inner_of reader.old)) (λ input. (text : List ℕ) × IsReplyOver (⟦<Locks as KindSpec>⟧.done_over lines) kind input text × Appends (W.contents (inner_of writer.old)) (W.contents (inner_of writer.new)) text)) }
-    ensures refused { IfErr result (λ error. IfSome (R.remaining (inner_of reader.old)) (λ input. MayEnd (task.Work kind lines waits) input error)) }
-    ensures by_gate { (worker : ℕ) → result ≡ Err (TaskError.Stalled worker) → G.may_refuse gate.now worker }
-    ensures unwritten { IfErr result (λ error. error ≢ TaskError.Replay ReplayError.Write → writer.new ≡ writer.old) }
-    ensures read_fault { (result ≡ Err (TaskError.Replay ReplayError.Read)) ↔ (has_failed reader.new ≡ true) }
-    ensures write_fault { result ≡ Err (TaskError.Replay ReplayError.Write) → has_failed writer.new ≡ true }
+    ensures ok { OnOk result (IfSome (R.remaining (inner_of reader.old)) (λ input.
+        (text : List ℕ) × IsReplyOver (⟦<Locks as KindSpec>⟧.done_over lines) kind input text
+        × Appends (W.contents (inner_of writer.old)) (W.contents (inner_of writer.new)) text)) }
+    ensures refused { IfErr result (λ error.
+        IfSome (R.remaining (inner_of reader.old)) (λ input.
+        MayEnd (task.Work kind lines waits) input error)) }
+    ensures by_gate { (worker : ℕ) → result ≡ Err (TaskError.Stalled worker)
+        → G.may_refuse gate.now worker }
+    ensures unwritten { IfErr result (λ error. error ≢ TaskError.Replay ReplayError.Write
+        → writer.new ≡ writer.old) }
+    ensures read_fault { (result ≡ Err (TaskError.Replay ReplayError.Read))
+        ↔ (has_failed reader.new ≡ true) }
+    ensures write_fault { result ≡ Err (TaskError.Replay ReplayError.Write)
+        → has_failed writer.new ≡ true }
     ensures written { OnOk result (has_failed writer.new ≡ false) }
     ensures memory { result ≢ Err (TaskError.Replay (ReplayError.Script ScriptError.Memory)) }
 {
@@ -85,8 +93,11 @@ fn read_script<R: Read>(
     reader: &mut Watched<R>,
     kind: WorkKind,
 ) -> Result<Work, ReplayError>
-    ensures work { IfOk result (λ work. IfSome (R.remaining (inner_of reader.old)) (λ input. IsWork kind input work)) }
-    ensures refused { IfErr result (λ error. (error ≢ ReplayError.Write) × IfSome (R.remaining (inner_of reader.old)) (λ input. (lines : Lines) (waits : WaitMode) → MayFail (task.Work kind lines waits) input error)) }
+    ensures work { IfOk result (λ work.
+        IfSome (R.remaining (inner_of reader.old)) (λ input. IsWork kind input work)) }
+    ensures refused { IfErr result (λ error. (error ≢ ReplayError.Write)
+        × IfSome (R.remaining (inner_of reader.old)) (λ input.
+        (lines : Lines) (waits : WaitMode) → MayFail (task.Work kind lines waits) input error)) }
     ensures read_fault { (result ≡ Err ReplayError.Read) ↔ (has_failed reader.new ≡ true) }
     ensures memory { result ≢ Err (ReplayError.Script ScriptError.Memory) }
 {

@@ -38,10 +38,15 @@ impl KindSpec for Locks {
         let link_bank = ⟦<LinkLine<AccountLaw> as LineSync<AccountLaw>>⟧ in
         let ticket_board = ⟦<TicketLine<BoardLaw> as LineSync<BoardLaw>>⟧ in
         let ticket_bank = ⟦<TicketLine<AccountLaw> as LineSync<AccountLaw>>⟧ in
-        by_name
-        (λ work report. IsBoardedOver ring_board.belongs ring_board.view ring_board.config_of work report × IsBankedOver ring_bank.belongs ring_bank.view ring_bank.config_of work report)
-        (λ work report. IsBoardedOver link_board.belongs link_board.view link_board.config_of work report × IsBankedOver link_bank.belongs link_bank.view link_bank.config_of work report)
-        (λ work report. IsBoardedOver ticket_board.belongs ticket_board.view ticket_board.config_of work report × IsBankedOver ticket_bank.belongs ticket_bank.view ticket_bank.config_of work report) };
+        by_name (λ work report.
+        IsBoardedOver ring_board.belongs ring_board.view ring_board.config_of work report
+        × IsBankedOver ring_bank.belongs ring_bank.view ring_bank.config_of work report)
+        (λ work report.
+        IsBoardedOver link_board.belongs link_board.view link_board.config_of work report
+        × IsBankedOver link_bank.belongs link_bank.view link_bank.config_of work report)
+        (λ work report.
+        IsBoardedOver ticket_board.belongs ticket_board.view ticket_board.config_of work report
+        × IsBankedOver ticket_bank.belongs ticket_bank.view ticket_bank.config_of work report) };
 }
 
 /// Does the work of a script, with a thread for each worker. Opens every line with zeros, and finishes it when all workers are done. Blocks
@@ -58,7 +63,8 @@ pub fn run_work<R: Threads + Wait + Sync, G: Gate + Sync>(
     ensures report { IfOk result (IsReportOf work.now) }
     ensures over { IfOk result (⟦<Locks as KindSpec>⟧.done_over lines work.now) }
     ensures stalled { IfErr result (MayStop work.now) }
-    ensures by_gate { (worker : ℕ) → result ≡ Err (RunError.Stalled worker) → G.may_refuse gate.now worker }
+    ensures by_gate { (worker : ℕ) → result ≡ Err (RunError.Stalled worker)
+        → G.may_refuse gate.now worker }
 {
     run_work_with(rt, alloc, gate, work, lines, WaitMode::Awake)
 }
@@ -75,7 +81,8 @@ pub fn run_work_with<R: Threads + Wait + Sync, G: Gate + Sync>(
     ensures report { IfOk result (IsReportOf work.now) }
     ensures over { IfOk result (⟦<Locks as KindSpec>⟧.done_over lines work.now) }
     ensures stalled { IfErr result (MayStop work.now) }
-    ensures by_gate { (worker : ℕ) → result ≡ Err (RunError.Stalled worker) → G.may_refuse gate.now worker }
+    ensures by_gate { (worker : ℕ) → result ≡ Err (RunError.Stalled worker)
+        → G.may_refuse gate.now worker }
 {
     for_kind!(lines, run_work_by, [R, G], (rt, alloc, gate, work, waits))
 }
@@ -87,10 +94,13 @@ fn run_work_by<
     Q: Discipline<BoardLaw> + Discipline<AccountLaw> + Send + Sync,
 >(rt: &R, alloc: Global, gate: &G, work: &Work, waits: WaitMode) -> Result<Report, RunError>
     ensures report { IfOk result (IsReportOf work.now) }
-    ensures boarded { let board = ⟦<Line<BoardLaw, Q> as LineSync<BoardLaw>>⟧ in IfOk result (IsBoardedOver board.belongs board.view board.config_of work.now) }
-    ensures banked { let bank = ⟦<Line<AccountLaw, Q> as LineSync<AccountLaw>>⟧ in IfOk result (IsBankedOver bank.belongs bank.view bank.config_of work.now) }
+    ensures boarded { let board = ⟦<Line<BoardLaw, Q> as LineSync<BoardLaw>>⟧ in
+        IfOk result (IsBoardedOver board.belongs board.view board.config_of work.now) }
+    ensures banked { let bank = ⟦<Line<AccountLaw, Q> as LineSync<AccountLaw>>⟧ in
+        IfOk result (IsBankedOver bank.belongs bank.view bank.config_of work.now) }
     ensures stalled { IfErr result (MayStop work.now) }
-    ensures by_gate { (worker : ℕ) → result ≡ Err (RunError.Stalled worker) → G.may_refuse gate.now worker }
+    ensures by_gate { (worker : ℕ) → result ≡ Err (RunError.Stalled worker)
+        → G.may_refuse gate.now worker }
 {
     run_work_over::<R, G, Line<BoardLaw, Q>, Line<AccountLaw, Q>>(rt, alloc, gate, work, waits)
 }

@@ -55,7 +55,8 @@ impl ReadItem for CommandReader {
 
     ghost item_of = { λ r. spec.command_of r.nodes r.lines };
 
-    ghost in_range = { λ r c. (1 ≤ spec.node_of c) × (spec.node_of c ≤ r.nodes) × (spec.line_of c < r.lines) };
+    ghost in_range = { λ r c. (1 ≤ spec.node_of c) × (spec.node_of c ≤ r.nodes)
+        × (spec.line_of c < r.lines) };
 
     fn read_item(&self, line: &[u8]) -> Result<Command, LineFault> {
         read_command(self.nodes, self.lines, line)
@@ -129,7 +130,8 @@ fn lease_within(word: &[u8]) -> Result<u64, LineFault>
 fn read_command(nodes: u64, lines: u64, text: &[u8]) -> Result<Command, LineFault>
     requires { 1 ≤ lines }
     ensures command { result ≡ spec.read_line (spec.command_of nodes lines) text.now }
-    ensures range { IfOk result (λ c. (1 ≤ spec.node_of c) × (spec.node_of c ≤ nodes) × (spec.line_of c < lines)) }
+    ensures range { IfOk result (λ c. (1 ≤ spec.node_of c) × (spec.node_of c ≤ nodes)
+        × (spec.line_of c < lines)) }
 {
     let mut words = Words::of_line(text)?;
     let (Some(first), Some(node), Some(line)) = (words.next(), words.next(), words.next()) else {
@@ -170,8 +172,10 @@ fn read_named_command(
     line: &[u8],
 ) -> Result<Command, LineFault>
     requires { 1 ≤ lines }
-    ensures command { result ≡ spec.command_at nodes lines (spec.named_command first.now) node.now line.now }
-    ensures range { IfOk result (λ c. (1 ≤ spec.node_of c) × (spec.node_of c ≤ nodes) × (spec.line_of c < lines)) }
+    ensures command { result ≡ spec.command_at nodes lines
+        (spec.named_command first.now) node.now line.now }
+    ensures range { IfOk result (λ c. (1 ≤ spec.node_of c) × (spec.node_of c ≤ nodes)
+        × (spec.line_of c < lines)) }
 {
     let Some(verb) = Verb::named(first) else {
         return Err(LineFault::Bad);
@@ -192,7 +196,8 @@ fn read_write(
 ) -> Result<Command, LineFault>
     requires { 1 ≤ lines }
     ensures command { result ≡ spec.write_command nodes lines node.now line.now off.now hex.now }
-    ensures range { IfOk result (λ c. (1 ≤ spec.node_of c) × (spec.node_of c ≤ nodes) × (spec.line_of c < lines)) }
+    ensures range { IfOk result (λ c. (1 ≤ spec.node_of c) × (spec.node_of c ≤ nodes)
+        × (spec.line_of c < lines)) }
 {
     let node = node_within(nodes, node)?;
     let line = line_within(lines, line)?;

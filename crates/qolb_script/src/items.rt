@@ -34,8 +34,10 @@ pub fn read_items<R: ReadItem, A: Allocator>(
     reader: &R,
     rest: NumberedLines,
 ) -> Result<Vec<R::Item, A>, ScriptError>
-    ensures ok { IfOk result (λ items. items_of (R.item_of reader.now) 0 (lines_left rest.entry) ≡ Ok items.items) }
-    ensures refused { IfErr result (λ error. error ≢ ScriptError.Memory → items_of (R.item_of reader.now) 0 (lines_left rest.entry) ≡ Err error) }
+    ensures ok { IfOk result (λ items. items_of (R.item_of reader.now) 0 (lines_left rest.entry)
+        ≡ Ok items.items) }
+    ensures refused { IfErr result (λ error. error ≢ ScriptError.Memory
+        → items_of (R.item_of reader.now) 0 (lines_left rest.entry) ≡ Err error) }
     ensures range { IfOk result (λ items. All (R.in_range reader.now) items.items) }
     ensures most { IfOk result (λ items. length items.items ≤ MAX_COMMANDS) }
 {

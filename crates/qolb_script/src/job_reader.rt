@@ -54,7 +54,8 @@ impl ReadItem for JobReader {
 
     ghost item_of = { λ r. spec.job_of r.kind r.workers r.lines };
 
-    ghost in_range = { λ r job. (1 ≤ spec.worker_of job) × (spec.worker_of job ≤ r.workers) × spec.IsOfKind r.kind r.lines job };
+    ghost in_range = { λ r job. (1 ≤ spec.worker_of job) × (spec.worker_of job ≤ r.workers)
+        × spec.IsOfKind r.kind r.lines job };
 
     fn read_item(&self, line: &[u8]) -> Result<Job, LineFault> {
         match self.kind {
@@ -111,7 +112,8 @@ fn read_bank_header(text: &[u8]) -> Result<WorkHeader, LineFault>
 /// Reads the job on a line, at a board.
 fn read_board_job(workers: u64, text: &[u8]) -> Result<Job, LineFault>
     ensures job { result ≡ read_line (spec.board_job workers) text.now }
-    ensures range { IfOk result (λ job. (1 ≤ spec.worker_of job) × (spec.worker_of job ≤ workers) × spec.IsOfKind WorkKind.Board 1 job) }
+    ensures range { IfOk result (λ job. (1 ≤ spec.worker_of job) × (spec.worker_of job ≤ workers)
+        × spec.IsOfKind WorkKind.Board 1 job) }
 {
     let mut words = Words::of_line(text)?;
     let (Some(worker), Some(verb)) = (words.next(), words.next()) else {
@@ -134,7 +136,8 @@ fn read_bank_job(workers: u64, lines: u64, text: &[u8]) -> Result<Job, LineFault
     requires some { 1 ≤ lines }
     requires few { lines ≤ MAX_LINES }
     ensures job { result ≡ read_line (spec.bank_job workers lines) text.now }
-    ensures range { IfOk result (λ job. (1 ≤ spec.worker_of job) × (spec.worker_of job ≤ workers) × spec.IsOfKind WorkKind.Bank lines job) }
+    ensures range { IfOk result (λ job. (1 ≤ spec.worker_of job) × (spec.worker_of job ≤ workers)
+        × spec.IsOfKind WorkKind.Bank lines job) }
 {
     let mut words = Words::of_line(text)?;
     let (Some(worker), Some(verb), Some(third), Some(fourth)) = (
@@ -165,8 +168,10 @@ fn read_payment_job(
 ) -> Result<Job, LineFault>
     requires some { 1 ≤ lines }
     requires few { lines ≤ MAX_LINES }
-    ensures job { result ≡ spec.payment_job workers lines verb.now worker.now account.now amount.now }
-    ensures range { IfOk result (λ job. (1 ≤ spec.worker_of job) × (spec.worker_of job ≤ workers) × spec.IsOfKind WorkKind.Bank lines job) }
+    ensures job { result ≡ spec.payment_job workers lines verb.now worker.now
+        account.now amount.now }
+    ensures range { IfOk result (λ job. (1 ≤ spec.worker_of job) × (spec.worker_of job ≤ workers)
+        × spec.IsOfKind WorkKind.Bank lines job) }
 {
     let payment = read_payment(workers, lines, worker, account, amount);
     if verb == PAY_IN {
@@ -199,7 +204,8 @@ fn read_payment(
     requires some { 1 ≤ lines }
     requires few { lines ≤ MAX_LINES }
     ensures payment { result ≡ spec.payment_of workers lines worker.now account.now amount.now }
-    ensures range { IfOk result (λ p. (1 ≤ p.0) × (p.0 ≤ workers) × (p.1 < ACCOUNTS_A_LINE * lines)) }
+    ensures range { IfOk result (λ p. (1 ≤ p.0) × (p.0 ≤ workers)
+        × (p.1 < ACCOUNTS_A_LINE * lines)) }
 {
     let worker = node_within(workers, worker)?;
     let account = account_within(lines, account)?;
@@ -219,7 +225,8 @@ fn read_move_job(
     requires some { 1 ≤ lines }
     requires few { lines ≤ MAX_LINES }
     ensures job { result ≡ spec.move_job workers lines worker.now source.now target.now amount.now }
-    ensures range { IfOk result (λ job. (1 ≤ spec.worker_of job) × (spec.worker_of job ≤ workers) × spec.IsOfKind WorkKind.Bank lines job) }
+    ensures range { IfOk result (λ job. (1 ≤ spec.worker_of job) × (spec.worker_of job ≤ workers)
+        × spec.IsOfKind WorkKind.Bank lines job) }
 {
     let worker = node_within(workers, worker)?;
     let source = account_within(lines, source)?;

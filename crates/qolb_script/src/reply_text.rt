@@ -162,7 +162,8 @@ fn push_line<A: Allocator>(text: &mut Vec<u8, A>, words: &[u8]) -> Result<(), Al
 
 /// Appends the bytes as hex digits, and a newline.
 fn push_bytes<A: Allocator>(text: &mut Vec<u8, A>, line: &Line64) -> Result<(), AllocError>
-    ensures ok { OnOk result (text.new.items ≡ text.old.items ++ (encode_lower line.now.bytes ++ 10 ∷ [])) }
+    ensures ok { OnOk result (text.new.items ≡ text.old.items
+        ++ (encode_lower line.now.bytes ++ 10 ∷ [])) }
     ensures err { OnErr result (text.new.items ≡ text.old.items) }
 {
     let mut digits = [0; 128];
@@ -179,7 +180,8 @@ fn push_summary<A: Allocator>(
     told: u64,
     left: u64,
 ) -> Result<(), AllocError>
-    ensures ok { OnOk result (text.new.items ≡ text.old.items ++ said_text (Said.Summary line served withdrawn told left)) }
+    ensures ok { OnOk result (text.new.items ≡ text.old.items
+        ++ said_text (Said.Summary line served withdrawn told left)) }
     ensures err { OnErr result (text.new.items ≡ text.old.items) }
 {
     text.reserve(MAX_SUMMARY)?;

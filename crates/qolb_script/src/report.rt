@@ -30,7 +30,8 @@ pub enum Report {
 /// Writes the report, a line for each number. If it fails, a part of the report may have been written.
 pub fn write_report<W: Write>(report: &Report, out: &mut Watched<W>) -> Result<(), Fault>
     ensures fault { IsErr result ↔ (has_failed out.new ≡ true) }
-    ensures bytes { OnOk result (Appends (W.contents (inner_of out.old)) (W.contents (inner_of out.new)) (report_text report.now)) }
+    ensures bytes { OnOk result (Appends (W.contents (inner_of out.old))
+        (W.contents (inner_of out.new)) (report_text report.now)) }
 {
     match *report {
         Report::Board {
@@ -65,7 +66,8 @@ fn write_figure<W: Write, N: Integer>(
     number: N,
 ) -> Result<(), Fault>
     ensures fault { IsErr result ↔ (has_failed out.new ≡ true) }
-    ensures bytes { OnOk result (Appends (W.contents (inner_of out.old)) (W.contents (inner_of out.new)) (figure word.now (N.text number))) }
+    ensures bytes { OnOk result (Appends (W.contents (inner_of out.old))
+        (W.contents (inner_of out.new)) (figure word.now (N.text number))) }
 {
     let mut buffer = Buffer::new();
     out.write_all(word)?;

@@ -30,9 +30,20 @@ impl<A: Allocator> Model for Schedule<A> {
 
     ghost Value = { Script };
 
-    ghost view = { λ s. record { nodes = s.nodes; lines = s.lines; lease = s.lease; commands = s.commands.items } };
+    ghost view = { λ s. record {
+      nodes = s.nodes;
+      lines = s.lines;
+      lease = s.lease;
+      commands = s.commands.items;
+    } };
 
-    ghost invariant = { λ s. IsBounded (record { nodes = s.nodes; lines = s.lines; lease = s.lease; commands = s.commands.items }) };
+    ghost invariant = { λ s. IsBounded
+        (record {
+          nodes = s.nodes;
+          lines = s.lines;
+          lease = s.lease;
+          commands = s.commands.items;
+        }) };
 }
 
 impl<A: Allocator> Schedule<A> {
@@ -78,7 +89,8 @@ impl<A: Allocator> Schedule<A> {
 /// Reads a schedule. The error is the first faulty line's, or `Memory` if a growth was refused.
 pub fn read_schedule<A: Allocator>(alloc: A, text: &[u8]) -> Result<Schedule<A>, ScriptError>
     ensures ok { IfOk result (λ schedule. script_of text.now ≡ Ok schedule) }
-    ensures refused { IfErr result (λ error. error ≢ ScriptError.Memory → script_of text.now ≡ Err error) }
+    ensures refused { IfErr result (λ error. error ≢ ScriptError.Memory
+        → script_of text.now ≡ Err error) }
 {
     let mut rest = NumberedLines::new(text);
     let Some((number, line)) = rest.next() else {

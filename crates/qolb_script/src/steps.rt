@@ -25,7 +25,8 @@ impl<A: Allocator> Model for Steps<A> {
 
     ghost view = { λ s. record { nodes = s.nodes; lease = s.lease; events = s.events.items } };
 
-    ghost invariant = { λ s. IsStepBounded (record { nodes = s.nodes; lease = s.lease; events = s.events.items }) };
+    ghost invariant = { λ s. IsStepBounded
+        (record { nodes = s.nodes; lease = s.lease; events = s.events.items }) };
 }
 
 impl<A: Allocator> Steps<A> {
@@ -64,7 +65,8 @@ impl<A: Allocator> Steps<A> {
 /// Reads a step script. The error is the first faulty line's, or `Memory` if a growth was refused.
 pub fn read_steps<A: Allocator>(alloc: A, text: &[u8]) -> Result<Steps<A>, ScriptError>
     ensures ok { IfOk result (λ steps. steps_of text.now ≡ Ok steps) }
-    ensures refused { IfErr result (λ error. error ≢ ScriptError.Memory → steps_of text.now ≡ Err error) }
+    ensures refused { IfErr result (λ error. error ≢ ScriptError.Memory
+        → steps_of text.now ≡ Err error) }
 {
     let mut rest = NumberedLines::new(text);
     let Some((number, line)) = rest.next() else {

@@ -28,9 +28,10 @@ impl LineFault {
 
 /// Returns the bytes before the first separator, and those after it if there is one.
 pub fn split_once(bytes: &[u8], separator: u8) -> (&[u8], Option<&[u8]>)
-    ensures parts { MatchOption result.1
-        (slice_split (λ b. b == separator) bytes.now ≡ result.0.now ∷ [])
-        (λ rest. slice_split (λ b. b == separator) bytes.now ≡ result.0.now ∷ slice_split (λ b. b == separator) rest.now) }
+    ensures parts { MatchOption result.1 (slice_split (λ b. b == separator) bytes.now
+        ≡ result.0.now ∷ []) (λ rest.
+        slice_split (λ b. b == separator) bytes.now
+        ≡ result.0.now ∷ slice_split (λ b. b == separator) rest.now) }
     ensures shorter { IfSome result.1 (λ rest. length rest.now < length bytes.now) }
 {
     match bytes.iter().position(|&b| b == separator) {

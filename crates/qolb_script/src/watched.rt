@@ -50,9 +50,13 @@ impl<R: Read> Watched<R> {
         ensures fault { IsErr result ↔ (has_failed self.new ≡ true) }
 
         // The bytes read are the next ones of the reader; after a fault no byte is read.
-        ensures bytes { IfOk result (λ n. Consumes (R.remaining (inner_of self.old)) (R.remaining (inner_of self.new)) (take n buf.new)) }
-        ensures end { IfOk result (λ n. n ≡ 0 → 0 < length buf.new → IsAtEnd (R.remaining (inner_of self.new))) }
-        ensures none_lost { OnErr result (Keeps (R.remaining (inner_of self.old)) (R.remaining (inner_of self.new))) }
+        ensures bytes { IfOk result (λ n.
+            Consumes (R.remaining (inner_of self.old)) (R.remaining (inner_of self.new))
+            (take n buf.new)) }
+        ensures end { IfOk result (λ n. n ≡ 0 → 0 < length buf.new
+            → IsAtEnd (R.remaining (inner_of self.new))) }
+        ensures none_lost { OnErr result (Keeps (R.remaining (inner_of self.old))
+            (R.remaining (inner_of self.new))) }
         ensures stopped { has_failed self.old ≡ true → (self.new ≡ self.old) × (buf.new ≡ buf.old) }
     {
         if self.failed {
@@ -77,7 +81,8 @@ impl<W: Write> Watched<W> {
     /// Writes all the bytes. An interrupted write is tried again; a write that takes no byte is a fault.
     pub fn write_all(&mut self, buf: &[u8]) -> Result<(), Fault>
         ensures fault { IsErr result ↔ (has_failed self.new ≡ true) }
-        ensures bytes { OnOk result (Appends (W.contents (inner_of self.old)) (W.contents (inner_of self.new)) buf.now) }
+        ensures bytes { OnOk result (Appends (W.contents (inner_of self.old))
+            (W.contents (inner_of self.new)) buf.now) }
         ensures stopped { has_failed self.old ≡ true → self.new ≡ self.old }
     {
         if self.failed {

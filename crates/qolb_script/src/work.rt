@@ -26,9 +26,15 @@ impl<A: Allocator> Model for Work<A> {
 
     ghost Value = { WorkScript };
 
-    ghost view = { λ w. record { kind = w.kind; workers = w.workers; lines = w.lines; jobs = w.jobs.items } };
+    ghost view = { λ w. record {
+      kind = w.kind;
+      workers = w.workers;
+      lines = w.lines;
+      jobs = w.jobs.items;
+    } };
 
-    ghost invariant = { λ w. IsWorkBounded (record { kind = w.kind; workers = w.workers; lines = w.lines; jobs = w.jobs.items }) };
+    ghost invariant = { λ w. IsWorkBounded
+        (record { kind = w.kind; workers = w.workers; lines = w.lines; jobs = w.jobs.items }) };
 }
 
 impl<A: Allocator> Work<A> {
@@ -78,7 +84,8 @@ pub fn read_work<A: Allocator>(
     kind: WorkKind,
 ) -> Result<Work<A>, ScriptError>
     ensures ok { IfOk result (λ work. work_of kind text.now ≡ Ok work) }
-    ensures refused { IfErr result (λ error. error ≢ ScriptError.Memory → work_of kind text.now ≡ Err error) }
+    ensures refused { IfErr result (λ error. error ≢ ScriptError.Memory
+        → work_of kind text.now ≡ Err error) }
 {
     let mut rest = NumberedLines::new(text);
     let Some((number, line)) = rest.next() else {

@@ -1,8 +1,7 @@
-//! The program behind its words: what they ask for, what is done, and the exit status.
+//! The program behind its words: what is done, and the exit status.
 #![tactic(auto)]
 
-mod command_line;
 mod program;
 
-pub use command_line::{Args, Subcommand, parse_args};
-pub use program::{fail, serve};
+pub use program::{fail, refuse_words, serve};
+pub use qolb_args::{Args, Subcommand, parse_args};

@@ -1,8 +1,10 @@
 //! Does what the words ask for, and reports how that ended.
 ghost use Rattle.std.specs.Prelude.{◌≡◌, ◌≢◌, ◌≤◌, ◌↔◌, ℕ, List, true, false, Err, Some, None, map, string_bytes, IfSome, IfErr, IfOk, IsErrAnd, IsSome, OnOk, MatchOption};
 ghost use Rattle.std.specs.Io.KnownBytes.{Appends};
+ghost use Rattle.std.specs.IoError.{error_kind};
+ghost use Rattle.std.specs.declared.io.ErrorKind.TheVariants as io_kind;
 ghost use Rattle.qolb_script.specs.Watched.{inner_of, has_failed};
-ghost use Rattle.qolb_serve.specs.CommandLine.{NamesWish, IsNotTaken};
+ghost use Rattle.qolb_args.specs.CommandLine.{NamesWish, IsNotTaken};
 ghost use Rattle.qolb_run.specs.Outcome.{Answers, IsReplyOver, MayEnd};
 ghost use Rattle.qolb_draw.specs.Pictures.{IsPicture};
 ghost use Rattle.qolb_draw_steps.specs.StepPictures.{IsStepPicture};
@@ -11,10 +13,10 @@ ghost use Rattle.qolb_run.specs.declared.task.Task.TheVariants as task;
 ghost use Rattle.qolb_run.specs.declared.replay.Kind.TheVariants as kind;
 ghost use Rattle.qolb_serve.specs.Subcommands.{Performs, IsDenied, MayDeny, complaint};
 ghost use Rattle.qolb_serve.specs.Status.{status_of};
-ghost use Rattle.qolb_serve.specs.declared.command_line.Subcommand.{Subcommand};
+ghost use Rattle.qolb_args.specs.declared.command_line.Subcommand.{Subcommand};
 
-use crate::command_line::{Args, Subcommand, parse_args};
 use clap::error::ErrorKind;
+use qolb_args::{Args, Subcommand, parse_args};
 use qolb_draw::{Form, draw_schedule};
 use qolb_draw_steps::draw_steps;
 use qolb_explain::{Complaint, explain_schedule, explain_steps, explain_work};
@@ -41,10 +43,17 @@ pub fn serve<T: Threads + Wait + Clock + Eprint + Sync, R: Read, W: Write, E: Wr
     err: &mut E,
 ) -> u8
     ensures statuses { result ≤ 4 }
-    ensures done { result ≡ 0 → (subcommand : Subcommand) × NamesWish (map string_bytes words.now) subcommand × IfSome (R.remaining reader.old) (λ script. (text : List ℕ) × Performs ⟦<Locks as KindSpec>⟧.done_over subcommand script text × Appends (W.contents out.old) (W.contents out.new) text) }
-    ensures refused { result ≡ 1 → (subcommand : Subcommand) × NamesWish (map string_bytes words.now) subcommand × IfSome (R.remaining reader.old) (IsDenied subcommand) }
+    ensures done { result ≡ 0 → (subcommand : Subcommand)
+        × NamesWish (map string_bytes words.now) subcommand
+        × IfSome (R.remaining reader.old) (λ script.
+        (text : List ℕ) × Performs ⟦<Locks as KindSpec>⟧.done_over subcommand script text
+        × Appends (W.contents out.old) (W.contents out.new) text) }
+    ensures refused { result ≡ 1 → (subcommand : Subcommand)
+        × NamesWish (map string_bytes words.now) subcommand
+        × IfSome (R.remaining reader.old) (IsDenied subcommand) }
     ensures usage { result ≡ 2 → IsNotTaken (map string_bytes words.now) }
-    ensures fault { result ≡ 4 → (subcommand : Subcommand) × NamesWish (map string_bytes words.now) subcommand }
+    ensures fault { result ≡ 4 → (subcommand : Subcommand)
+        × NamesWish (map string_bytes words.now) subcommand }
     ensures unread { result ≡ 2 → reader.new ≡ reader.old }
     ensures unwritten { 1 ≤ result → result ≤ 3 → out.new ≡ out.old }
 {
@@ -83,14 +92,23 @@ fn answer_or_refuse<T: Threads + Wait + Clock + Eprint + Sync, R: Read>(
     request: Args,
     input: &mut Watched<R>,
 ) -> Result<Vec<u8>, Refusal>
-    ensures granted { IfOk result (λ text. IfSome (R.remaining (inner_of input.old)) (λ script. Performs ⟦<Locks as KindSpec>⟧.done_over request.subcommand script text.items)) }
-    ensures err { IfErr result (λ refusal. IfSome (R.remaining (inner_of input.old)) (λ script. MayDeny request.subcommand script refusal.error)) }
-    ensures read_fault { has_failed input.new ≡ true → IsErrAnd result (λ refusal. refusal.error ≡ TaskError.Replay ReplayError.Read) }
+    ensures granted { IfOk result (λ text.
+        IfSome (R.remaining (inner_of input.old)) (λ script.
+        Performs ⟦<Locks as KindSpec>⟧.done_over request.subcommand script text.items)) }
+    ensures err { IfErr result (λ refusal.
+        IfSome (R.remaining (inner_of input.old)) (λ script.
+        MayDeny request.subcommand script refusal.error)) }
+    ensures read_fault { has_failed input.new ≡ true
+        → IsErrAnd result (λ refusal. refusal.error ≡ TaskError.Replay ReplayError.Read) }
 
     // A refused script is kept if that is asked for, and then it is the script that was read.
-    ensures asked { IfErr result (λ refusal. (fault : ScriptError) → refusal.error ≡ TaskError.Replay (ReplayError.Script fault) → request.explain ≡ true → IsSome refusal.script) }
+    ensures asked { IfErr result (λ refusal. (fault : ScriptError)
+        → refusal.error ≡ TaskError.Replay (ReplayError.Script fault) → request.explain ≡ true
+        → IsSome refusal.script) }
     ensures unasked { IfErr result (λ refusal. request.explain ≡ false → refusal.script ≡ None) }
-    ensures kept { IfErr result (λ refusal. IfSome refusal.script (λ kept. IfSome (R.remaining (inner_of input.old)) (λ script. kept.items ≡ script))) }
+    ensures kept { IfErr result (λ refusal.
+        IfSome refusal.script (λ kept.
+        IfSome (R.remaining (inner_of input.old)) (λ script. kept.items ≡ script))) }
 {
     if !request.explain {
         return match answer(rt, alloc, request, input) {
@@ -128,9 +146,14 @@ fn answer<T: Threads + Wait + Clock + Eprint + Sync, R: Read>(
     request: Args,
     input: &mut Watched<R>,
 ) -> Result<Vec<u8>, TaskError>
-    ensures granted { IfOk result (λ text. IfSome (R.remaining (inner_of input.old)) (λ script. Performs ⟦<Locks as KindSpec>⟧.done_over request.subcommand script text.items)) }
-    ensures err { IfErr result (λ error. IfSome (R.remaining (inner_of input.old)) (λ script. MayDeny request.subcommand script error)) }
-    ensures read_fault { (result ≡ Err (TaskError.Replay ReplayError.Read)) ↔ (has_failed input.new ≡ true) }
+    ensures granted { IfOk result (λ text.
+        IfSome (R.remaining (inner_of input.old)) (λ script.
+        Performs ⟦<Locks as KindSpec>⟧.done_over request.subcommand script text.items)) }
+    ensures err { IfErr result (λ error.
+        IfSome (R.remaining (inner_of input.old)) (λ script.
+        MayDeny request.subcommand script error)) }
+    ensures read_fault { (result ≡ Err (TaskError.Replay ReplayError.Read))
+        ↔ (has_failed input.new ≡ true) }
     ensures no_writer { result ≢ Err (TaskError.Replay ReplayError.Write) }
 {
     let mut text = Watched::new(Vec::new(alloc));
@@ -150,11 +173,18 @@ fn run_args<T: Threads + Wait + Clock + Eprint + Sync, R: Read, W: Write>(
     input: &mut Watched<R>,
     output: &mut Watched<W>,
 ) -> Result<(), TaskError>
-    ensures granted { OnOk result (IfSome (R.remaining (inner_of input.old)) (λ script. (text : List ℕ) × Performs ⟦<Locks as KindSpec>⟧.done_over request.subcommand script text × Appends (W.contents (inner_of output.old)) (W.contents (inner_of output.new)) text)) }
-    ensures err { IfErr result (λ error. IfSome (R.remaining (inner_of input.old)) (λ script. MayDeny request.subcommand script error)) }
-    ensures unwritten { IfErr result (λ error. error ≢ TaskError.Replay ReplayError.Write → output.new ≡ output.old) }
-    ensures read_fault { (result ≡ Err (TaskError.Replay ReplayError.Read)) ↔ (has_failed input.new ≡ true) }
-    ensures write_fault { result ≡ Err (TaskError.Replay ReplayError.Write) → has_failed output.new ≡ true }
+    ensures granted { OnOk result (IfSome (R.remaining (inner_of input.old)) (λ script.
+        (text : List ℕ) × Performs ⟦<Locks as KindSpec>⟧.done_over request.subcommand script text
+        × Appends (W.contents (inner_of output.old)) (W.contents (inner_of output.new)) text)) }
+    ensures err { IfErr result (λ error.
+        IfSome (R.remaining (inner_of input.old)) (λ script.
+        MayDeny request.subcommand script error)) }
+    ensures unwritten { IfErr result (λ error. error ≢ TaskError.Replay ReplayError.Write
+        → output.new ≡ output.old) }
+    ensures read_fault { (result ≡ Err (TaskError.Replay ReplayError.Read))
+        ↔ (has_failed input.new ≡ true) }
+    ensures write_fault { result ≡ Err (TaskError.Replay ReplayError.Write)
+        → has_failed output.new ≡ true }
     ensures memory { result ≢ Err (TaskError.Replay (ReplayError.Script ScriptError.Memory)) }
 {
     match request.subcommand {
@@ -171,11 +201,18 @@ fn draw<R: Read, W: Write>(
     input: &mut Watched<R>,
     output: &mut Watched<W>,
 ) -> Result<(), TaskError>
-    ensures drawn { OnOk result (IfSome (R.remaining (inner_of input.old)) (λ script. (text : List ℕ) × IsPicture form script text × Appends (W.contents (inner_of output.old)) (W.contents (inner_of output.new)) text)) }
-    ensures refused { IfErr result (λ error. IfSome (R.remaining (inner_of input.old)) (λ script. MayEnd (task.Replay kind.Plain) script error)) }
-    ensures unwritten { IfErr result (λ error. error ≢ TaskError.Replay ReplayError.Write → output.new ≡ output.old) }
-    ensures read_fault { (result ≡ Err (TaskError.Replay ReplayError.Read)) ↔ (has_failed input.new ≡ true) }
-    ensures write_fault { result ≡ Err (TaskError.Replay ReplayError.Write) → has_failed output.new ≡ true }
+    ensures drawn { OnOk result (IfSome (R.remaining (inner_of input.old)) (λ script.
+        (text : List ℕ) × IsPicture form script text
+        × Appends (W.contents (inner_of output.old)) (W.contents (inner_of output.new)) text)) }
+    ensures refused { IfErr result (λ error.
+        IfSome (R.remaining (inner_of input.old)) (λ script.
+        MayEnd (task.Replay kind.Plain) script error)) }
+    ensures unwritten { IfErr result (λ error. error ≢ TaskError.Replay ReplayError.Write
+        → output.new ≡ output.old) }
+    ensures read_fault { (result ≡ Err (TaskError.Replay ReplayError.Read))
+        ↔ (has_failed input.new ≡ true) }
+    ensures write_fault { result ≡ Err (TaskError.Replay ReplayError.Write)
+        → has_failed output.new ≡ true }
     ensures memory { result ≢ Err (TaskError.Replay (ReplayError.Script ScriptError.Memory)) }
 {
     Ok(draw_schedule(alloc, input, output, form)?)
@@ -188,11 +225,18 @@ fn draw_of_steps<R: Read, W: Write>(
     input: &mut Watched<R>,
     output: &mut Watched<W>,
 ) -> Result<(), TaskError>
-    ensures drawn { OnOk result (IfSome (R.remaining (inner_of input.old)) (λ script. (text : List ℕ) × IsStepPicture form script text × Appends (W.contents (inner_of output.old)) (W.contents (inner_of output.new)) text)) }
-    ensures refused { IfErr result (λ error. IfSome (R.remaining (inner_of input.old)) (λ script. MayEnd (task.Steps detail.Words) script error)) }
-    ensures unwritten { IfErr result (λ error. error ≢ TaskError.Replay ReplayError.Write → output.new ≡ output.old) }
-    ensures read_fault { (result ≡ Err (TaskError.Replay ReplayError.Read)) ↔ (has_failed input.new ≡ true) }
-    ensures write_fault { result ≡ Err (TaskError.Replay ReplayError.Write) → has_failed output.new ≡ true }
+    ensures drawn { OnOk result (IfSome (R.remaining (inner_of input.old)) (λ script.
+        (text : List ℕ) × IsStepPicture form script text
+        × Appends (W.contents (inner_of output.old)) (W.contents (inner_of output.new)) text)) }
+    ensures refused { IfErr result (λ error.
+        IfSome (R.remaining (inner_of input.old)) (λ script.
+        MayEnd (task.Steps detail.Words) script error)) }
+    ensures unwritten { IfErr result (λ error. error ≢ TaskError.Replay ReplayError.Write
+        → output.new ≡ output.old) }
+    ensures read_fault { (result ≡ Err (TaskError.Replay ReplayError.Read))
+        ↔ (has_failed input.new ≡ true) }
+    ensures write_fault { result ≡ Err (TaskError.Replay ReplayError.Write)
+        → has_failed output.new ≡ true }
     ensures memory { result ≢ Err (TaskError.Replay (ReplayError.Script ScriptError.Memory)) }
 {
     Ok(draw_steps(alloc, input, output, form)?)
@@ -207,11 +251,17 @@ fn run<T: Threads + Wait + Clock + Eprint + Sync, R: Read, W: Write>(
     input: &mut Watched<R>,
     output: &mut Watched<W>,
 ) -> Result<(), TaskError>
-    ensures answered { OnOk result (IfSome (R.remaining (inner_of input.old)) (λ script. (text : List ℕ) × Answers ⟦<Locks as KindSpec>⟧.done_over task script text × Appends (W.contents (inner_of output.old)) (W.contents (inner_of output.new)) text)) }
-    ensures refused { IfErr result (λ error. IfSome (R.remaining (inner_of input.old)) (λ script. MayEnd task script error)) }
-    ensures unwritten { IfErr result (λ error. error ≢ TaskError.Replay ReplayError.Write → output.new ≡ output.old) }
-    ensures read_fault { (result ≡ Err (TaskError.Replay ReplayError.Read)) ↔ (has_failed input.new ≡ true) }
-    ensures write_fault { result ≡ Err (TaskError.Replay ReplayError.Write) → has_failed output.new ≡ true }
+    ensures answered { OnOk result (IfSome (R.remaining (inner_of input.old)) (λ script.
+        (text : List ℕ) × Answers ⟦<Locks as KindSpec>⟧.done_over task script text
+        × Appends (W.contents (inner_of output.old)) (W.contents (inner_of output.new)) text)) }
+    ensures refused { IfErr result (λ error.
+        IfSome (R.remaining (inner_of input.old)) (λ script. MayEnd task script error)) }
+    ensures unwritten { IfErr result (λ error. error ≢ TaskError.Replay ReplayError.Write
+        → output.new ≡ output.old) }
+    ensures read_fault { (result ≡ Err (TaskError.Replay ReplayError.Read))
+        ↔ (has_failed input.new ≡ true) }
+    ensures write_fault { result ≡ Err (TaskError.Replay ReplayError.Write)
+        → has_failed output.new ≡ true }
     ensures memory { result ≢ Err (TaskError.Replay (ReplayError.Script ScriptError.Memory)) }
 {
     match task {
@@ -234,11 +284,18 @@ fn work<T: Threads + Wait + Clock + Eprint + Sync, R: Read, W: Write>(
     input: &mut Watched<R>,
     output: &mut Watched<W>,
 ) -> Result<(), TaskError>
-    ensures ok { OnOk result (IfSome (R.remaining (inner_of input.old)) (λ script. (text : List ℕ) × IsReplyOver (⟦<Locks as KindSpec>⟧.done_over lines) kind script text × Appends (W.contents (inner_of output.old)) (W.contents (inner_of output.new)) text)) }
-    ensures refused { IfErr result (λ error. IfSome (R.remaining (inner_of input.old)) (λ script. MayEnd (task.Work kind lines waits) script error)) }
-    ensures unwritten { IfErr result (λ error. error ≢ TaskError.Replay ReplayError.Write → output.new ≡ output.old) }
-    ensures read_fault { (result ≡ Err (TaskError.Replay ReplayError.Read)) ↔ (has_failed input.new ≡ true) }
-    ensures write_fault { result ≡ Err (TaskError.Replay ReplayError.Write) → has_failed output.new ≡ true }
+    ensures ok { OnOk result (IfSome (R.remaining (inner_of input.old)) (λ script.
+        (text : List ℕ) × IsReplyOver (⟦<Locks as KindSpec>⟧.done_over lines) kind script text
+        × Appends (W.contents (inner_of output.old)) (W.contents (inner_of output.new)) text)) }
+    ensures refused { IfErr result (λ error.
+        IfSome (R.remaining (inner_of input.old)) (λ script.
+        MayEnd (task.Work kind lines waits) script error)) }
+    ensures unwritten { IfErr result (λ error. error ≢ TaskError.Replay ReplayError.Write
+        → output.new ≡ output.old) }
+    ensures read_fault { (result ≡ Err (TaskError.Replay ReplayError.Read))
+        ↔ (has_failed input.new ≡ true) }
+    ensures write_fault { result ≡ Err (TaskError.Replay ReplayError.Write)
+        → has_failed output.new ≡ true }
     ensures memory { result ≢ Err (TaskError.Replay (ReplayError.Script ScriptError.Memory)) }
 {
     if progress {
@@ -273,6 +330,18 @@ fn complaint_of<'a>(subcommand: Subcommand, script: &'a [u8]) -> Option<Complain
         Subcommand::Answer(Task::Steps(_)) | Subcommand::DrawSteps(_) => explain_steps(script),
         Subcommand::Answer(Task::Work(kind, _, _)) => explain_work(script, kind),
     }
+}
+
+/// Reports why the words of the command line could not be read. Returns the exit status: 3 for want of memory, else 2.
+pub fn refuse_words<E: Write>(err: &mut E, error: &io::Error) -> u8
+    ensures memory { error_kind error.now ≡ io_kind.OutOfMemory → result ≡ 3 }
+    ensures other { error_kind error.now ≢ io_kind.OutOfMemory → result ≡ 2 }
+{
+    if error.kind() == io::ErrorKind::OutOfMemory {
+        return fail(err, TaskError::Replay(ReplayError::Memory));
+    }
+    let _ = writeln!(err, "error: the arguments are no UTF-8 text");
+    2
 }
 
 /// Writes the error, and returns the exit status.

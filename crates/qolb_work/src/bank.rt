@@ -35,7 +35,8 @@ pub(crate) struct Bank<L> {
 impl<L: LineSync<AccountLaw>> JobTarget for Bank<L> {
     type WorkerState = Desk<L>;
 
-    ghost has_done = { λ bank worker desk jobs. HasBanked L.belongs L.view L.config_of bank.lines.items worker desk jobs };
+    ghost has_done = { λ bank worker desk jobs.
+        HasBanked L.belongs L.view L.config_of bank.lines.items worker desk jobs };
 
     ghost was_told = { λ bank worker desk. WasTold L.belongs L.view bank.lines.items worker desk };
 
@@ -114,11 +115,13 @@ fn finish<L: LineSync<AccountLaw> + Drop>(
 where
     L::Port: Drop,
     requires kind { work.now.kind ≡ WorkKind.Bank }
-    requires config { All (λ line. L.config_of line ≡ work_config work.now.workers) bank.lines.items }
+    requires config { All (λ line. L.config_of line ≡ work_config work.now.workers)
+        bank.lines.items }
     requires limits { IsWithinLimits work.now }
     requires lines { vec_len bank.lines ≡ work.now.lines }
     requires len { vec_len desks ≡ work.now.workers }
-    requires ended { AreDone (HasEnded (HasBanked L.belongs L.view L.config_of) (WasTold L.belongs L.view)) bank.lines.items work.now.jobs desks.items }
+    requires ended { AreDone (HasEnded (HasBanked L.belongs L.view L.config_of)
+        (WasTold L.belongs L.view)) bank.lines.items work.now.jobs desks.items }
     ensures report { IfOk result (IsReportOf work.now) }
     ensures banked { IfOk result (IsBankedOver L.belongs L.view L.config_of work.now) }
     ensures memory { IfErr result (λ error. error ≡ RunError.Memory) }
@@ -151,7 +154,9 @@ where
     ensures memory { IfErr result (λ error. error ≡ RunError.Memory) }
     ensures len { IfOk result (λ opened. All (λ line. vec_len line.1 ≡ workers) opened.items) }
     ensures lines { IfOk result (λ opened. vec_len opened ≡ lines) }
-    ensures new { IfOk result (λ opened. All (λ line. IsNewLine L.belongs L.view L.config_of workers line.0 line.1.items) opened.items) }
+    ensures new { IfOk result (λ opened.
+        All (λ line. IsNewLine L.belongs L.view L.config_of workers line.0 line.1.items)
+        opened.items) }
 {
     let mut all = Vec::with_capacity(alloc, lines as usize)?;
     for label in 0..lines {
@@ -171,7 +176,8 @@ fn all_asleep<R: Wait, L: ParkingLine<AccountLaw> + Drop>(
 ) -> Result<Vec<(ParkOnPoll<'_, R, L>, Vec<L::Port>)>, AllocError>
 where
     L::Port: Drop,
-    ensures { IfOk result (λ all. map (λ asleep. (asleep.0.line, asleep.1)) all.items ≡ opened.items) }
+    ensures { IfOk result (λ all. map (λ asleep. (asleep.0.line, asleep.1)) all.items
+        ≡ opened.items) }
 {
     let mut all = Vec::with_capacity(alloc, opened.len())?;
     for (line, ports) in opened {
@@ -190,12 +196,15 @@ where
     L::Port: Drop,
     requires workers { AreNodes workers }
     requires len { All (λ line. vec_len line.1 ≡ workers) opened.items }
-    requires new { All (λ line. IsNewLine L.belongs L.view L.config_of workers line.0 line.1.items) opened.items }
+    requires new { All (λ line. IsNewLine L.belongs L.view L.config_of workers line.0 line.1.items)
+        opened.items }
     ensures memory { IfErr result (λ error. error ≡ RunError.Memory) }
-    ensures config { IfOk result (λ made. All (λ line. L.config_of line ≡ work_config workers) made.0.items) }
+    ensures config { IfOk result (λ made.
+        All (λ line. L.config_of line ≡ work_config workers) made.0.items) }
     ensures lines { IfOk result (λ made. vec_len made.0 ≡ vec_len opened) }
     ensures len { IfOk result (λ made. vec_len made.1 ≡ workers) }
-    ensures new { IfOk result (λ made. AreFresh (HasBanked L.belongs L.view L.config_of) made.0.items made.1.items) }
+    ensures new { IfOk result (λ made.
+        AreFresh (HasBanked L.belongs L.view L.config_of) made.0.items made.1.items) }
 {
     match open_desks(alloc, opened, workers as usize) {
         Ok(made) => Ok(made),
@@ -217,7 +226,8 @@ where
     ensures report { IfOk result (IsReportOf work.now) }
     ensures banked { IfOk result (IsBankedOver L.belongs L.view L.config_of work.now) }
     ensures stalled { IfErr result (MayStop work.now) }
-    ensures by_gate { (worker : ℕ) → result ≡ Err (RunError.Stalled worker) → G.may_refuse gate.now worker }
+    ensures by_gate { (worker : ℕ) → result ≡ Err (RunError.Stalled worker)
+        → G.may_refuse gate.now worker }
 {
     let workers = work.workers();
     let opened = open_lines::<L>(alloc, work.lines(), workers)?;
@@ -256,7 +266,8 @@ where
     ensures report { IfOk result (IsReportOf work.now) }
     ensures banked { IfOk result (IsBankedOver L.belongs L.view L.config_of work.now) }
     ensures stalled { IfErr result (MayStop work.now) }
-    ensures by_gate { (worker : ℕ) → result ≡ Err (RunError.Stalled worker) → G.may_refuse gate.now worker }
+    ensures by_gate { (worker : ℕ) → result ≡ Err (RunError.Stalled worker)
+        → G.may_refuse gate.now worker }
 {
     let room = Vec::with_capacity(alloc, desks.len())?;
     let bank = Bank { lines };

@@ -50,7 +50,8 @@ pub(crate) struct BoardHand<P> {
 impl<L: LineSync<BoardLaw>> JobTarget for Board<L> {
     type WorkerState = BoardHand<L::Port>;
 
-    ghost has_done = { λ board worker hand jobs. HasWorked L.belongs L.view board.line worker hand jobs };
+    ghost has_done = { λ board worker hand jobs.
+        HasWorked L.belongs L.view board.line worker hand jobs };
 
     ghost was_told = { λ board worker hand. WasTold L.belongs L.view board.line worker hand };
 
@@ -87,9 +88,12 @@ fn put_at_last<R: Wait, L: LineSync<BoardLaw>>(
     requires belongs { L.belongs line.now port.old }
     requires at_rest { IsAtRest (L.view port.old) }
     ensures belongs { L.belongs line.now port.new }
-    ensures stored { result ≡ Some true → (turn : Turn) × HasTurns (L.view port.old) (L.view port.new) (turn ∷ []) × HasStored task turn }
-    ensures full { result ≡ Some false → (turn : Turn) × HasTurns (L.view port.old) (L.view port.new) (turn ∷ []) × FoundFull turn }
-    ensures told { IfNone result (HasTurns (L.view port.old) (L.view port.new) [] × IsTold (L.view port.new)) }
+    ensures stored { result ≡ Some true → (turn : Turn)
+        × HasTurns (L.view port.old) (L.view port.new) (turn ∷ []) × HasStored task turn }
+    ensures full { result ≡ Some false → (turn : Turn)
+        × HasTurns (L.view port.old) (L.view port.new) (turn ∷ []) × FoundFull turn }
+    ensures told { IfNone result (HasTurns (L.view port.old) (L.view port.new) []
+        × IsTold (L.view port.new)) }
 {
     for _ in rt.forever() {
         match put(line, port, task, PATIENCE) {
@@ -113,9 +117,12 @@ fn take_at_last<R: Wait, L: LineSync<BoardLaw>>(
     requires belongs { L.belongs line.now port.old }
     requires at_rest { IsAtRest (L.view port.old) }
     ensures belongs { L.belongs line.now port.new }
-    ensures taken { result ≡ Some true → (turn : Turn) × HasTurns (L.view port.old) (L.view port.new) (turn ∷ []) × HasTakenOne turn }
-    ensures empty { result ≡ Some false → (turn : Turn) × HasTurns (L.view port.old) (L.view port.new) (turn ∷ []) × FoundNone turn }
-    ensures told { IfNone result (HasTurns (L.view port.old) (L.view port.new) [] × IsTold (L.view port.new)) }
+    ensures taken { result ≡ Some true → (turn : Turn)
+        × HasTurns (L.view port.old) (L.view port.new) (turn ∷ []) × HasTakenOne turn }
+    ensures empty { result ≡ Some false → (turn : Turn)
+        × HasTurns (L.view port.old) (L.view port.new) (turn ∷ []) × FoundNone turn }
+    ensures told { IfNone result (HasTurns (L.view port.old) (L.view port.new) []
+        × IsTold (L.view port.new)) }
 {
     for _ in rt.forever() {
         match take(line, port, PATIENCE) {
@@ -164,7 +171,8 @@ where
     L::Port: Drop,
     requires { AreJustOpened L.belongs L.view L.config_of line.now ports.items }
     ensures len { IfOk result (λ hands. vec_len hands ≡ vec_len ports) }
-    ensures fresh { IfOk result (λ hands. AreFresh (HasWorked L.belongs L.view) line.now hands.items) }
+    ensures fresh { IfOk result (λ hands.
+        AreFresh (HasWorked L.belongs L.view) line.now hands.items) }
 {
     let mut hands = Vec::with_capacity(alloc, ports.len())?;
     for port in ports {
@@ -212,7 +220,8 @@ where
     requires config { L.config_of board.line ≡ work_config work.now.workers }
     requires limits { IsWithinLimits work.now }
     requires len { vec_len hands ≡ work.now.workers }
-    requires ended { AreDone (HasEnded (HasWorked L.belongs L.view) (WasTold L.belongs L.view)) board.line work.now.jobs hands.items }
+    requires ended { AreDone (HasEnded (HasWorked L.belongs L.view) (WasTold L.belongs L.view))
+        board.line work.now.jobs hands.items }
     ensures report { IfOk result (IsReportOf work.now) }
     ensures boarded { IfOk result (IsBoardedOver L.belongs L.view L.config_of work.now) }
     ensures memory { IfErr result (λ error. error ≡ RunError.Memory) }
@@ -251,7 +260,8 @@ where
     ensures report { IfOk result (IsReportOf work.now) }
     ensures boarded { IfOk result (IsBoardedOver L.belongs L.view L.config_of work.now) }
     ensures stalled { IfErr result (MayStop work.now) }
-    ensures by_gate { (worker : ℕ) → result ≡ Err (RunError.Stalled worker) → G.may_refuse gate.now worker }
+    ensures by_gate { (worker : ℕ) → result ≡ Err (RunError.Stalled worker)
+        → G.may_refuse gate.now worker }
 {
     let (line, ports) = open_line::<BoardLaw, L>(alloc, 0, work.workers())?;
     // That a script has no more jobs than it may is a fact of its reader.
@@ -283,7 +293,8 @@ where
     ensures report { IfOk result (IsReportOf work.now) }
     ensures boarded { IfOk result (IsBoardedOver L.belongs L.view L.config_of work.now) }
     ensures stalled { IfErr result (MayStop work.now) }
-    ensures by_gate { (worker : ℕ) → result ≡ Err (RunError.Stalled worker) → G.may_refuse gate.now worker }
+    ensures by_gate { (worker : ℕ) → result ≡ Err (RunError.Stalled worker)
+        → G.may_refuse gate.now worker }
 {
     let hands = fresh_hands(alloc, &line, ports)?;
     let room = Vec::with_capacity(alloc, hands.len())?;

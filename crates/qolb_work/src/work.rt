@@ -77,7 +77,8 @@ where
     ensures boarded { IfOk result (IsBoardedOver B.belongs B.view B.config_of work.now) }
     ensures banked { IfOk result (IsBankedOver A.belongs A.view A.config_of work.now) }
     ensures stalled { IfErr result (MayStop work.now) }
-    ensures by_gate { (worker : ℕ) → result ≡ Err (RunError.Stalled worker) → G.may_refuse gate.now worker }
+    ensures by_gate { (worker : ℕ) → result ≡ Err (RunError.Stalled worker)
+        → G.may_refuse gate.now worker }
 {
     gate.begins(work.jobs().len());
     match work.kind() {

@@ -43,9 +43,13 @@ pub(crate) trait JobTarget {
     /// Does a job. Blocks until its lines are granted or closed.
     fn run_job<R: Wait>(&self, rt: &R, hand: &mut Self::WorkerState, job: &Job) -> JobOutcome
         requires takes { takes self.now job.now }
-        requires done { (worker : ℕ) × (done : List Job) × has_done self.now worker hand.old done × (length done < MAX_COMMANDS) }
-        ensures done { result ≡ JobOutcome.Done → (worker : ℕ) (done : List Job) → has_done self.now worker hand.old done → has_done self.now worker hand.new (done ++ job.now ∷ []) }
-        ensures told { result ≡ JobOutcome.Told → (worker : ℕ) (done : List Job) → has_done self.now worker hand.old done → was_told self.now worker hand.new };
+        requires done { (worker : ℕ) × (done : List Job) × has_done self.now worker hand.old done
+            × (length done < MAX_COMMANDS) }
+        ensures done { result ≡ JobOutcome.Done → (worker : ℕ) (done : List Job)
+            → has_done self.now worker hand.old done
+            → has_done self.now worker hand.new (done ++ job.now ∷ []) }
+        ensures told { result ≡ JobOutcome.Told → (worker : ℕ) (done : List Job)
+            → has_done self.now worker hand.old done → was_told self.now worker hand.new };
 }
 
 /// The task of each worker's thread: the jobs of a script, and the gate.
@@ -61,9 +65,13 @@ where
 {
     type Output = Option<S::WorkerState>;
 
-    ghost pre = { λ jobs site place hand. S.has_done site (place + 1) hand [] × All (S.takes site) jobs.work.now.jobs };
+    ghost pre = { λ jobs site place hand. S.has_done site (place + 1) hand []
+        × All (S.takes site) jobs.work.now.jobs };
 
-    ghost post = { λ jobs site place back. MatchOption back (G.may_refuse jobs.gate.now (place + 1)) (λ hand. HasEnded S.has_done S.was_told site (place + 1) hand (jobs_of (place + 1) jobs.work.now.jobs)) };
+    ghost post = { λ jobs site place back.
+        MatchOption back (G.may_refuse jobs.gate.now (place + 1)) (λ hand.
+        HasEnded S.has_done S.was_told site (place + 1) hand
+        (jobs_of (place + 1) jobs.work.now.jobs)) };
 
     fn work(&self, rt: &R, site: &S, place: usize, hand: S::WorkerState) -> Option<S::WorkerState> {
         let number = place as u64 + 1;
@@ -95,8 +103,10 @@ where
     requires fresh { AreFresh S.has_done site.now hands.items }
     requires takes { All (S.takes site.now) work.now.jobs }
     ensures len { IfSome result (λ joined. vec_len joined.back ≡ vec_len hands) }
-    ensures back { IfSome result (λ joined. AreBack (HasEnded S.has_done S.was_told) site.now work.now.jobs joined.back.items) }
-    ensures refused { IfSome result (λ joined. AreRefused (G.may_refuse gate.now) joined.back.items) }
+    ensures back { IfSome result (λ joined.
+        AreBack (HasEnded S.has_done S.was_told) site.now work.now.jobs joined.back.items) }
+    ensures refused { IfSome result (λ joined.
+        AreRefused (G.may_refuse gate.now) joined.back.items) }
 {
     let jobs = Jobs { gate, work };
     let back = scoped::run_scoped(rt, alloc, &jobs, site, hands)?;
@@ -117,7 +127,8 @@ where
     S::WorkerState: Drop,
     requires fresh { S.has_done site.now number hand [] }
     requires takes { All (S.takes site.now) work.now.jobs }
-    ensures { MatchOption result (G.may_refuse gate.now number) (λ hand. HasEnded S.has_done S.was_told site.now number hand (jobs_of number work.now.jobs)) }
+    ensures { MatchOption result (G.may_refuse gate.now number) (λ hand.
+        HasEnded S.has_done S.was_told site.now number hand (jobs_of number work.now.jobs)) }
 {
     let mut hand = hand;
     let mut at = 0u64;

@@ -186,13 +186,18 @@ impl<K: Keep> Discipline<K> for RingQueue {
 
     ghost slots = { seats.slot_count RingCells one_slot K.good K.allows };
 
-    ghost starts = { λ key. seats.starts RingCells one_slot K.good K.allows key 1 (enough key) one_first first_cells };
+    ghost starts = { λ key. seats.starts RingCells one_slot K.good K.allows key 1
+        (enough key) one_first first_cells };
 
     ghost meets = { meeting.meets_next RingCells one_slot K.good K.allows };
 
-    ghost return_slots_law = { λ key id slots i m v _ _ is holds_open kept. meeting.return_slots_next RingCells one_slot K.good K.allows key id slots i m v is holds_open (λ _. one_returns m.1 kept.0 kept.1) };
+    ghost return_slots_law = { λ key id slots i m v _ _ is holds_open kept.
+        meeting.return_slots_next RingCells one_slot K.good K.allows key id slots i m v is
+        holds_open (λ _. one_returns m.1 kept.0 kept.1) };
 
-    ghost finishes = { λ key es id words xs at_rest. lasting.final_line RingCells one_slot K.good K.allows key es cell_of at_rest (λ _. 0) one_last id words xs };
+    ghost finishes = { λ key es id words xs at_rest.
+        lasting.final_line RingCells one_slot K.good K.allows key es cell_of at_rest (λ _.
+        0) one_last id words xs };
 }
 
 /// The state of a port after its turn, if that closed the line or not.

@@ -22,7 +22,8 @@ pub struct RingQueue;
 impl DisciplineSpec for RingQueue {
     type Local = Local;
 
-    ghost phases = { between_calls.phases cell_of (λ _. in_single_slot) (λ _. open_in_single_slot) (λ _. in_single_slot) };
+    ghost phases = { between_calls.phases cell_of (λ _. in_single_slot) (λ _. open_in_single_slot)
+        (λ _. in_single_slot) };
 
     ghost wait_word = { between_calls.wait_word (λ _. CELLS) };
 

@@ -67,12 +67,15 @@ pub(crate) fn release<K: Keep>(table: &SharedTable<K>, seat: &mut RingSeat, cell
     requires none_passed { (ghost_of seat.old).own.passed ≡ [] }
     requires cell { cell ≡ turn_cell seat.old }
     requires nodes { 1 ≤ (ghost_of seat.old).view.config.nodes }
-    requires payload { (y : Payload) × HasSlot seat.old y × CarriesNext K.allows (ghost_of seat.old) y }
+    requires payload { (y : Payload) × HasSlot seat.old y
+        × CarriesNext K.allows (ghost_of seat.old) y }
     ensures slot { HasNoSlot seat.new }
     ensures advances { SeatAdvances K.allows seat.old seat.new result.steps }
-    ensures releases { (y : Payload) → HasSlot seat.old y → ReleasesLine (ghost_of seat.old) y (ghost_of seat.new) }
+    ensures releases { (y : Payload) → HasSlot seat.old y
+        → ReleasesLine (ghost_of seat.old) y (ghost_of seat.new) }
     ensures granted { result.cell ≡ turn_cell seat.new }
-    ensures steps { result.steps + 1 + 3 * length (ghost_of seat.old).view.ends ≡ 3 * length (ghost_of seat.new).view.ends }
+    ensures steps { result.steps + 1 + 3 * length (ghost_of seat.old).view.ends
+        ≡ 3 * length (ghost_of seat.new).view.ends }
     ensures bound { result.steps + 1 ≤ 3 * (ghost_of seat.old).view.config.nodes }
 {
     // Cleared before the next cell is granted: after the grant a later ticket may come round to this cell.
@@ -103,15 +106,21 @@ fn walk<K: Keep>(table: &SharedTable<K>, seat: &mut RingSeat, cell: u64, found: 
     requires cell { cell ≡ turn_cell seat.old }
     requires found { found ≢ 0 }
     requires passed { (ghost_of seat.old).own.passed ≡ length (ghost_of seat.old).view.ends ∷ [] }
-    requires others { AreOfOthers (ghost_of seat.old).view.node (ghost_of seat.old).view.order (ghost_of seat.old).own.passed }
-    requires first { (r : Request) × At (ghost_of seat.old).view.order (length (ghost_of seat.old).view.ends) r × (r.node ≡ withdrawn_by found) × (r.node ≤ (ghost_of seat.old).view.config.nodes) }
-    requires nodes { (2 ≤ (ghost_of seat.old).view.config.nodes) × ((ghost_of seat.old).view.config.nodes ≤ MAX_NODES) }
-    requires payload { (y : Payload) × HasSlot seat.old y × MatchesEnds (ghost_of seat.old) y × ((ghost_of seat.old).view.state ≡ state_after y.closed) }
+    requires others { AreOfOthers (ghost_of seat.old).view.node (ghost_of seat.old).view.order
+        (ghost_of seat.old).own.passed }
+    requires first { (r : Request) × At (ghost_of seat.old).view.order
+        (length (ghost_of seat.old).view.ends) r × (r.node ≡ withdrawn_by found)
+        × (r.node ≤ (ghost_of seat.old).view.config.nodes) }
+    requires nodes { (2 ≤ (ghost_of seat.old).view.config.nodes)
+        × ((ghost_of seat.old).view.config.nodes ≤ MAX_NODES) }
+    requires payload { (y : Payload) × HasSlot seat.old y × MatchesEnds (ghost_of seat.old) y
+        × ((ghost_of seat.old).view.state ≡ state_after y.closed) }
     ensures slot { HasNoSlot seat.new }
     ensures advances { SeatAdvances K.allows seat.old seat.new result.steps }
     ensures finishes_walk { FinishesWalk (ghost_of seat.old) (ghost_of seat.new) }
     ensures granted { result.cell ≡ turn_cell seat.new }
-    ensures steps { result.steps + 3 * length (ghost_of seat.old).view.ends ≡ 3 * length (ghost_of seat.new).view.ends }
+    ensures steps { result.steps + 3 * length (ghost_of seat.old).view.ends
+        ≡ 3 * length (ghost_of seat.new).view.ends }
     ensures bound { result.steps + 3 ≤ 3 * (ghost_of seat.old).view.config.nodes }
 {
     let mut passed = ArrayVec::<u64, MAX_PASSED>::new();

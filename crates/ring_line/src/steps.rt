@@ -43,7 +43,8 @@ pub(crate) fn load<K: Keep>(table: &SharedTable<K>, seat: &mut RingSeat, cell: u
     ensures advances { SeatAdvances K.allows seat.old seat.new 1 }
     ensures count { (ghost_of seat.new).view.count ≡ (ghost_of seat.old).view.count }
     ensures queued { result ≡ false → HasNoSlot seat.new × IsStillQueued cell (ghost_of seat.new) }
-    ensures at_turn { result ≡ true → (y : Payload) × HasSlot seat.new y × IsAtTurn cell (ghost_of seat.new) y }
+    ensures at_turn { result ≡ true → (y : Payload) × HasSlot seat.new y
+        × IsAtTurn cell (ghost_of seat.new) y }
 {
     is_granted(table.load::<Load<K>>(seat, cell_word(cell)))
 }
@@ -64,7 +65,8 @@ pub(crate) fn roll<K: Keep>(
     ensures advances { SeatAdvances K.allows seat.old seat.new 1 }
     ensures count { (ghost_of seat.new).view.count ≡ (ghost_of seat.old).view.count }
     ensures withdrawn { result ≡ false → HasNoSlot seat.new × IsRolled cell (ghost_of seat.new) }
-    ensures at_turn { result ≡ true → (y : Payload) × HasSlot seat.new y × IsAtTurn cell (ghost_of seat.new) y }
+    ensures at_turn { result ≡ true → (y : Payload) × HasSlot seat.new y
+        × IsAtTurn cell (ghost_of seat.new) y }
 {
     is_granted(table.fetch_add::<Roll<K>>(seat, cell_word(cell), WITHDRAWN * node))
 }
@@ -83,16 +85,20 @@ pub(crate) fn clear<K: Keep>(table: &SharedTable<K>, seat: &mut RingSeat, cell: 
 /// Ends the request at its turn, the node's own or a withdrawn one, and grants the cell behind `cell`. The linearization point of an end.
 ///
 /// Returns the old word of that next cell: 0 if the line is now in the slot for the next request, which may not have been made yet; else
-/// with the number of the node that withdrew there, whose request is then passed.
+/// the number of the node that withdrew there, whose request is then passed.
 pub(crate) fn grant<K: Keep>(table: &SharedTable<K>, seat: &mut RingSeat, cell: u64) -> u64
     requires table { IsSeatOf word_count table.now.table_id seat.old }
     requires phase { IsAt Cleared seat.old }
     requires cell { cell ≡ turn_cell seat.old }
-    requires payload { (y : Payload) × HasSlot seat.old y × CarriesNext K.allows (ghost_of seat.old) y }
+    requires payload { (y : Payload) × HasSlot seat.old y
+        × CarriesNext K.allows (ghost_of seat.old) y }
     ensures advances { SeatAdvances K.allows seat.old seat.new 1 }
-    ensures ended { (y : Payload) → HasSlot seat.old y → Ended (ghost_of seat.old) (ghost_of seat.new) y }
-    ensures home { result ≡ 0 → HasNoSlot seat.new × GoesHome (ghost_of seat.old) (ghost_of seat.new) }
-    ensures passes { result ≢ 0 → ((y : Payload) → HasSlot seat.old y → HasSlot seat.new y) × Passes (ghost_of seat.old) (withdrawn_by result) (ghost_of seat.new) }
+    ensures ended { (y : Payload) → HasSlot seat.old y
+        → Ended (ghost_of seat.old) (ghost_of seat.new) y }
+    ensures home { result ≡ 0 → HasNoSlot seat.new
+        × GoesHome (ghost_of seat.old) (ghost_of seat.new) }
+    ensures passes { result ≢ 0 → ((y : Payload) → HasSlot seat.old y → HasSlot seat.new y)
+        × Passes (ghost_of seat.old) (withdrawn_by result) (ghost_of seat.new) }
 {
     table.fetch_add::<Grant<K>>(seat, cell_word(cell_after(cell)), GRANTED)
 }
@@ -102,10 +108,14 @@ pub(crate) fn free<K: Keep>(table: &SharedTable<K>, seat: &mut RingSeat, node: u
     requires table { IsSeatOf word_count table.now.table_id seat.old }
     requires phase { IsAt Freeing seat.old }
     requires in_range { node ≤ MAX_NODES }
-    requires next { (q : ℕ) × (ps : List ℕ) × (r : Request) × ((ghost_of seat.old).own.passed ≡ q ∷ ps) × At (ghost_of seat.old).view.order q r × (r.node ≡ node) }
+    requires next { (q : ℕ) × (ps : List ℕ) × (r : Request)
+        × ((ghost_of seat.old).own.passed ≡ q ∷ ps) × At (ghost_of seat.old).view.order q r
+        × (r.node ≡ node) }
     ensures slot { seat.new.me.1 ≡ seat.old.me.1 }
     ensures advances { SeatAdvances K.allows seat.old seat.new 1 }
-    ensures frees { (q : ℕ) (ps : List ℕ) (r : Request) → (ghost_of seat.old).own.passed ≡ q ∷ ps → At (ghost_of seat.old).view.order q r → Frees (ghost_of seat.old) ps r (ghost_of seat.new) }
+    ensures frees { (q : ℕ) (ps : List ℕ) (r : Request) → (ghost_of seat.old).own.passed ≡ q ∷ ps
+        → At (ghost_of seat.old).view.order q r
+        → Frees (ghost_of seat.old) ps r (ghost_of seat.new) }
 {
     table.store::<FreeNode<K>>(seat, node_word(node), 1);
 }

@@ -1,5 +1,8 @@
 //! The examples, waiters and ports that are lent, over all lines. The tests are generic over the line, and the locks are named in one place,
 //! because the prover needs some seconds to see that a lock is a line, wherever it is named.
+ghost use Rattle.std.specs.Prelude.{◌≡◌, IsTrue};
+ghost use Rattle.qolb_model.specs.PortStates.{may_ask};
+
 mod again;
 mod ahead;
 mod asleep;
@@ -16,12 +19,14 @@ use counted::Counting;
 use example_line::capacity::SeatLimit;
 use example_line::mailbox::Acquired;
 use example_line::{capacity, counter, fair, mailbox};
-use held::{expect, expect_at, for_nodes};
+use held::{expect, expect_at, open_one, open_two};
 use line_blocking::{Got, acquire};
 use line_generic::{Discipline, Line};
 use line_kinds::{ALL, Lines, for_kind};
+use line_lanes::Line64;
+use link_line::LinkQueue;
 use parked::NoHooks;
-use qolb_model::{Free, OpenLine, PortState};
+use qolb_model::{Free, LineSync, OpenLine, PortState};
 use std::alloc::Global;
 use std::process::Abort;
 use std::rt::Clock;
@@ -62,12 +67,9 @@ where
 {
     match row {
         Row::Additions => no_addition_is_lost::<R, L>(rt, alloc),
-        Row::Turns => kept::each_addition_is_a_turn::<R, L>(rt, alloc)?,
+        Row::Turns => kept::each_addition_is_a_turn::<R, L>(rt, alloc),
         Row::Mailbox => kept::each_value_is_taken_up::<R, L>(rt, alloc),
-        Row::Lanes => {
-            kept::a_value_lies_in_its_lane::<R, L>(rt, alloc, false)?;
-            kept::a_value_lies_in_its_lane::<R, L>(rt, alloc, true)?;
-        }
+        Row::Lanes => kept::a_value_lies_in_its_lane::<R, L>(rt, alloc),
         Row::Closing => {
             let wanted = Some([
                 (Got::Granted, PortState::Shut),
@@ -76,7 +78,7 @@ where
             expect(
                 rt,
                 "granted and told",
-                granted_and_then_told::<R, L>(rt, alloc),
+                told_at_a_new_line::<R, L>(rt, alloc),
                 wanted,
             );
         }
@@ -85,13 +87,13 @@ where
             expect(
                 rt,
                 "one after the other",
-                one_after_the_other::<R, L>(rt, alloc),
+                fair_at_a_new_line::<R, L>(rt, alloc),
                 wanted,
             );
         }
         Row::Patience => {
             let wanted = Some([Acquired::Late, Acquired::Late, Acquired::Granted]);
-            expect(rt, "late", late::<L>(alloc), wanted);
+            expect(rt, "late", late_at_a_new_line::<L>(alloc), wanted);
         }
         Row::Waits => asleep::each_wait::<R, L>(rt, alloc),
         Row::Sleeps => noted::each_sleep::<R, L>(rt, alloc),
@@ -184,66 +186,94 @@ fn sell_by<R: Threads + Wait + Abort + Sync, Q: Discipline<SeatLimit> + Send + S
     the_house_is_sold_out::<R, Line<SeatLimit, Q>>(rt, alloc)
 }
 
-/// The only node of a line is granted it, shuts it, and asks again. Returns both answers, each with the state after it.
-fn granted_and_then_told<R: Wait, L: OpenLine<Free> + Drop>(
+/// A node is granted the line, shuts it, and asks again. Returns both answers, each with the state after it.
+fn granted_and_then_told<R: Wait, L: LineSync<Free>>(
+    rt: &R,
+    line: &L,
+    port: &mut L::Port,
+) -> Option<[(Got, PortState); 2]>
+    requires belongs { L.belongs line.now port.old }
+    requires state { IsTrue (may_ask (L.view port.old).state) }
+{
+    let first = acquire(rt, line, port);
+    let Got::Granted = first else {
+        return None;
+    };
+    line.shut(port);
+    let shut = L::state(port);
+    let second = acquire(rt, line, port);
+    Some([(first, shut), (second, L::state(port))])
+}
+
+/// Returns these answers for the only node of a new line.
+fn told_at_a_new_line<R: Wait, L: OpenLine<Free> + Drop>(
     rt: &R,
     alloc: Global,
 ) -> Option<[(Got, PortState); 2]>
 where
     L::Port: Drop,
 {
-    let (line, mut ports) = L::open_with(alloc, 0, for_nodes(1)).ok()?;
-    let mut port = ports.pop()?;
-    let first = acquire(rt, &line, &mut port);
-    let Got::Granted = first else {
-        return None;
-    };
-    line.shut(&mut port);
-    let shut = L::state(&port);
-    let second = acquire(rt, &line, &mut port);
-    Some([(first, shut), (second, L::state(&port))])
+    let (line, mut port) = open_one::<L>(alloc, Line64::zero(), None)?;
+    granted_and_then_told(rt, &line, &mut port)
 }
 
 /// Node 2 shuts the line in its turn, then node 1 asks. Returns both answers.
-fn one_after_the_other<R: Wait, L: OpenLine<Free> + Drop>(rt: &R, alloc: Global) -> Option<[Got; 2]>
-where
-    L::Port: Drop,
+fn one_after_the_other<R: Wait, L: LineSync<Free>>(
+    rt: &R,
+    line: &L,
+    one: &mut L::Port,
+    two: &mut L::Port,
+) -> Option<[Got; 2]>
+    requires belongs_one { L.belongs line.now one.old }
+    requires belongs_two { L.belongs line.now two.old }
+    requires state_one { IsTrue (may_ask (L.view one.old).state) }
+    requires state_two { IsTrue (may_ask (L.view two.old).state) }
+    requires nodes { (L.config_of line.now).nodes ≡ 2 }
 {
-    let (line, ports) = L::open_with(alloc, 1, for_nodes(2)).ok()?;
-    let mut ports = ports;
-    let mut two = ports.pop()?;
-    let mut one = ports.pop()?;
-    let first = fair::after_the_other(rt, &line, &mut two);
+    let first = fair::after_the_other(rt, line, two);
     let Got::Granted = first else {
         return None;
     };
-    line.shut(&mut two);
-    Some([first, fair::after_the_other(rt, &line, &mut one)])
+    line.shut(two);
+    Some([first, fair::after_the_other(rt, line, one)])
 }
 
-/// Node 1 holds; node 2 asks twice with 3 polls; node 1 releases, and node 2 asks once more. Returns node 2's answers.
-fn late<L: OpenLine<Free> + Drop>(alloc: Global) -> Option<[Acquired; 3]>
+/// Returns these answers for a new line of two nodes.
+fn fair_at_a_new_line<R: Wait, L: OpenLine<Free> + Drop>(rt: &R, alloc: Global) -> Option<[Got; 2]>
 where
     L::Port: Drop,
 {
-    let (line, ports) = L::open_with(alloc, 1, for_nodes(2)).ok()?;
-    let mut ports = ports;
-    let mut two = ports.pop()?;
-    let mut one = ports.pop()?;
-    let Acquired::Granted = mailbox::ask(&line, &mut one, 0) else {
+    let (line, mut one, mut two) = open_two::<L>(alloc)?;
+    one_after_the_other(rt, &line, &mut one, &mut two)
+}
+
+/// Node 1 holds; node 2 asks twice with 3 polls; node 1 releases, and node 2 asks once more. Returns node 2's answers.
+fn late<L: LineSync<Free>>(line: &L, one: &mut L::Port, two: &mut L::Port) -> Option<[Acquired; 3]>
+    requires belongs_one { L.belongs line.now one.old }
+    requires belongs_two { L.belongs line.now two.old }
+    requires state_one { IsTrue (may_ask (L.view one.old).state) }
+    requires state_two { IsTrue (may_ask (L.view two.old).state) }
+{
+    let Acquired::Granted = mailbox::ask(line, one, 0) else {
         return None;
     };
-    let first = mailbox::ask(&line, &mut two, 3);
-    let again = match first {
-        Acquired::Late => mailbox::ask(&line, &mut two, 3),
-        _ => return None,
+    let Acquired::Late = mailbox::ask(line, two, 3) else {
+        return None;
     };
-    line.deqolb(&mut one);
-    let last = match again {
-        Acquired::Late => mailbox::ask(&line, &mut two, 3),
-        _ => return None,
+    let Acquired::Late = mailbox::ask(line, two, 3) else {
+        return None;
     };
-    Some([first, again, last])
+    line.deqolb(one);
+    Some([Acquired::Late, Acquired::Late, mailbox::ask(line, two, 3)])
+}
+
+/// Returns node 2's answers at a new line of two nodes.
+fn late_at_a_new_line<L: OpenLine<Free> + Drop>(alloc: Global) -> Option<[Acquired; 3]>
+where
+    L::Port: Drop,
+{
+    let (line, mut one, mut two) = open_two::<L>(alloc)?;
+    late(&line, &mut one, &mut two)
 }
 
 #[test]
@@ -346,6 +376,6 @@ fn one_thread_is_granted_late_and_told(rt: HostRuntime) -> Result<(), Fail> {
 
 #[test]
 fn late_linker_of_a_closed_list_wakes(rt: HostRuntime) -> Result<(), Fail> {
-    passing::late_linker_wakes(&rt, rt.alloc());
+    passing::late_linker_wakes::<_, LinkQueue>(&rt, rt.alloc());
     Ok(())
 }

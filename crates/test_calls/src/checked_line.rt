@@ -25,7 +25,8 @@ pub trait Instrumented: OpenLine<Free> {
         alloc: A,
         ports: Vec<Self::Port>,
     ) -> Result<Line64, Unfinished<Self, Self::Port>>
-        requires belongs { All (λ port. (Self.view port).label ≡ Self.label_of self → Self.belongs self port) ports.items }
+        requires belongs { All (λ port. (Self.view port).label ≡ Self.label_of self
+            → Self.belongs self port) ports.items }
         ensures line { IfErr result (λ back. back.line ≡ self) }
         ensures ports { IfErr result (λ back. back.ports.items ≡ ports.items) };
 }
@@ -44,7 +45,9 @@ impl<Q: Discipline<Free>> Instrumented for Line<Free, Q> {
         alloc: A,
         ports: Vec<Port<Q>>,
     ) -> Result<Line64, Unfinished<Line<Free, Q>, Port<Q>>>
-        requires belongs { All (λ port. (⟦<Line<Free, Q> as LineSync<Free>>⟧.view port).label ≡ ⟦<Line<Free, Q> as LineSync<Free>>⟧.label_of self → ⟦<Line<Free, Q> as LineSync<Free>>⟧.belongs self port) ports.items }
+        requires belongs { All (λ port. (⟦<Line<Free, Q> as LineSync<Free>>⟧.view port).label
+            ≡ ⟦<Line<Free, Q> as LineSync<Free>>⟧.label_of self
+            → ⟦<Line<Free, Q> as LineSync<Free>>⟧.belongs self port) ports.items }
         ensures line { IfErr result (λ back. back.line ≡ self) }
         ensures ports { IfErr result (λ back. back.ports.items ≡ ports.items) }
     {
@@ -110,7 +113,8 @@ where
     /// Takes the node's port out. Returns `None` if it is not there.
     pub fn take(&mut self, node: u64) -> Option<L::Port>
         ensures same { self.new ≡ self.old }
-        ensures theirs { IfSome result (λ port. IsTheirs L.belongs L.view L.label_of self.new port) }
+        ensures theirs { IfSome result (λ port.
+            IsTheirs L.belongs L.view L.label_of self.new port) }
     {
         let at = self.ports.iter().position(|port| L::node(port) == node)?;
         Some(self.ports.swap_remove(at))

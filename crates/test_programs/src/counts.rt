@@ -3,6 +3,7 @@ ghost use Rattle.std.specs.Prelude.{◌≡◌, All, IfSome};
 ghost use Rattle.line_accounts.specs.NewDesks.{IsNewPort};
 ghost use Rattle.test_programs.specs.Ports.{HoldsOrWaits, MayAskFor};
 
+use crate::desks::pair;
 use line_blocking::scoped::{ScopedTask, run_scoped};
 use line_blocking::{Got, acquire};
 use line_lanes::{Line64, changed, lane, with_lane};
@@ -146,11 +147,53 @@ where
             granted = granted.saturating_add(1);
         }
     }
-    let mut ports = Vec::new(alloc);
-    ports.push(one).ok()?;
-    ports.push(two).ok()?;
+    let ports = pair(alloc, one, two)?;
     let last = line.finish(alloc, ports).ok()?;
     Some(Raced { granted, last })
+}
+
+/// Starts a round: node 1 is granted the line, and node 2 waits. Returns both ports, or `None` if memory is refused or the round does not
+/// start so.
+fn start_round<L: LineSync<Free>>(
+    alloc: Global,
+    line: &L,
+    one: L::Port,
+    two: L::Port,
+) -> Option<Vec<L::Port>>
+where
+    L::Port: Drop,
+    requires one { MayAskFor L.belongs L.view line.now one }
+    requires two { MayAskFor L.belongs L.view line.now two }
+    ensures { IfSome result (λ ports. All (HoldsOrWaits L.belongs L.view line.now) ports.items) }
+{
+    let mut one = one;
+    let mut two = two;
+    let Enq::Granted = line.enqolb(&mut one) else {
+        return None;
+    };
+    let Enq::Queued = line.enqolb(&mut two) else {
+        return None;
+    };
+    let ports = pair(alloc, one, two)?;
+    Some(ports)
+}
+
+/// Returns both nodes after a round, with merged views.
+fn merged<L: LineSync<Free>>(
+    line: &L,
+    back: Vec<Racer<L::Port>>,
+) -> Option<(Racer<L::Port>, Racer<L::Port>)>
+where
+    L::Port: Drop,
+    requires { All (λ racer. MayAskFor L.belongs L.view line.now racer.port) back.items }
+    ensures first { IfSome result (λ both. MayAskFor L.belongs L.view line.now both.0.port) }
+    ensures second { IfSome result (λ both. MayAskFor L.belongs L.view line.now both.1.port) }
+{
+    let mut back = back;
+    let mut second = back.pop()?;
+    let mut first = back.pop()?;
+    line.meet(&mut first.port, &mut second.port);
+    Some((first, second))
 }
 
 /// Runs one round. Returns `None` if memory or a thread is refused, or the round does not start as it should.
@@ -168,20 +211,7 @@ where
     ensures first { IfSome result (λ both. MayAskFor L.belongs L.view line.now both.0.port) }
     ensures second { IfSome result (λ both. MayAskFor L.belongs L.view line.now both.1.port) }
 {
-    let mut one = one;
-    let mut two = two;
-    let Enq::Granted = line.enqolb(&mut one) else {
-        return None;
-    };
-    let Enq::Queued = line.enqolb(&mut two) else {
-        return None;
-    };
-    let mut ports = Vec::new(alloc);
-    ports.push(one).ok()?;
-    ports.push(two).ok()?;
-    let mut back = run_scoped(rt, alloc, &Contest, line, ports)?;
-    let mut second = back.pop()?;
-    let mut first = back.pop()?;
-    line.meet(&mut first.port, &mut second.port);
-    Some((first, second))
+    let ports = start_round(alloc, line, one, two)?;
+    let back = run_scoped(rt, alloc, &Contest, line, ports)?;
+    merged(line, back)
 }

@@ -32,7 +32,7 @@ where
 }
 
 /// A list of two items; `None` if memory is refused.
-fn pair<T: Drop>(alloc: Global, first: T, second: T) -> Option<Vec<T>>
+pub(crate) fn pair<T: Drop>(alloc: Global, first: T, second: T) -> Option<Vec<T>>
     ensures { IfSome result (λ both. both.items ≡ first ∷ second ∷ []) }
 {
     let mut both = Vec::new(alloc);
@@ -70,7 +70,9 @@ pub fn settle_with<L: LineSync<AccountLaw> + Drop>(
 where
     L::Port: Drop,
     requires { IsDeskOver L.belongs L.view lines.items desk }
-    ensures { IfSome result (λ settled. IfOk settled (λ total. total + desk.paid_out ≡ all_opened L.config_of lines.items + desk.paid_in)) }
+    ensures { IfSome result (λ settled.
+        IfOk settled (λ total. total + desk.paid_out
+        ≡ all_opened L.config_of lines.items + desk.paid_in)) }
 {
     let mut desks = Vec::new(alloc);
     desks.push(desk).ok()?;

@@ -22,7 +22,8 @@ pub fn hand_over<L: LineSync<Free>>(
     requires idle_two { (L.view two.old).state ≡ PortState.Idle }
     ensures one { L.belongs line.now one.new }
     ensures two { L.belongs line.now two.new }
-    ensures hands_over { IfSome result (λ r. HandsOver (L.view one.old) (L.view one.new) r.0.bytes r.1.bytes) }
+    ensures hands_over { IfSome result (λ r.
+        HandsOver (L.view one.old) (L.view one.new) r.0.bytes r.1.bytes) }
 {
     let Enq::Granted = line.enqolb(one) else {
         return None;

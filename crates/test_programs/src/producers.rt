@@ -155,16 +155,33 @@ fn assign_jobs<L: LineSync<BoardLaw>>(
 where
     L::Port: Drop,
     requires { All (IsNewPort L.belongs L.view line.now) ports.items }
-    ensures { IfSome result (λ workers. All (λ worker. MayAskFor L.belongs L.view line.now worker.port) workers.items) }
+    ensures { IfSome result (λ workers.
+        All (λ worker. MayAskFor L.belongs L.view line.now worker.port) workers.items) }
 {
-    let all = 2 * count as usize;
     let mut workers = Vec::with_capacity(alloc, ports.len()).ok()?;
     for port in ports {
-        let job = job_of(L::node(&port), u64::from(count));
-        let taken = Vec::with_capacity(alloc, all).ok()?;
-        workers.push(Worker { port, job, taken }).ok()?;
+        let worker = worker_of(alloc, line, port, count)?;
+        workers.push(worker).ok()?;
     }
     Some(workers)
+}
+
+/// The worker of one node. Returns `None` if memory is refused.
+fn worker_of<L: LineSync<BoardLaw>>(
+    alloc: Global,
+    line: &L,
+    port: L::Port,
+    count: u32,
+) -> Option<Worker<L::Port>>
+where
+    L::Port: Drop,
+    requires { IsNewPort L.belongs L.view line.now port }
+    ensures { IfSome result (λ worker. MayAskFor L.belongs L.view line.now worker.port) }
+{
+    let _ = line;
+    let job = job_of(L::node(&port), u64::from(count));
+    let taken = Vec::with_capacity(alloc, 2 * count as usize).ok()?;
+    Some(Worker { port, job, taken })
 }
 
 /// The job of a node.

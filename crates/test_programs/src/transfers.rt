@@ -220,7 +220,9 @@ fn seat<L: LineSync<AccountLaw>>(
 where
     L::Port: Drop,
     requires { All (IsDeskOver L.belongs L.view lines.now.items) desks.items }
-    ensures { IfSome result (λ customers. All (λ customer. IsDeskOver L.belongs L.view lines.now.items customer.desk) customers.items) }
+    ensures { IfSome result (λ customers.
+        All (λ customer. IsDeskOver L.belongs L.view lines.now.items customer.desk)
+        customers.items) }
 {
     let mut customers = Vec::with_capacity(alloc, desks.len()).ok()?;
     for desk in desks {
@@ -243,8 +245,10 @@ fn unseat<L: LineSync<AccountLaw>>(
 ) -> Option<(Vec<Desk<L>>, Counts)>
 where
     L::Port: Drop,
-    requires { All (λ customer. IsDeskOver L.belongs L.view lines.now.items customer.desk) customers.items }
-    ensures { IfSome result (λ left. All (IsDeskOver L.belongs L.view lines.now.items) left.0.items) }
+    requires { All (λ customer. IsDeskOver L.belongs L.view lines.now.items customer.desk)
+        customers.items }
+    ensures { IfSome result (λ left.
+        All (IsDeskOver L.belongs L.view lines.now.items) left.0.items) }
 {
     let mut desks = Vec::with_capacity(alloc, customers.len()).ok()?;
     let mut counts = Counts::NONE;

@@ -172,9 +172,14 @@ impl<H: Hooks + Drop, K: Keep, L: ParkingLine<K>> LineSync<K> for HookedLine<H, 
         alloc: Global,
         ports: Vec<L::Port>,
     ) -> Result<Line64, Unfinished<HookedLine<H, L>, L::Port>>
-        requires belongs { All (λ port. (L.view port).label ≡ L.label_of self.line → L.belongs self.line port) ports.items }
-        ensures finished { IfOk result (λ line. IsFinished K.good K.allows (L.label_of self.line) (L.config_of self.line) (map L.view ports.items) line.bytes) }
-        ensures why { IfErr result (λ back. MayRefuse (L.label_of self.line) (L.config_of self.line).nodes (map L.view ports.items) back.why) }
+        requires belongs { All (λ port. (L.view port).label ≡ L.label_of self.line
+            → L.belongs self.line port) ports.items }
+        ensures finished { IfOk result (λ line.
+            IsFinished K.good K.allows (L.label_of self.line) (L.config_of self.line)
+            (map L.view ports.items) line.bytes) }
+        ensures why { IfErr result (λ back.
+            MayRefuse (L.label_of self.line) (L.config_of self.line).nodes
+            (map L.view ports.items) back.why) }
         ensures line { IfErr result (λ back. back.line ≡ self) }
         ensures ports { IfErr result (λ back. back.ports.items ≡ ports.items) }
     {

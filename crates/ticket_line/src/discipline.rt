@@ -187,21 +187,34 @@ impl<K: Keep> Discipline<K> for TicketQueue {
         is_granted_half(low, token)
     }
 
-    ghost cuts = { λ key. seats.cuts (TicketCells key.config.nodes) (slot_layout key.config.nodes) K.good K.allows key };
+    ghost cuts = { λ key. seats.cuts (TicketCells key.config.nodes)
+        (slot_layout key.config.nodes) K.good K.allows key };
 
-    ghost blanks = { λ key. seats.blanks (TicketCells key.config.nodes) (slot_layout key.config.nodes) K.good K.allows key };
+    ghost blanks = { λ key. seats.blanks (TicketCells key.config.nodes)
+        (slot_layout key.config.nodes) K.good K.allows key };
 
-    ghost joins = { λ key. seats.joins (TicketCells key.config.nodes) (slot_layout key.config.nodes) K.good K.allows key };
+    ghost joins = { λ key. seats.joins (TicketCells key.config.nodes)
+        (slot_layout key.config.nodes) K.good K.allows key };
 
-    ghost slots = { λ key. seats.slot_count (TicketCells key.config.nodes) (slot_layout key.config.nodes) K.good K.allows key };
+    ghost slots = { λ key. seats.slot_count (TicketCells key.config.nodes)
+        (slot_layout key.config.nodes) K.good K.allows key };
 
-    ghost starts = { λ key. seats.starts (TicketCells key.config.nodes) (slot_layout key.config.nodes) K.good K.allows key (layout.granted 0) (enough key) (first_slot key.config.nodes) (first_cells key.config.nodes) };
+    ghost starts = { λ key. seats.starts (TicketCells key.config.nodes)
+        (slot_layout key.config.nodes) K.good K.allows key (layout.granted 0) (enough key)
+        (first_slot key.config.nodes) (first_cells key.config.nodes) };
 
-    ghost meets = { λ key. meeting.meets_next (TicketCells key.config.nodes) (slot_layout key.config.nodes) K.good K.allows key };
+    ghost meets = { λ key. meeting.meets_next (TicketCells key.config.nodes)
+        (slot_layout key.config.nodes) K.good K.allows key };
 
-    ghost return_slots_law = { λ key id slots i m v token left is holds_open kept. meeting.return_slots_next (TicketCells key.config.nodes) (slot_layout key.config.nodes) K.good K.allows key id slots i m v is holds_open (holder_returns key v.view token left m.1 kept) };
+    ghost return_slots_law = { λ key id slots i m v token left is holds_open kept.
+        meeting.return_slots_next (TicketCells key.config.nodes)
+        (slot_layout key.config.nodes) K.good K.allows key id slots i m v is holds_open
+        (holder_returns key v.view token left m.1 kept) };
 
-    ghost finishes = { λ key es id words xs at_rest. lasting.final_line (TicketCells key.config.nodes) (slot_layout key.config.nodes) K.good K.allows key es ticket_of at_rest (last key.config.nodes) (is_last key.config.nodes) id words xs };
+    ghost finishes = { λ key es id words xs at_rest.
+        lasting.final_line (TicketCells key.config.nodes)
+        (slot_layout key.config.nodes) K.good K.allows key es ticket_of at_rest
+        (last key.config.nodes) (is_last key.config.nodes) id words xs };
 }
 
 /// The state of a port after its turn, if that closed the line or not.

@@ -23,7 +23,8 @@ pub struct TicketQueue;
 impl DisciplineSpec for TicketQueue {
     type Local = Local;
 
-    ghost phases = { between_calls.phases ticket_of slots.slots_at_grant slots.slots_in_turn slots.slots_at_release };
+    ghost phases = { between_calls.phases ticket_of slots.slots_at_grant slots.slots_in_turn
+        slots.slots_at_release };
 
     ghost wait_word = { between_calls.wait_word cells_for };
 

@@ -114,7 +114,8 @@ pub(crate) fn withdrawn_by(word: u64, ticket: u64) -> u64
 
 /// Allocates the words of a new line: cell 0 is granted to ticket 0.
 pub(crate) fn first_words(alloc: Global, nodes: u64) -> Result<Vec<u64>, AllocError>
-    ensures wide { IfOk result (λ words. (length words.items ≡ layout.word_count nodes) × (0 < layout.word_count nodes)) }
+    ensures wide { IfOk result (λ words. (length words.items ≡ layout.word_count nodes)
+        × (0 < layout.word_count nodes)) }
     ensures first { IfOk result (λ words. layout.AreFirst nodes words.items) }
 {
     let count = word_count(cell_count(nodes));

@@ -49,7 +49,8 @@ pub(crate) fn take<K: Keep>(
 pub(crate) fn take_final(closed: Closed<Payload, Global>, nodes: u64) -> Payload
     requires words { (slots_len closed.words ≡ word_count nodes) × IsFull closed.words }
     requires slots { (slots_len closed.slots ≡ slot_count nodes) × IsFull closed.slots }
-    ensures { get_elem? (slots_items closed.slots) (last nodes (slots_items closed.words)) ≡ some result }
+    ensures { get_elem? (slots_items closed.slots) (last nodes (slots_items closed.words))
+        ≡ some result }
 {
     let mut closed = closed;
     let place = slot_for(nodes, closed.word(TICKET));

@@ -45,8 +45,11 @@ pub(crate) fn load<K: Keep>(
     requires ticket { ticket ≡ own_ticket seat.old }
     ensures advances { SeatAdvances K.allows seat.old seat.new 1 }
     ensures count { (ghost_of seat.new).view.count ≡ (ghost_of seat.old).view.count }
-    ensures queued { result ≡ false → HasNoSlot seat.new × IsStillQueued ticket (ghost_of seat.new) }
-    ensures at_turn { result ≡ true → (y : Payload) × SlotsAtGrant table.now.key.config.nodes ticket seat.new y × IsAtTurn ticket (ghost_of seat.new) y }
+    ensures queued { result ≡ false → HasNoSlot seat.new
+        × IsStillQueued ticket (ghost_of seat.new) }
+    ensures at_turn { result ≡ true → (y : Payload)
+        × SlotsAtGrant table.now.key.config.nodes ticket seat.new y
+        × IsAtTurn ticket (ghost_of seat.new) y }
 {
     is_granted(
         table.load::<Load<K>>(seat, cell_word(table, size, ticket)),
@@ -70,7 +73,9 @@ pub(crate) fn roll<K: Keep>(
     ensures advances { SeatAdvances K.allows seat.old seat.new 1 }
     ensures count { (ghost_of seat.new).view.count ≡ (ghost_of seat.old).view.count }
     ensures withdrawn { result ≡ false → HasNoSlot seat.new × IsRolled ticket (ghost_of seat.new) }
-    ensures at_turn { result ≡ true → (y : Payload) × SlotsAtGrant table.now.key.config.nodes ticket seat.new y × IsAtTurn ticket (ghost_of seat.new) y }
+    ensures at_turn { result ≡ true → (y : Payload)
+        × SlotsAtGrant table.now.key.config.nodes ticket seat.new y
+        × IsAtTurn ticket (ghost_of seat.new) y }
 {
     let found = table.swap::<Roll<K>>(
         seat,

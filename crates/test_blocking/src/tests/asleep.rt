@@ -3,7 +3,7 @@ ghost use Rattle.std.specs.Prelude.{◌≡◌, IsTrue};
 ghost use Rattle.qolb_model.specs.PortStates.{may_ask};
 ghost use Rattle.qolb_model.specs.AtTurn.{IsGranted};
 
-use crate::tests::held::{expect, expect_at, for_nodes};
+use crate::tests::held::{expect, expect_at, open_two};
 use crate::tests::passing::whoever_passes_a_closed_line_on_wakes;
 use example_line::counter::add_one;
 use example_line::timed::add_within;
@@ -20,15 +20,15 @@ use std::thread;
 use std::thread::Threads;
 use std::time::Duration;
 
-/// How each thread asks.
+/// How each thread asks. Limits are in microseconds.
 #[derive(Clone, Copy)]
 enum Manner {
     /// It sleeps until its turn.
     Asleep,
     /// With this time limit.
-    Timed(Duration),
+    Timed(u64),
     /// With the limit if the round plus the place is divisible by 3, else without.
-    Mixed(Duration),
+    Mixed(u64),
 }
 
 /// The task of each thread: `rounds` turns, in each of which it adds 1 to the first lane and holds the line for `hold`.
@@ -45,11 +45,11 @@ struct Sharing {
 }
 
 impl Sharing {
-    fn new(rounds: u64, manner: Manner, hold: Duration, shuts: bool) -> Sharing {
+    fn new(rounds: u64, manner: Manner, hold: u64, shuts: bool) -> Sharing {
         Sharing {
             rounds,
             manner,
-            hold,
+            hold: Duration::from_micros(hold),
             shuts,
             turns: AtomicU64::new(0),
             late: AtomicU64::new(0),
@@ -67,7 +67,8 @@ impl Sharing {
         requires belongs { L.belongs line.now port.old }
         requires state { IsTrue (may_ask (L.view port.old).state) }
         ensures belongs { L.belongs line.now port.new }
-        ensures granted { result ≡ TimedAcquire.Granted → IsGranted (L.view port.new) (L.turn port.new) }
+        ensures granted { result ≡ TimedAcquire.Granted
+            → IsGranted (L.view port.new) (L.turn port.new) }
         ensures told { result ≡ TimedAcquire.Closed → IsTrue (may_ask (L.view port.new).state) }
         ensures late { result ≡ TimedAcquire.TimedOut → IsTrue (may_ask (L.view port.new).state) }
     {
@@ -77,7 +78,7 @@ impl Sharing {
             _ => None,
         };
         match at_most {
-            Some(at_most) => acquire_timeout(rt, line, port, at_most),
+            Some(micros) => acquire_timeout(rt, line, port, Duration::from_micros(micros)),
             None => match acquire_parking(rt, line, port) {
                 Got::Granted => TimedAcquire::Granted,
                 Got::Closed => TimedAcquire::Closed,
@@ -151,70 +152,81 @@ where
     })
 }
 
-/// Eight threads take turns: each release wakes the next.
-fn a_release_wakes_the_next<
-    R: Threads + Wait + Clock + Abort + Sync,
-    L: OpenLine<Free> + ParkingLine<Free> + Sync + Drop,
->(rt: &R, alloc: Global)
-where
-    L::Port: Send + Drop,
-{
-    let sharing = Sharing::new(50, Manner::Asleep, Duration::from_micros(300), false);
-    let wanted = Some(Outcome {
-        number: 400,
+/// Threads that share a new line, and the outcome.
+struct Shared {
+    nodes: u64,
+    lease: Option<u64>,
+    rounds: u64,
+    manner: Manner,
+    /// How long each turn takes, in microseconds.
+    hold: u64,
+    shuts: bool,
+    /// The turns of all threads, which is also the number at the end. No thread times out.
+    turns: u64,
+}
+
+/// Each waiter has its turns, or is told that the line is closed.
+static SHARED: [Shared; 4] = [
+    // Eight threads take turns: each release wakes the next.
+    Shared {
+        nodes: 8,
+        lease: None,
+        rounds: 50,
+        manner: Manner::Asleep,
+        hold: 300,
+        shuts: false,
         turns: 400,
-        late: 0,
-    });
-    expect(
-        rt,
-        "woken",
-        share::<R, L>(rt, alloc, 8, None, &sharing),
-        wanted,
-    );
-}
-
-/// One thread shuts the line while seven sleep: each is woken by its predecessor.
-fn a_closing_wakes_all<
-    R: Threads + Wait + Clock + Abort + Sync,
-    L: OpenLine<Free> + ParkingLine<Free> + Sync + Drop,
->(rt: &R, alloc: Global)
-where
-    L::Port: Send + Drop,
-{
-    let sharing = Sharing::new(2, Manner::Asleep, Duration::from_millis(50), true);
-    let wanted = Some(Outcome {
-        number: 1,
+    },
+    // One thread shuts the line while seven sleep: each is woken by its predecessor.
+    Shared {
+        nodes: 8,
+        lease: None,
+        rounds: 2,
+        manner: Manner::Asleep,
+        hold: 50_000,
+        shuts: true,
         turns: 1,
-        late: 0,
-    });
-    expect(
-        rt,
-        "woken",
-        share::<R, L>(rt, alloc, 8, None, &sharing),
-        wanted,
-    );
-}
+    },
+    // The third turn is the last of the lease: all sleeping waiters are woken.
+    Shared {
+        nodes: 8,
+        lease: Some(3),
+        rounds: 3,
+        manner: Manner::Asleep,
+        hold: 20_000,
+        shuts: false,
+        turns: 3,
+    },
+    // No node times out with a limit of 20 seconds, which is much longer than all turns together.
+    Shared {
+        nodes: 3,
+        lease: None,
+        rounds: 20,
+        manner: Manner::Timed(20_000_000),
+        hold: 500,
+        shuts: false,
+        turns: 60,
+    },
+];
 
-/// The third turn is the last of the lease: all sleeping waiters are woken.
-fn the_last_turn_of_a_lease_wakes_all<
+/// Each row of `SHARED` has its outcome.
+fn each_waiter_is_woken<
     R: Threads + Wait + Clock + Abort + Sync,
     L: OpenLine<Free> + ParkingLine<Free> + Sync + Drop,
 >(rt: &R, alloc: Global)
 where
     L::Port: Send + Drop,
 {
-    let sharing = Sharing::new(3, Manner::Asleep, Duration::from_millis(20), false);
-    let wanted = Some(Outcome {
-        number: 3,
-        turns: 3,
-        late: 0,
-    });
-    expect(
-        rt,
-        "a lease",
-        share::<R, L>(rt, alloc, 8, Some(3), &sharing),
-        wanted,
-    );
+    for row in &SHARED {
+        let sharing = Sharing::new(row.rounds, row.manner, row.hold, row.shuts);
+        let outcome = share::<R, L>(rt, alloc, row.nodes, row.lease, &sharing);
+        let wanted = Outcome {
+            number: row.turns,
+            turns: row.turns,
+            late: 0,
+        };
+        expect_at(rt, row.hold, outcome, Some(wanted));
+    }
 }
 
 /// Time-outs race with grants, as the limit is about as long as a turn. Returns `true` if each try was either a turn or a time-out.
@@ -226,12 +238,7 @@ fn race<R: Threads + Wait + Clock + Sync, L: OpenLine<Free> + ParkingLine<Free> 
 where
     L::Port: Send + Drop,
 {
-    let sharing = Sharing::new(
-        500,
-        Manner::Timed(Duration::from_micros(micros)),
-        Duration::from_micros(20),
-        false,
-    );
+    let sharing = Sharing::new(500, Manner::Timed(micros), 20, false);
     let Some(outcome) = share::<R, L>(rt, alloc, 3, None, &sharing) else {
         return false;
     };
@@ -251,29 +258,6 @@ where
     }
 }
 
-/// No node times out with a limit that is much longer than all turns together.
-fn a_long_limit_is_in_time<
-    R: Threads + Wait + Clock + Abort + Sync,
-    L: OpenLine<Free> + ParkingLine<Free> + Sync + Drop,
->(rt: &R, alloc: Global)
-where
-    L::Port: Send + Drop,
-{
-    let manner = Manner::Timed(Duration::from_secs(20));
-    let sharing = Sharing::new(20, manner, Duration::from_micros(500), false);
-    let wanted = Some(Outcome {
-        number: 60,
-        turns: 60,
-        late: 0,
-    });
-    expect(
-        rt,
-        "a long limit",
-        share::<R, L>(rt, alloc, 3, None, &sharing),
-        wanted,
-    );
-}
-
 /// Two thirds of the tries have no limit, the others have one, until the lease is used up.
 fn sleepers_and_late_ones_share_a_lease<
     R: Threads + Wait + Clock + Abort + Sync,
@@ -283,8 +267,7 @@ where
     L::Port: Send + Drop,
 {
     for _ in 0..3 {
-        let manner = Manner::Mixed(Duration::from_micros(200));
-        let sharing = Sharing::new(u64::MAX, manner, Duration::from_micros(10), false);
+        let sharing = Sharing::new(u64::MAX, Manner::Mixed(200), 10, false);
         let outcome = share::<R, L>(rt, alloc, 8, Some(3_000), &sharing);
         let turns = outcome.map(|outcome| (outcome.number, outcome.turns));
         expect(rt, "a shared lease", turns, Some((3_000, 3_000)));
@@ -323,10 +306,7 @@ fn late_at_a_new_line<R: Wait + Clock, L: OpenLine<Free> + ParkingLine<Free> + D
 where
     L::Port: Drop,
 {
-    let (line, ports) = L::open_with(alloc, 1, for_nodes(2)).ok()?;
-    let mut ports = ports;
-    let mut two = ports.pop()?;
-    let mut one = ports.pop()?;
+    let (line, mut one, mut two) = open_two::<L>(alloc)?;
     late_and_later(rt, &line, &mut one, &mut two)
 }
 
@@ -354,11 +334,8 @@ pub(super) fn each_wait<
 where
     L::Port: Send + Drop,
 {
-    a_release_wakes_the_next::<R, L>(rt, alloc);
-    a_closing_wakes_all::<R, L>(rt, alloc);
-    the_last_turn_of_a_lease_wakes_all::<R, L>(rt, alloc);
+    each_waiter_is_woken::<R, L>(rt, alloc);
     no_grant_is_lost_to_a_time_limit::<R, L>(rt, alloc);
-    a_long_limit_is_in_time::<R, L>(rt, alloc);
     sleepers_and_late_ones_share_a_lease::<R, L>(rt, alloc);
     whoever_is_late_asks_again::<R, L>(rt, alloc);
     whoever_passes_a_closed_line_on_wakes::<R, L>(rt, alloc);

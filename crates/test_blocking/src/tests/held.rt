@@ -1,17 +1,19 @@
 //! One node holds a line and others wait behind it, each in its own thread.
-ghost use Rattle.std.specs.Prelude.{◌≡◌, IsTrue};
+ghost use Rattle.std.specs.Prelude.{◌≡◌, All, IfSome, IsTrue};
 ghost use Rattle.qolb_model.specs.PortStates.{may_ask};
 ghost use Rattle.line_blocking.specs.Places.{AllAt};
+ghost use Rattle.line_seats.specs.Lending.{MayAsk};
 
 use line_blocking::scoped::{ScopedTask, run_scoped};
 use line_lanes::Line64;
-use qolb_model::{Enq, Free, LineConfig, ParkingLine};
+use qolb_model::{Enq, Free, LineConfig, LineSync, OpenError, OpenLine, ParkingLine};
 use std::alloc::Global;
 use std::fmt::Debug;
 use std::process::Abort;
 use std::sync::Wait;
 use std::sync::atomic::{AtomicU64, Ordering};
 use std::thread::{Threads, yield_now};
+use test_support::{HookedLine, Hooks};
 
 /// A line of zeros for `nodes` nodes, without a lease.
 pub(super) fn for_nodes(nodes: u64) -> LineConfig
@@ -22,6 +24,92 @@ pub(super) fn for_nodes(nodes: u64) -> LineConfig
         opening: Line64::zero(),
         lease: None,
     }
+}
+
+/// Opens a line of one node. Returns it with its port.
+pub(super) fn open_one<L: OpenLine<Free> + Drop>(
+    alloc: Global,
+    opening: Line64,
+    lease: Option<u64>,
+) -> Option<(L, L::Port)>
+where
+    L::Port: Drop,
+    ensures { IfSome result (λ r. L.belongs r.0 r.1 × IsTrue (may_ask (L.view r.1).state)) }
+{
+    let config = LineConfig {
+        nodes: 1,
+        opening,
+        lease,
+    };
+    let (line, mut ports) = L::open_with(alloc, 1, config).ok()?;
+    let port = ports.pop()?;
+    Some((line, port))
+}
+
+/// Finishes a line of one node. Returns its last bytes.
+pub(super) fn finish_one<L: LineSync<Free> + Drop>(
+    alloc: Global,
+    line: L,
+    port: L::Port,
+) -> Option<Line64>
+where
+    L::Port: Drop,
+    requires { L.belongs line port }
+{
+    let mut ports = Vec::new(alloc);
+    ports.push(port).ok()?;
+    line.finish(alloc, ports).ok()
+}
+
+/// Opens a line of zeros for `nodes` nodes. Returns it with its ports.
+fn open<L: OpenLine<Free> + Drop>(alloc: Global, nodes: u64) -> Option<(L, Vec<L::Port>)>
+where
+    L::Port: Drop,
+    ensures ports { IfSome result (λ r. All (MayAsk (L.belongs r.0) L.view) r.1.items) }
+    ensures nodes { IfSome result (λ r. (L.config_of r.0).nodes ≡ nodes) }
+{
+    L::open_with(alloc, 1, for_nodes(nodes)).ok()
+}
+
+/// The last of the ports.
+fn last_of<L: LineSync<Free>>(line: &L, ports: &mut Vec<L::Port>) -> Option<L::Port>
+    requires { All (MayAsk (L.belongs line.now) L.view) ports.old.items }
+    ensures others { All (MayAsk (L.belongs line.now) L.view) ports.new.items }
+    ensures last { IfSome result (MayAsk (L.belongs line.now) L.view) }
+{
+    let _ = line;
+    ports.pop()
+}
+
+/// Opens a line of two nodes. Returns it with both ports.
+pub(super) fn open_two<L: OpenLine<Free> + Drop>(alloc: Global) -> Option<(L, L::Port, L::Port)>
+where
+    L::Port: Drop,
+    ensures one { IfSome result (λ r. L.belongs r.0 r.1 × IsTrue (may_ask (L.view r.1).state)) }
+    ensures two { IfSome result (λ r. L.belongs r.0 r.2 × IsTrue (may_ask (L.view r.2).state)) }
+    ensures nodes { IfSome result (λ r. (L.config_of r.0).nodes ≡ 2) }
+{
+    let (line, mut ports) = open::<L>(alloc, 2)?;
+    let two = last_of(&line, &mut ports)?;
+    let one = last_of(&line, &mut ports)?;
+    Some((line, one, two))
+}
+
+/// Opens a line of three nodes. Returns it with its ports.
+pub(super) fn open_three<L: OpenLine<Free> + Drop>(
+    alloc: Global,
+) -> Option<(L, L::Port, L::Port, L::Port)>
+where
+    L::Port: Drop,
+    ensures one { IfSome result (λ r. L.belongs r.0 r.1 × IsTrue (may_ask (L.view r.1).state)) }
+    ensures two { IfSome result (λ r. L.belongs r.0 r.2 × IsTrue (may_ask (L.view r.2).state)) }
+    ensures three { IfSome result (λ r. L.belongs r.0 r.3 × IsTrue (may_ask (L.view r.3).state)) }
+{
+    let (line, mut ports) = open::<L>(alloc, 3)?;
+    let three = last_of(&line, &mut ports)?;
+    let two = last_of(&line, &mut ports)?;
+    let one = last_of(&line, &mut ports)?;
+    Some((line, one, two, three))
 }
 
 /// Expects that the value is the wanted one.
@@ -116,7 +204,8 @@ pub(super) fn all_see<R: Threads + Wait + Sync, L: ParkingLine<Free> + Sync, S: 
 ) -> bool
 where
     L::Port: Send + Drop,
-    requires fit { AllAt (λ _ port. L.belongs line.now port × IsTrue (may_ask (L.view port).state)) ports.items }
+    requires fit { AllAt (λ _ port. L.belongs line.now port
+        × IsTrue (may_ask (L.view port).state)) ports.items }
 {
     let held = Held {
         scene,
@@ -124,4 +213,27 @@ where
         let_go,
     };
     run_scoped(rt, alloc, &held, line, ports).is_some_and(|saw| saw.iter().all(|saw| *saw))
+}
+
+/// Runs the scene on a new line of `nodes` nodes with these hooks, as `all_see` does. To see that threads may share a line with hooks takes
+/// the prover some seconds, here once for several hooks.
+pub(super) fn all_see_hooked<
+    R: Threads + Wait + Sync,
+    H: Hooks + Sync + Drop,
+    L: OpenLine<Free> + ParkingLine<Free> + Sync + Drop,
+    S: Scene<R, HookedLine<H, L>> + Sync,
+>(
+    rt: &R,
+    alloc: Global,
+    nodes: u64,
+    hooks: H,
+    scene: &S,
+    let_go: &AtomicU64,
+) -> Result<bool, OpenError>
+where
+    L::Port: Send + Drop,
+{
+    let (line, ports) = L::open_with(alloc, 1, for_nodes(nodes))?;
+    let line = HookedLine::with(hooks, line);
+    Ok(all_see(rt, alloc, &line, ports, scene, let_go))
 }

@@ -1,13 +1,12 @@
 //! A mailbox leaves the other lanes, each addition takes a turn, and values arrive in their order.
-use crate::tests::held::expect;
+use crate::tests::held::{expect, finish_one, open_one};
 use example_line::{counter, mailbox};
 use line_lanes::{Line64, lane, with_lane};
-use qolb_model::{Free, Keep, LineConfig, OpenLine, ParkingLine};
+use qolb_model::{Free, Keep, OpenLine, ParkingLine};
 use std::alloc::Global;
 use std::process::Abort;
 use std::sync::Wait;
 use std::sync::atomic::{AtomicU64, Ordering};
-use std::test::Fail;
 use std::thread::{Threads, yield_now};
 use test_support::{HookedLine, Hooks};
 
@@ -16,28 +15,26 @@ fn opening() -> Line64 {
     with_lane(&Line64::from_bytes([7; 64]), 0, 0)
 }
 
+/// Makes ten additions under a lease of three turns. Returns the last bytes.
+fn add_ten<R: Wait, L: OpenLine<Free> + Drop>(rt: &R, alloc: Global) -> Option<Line64>
+where
+    L::Port: Drop,
+{
+    let (line, mut port) = open_one::<L>(alloc, opening(), Some(3))?;
+    counter::add(rt, &line, &mut port, 10);
+    finish_one(alloc, line, port)
+}
+
 /// Ten additions under a lease of three turns add three, and leave the other lanes.
 pub(super) fn each_addition_is_a_turn<R: Wait + Abort, L: OpenLine<Free> + Drop>(
     rt: &R,
     alloc: Global,
-) -> Result<(), Fail>
+)
 where
     L::Port: Drop,
 {
-    let config = LineConfig {
-        nodes: 1,
-        opening: opening(),
-        lease: Some(3),
-    };
-    let (line, mut ports) = L::open_with(alloc, 1, config)?;
-    let Some(mut port) = ports.pop() else {
-        return Err(Fail::from("no port"));
-    };
-    counter::add(rt, &line, &mut port, 10);
-    ports.push(port)?;
-    let last = line.finish(alloc, ports).ok().ok_or("finished")?;
-    expect(rt, "three turns", last, with_lane(&opening(), 0, 3));
-    Ok(())
+    let wanted = Some(with_lane(&opening(), 0, 3));
+    expect(rt, "three turns", add_ten::<R, L>(rt, alloc), wanted);
 }
 
 /// Puts a value, takes it if `takes`, and finishes the line. Returns whether a value was put, whether one was taken, and the last bytes.
@@ -48,34 +45,27 @@ fn put_and_taken<L: OpenLine<Free> + Drop>(
 where
     L::Port: Drop,
 {
-    let config = LineConfig {
-        nodes: 1,
-        opening: opening(),
-        lease: None,
-    };
-    let (line, mut ports) = L::open_with(alloc, 1, config).ok()?;
-    let mut port = ports.pop()?;
+    let (line, mut port) = open_one::<L>(alloc, opening(), None)?;
     let put = mailbox::try_put(&line, &mut port, 5);
     let taken = takes && mailbox::try_take(&line, &mut port).is_some();
-    ports.push(port).ok()?;
-    let last = line.finish(alloc, ports).ok()?;
+    let last = finish_one(alloc, line, port)?;
     Some((put, taken, last))
 }
 
 /// `try_put` writes to the first lane, `try_take` leaves 0 there, and the other lanes stay.
-pub(super) fn a_value_lies_in_its_lane<R: Abort, L: OpenLine<Free> + Drop>(
-    rt: &R,
-    alloc: Global,
-    takes: bool,
-) -> Result<(), Fail>
+pub(super) fn a_value_lies_in_its_lane<R: Abort, L: OpenLine<Free> + Drop>(rt: &R, alloc: Global)
 where
     L::Port: Drop,
 {
-    let (put, taken, last) = put_and_taken::<L>(alloc, takes).ok_or("finished")?;
-    expect(rt, "put and taken", (put, taken), (true, takes));
-    let lies = if takes { 0 } else { 5 };
-    expect(rt, "what lies there", last, with_lane(&opening(), 0, lies));
-    Ok(())
+    for (takes, lies) in &[(false, 5), (true, 0)] {
+        let wanted = Some((true, *takes, with_lane(&opening(), 0, *lies)));
+        expect(
+            rt,
+            "put, taken, what lies there",
+            put_and_taken::<L>(alloc, *takes),
+            wanted,
+        );
+    }
 }
 
 /// Hooks that check the order of values: a holder that would release the line with a value that is neither the last one nor its successor

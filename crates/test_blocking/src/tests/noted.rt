@@ -2,7 +2,7 @@
 ghost use Rattle.std.specs.Prelude.{IfSome, IsTrue};
 ghost use Rattle.qolb_model.specs.PortStates.{may_ask};
 
-use crate::tests::held::{Scene, all_see, expect, expect_at, for_nodes, wait_until};
+use crate::tests::held::{Scene, all_see_hooked, expect, expect_at, open_two, wait_until};
 use example_line::timed::add_within;
 use line_blocking::{Got, ParkOnPoll, TimedAcquire, acquire_parking, acquire_timeout};
 use qolb_model::{Enq, Free, Keep, LineSync, OpenError, OpenLine, Out, ParkingLine, Poll};
@@ -169,18 +169,40 @@ fn open_noted<'n, L: OpenLine<Free> + ParkingLine<Free>>(
 where
     L: Drop,
     L::Port: Drop,
-    ensures one { IfSome result (λ r. L.belongs r.0.line r.1 × IsTrue (may_ask (L.view r.1).state)) }
-    ensures two { IfSome result (λ r. L.belongs r.0.line r.2 × IsTrue (may_ask (L.view r.2).state)) }
+    ensures one { IfSome result (λ r. L.belongs r.0.line r.1
+        × IsTrue (may_ask (L.view r.1).state)) }
+    ensures two { IfSome result (λ r. L.belongs r.0.line r.2
+        × IsTrue (may_ask (L.view r.2).state)) }
 {
-    let (line, ports) = L::open_with(alloc, 1, for_nodes(2)).ok()?;
-    let mut ports = ports;
-    let two = ports.pop()?;
-    let one = ports.pop()?;
+    let (line, one, two) = open_two::<L>(alloc)?;
     Some((NotedLine::with(notes, line), one, two))
 }
 
-/// Node 2 waits for `at_most` by `clock` while node 1 holds the line; if `adds`, by `add_within`. Returns node 2's answer and the number of
-/// readings.
+/// Node 2 waits for `at_most` by `clock` while node 1 holds the line; if `adds`, by `add_within`. Returns node 2's answer.
+fn wait_behind<C: Wait + Clock, L: ParkingLine<Free>>(
+    clock: &C,
+    line: &L,
+    one: &mut L::Port,
+    two: &mut L::Port,
+    at_most: Duration,
+    adds: bool,
+) -> Option<TimedAcquire>
+    requires belongs_one { L.belongs line.now one.old }
+    requires belongs_two { L.belongs line.now two.old }
+    requires state_one { IsTrue (may_ask (L.view one.old).state) }
+    requires state_two { IsTrue (may_ask (L.view two.old).state) }
+{
+    let Enq::Granted = line.enqolb(one) else {
+        return None;
+    };
+    if adds {
+        Some(add_within(clock, line, two, at_most))
+    } else {
+        Some(acquire_timeout(clock, line, two, at_most))
+    }
+}
+
+/// Node 2 of a new line waits so. Returns its answer and the number of readings.
 fn wait_by<R: Wait, L: OpenLine<Free> + ParkingLine<Free> + Drop>(
     alloc: Global,
     notes: &Notes,
@@ -192,14 +214,7 @@ where
     L::Port: Drop,
 {
     let (line, mut one, mut two) = open_noted::<L>(alloc, notes)?;
-    let Enq::Granted = line.enqolb(&mut one) else {
-        return None;
-    };
-    let got = if adds {
-        add_within(clock, &line, &mut two, at_most)
-    } else {
-        acquire_timeout(clock, &line, &mut two, at_most)
-    };
+    let got = wait_behind(clock, &line, &mut one, &mut two, at_most, adds)?;
     Some((got, clock.readings()))
 }
 
@@ -254,9 +269,32 @@ where
 
 /// Node 2 times out behind node 1, which holds the line, and asks again for `at_most` by `clock` while its withdrawn request is not passed.
 /// Returns the second answer.
-fn ask_in_vain<R: Wait, C: Wait + Clock, L: OpenLine<Free> + ParkingLine<Free> + Drop>(
-    rt: &R,
+fn ask_behind<N: Wait + Clock, C: Wait + Clock, L: ParkingLine<Free>>(
+    no_time: &N,
     clock: &C,
+    line: &L,
+    one: &mut L::Port,
+    two: &mut L::Port,
+    at_most: Duration,
+) -> Option<TimedAcquire>
+    requires belongs_one { L.belongs line.now one.old }
+    requires belongs_two { L.belongs line.now two.old }
+    requires state_one { IsTrue (may_ask (L.view one.old).state) }
+    requires state_two { IsTrue (may_ask (L.view two.old).state) }
+{
+    let Enq::Granted = line.enqolb(one) else {
+        return None;
+    };
+    let TimedAcquire::TimedOut = acquire_timeout(no_time, line, two, Duration::ZERO) else {
+        return None;
+    };
+    Some(acquire_timeout(clock, line, two, at_most))
+}
+
+/// Returns node 2's second answer at a new line.
+fn ask_in_vain<R: Wait, L: OpenLine<Free> + ParkingLine<Free> + Drop>(
+    rt: &R,
+    clock: &Ticking<R>,
     alloc: Global,
     notes: &Notes,
     at_most: Duration,
@@ -265,14 +303,8 @@ where
     L::Port: Drop,
 {
     let (line, mut one, mut two) = open_noted::<L>(alloc, notes)?;
-    let Enq::Granted = line.enqolb(&mut one) else {
-        return None;
-    };
     let no_time = Ticking::new(rt, None);
-    let TimedAcquire::TimedOut = acquire_timeout(&no_time, &line, &mut two, Duration::ZERO) else {
-        return None;
-    };
-    Some(acquire_timeout(clock, &line, &mut two, at_most))
+    ask_behind(&no_time, clock, &line, &mut one, &mut two, at_most)
 }
 
 /// A busy node reads the clock once after each try, and times out when it reads the limit.
@@ -287,7 +319,7 @@ where
         let notes = Notes::none();
         let clock = Ticking::new(rt, Some(*tick));
         let at_most = Duration::from_nanos(tick.wrapping_mul(AT_MOST));
-        let got = ask_in_vain::<_, _, L>(rt, &clock, alloc, &notes, at_most);
+        let got = ask_in_vain::<R, L>(rt, &clock, alloc, &notes, at_most);
         let found = (got, clock.readings(), notes.busy());
         expect_at(rt, *tick, found, (Some(TimedAcquire::TimedOut), 201, 200));
     }
@@ -385,9 +417,8 @@ where
         let_go: AtomicU64::new(0),
         readings: AtomicU64::new(0),
     };
-    let (line, ports) = L::open_with(alloc, 1, for_nodes(3))?;
-    let line = NotedLine::with(notes, line);
-    let saw = all_see(rt, alloc, &line, ports, &renewing, &renewing.let_go);
+    let let_go = &renewing.let_go;
+    let saw = all_see_hooked::<R, &Notes, L, Renewing>(rt, alloc, 3, notes, &renewing, let_go)?;
     Ok((saw, renewing.readings.load(Ordering::SeqCst)))
 }
 
@@ -414,7 +445,30 @@ where
     );
 }
 
-/// Node 2 polls a `ParkOnPoll` twice while node 1 holds it, and once after node 1 has released. Returns `true` if each answer was right.
+/// Node 2 polls twice while node 1 holds the line, and once after node 1 has released. Returns `true` if each answer was right.
+fn look_behind<L: LineSync<Free>>(line: &L, one: &mut L::Port, two: &mut L::Port) -> bool
+    requires belongs_one { L.belongs line.now one.old }
+    requires belongs_two { L.belongs line.now two.old }
+    requires state_one { IsTrue (may_ask (L.view one.old).state) }
+    requires state_two { IsTrue (may_ask (L.view two.old).state) }
+{
+    let Enq::Granted = line.enqolb(one) else {
+        return false;
+    };
+    let Enq::Queued = line.enqolb(two) else {
+        return false;
+    };
+    let Poll::Waiting = line.poll(two) else {
+        return false;
+    };
+    let Poll::Waiting = line.poll(two) else {
+        return false;
+    };
+    line.deqolb(one);
+    line.poll(two) == Poll::Granted
+}
+
+/// Node 2 polls a new `ParkOnPoll` so.
 fn look_asleep<R: Wait, L: OpenLine<Free> + ParkingLine<Free> + Drop>(
     rt: &R,
     alloc: Global,
@@ -425,20 +479,7 @@ where
 {
     let (line, mut one, mut two) = open_noted::<L>(alloc, notes)?;
     let line = ParkOnPoll::new(rt, line);
-    let Enq::Granted = line.enqolb(&mut one) else {
-        return Some(false);
-    };
-    let Enq::Queued = line.enqolb(&mut two) else {
-        return Some(false);
-    };
-    let Poll::Waiting = line.poll(&mut two) else {
-        return Some(false);
-    };
-    let Poll::Waiting = line.poll(&mut two) else {
-        return Some(false);
-    };
-    line.deqolb(&mut one);
-    Some(line.poll(&mut two) == Poll::Granted)
+    Some(look_behind(&line, &mut one, &mut two))
 }
 
 /// A poll of a `ParkOnPoll` sleeps once if the request still waits, and else not at all.
@@ -465,7 +506,23 @@ where
     expect(rt, "the limit", notes.last(), u64::MAX);
 }
 
-/// Node 2 withdraws its request behind node 1, at a `ParkOnPoll`. Returns the answer.
+/// Node 2 withdraws its request behind node 1. Returns the answer.
+fn withdraw_behind<L: LineSync<Free>>(line: &L, one: &mut L::Port, two: &mut L::Port) -> Option<Out>
+    requires belongs_one { L.belongs line.now one.old }
+    requires belongs_two { L.belongs line.now two.old }
+    requires state_one { IsTrue (may_ask (L.view one.old).state) }
+    requires state_two { IsTrue (may_ask (L.view two.old).state) }
+{
+    let Enq::Granted = line.enqolb(one) else {
+        return None;
+    };
+    let Enq::Queued = line.enqolb(two) else {
+        return None;
+    };
+    Some(line.withdraw(two))
+}
+
+/// Node 2 withdraws so at a new `ParkOnPoll`.
 fn withdraw_asleep<R: Wait, L: OpenLine<Free> + ParkingLine<Free> + Drop>(
     rt: &R,
     alloc: Global,
@@ -476,13 +533,7 @@ where
 {
     let (line, mut one, mut two) = open_noted::<L>(alloc, notes)?;
     let line = ParkOnPoll::new(rt, line);
-    let Enq::Granted = line.enqolb(&mut one) else {
-        return None;
-    };
-    let Enq::Queued = line.enqolb(&mut two) else {
-        return None;
-    };
-    Some(line.withdraw(&mut two))
+    withdraw_behind(&line, &mut one, &mut two)
 }
 
 /// A withdrawal does not poll, sleep or release.
@@ -501,7 +552,31 @@ where
 }
 
 /// Node 1 releases the line, and node 2 shuts it. Returns the number of noted releases after each.
-fn let_go_and_shut<L: OpenLine<Free> + ParkingLine<Free> + Drop>(
+fn let_go_and_shut<L: LineSync<Free>>(
+    line: &L,
+    one: &mut L::Port,
+    two: &mut L::Port,
+    notes: &Notes,
+) -> Option<(u64, u64)>
+    requires belongs_one { L.belongs line.now one.old }
+    requires belongs_two { L.belongs line.now two.old }
+    requires state_one { IsTrue (may_ask (L.view one.old).state) }
+    requires state_two { IsTrue (may_ask (L.view two.old).state) }
+{
+    let Enq::Granted = line.enqolb(one) else {
+        return None;
+    };
+    line.deqolb(one);
+    let after_one = notes.let_go();
+    let Enq::Granted = line.enqolb(two) else {
+        return None;
+    };
+    line.shut(two);
+    Some((after_one, notes.let_go()))
+}
+
+/// Returns these numbers for a new line.
+fn noted_releases<L: OpenLine<Free> + ParkingLine<Free> + Drop>(
     alloc: Global,
     notes: &Notes,
 ) -> Option<(u64, u64)>
@@ -509,16 +584,7 @@ where
     L::Port: Drop,
 {
     let (line, mut one, mut two) = open_noted::<L>(alloc, notes)?;
-    let Enq::Granted = line.enqolb(&mut one) else {
-        return None;
-    };
-    line.deqolb(&mut one);
-    let after_one = notes.let_go();
-    let Enq::Granted = line.enqolb(&mut two) else {
-        return None;
-    };
-    line.shut(&mut two);
-    Some((after_one, notes.let_go()))
+    let_go_and_shut(&line, &mut one, &mut two, notes)
 }
 
 /// A line with hooks calls `on_release` once for each holder that releases or shuts the line.
@@ -533,7 +599,7 @@ where
     expect(
         rt,
         "releases",
-        let_go_and_shut::<L>(alloc, &notes),
+        noted_releases::<L>(alloc, &notes),
         Some((1, 2)),
     );
 }
@@ -593,9 +659,8 @@ where
         shuts,
         waits: AtomicU64::new(0),
     };
-    let (line, ports) = L::open_with(alloc, 1, for_nodes(2))?;
-    let line = HookedLine::with(hooks, line);
-    Ok(all_see(rt, alloc, &line, ports, &looking, &AtomicU64::new(0)))
+    let let_go = AtomicU64::new(0);
+    all_see_hooked::<R, &LooksBefore, L, Looking>(rt, alloc, 2, hooks, &looking, &let_go)
 }
 
 /// Hooks are called before the line is released or shut.
@@ -642,10 +707,8 @@ fn hand_to_a_sleeper<R: Threads + Wait + Sync, L: OpenLine<Free> + ParkingLine<F
 where
     L::Port: Send + Drop,
 {
-    let (line, ports) = L::open_with(alloc, 1, for_nodes(2))?;
-    let line = NotedLine::with(notes, line);
-    let handing = Handing { notes };
-    Ok(all_see(rt, alloc, &line, ports, &handing, &AtomicU64::new(0)))
+    let let_go = AtomicU64::new(0);
+    all_see_hooked::<R, &Notes, L, Handing>(rt, alloc, 2, notes, &Handing { notes }, &let_go)
 }
 
 /// `acquire_parking` sleeps after 97 polls that found the turn not there, without a limit. Woken ahead of its turn, it polls 97 times again

@@ -1,8 +1,7 @@
 //! How long a sleep takes, over all lines, by the system's clock.
-ghost use Rattle.std.specs.Prelude.{◌≡◌, IfSome, IsTrue};
-ghost use Rattle.qolb_model.specs.PortStates.{may_ask};
+ghost use Rattle.std.specs.Prelude.{◌≡◌};
 
-use crate::tests::held::{Scene, all_see, expect, for_nodes, wait_until};
+use crate::tests::held::{Scene, all_see, expect, for_nodes, open_three, wait_until};
 use example_line::counter::add;
 use qolb_model::{Enq, Free, OpenError, OpenLine, ParkingLine, PortState};
 use std::alloc::Global;
@@ -50,22 +49,6 @@ pub(super) fn sleep_for<R: Wait + Clock, L: ParkingLine<Free>>(
     let begin = Instant::now(rt).ok()?;
     line.sleep(rt, port, at_most);
     begin.elapsed(rt).ok()
-}
-
-/// Opens a line of three nodes. Returns it with its ports.
-fn open_three<L: OpenLine<Free> + Drop>(alloc: Global) -> Option<(L, L::Port, L::Port, L::Port)>
-where
-    L::Port: Drop,
-    ensures one { IfSome result (λ r. L.belongs r.0 r.1 × IsTrue (may_ask (L.view r.1).state)) }
-    ensures two { IfSome result (λ r. L.belongs r.0 r.2 × IsTrue (may_ask (L.view r.2).state)) }
-    ensures three { IfSome result (λ r. L.belongs r.0 r.3 × IsTrue (may_ask (L.view r.3).state)) }
-{
-    let (line, ports) = L::open_with(alloc, 1, for_nodes(3)).ok()?;
-    let mut ports = ports;
-    let three = ports.pop()?;
-    let two = ports.pop()?;
-    let one = ports.pop()?;
-    Some((line, one, two, three))
 }
 
 /// Node 1 holds, nodes 2 and 3 queue. Node 2 sleeps `times` times with the limit `at_most`; then node 1 releases, and node 2 sleeps once

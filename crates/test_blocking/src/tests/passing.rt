@@ -6,7 +6,6 @@ use crate::tests::held::{expect, for_nodes};
 use line_blocking::scoped::{ScopedTask, run_scoped};
 use line_blocking::{Got, acquire_parking};
 use line_generic::{Line, Port, SplitEnqueue};
-use link_line::LinkQueue;
 use qolb_model::{Enq, Free, OpenLine, Out, ParkingLine, PortState, Prep};
 use std::alloc::Global;
 use std::process::Abort;
@@ -236,7 +235,10 @@ where
 }
 
 /// A waiter that sleeps behind a late linker of a closed list is woken.
-pub(super) fn late_linker_wakes<R: Threads + Wait + Clock + Abort + Sync>(rt: &R, alloc: Global) {
-    let saw = link_late::<R, Line<Free, LinkQueue>>(rt, alloc);
+pub(super) fn late_linker_wakes<
+    R: Threads + Wait + Clock + Abort + Sync,
+    Q: SplitEnqueue<Free> + Send + Sync,
+>(rt: &R, alloc: Global) {
+    let saw = link_late::<R, Line<Free, Q>>(rt, alloc);
     expect(rt, "linked late", saw, Some([true, true, true]));
 }

@@ -55,7 +55,8 @@ fn eight_lines<L: OpenLine<AccountLaw> + Drop>(
 ) -> Option<Vec<(L, Vec<L::Port>)>>
 where
     L::Port: Drop,
-    ensures { IfSome result (λ lines. All (λ line. All (IsNewPort L.belongs L.view line.0) line.1.items) lines.items) }
+    ensures { IfSome result (λ lines.
+        All (λ line. All (IsNewPort L.belongs L.view line.0) line.1.items) lines.items) }
 {
     let mut lines = Vec::with_capacity(alloc, 8).ok()?;
     for _ in 0..8 {

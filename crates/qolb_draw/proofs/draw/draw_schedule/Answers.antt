@@ -2,7 +2,8 @@ use Rattle.std.proofs.Common.{ℕ, ◌≤◌, length, ap, ◌∙◌, sym, subst}
 use Rattle.qolb_replay.specs.declared.input.TheConstants.{MAX_BYTES}
 use Rattle.qolb_replay.specs.Outcome.{ReplayMayFail}
 use Rattle.qolb_script.specs.Script.{script_of}
-use Rattle.qolb_draw.proofs.Refusing.{may_fail_to_write, refused_to_write}
+use Rattle.qolb_draw.proofs.Refusing.{may_fail_to_write}
+use Rattle.qolb_replay.proofs.Refusing.{refused_to_write}
 use Rattle.qolb_draw.proofs.draw.draw_schedule.Goals as goal
 
 pub returns-in_err-write_all-clause-refused : goal.returns-in_err-write_all-clause-refused

@@ -1,6 +1,6 @@
 use Rattle.std.proofs.Common.{◌+◌, ap, ◌∙◌}
 use Rattle.qolb_model.specs.Plain.{node_state}
-use Rattle.qolb_draw.specs.Marks.{mark_of}
+use Rattle.qolb_shapes.specs.Marks.{mark_of}
 use Rattle.qolb_draw.proofs.Rows.{column_pushed}
 use Rattle.qolb_draw.proofs.grid.push_column.Goals as goal
 

@@ -1,6 +1,6 @@
 use Rattle.std.proofs.Common.{arith, ℕ, ◌+◌, ◌-◌, ◌*◌, ◌<◌, length, sym, subst, ap, ◌∙◌}
 use Rattle.std.proofs.lemmas.List.{get_or_default}
-use Rattle.qolb_draw.specs.declared.symbol.Symbol.TheVariants as symbol
+use Rattle.qolb_shapes.specs.declared.symbol.Symbol.TheVariants as symbol
 use Rattle.qolb_draw.specs.Pictures.{label_of, letter_of}
 use Rattle.qolb_draw.specs.Grids.{mark_out_of}
 use Rattle.qolb_draw.proofs.Rows.{row_pushed, place_within}

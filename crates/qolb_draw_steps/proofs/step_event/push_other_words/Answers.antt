@@ -4,7 +4,7 @@ use Rattle.std.proofs.lemmas.List.{get_or_default}
 use Rattle.link_core.specs.State.{empty, entry}
 use Rattle.qolb_draw_steps.specs.StepShapes.{word_shapes}
 use Rattle.qolb_draw_steps.specs.StepSvg.{step_texts}
-use Rattle.qolb_draw.proofs.Rows.{piece_pushed}
+use Rattle.qolb_shapes.proofs.Rows.{piece_pushed}
 use Rattle.qolb_draw_steps.proofs.StepTexts.{step_texts-flat_map}
 use Rattle.qolb_draw_steps.proofs.step_event.push_other_words.Goals as goal
 

@@ -1,9 +1,9 @@
 use Rattle.std.proofs.Common.{ℕ, List, ◌++◌}
 use Rattle.std.specs.Prelude.{codes}
 use Rattle.link_core.specs.Steps.{node_of}
-use Rattle.qolb_draw.specs.Svg.{field}
+use Rattle.qolb_shapes.specs.Svg.{field}
 use Rattle.qolb_draw_steps.specs.StepSvg.{sign_at, step_x, step_y, told_words}
-use Rattle.qolb_draw.proofs.Shapes.{onward}
+use Rattle.qolb_shapes.proofs.Texts.{onward}
 use Rattle.qolb_draw_steps.proofs.step_svg.push_act.Goals as goal
 
 pub returns : goal.returns

@@ -1,8 +1,8 @@
 use Rattle.std.proofs.Common.{ℕ, List, ◌++◌, ◌+◌}
 use Rattle.std.specs.Prelude.{codes}
-use Rattle.qolb_draw.specs.Svg.{field}
+use Rattle.qolb_shapes.specs.Svg.{field}
 use Rattle.qolb_draw_steps.specs.StepSvg.{point_words, step_x, step_y}
-use Rattle.qolb_draw.proofs.Shapes.{onward}
+use Rattle.qolb_shapes.proofs.Texts.{onward}
 use Rattle.qolb_draw_steps.proofs.step_svg.push_at_name.Goals as goal
 
 pub returns : goal.returns

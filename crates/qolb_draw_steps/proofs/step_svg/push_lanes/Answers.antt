@@ -2,7 +2,7 @@ use Rattle.std.proofs.Common.{◌≡◌, ◌+◌, ◌++◌, refl, sym, ap, ◌�
 use Rattle.qolb_draw_steps.specs.StepShapes.{lane_shapes}
 use Rattle.qolb_draw_steps.specs.StepSvg.{step_texts}
 use Rattle.std.specs.List.{flat_map, range_with_len}
-use Rattle.qolb_draw.proofs.Rows.{piece_pushed}
+use Rattle.qolb_shapes.proofs.Rows.{piece_pushed}
 use Rattle.qolb_draw_steps.proofs.StepTexts.{step_texts-flat_map}
 use Rattle.qolb_draw_steps.proofs.step_svg.push_lanes.Goals as goal
 

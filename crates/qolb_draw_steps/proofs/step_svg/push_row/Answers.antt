@@ -1,10 +1,10 @@
 use Rattle.std.proofs.Common.{◌≡◌, ◌++◌, ◌*◌, refl, sym, ap, ◌∙◌, arith, append_assoc, append-nil}
 use Rattle.std.specs.List.{flat_map, range_with_len}
-use Rattle.qolb_draw.specs.declared.timeline.TheConstants.{NAMED_EVERY}
+use Rattle.qolb_shapes.specs.declared.svg.TheConstants.{NAMED_EVERY}
 use Rattle.qolb_draw_steps.specs.StepShapes.{Name}
 use Rattle.qolb_draw_steps.specs.StepSvg.{row_name_text, step_lane_text}
-use Rattle.qolb_draw.specs.Timelines.{name_count}
-use Rattle.qolb_draw.proofs.Rows.{piece_pushed}
+use Rattle.qolb_shapes.specs.Shapes.{name_count}
+use Rattle.qolb_shapes.proofs.Rows.{piece_pushed}
 use Rattle.qolb_draw_steps.proofs.StepTexts.{step_texts-map}
 use Rattle.qolb_draw_steps.proofs.step_svg.push_row.Goals as goal
 

@@ -1,6 +1,6 @@
 use Rattle.std.proofs.Common.{◌≡◌, ◌++◌, ◌*◌}
 use Rattle.std.specs.List.{flat_map, range_with_len}
-use Rattle.qolb_draw.specs.declared.timeline.TheConstants.{NAMED_EVERY}
+use Rattle.qolb_shapes.specs.declared.svg.TheConstants.{NAMED_EVERY}
 use Rattle.qolb_draw_steps.specs.StepSvg.{row_name_text, step_lane_text}
 use Rattle.qolb_draw_steps.proofs.step_svg.push_row.Given as goal
 

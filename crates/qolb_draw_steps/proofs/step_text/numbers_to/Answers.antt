@@ -1,6 +1,6 @@
 use Rattle.std.proofs.Common.{◌≡◌, ◌+◌, [], ◌∷◌, ◌++◌, sym, ap, ◌∙◌, arith}
 use Rattle.std.specs.List.{range_with_len}
-use Rattle.qolb_draw.proofs.Rows.{range_more}
+use Rattle.qolb_shapes.proofs.Rows.{range_more}
 use Rattle.qolb_draw_steps.proofs.step_text.numbers_to.Goals as goal
 
 pub loop-before-preserved : goal.loop-before-preserved

@@ -2,7 +2,7 @@ use Rattle.std.proofs.Common.{ℕ, List, ◌++◌}
 use Rattle.std.specs.Prelude.{codes}
 use Rattle.qolb_draw_steps.specs.StepPictures.{letters_of}
 use Rattle.qolb_draw_steps.specs.StepSvg.{place_words, told_words}
-use Rattle.qolb_draw.proofs.Shapes.{onward}
+use Rattle.qolb_shapes.proofs.Texts.{onward}
 use Rattle.qolb_draw_steps.proofs.step_text.push_event_line.Goals as goal
 
 pub returns : goal.returns

@@ -2,9 +2,9 @@ use Rattle.std.proofs.Common.{ℕ, List, [], ◌++◌, ◌+◌}
 use Rattle.std.specs.Prelude.{codes}
 use Rattle.qolb_script.specs.Said.{said_words}
 use Rattle.qolb_script.specs.StepReply.{step_said}
-use Rattle.qolb_draw.specs.Svg.{field}
+use Rattle.qolb_shapes.specs.Svg.{field}
 use Rattle.qolb_draw_steps.specs.StepSvg.{event_words}
-use Rattle.qolb_draw.proofs.Shapes.{onward}
+use Rattle.qolb_shapes.proofs.Texts.{onward}
 use Rattle.qolb_draw_steps.proofs.step_words.push_told.Goals as goal
 
 pub returns : goal.returns

@@ -3,7 +3,7 @@ use Rattle.qolb_replay.specs.declared.input.TheConstants.{MAX_BYTES}
 use Rattle.qolb_replay.specs.declared.steps.Detail.TheVariants as detail
 use Rattle.qolb_replay.specs.Outcome.{StepsMayFail}
 use Rattle.qolb_script.specs.StepScript.{steps_of}
-use Rattle.qolb_draw.proofs.Refusing.{refused_to_write}
+use Rattle.qolb_replay.proofs.Refusing.{refused_to_write}
 use Rattle.qolb_draw_steps.proofs.Watching.{may_fail_to_write}
 use Rattle.qolb_draw_steps.proofs.steps.draw_steps.Goals as goal
 

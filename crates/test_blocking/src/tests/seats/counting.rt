@@ -1,5 +1,5 @@
 //! Threads share one number: each borrows a port for a turn, adds 1 to the first lane, and gives the port back.
-ghost use Rattle.std.specs.Prelude.{◌<◌, All, vec_len};
+ghost use Rattle.std.specs.Prelude.{◌≡◌, ◌<◌, All, vec_len};
 ghost use Rattle.line_seats.specs.Lending.{MayAsk, IsPortSetOf};
 
 use crate::tests::held::for_nodes;
@@ -7,7 +7,7 @@ use line_blocking::scoped::{ScopedTask, run_scoped};
 use line_blocking::{Got, acquire};
 use line_lanes::{Mask, lane, with_lane};
 use line_seats::{PortSet, Seats};
-use qolb_model::{Free, LineSync, OpenLine};
+use qolb_model::{Free, LineSync, OpenLine, PortState};
 use std::alloc::Global;
 use std::marker::Brand;
 use std::sync::Wait;
@@ -15,6 +15,17 @@ use std::thread::Threads;
 
 /// The bytes of the first lane.
 const FIRST_LANE: Mask = Mask(0xff);
+
+/// Adds 1 to the first lane in the holder's turn.
+fn add_one<L: LineSync<Free>>(port: &mut L::Port)
+    requires { (L.view port.old).state ≡ PortState.Holding }
+    ensures view { L.view port.new ≡ L.view port.old }
+    ensures belongs { (line : L) → L.belongs line port.old → L.belongs line port.new }
+{
+    let held = *L::bytes(port);
+    let next = lane(&held, 0).wrapping_add(1);
+    L::write(port, FIRST_LANE, &with_lane(&held, 0, next));
+}
 
 /// Takes one turn: borrows a port, and waits by `acquire`.
 fn borrow_and_add<R: Wait, L: LineSync<Free>, S: PortSet<L::Port>>(
@@ -25,9 +36,7 @@ fn borrow_and_add<R: Wait, L: LineSync<Free>, S: PortSet<L::Port>>(
     let mut borrowed = seats.borrow(rt);
     match acquire(rt, line, &mut borrowed.port) {
         Got::Granted => {
-            let held = *L::bytes(&borrowed.port);
-            let next = lane(&held, 0).wrapping_add(1);
-            L::write(&mut borrowed.port, FIRST_LANE, &with_lane(&held, 0, next));
+            add_one::<L>(&mut borrowed.port);
             line.deqolb(&mut borrowed.port);
         }
         Got::Closed => {}

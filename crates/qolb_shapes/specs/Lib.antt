@@ -1,0 +1,4 @@
+pub mod Marks
+pub mod Shapes
+pub mod Svg
+pub mod Heads

@@ -1,0 +1,76 @@
+//! The state of a node at a line for some time, as a bar of a timeline.
+ghost use Rattle.std.specs.Prelude.{◌≡◌, not};
+ghost use Rattle.qolb_shapes.specs.Svg as svg;
+ghost use Rattle.qolb_shapes.specs.Shapes as spec;
+
+use crate::symbol::Symbol;
+
+/// The state of a node at a line, as the kind of its bar.
+#[derive(Clone, Copy, Debug, PartialEq, Eq)]
+pub enum Stand {
+    /// The node has no open request.
+    Away,
+    /// The node's request waits behind another.
+    Waits,
+    /// The node is at its turn, and has not looked yet.
+    AtTurn,
+    /// The node holds the line.
+    Holds,
+    /// The node has withdrawn its request, which was not passed yet.
+    Withdrawn,
+}
+
+impl Stand {
+    /// Returns the state of a node that has this mark.
+    pub fn of(mark: Symbol) -> Stand
+        ensures { result ≡ spec.stand_of mark }
+    {
+        match mark {
+            Symbol::Idle | Symbol::Shut | Symbol::Told | Symbol::Gives => Stand::Away,
+            Symbol::Waits => Stand::Waits,
+            Symbol::AtTurn | Symbol::Takes => Stand::AtTurn,
+            Symbol::Holds => Stand::Holds,
+            Symbol::Withdrawn => Stand::Withdrawn,
+        }
+    }
+
+    /// Returns `true` if both states are the same.
+    fn is_same(self, other: Stand) -> bool
+        ensures { result ≡ spec.is_same self other }
+    {
+        self == other
+    }
+
+    /// Returns `true` if the states differ.
+    pub fn differs(self, other: Stand) -> bool
+        ensures { result ≡ not (spec.is_same self other) }
+    {
+        !self.is_same(other)
+    }
+
+    /// Returns the class of the state's bar.
+    pub fn class(self) -> &'static [u8]
+        ensures { result.now ≡ svg.class_of self }
+    {
+        match self {
+            Stand::Away => b"away",
+            Stand::Waits => b"waits",
+            Stand::AtTurn => b"turn",
+            Stand::Holds => b"holds",
+            Stand::Withdrawn => b"withdrawn",
+        }
+    }
+
+    /// Returns the words that the bar shows.
+    pub fn words(self) -> &'static [u8]
+        ensures { result.now ≡ svg.words_of self }
+    {
+        match self {
+            Stand::Away => b" is away",
+            Stand::Waits => b" waits",
+            Stand::AtTurn => b" may take its turn",
+            Stand::Holds => b" holds the line",
+            Stand::Withdrawn => b" has withdrawn",
+        }
+    }
+}
