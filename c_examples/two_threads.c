@@ -1,5 +1,5 @@
 /* Two threads add to one lane of a line of each kind; then every mistake is made that the library must answer, and a line of each number of nodes
- * is opened. Prints only errors. */
+ * is opened; and a node is freed that has closed its line. Prints only errors. */
 #define _POSIX_C_SOURCE 200809L
 #include <pthread.h>
 #include <qolb.h>
@@ -226,9 +226,25 @@ static int halves(void) {
     return 0;
 }
 
+/* A node that has closed the line is freed while another waits: it leaves no request behind, so a later one is told. */
+static int frees_after_shut(uint32_t kind) {
+    enum { NODES = 3 };
+    qolb_bytes zeros = {{0}};
+    qolb_node nodes[NODES] = {{0}};
+    WANT(qolb_open(kind, 1, NODES, QOLB_NO_LEASE, &zeros, nodes, NODES), QOLB_DONE);
+    WANT(qolb_enqolb(&nodes[0]), QOLB_GRANTED);
+    WANT(qolb_enqolb(&nodes[1]), QOLB_QUEUED);
+    WANT(qolb_shut(&nodes[0]), QOLB_DONE);
+    WANT(qolb_close(&nodes[0]), QOLB_DONE);
+    WANT(qolb_poll(&nodes[1]), QOLB_CLOSED);
+    WANT(qolb_enqolb(&nodes[2]), QOLB_CLOSED);
+    for (int k = 1; k < NODES; k++) WANT(qolb_close(&nodes[k]), QOLB_DONE);
+    return 0;
+}
+
 int main(void) {
     alarm(300); /* where a turn is lost, who waits for it does not end */
     for (uint32_t kind = QOLB_RING; kind <= QOLB_TICKET; kind++)
-        if (count(kind) || misuse(kind) || opens(kind)) return 1;
+        if (count(kind) || misuse(kind) || opens(kind) || frees_after_shut(kind)) return 1;
     return refusals() || empty_handle() || halves();
 }

@@ -4,7 +4,8 @@
     tools/at_work.py [PROGRAM]
 
 A failed read must end with status 4, `read fault` and nothing on standard output; a failed write with 4 and `write fault`; a refused script
-or command line with its own status, whatever happens to standard output and error; no run by a signal. Arguments that are not UTF-8 are refused.
+or command line with its own status, whatever happens to standard output and error; no run by a signal. Arguments that are not UTF-8 are refused, and
+so is one command too many, which is explained.
 Scripts of 100,000 commands, events and jobs are answered whole, and so are pictures of 20 million letters, by a run of the list as
 definitions.py has it. The pictures of the pages are what the program draws. Waiting workers sleep if `--sleep` is given, and else not: counted by
 how often they give up their processor voluntarily. If no worker sleeps, a release wakes none: by the system calls that strace shows, if it is
@@ -180,6 +181,12 @@ def longest_schedule():
     return "\n".join(lines[: MOST + 1]).encode()
 
 
+def one_command_too_many(program):
+    """A script of one command more than there may be, and its explanation."""
+    complaint = f"bad line {MOST + 2}\n    enq 1 0\nmore than {MOST:,} commands\n"
+    expect("one command too many", (1, "", complaint), run(program, ["replay", "--kind", "plain", "--explain"], longest_schedule() + b"\nenq 1 0\n"))
+
+
 def longest_steps():
     """200 nodes hand the line on in turn: the next node asks, the holder grants, and the next node finds the grant."""
     lines = [f"nodes {MAX_NODES}", "reset 1", "prepend 1"]
@@ -326,13 +333,13 @@ def sleepers(program):
     for task in ("board", "bank"):
         script = crowded_script(task)
         for kind in LOCKS:
-            for words in ([], ["--sleep"]):
+            for words in ([], ["--sleep"], ["--explain"], ["--explain", "--sleep", "--progress"]):
                 before = resource.getrusage(resource.RUSAGE_CHILDREN).ru_nvcsw
                 found = run(program, [task, "--kind", kind, *words], script)
                 slept = resource.getrusage(resource.RUSAGE_CHILDREN).ru_nvcsw - before
                 if not is_right(answer_to(task, script), found):
                     raise Wrong(f"{task} of {kind} {words}: {found}")
-                if (slept > FEW_SLEEPS) != bool(words):
+                if (slept > FEW_SLEEPS) != ("--sleep" in words):
                     raise Wrong(f"{task} of {kind} {words}: {slept} times")
         print(f"{task}: {CROWD} workers sleep, and do not, as it is asked for", flush=True)
 
@@ -359,11 +366,19 @@ def nobody_is_woken(program):
 def progress_is_told(program):
     """Work that takes more than a second prints its progress if `--progress` is given, and else not."""
     pipe = subprocess.PIPE
-    for words, said in (([], ""), (["--progress"], rf"(\d+ of {CROWD * TURNS} jobs done\n)+")):
+    told = rf"(\d+ of {CROWD * TURNS} jobs done\n)+"
+    rows = (
+        (["bank", "--sleep"], ""),
+        (["bank", "--sleep", "--progress"], told),
+        (["bank", "--progress", "--kind", "ticket"], told),
+        (["board", "--progress"], told),
+        (["board", "--progress", "--sleep", "--explain"], told),
+    )
+    for words, said in rows:
         with tempfile.TemporaryFile() as script:
-            script.write(crowded_script("bank"))
+            script.write(crowded_script(words[0]))
             script.seek(0)
-            running = spawned(program, ["bank", "--sleep", *words], script, pipe, pipe)
+            running = spawned(program, words, script, pipe, pipe)
             # The workers are running, and are then stopped for a while.
             while running.poll() is None and len(os.listdir(f"/proc/{running.pid}/task")) < CROWD:
                 time.sleep(0.001)
@@ -419,6 +434,7 @@ def main():
     try:
         words_that_are_no_text(program)
         longest_scripts(program)
+        one_command_too_many(program)
         largest_schedule_picture(program)
         largest_step_picture(program)
         pictures_of_the_pages(program)

@@ -3,7 +3,9 @@ ghost use Rattle.std.specs.Prelude.{◌≡◌, true, false};
 ghost use Rattle.std.specs.Option.{MatchOption};
 ghost use Rattle.std.specs.declared.option.Option.{Option};
 ghost use Rattle.std.specs.declared.option.Option.TheVariants.{None, Some};
+ghost use Rattle.qolb_model.specs.PortStates.{may_ask};
 ghost use Rattle.qolb_nodes.specs.declared.any_node.AnyNode.{AnyNode};
+ghost use Rattle.qolb_nodes.specs.Calls.{state_of};
 ghost use Rattle.qolb_nodes.specs.Held.{held_coded, handle_owns};
 
 mod parts;
@@ -74,7 +76,7 @@ impl Handle {
             None => Answer::Misuse,
             Some(taken) => {
                 if taken.shown().state.may_ask() {
-                    drop(taken);
+                    free(taken);
                     Answer::Done
                 } else {
                     self.put(taken);
@@ -124,6 +126,13 @@ impl Handle {
             })
         }
     }
+}
+
+/// Frees a node that neither waits nor holds.
+fn free(node: Box<AnyNode>)
+    requires { may_ask (state_of node.value) ≡ true }
+{
+    drop(node);
 }
 
 // It owns a box of a node, which may go to another thread.

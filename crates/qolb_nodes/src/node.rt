@@ -72,6 +72,10 @@ impl<L: LineSync<Free>> Node<L> {
         requires one_line { other.old.line ≡ self.old.line }
         ensures lines { (self.new.line ≡ self.old.line) × (other.new.line ≡ other.old.line) }
         ensures tell { Meets L.view self.old other.old self.new other.new }
+        ensures turn_self { L.turn self.new.port ≡ L.turn self.old.port }
+        ensures turn_other { L.turn other.new.port ≡ L.turn other.old.port }
+        ensures counters_self { L.counters self.new.port ≡ L.counters self.old.port }
+        ensures counters_other { L.counters other.new.port ≡ L.counters other.old.port }
     {
         self.line.meet(&mut self.port, &mut other.port);
     }

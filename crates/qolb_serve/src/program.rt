@@ -100,6 +100,8 @@ fn answer_or_refuse<T: Threads + Wait + Clock + Eprint + Sync, R: Read>(
         MayDeny request.subcommand script refusal.error)) }
     ensures read_fault { has_failed input.new ≡ true
         → IsErrAnd result (λ refusal. refusal.error ≡ TaskError.Replay ReplayError.Read) }
+    ensures never_stalls { IfErr result (λ refusal.
+        (worker : ℕ) → refusal.error ≢ TaskError.Stalled worker) }
 
     // A refused script is kept if that is asked for, and then it is the script that was read.
     ensures asked { IfErr result (λ refusal. (fault : ScriptError)
@@ -155,6 +157,7 @@ fn answer<T: Threads + Wait + Clock + Eprint + Sync, R: Read>(
     ensures read_fault { (result ≡ Err (TaskError.Replay ReplayError.Read))
         ↔ (has_failed input.new ≡ true) }
     ensures no_writer { result ≢ Err (TaskError.Replay ReplayError.Write) }
+    ensures never_stalls { (worker : ℕ) → result ≢ Err (TaskError.Stalled worker) }
 {
     let mut text = Watched::new(Vec::new(alloc));
     match run_args(rt, alloc, request, input, &mut text) {
@@ -186,6 +189,7 @@ fn run_args<T: Threads + Wait + Clock + Eprint + Sync, R: Read, W: Write>(
     ensures write_fault { result ≡ Err (TaskError.Replay ReplayError.Write)
         → has_failed output.new ≡ true }
     ensures memory { result ≢ Err (TaskError.Replay (ReplayError.Script ScriptError.Memory)) }
+    ensures never_stalls { (worker : ℕ) → result ≢ Err (TaskError.Stalled worker) }
 {
     match request.subcommand {
         Subcommand::Answer(task) => run(rt, alloc, task, request.progress, input, output),
@@ -214,6 +218,7 @@ fn draw<R: Read, W: Write>(
     ensures write_fault { result ≡ Err (TaskError.Replay ReplayError.Write)
         → has_failed output.new ≡ true }
     ensures memory { result ≢ Err (TaskError.Replay (ReplayError.Script ScriptError.Memory)) }
+    ensures never_stalls { (worker : ℕ) → result ≢ Err (TaskError.Stalled worker) }
 {
     Ok(draw_schedule(alloc, input, output, form)?)
 }
@@ -238,6 +243,7 @@ fn draw_of_steps<R: Read, W: Write>(
     ensures write_fault { result ≡ Err (TaskError.Replay ReplayError.Write)
         → has_failed output.new ≡ true }
     ensures memory { result ≢ Err (TaskError.Replay (ReplayError.Script ScriptError.Memory)) }
+    ensures never_stalls { (worker : ℕ) → result ≢ Err (TaskError.Stalled worker) }
 {
     Ok(draw_steps(alloc, input, output, form)?)
 }
@@ -263,6 +269,7 @@ fn run<T: Threads + Wait + Clock + Eprint + Sync, R: Read, W: Write>(
     ensures write_fault { result ≡ Err (TaskError.Replay ReplayError.Write)
         → has_failed output.new ≡ true }
     ensures memory { result ≢ Err (TaskError.Replay (ReplayError.Script ScriptError.Memory)) }
+    ensures never_stalls { (worker : ℕ) → result ≢ Err (TaskError.Stalled worker) }
 {
     match task {
         Task::Replay(kind) => Ok(run_schedule(alloc, input, output, kind)?),
@@ -297,6 +304,7 @@ fn work<T: Threads + Wait + Clock + Eprint + Sync, R: Read, W: Write>(
     ensures write_fault { result ≡ Err (TaskError.Replay ReplayError.Write)
         → has_failed output.new ≡ true }
     ensures memory { result ≢ Err (TaskError.Replay (ReplayError.Script ScriptError.Memory)) }
+    ensures never_stalls { (worker : ℕ) → result ≢ Err (TaskError.Stalled worker) }
 {
     if progress {
         if let Ok(gate) = Progress::new(rt) {

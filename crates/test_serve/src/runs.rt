@@ -393,7 +393,7 @@ fn progress_is_told_where_it_is_asked_for(rt: HostRuntime) -> Result<(), Fail> {
 
 /// What may follow the name of work. Work ends in the same way by each kind of lines, by workers that sleep, and with its progress
 /// reported, of which there is none within a second.
-static MANNERS: [&[&str]; 8] = [
+static MANNERS: [&[&str]; 10] = [
     &[],
     &["--progress"],
     &["--sleep"],
@@ -402,6 +402,8 @@ static MANNERS: [&[&str]; 8] = [
     &["--kind", "link"],
     &["--sleep", "--kind", "ring"],
     &["--kind", "ticket", "--sleep"],
+    &["--kind", "ticket", "--progress"],
+    &["--kind", "ring", "--sleep", "--progress", "--explain"],
 ];
 
 /// Checks that work of this name ends so, in each manner.
