@@ -403,7 +403,7 @@ static MANNERS: [&[&str]; 10] = [
     &["--sleep", "--kind", "ring"],
     &["--kind", "ticket", "--sleep"],
     &["--kind", "ticket", "--progress"],
-    &["--kind", "ring", "--sleep", "--progress", "--explain"],
+    &["--kind", "ring", "--sleep", "--progress"],
 ];
 
 /// Checks that work of this name ends so, in each manner.
