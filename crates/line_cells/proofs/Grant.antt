@@ -29,7 +29,7 @@ use Rattle.line_cells.specs.Layout.{cell_at, cells_in, cell_of}
 use Rattle.line_generic.specs.Slots.{Slots}
 use Rattle.line_cells.specs.SlotLayout.{SlotLayout, Homes, IsAtHome}
 use Rattle.line_cells.specs.Array.{ArrayGhost, ArrayState, At, Cells, History, HasPassed, Walks, NodeInv, HistoryInv, ArrayRule, has_line, is_unfinished, is_cleared}
-use Rattle.line_cells.specs.Steps.{SeatContents, next_end, after_walk, CarriesNext, Ended, GoesHome, Passes, granted}
+use Rattle.line_cells.specs.Steps.{SeatContents, next_end, after_walk, IsNextPayload, Ended, IsHandedOver, Passes, granted}
 use Rattle.line_cells.proofs.OneNode.{clash_at, passed_goes, placed_at, knows_whole, hand_none}
 use Rattle.line_cells.proofs.Nodes.{others_end, others_clear, others_hand, freed_so}
 use Rattle.line_cells.proofs.Histories.{marked_at, continues}
@@ -57,7 +57,7 @@ GrantsNext count cells seen withdrawn_by ended cleared change = (holder : ℕ) (
     × (0 < marks (ended + 1) → marks (ended + 1) ≤ MAX_NODES → 0 < holder
     → (seen (ended + 1) (says (cell_of count (ended + 1))) ≢ 0) × (withdrawn_by (ended + 1) (says (cell_of count (ended + 1))) ≡ marks (ended + 1)) × cells (ended + 1) holder false marks (put says (cell_of count (ended + 1)) (change (says (cell_of count (ended + 1))))))
 
-module _ (cells : Cells) (slot_layout : SlotLayout) (good : List ℕ → Type 0) (allows : List ℕ → List ℕ → Type 0) (key : TableKey) (goes : (a b : List ℕ) → good a → allows a b → good b) (v : ArrayGhost) (has_it : has_line v.own.point ≡ true) (y : Payload) (carries : CarriesNext allows v y) where
+module _ (cells : Cells) (slot_layout : SlotLayout) (good : List ℕ → Type 0) (allows : List ℕ → List ℕ → Type 0) (key : TableKey) (goes : (a b : List ℕ) → good a → allows a b → good b) (v : ArrayGhost) (has_it : has_line v.own.point ≡ true) (y : Payload) (carries : IsNextPayload allows v y) where
   abbrev Rule : ArrayState → Type 0
   Rule = ArrayRule cells slot_layout good allows key
 
@@ -309,7 +309,7 @@ module _ (cells : Cells) (slot_layout : SlotLayout) (good : List ℕ → Type 0)
             wider [] = prefix_more v.view.clear x.clear (own v.view ∷ []) ok.knows.clears
             wider (p ∷ l) = ok.knows.clears
 
-        goes_home : GoesHome v (home_entry x)
+        goes_home : IsHandedOver v (home_entry x)
         goes_home = record {
           point = refl;
           passed = refl;

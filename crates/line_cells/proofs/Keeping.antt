@@ -15,7 +15,7 @@ use Rattle.qolb_model.proofs.Lists.{at_drop}
 use Rattle.qolb_model.proofs.Counts.{few_if_once, count_once}
 use Rattle.qolb_model.proofs.Updates.{put, put_here, put_else}
 use Rattle.qolb_model.proofs.Seats.{step_members}
-use Rattle.line_generic.specs.Entries.{node_of}
+use Rattle.line_generic.specs.NodeGhosts.{node_of}
 use Rattle.line_cells.specs.Layout.{word_count, ticket_at, node_at, cell_at, cells_in}
 use Rattle.line_generic.specs.declared.table.TableKey.{TableKey}
 use Rattle.line_generic.specs.declared.table.Payload.{Payload}

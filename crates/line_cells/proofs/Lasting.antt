@@ -16,7 +16,7 @@ use Rattle.qolb_model.proofs.Lists.{element_at}
 use Rattle.qolb_model.proofs.Agreeing.{among_map_port}
 use Rattle.qolb_model.proofs.Finishing.{once_map}
 use Rattle.qolb_model.proofs.Seats.{once_each}
-use Rattle.line_generic.specs.Entries.{node_of, AllInState, views_of}
+use Rattle.line_generic.specs.NodeGhosts.{node_of, AllInState, views_of}
 use Rattle.line_cells.specs.declared.local.Point.TheVariants.{Idle, Rolled}
 use Rattle.line_cells.specs.declared.local.Local.{Local}
 use Rattle.line_cells.specs.BetweenCalls.{in_state}

@@ -19,7 +19,7 @@ use Rattle.qolb_model.proofs.Agreeing.{among_two}
 use Rattle.qolb_model.proofs.Longer.{longer_begins, begins_longer, begins_longer_too, longer_whole}
 use Rattle.qolb_model.proofs.Merging.{meets_view}
 use Rattle.qolb_model.proofs.Seats.{two_differ, both_put, pair_each, pair_members}
-use Rattle.line_generic.specs.Entries.{node_of}
+use Rattle.line_generic.specs.NodeGhosts.{node_of}
 use Rattle.line_generic.specs.Steps.{merged_ghost, after_meet, slots_returned}
 use Rattle.line_cells.specs.BetweenCalls.{initial}
 use Rattle.line_generic.specs.declared.table.TableKey.{TableKey}

@@ -7,7 +7,7 @@ use Rattle.qolb_model.specs.Requests.{Lacks, AreOfOthers}
 use Rattle.qolb_model.proofs.Lists.{same_some, never, at_same, at_none}
 use Rattle.qolb_model.proofs.Prefixes.{prefix_get}
 use Rattle.qolb_model.proofs.Counts.{few_if_once, count_once}
-use Rattle.line_generic.specs.Entries.{node_of}
+use Rattle.line_generic.specs.NodeGhosts.{node_of}
 use Rattle.line_cells.specs.declared.local.Point.TheVariants.{Rolled}
 use Rattle.line_generic.specs.declared.table.TableKey.{TableKey}
 use Rattle.qolb_model.specs.Entries.{Member}

@@ -15,7 +15,7 @@ use Rattle.line_generic.specs.declared.table.TableKey.{TableKey}
 use Rattle.line_cells.specs.Layout.{node_at}
 use Rattle.line_cells.specs.SlotLayout.{SlotLayout}
 use Rattle.line_cells.specs.Array.{ArrayGhost, ArrayState, At, Cells, History, NodeInv, HistoryInv, ArrayRule, has_line, is_releasing, is_unfinished}
-use Rattle.line_cells.specs.Steps.{single, SeatContents, HasLoadedNodeWord, loaded_node, reset, after_reset}
+use Rattle.line_cells.specs.Steps.{single, SeatContents, TellsIfClear, loaded_node, reset, after_reset}
 use Rattle.line_cells.proofs.OneNode.{clash_at, placed_at, hand_none}
 use Rattle.line_cells.proofs.Nodes.{others_reset, learned, learned_ok, passes_none}
 use Rattle.line_cells.proofs.Histories.{continues}
@@ -49,7 +49,7 @@ module _ (cells : Cells) (slot_layout : SlotLayout) (good : List ℕ → Type 0)
     found : slice_index s.words i ≡ (if has r.history.clear (own v.view) then 1 else 0)
     found = let l = mine_low cells slot_layout good allows key s r me v at in let f = r.may_open.nodes.few in let low = l.0 in let high = l.1 in ap (slice_index s.words) word ∙ r.shown.flags v.view.node low (omega arith) ∙ ok.flag.rolled rolled
 
-    is_still : HasLoadedNodeWord v (slice_index s.words i) still_entry
+    is_still : TellsIfClear v (slice_index s.words i) still_entry
     is_still = record {
       point = rolled;
       state = refl;
@@ -81,7 +81,7 @@ module _ (cells : Cells) (slot_layout : SlotLayout) (good : List ℕ → Type 0)
     (
       refl,
       goes_step allows m v (still_entry s r me i at' word) m.1 is (learns_still s r me i at' word) refl,
-      subst (λ u. HasLoadedNodeWord (single u) (slice_index s.words i) (still_entry s r me i at' word)) (sym is) (is_still s r me i at' word),
+      subst (λ u. TellsIfClear (single u) (slice_index s.words i) (still_entry s r me i at' word)) (sym is) (is_still s r me i at' word),
     ),
   )
 

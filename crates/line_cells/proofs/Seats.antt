@@ -7,7 +7,7 @@ use Rattle.qolb_model.specs.Entries.{AreMembers, front, behind}
 use Rattle.qolb_model.proofs.Leases.{turns_left-none}
 use Rattle.qolb_model.proofs.Lists.{at_none}
 use Rattle.qolb_model.proofs.Seats.{first_members, cut_members, blank_members, join_members}
-use Rattle.line_generic.specs.Entries.{node_of, initial_node, initial_nodes}
+use Rattle.line_generic.specs.NodeGhosts.{node_of, initial_node, initial_nodes}
 use Rattle.line_generic.specs.declared.table.TableKey.{TableKey}
 use Rattle.line_generic.specs.declared.table.Payload.{Payload}
 use Rattle.line_cells.specs.Layout.{word_count, AreFirst, ticket_at, node_at, cells_in}

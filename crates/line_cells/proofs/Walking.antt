@@ -27,7 +27,7 @@ use Rattle.qolb_model.specs.declared.config.TheConstants.{MAX_NODES}
 use Rattle.line_cells.specs.declared.local.Point.TheVariants.{Passing, Freeing}
 use Rattle.line_generic.specs.declared.table.Payload.{Payload}
 use Rattle.line_cells.specs.Array.{ArrayGhost, At}
-use Rattle.line_cells.specs.Steps.{ArraySeat, ghost_of, after_walk, end_of, next_end, CarriesNext, Ended, GoesHome, Passes, Frees, Advances}
+use Rattle.line_cells.specs.Steps.{ArraySeat, ghost_of, after_walk, end_of, next_end, IsNextPayload, Ended, IsHandedOver, Passes, Frees, Advances}
 use Rattle.line_cells.specs.Layout.{IsWithin}
 use Rattle.line_cells.specs.Releases.{MatchesEnds, FinishesWalk, AreNodesAt, FreesAll}
 use Rattle.line_cells.proofs.Turning.{goes_trans}
@@ -216,7 +216,7 @@ ends_gone : (ps : List ℕ) (closed : Bool) (y : Payload) (k : ℕ) → length p
 ends_gone [] closed y k e = absurd (omega (arith, e))
 ends_gone (p ∷ ps) closed y k e = refl
 
-pub carries_gone : (allows : List ℕ → List ℕ → Type 0) (v w : ArrayGhost) (nodes : List ℕ) (found : ℕ) (y : Payload) → Walked v nodes w → StandsAt nodes found w → MatchesEnds v y → CarriesNext allows w y
+pub carries_gone : (allows : List ℕ → List ℕ → Type 0) (v w : ArrayGhost) (nodes : List ℕ) (found : ℕ) (y : Payload) → Walked v nodes w → StandsAt nodes found w → MatchesEnds v y → IsNextPayload allows w y
 carries_gone allows v w nodes found y k s b =
     let gone : next_end w y ≡ Gone = ends_gone w.own.passed (is_closed w.view.ends) y (length nodes) s.many in
     let bytes : bytes_after w.view.config.opening.bytes w.view.ends ≡ y.bytes.bytes = (λ i. bytes_after (k.config i).opening.bytes (k.ends i)) ∙ (bytes_after-append v.view.config.opening.bytes v.view.ends (replicate (length nodes) Gone) ∙ (bytes_after-passed (bytes_after v.view.config.opening.bytes v.view.ends) (length nodes) ∙ b.bytes)) in
@@ -246,7 +246,7 @@ record Grows (w x : ArrayGhost) (first : ℕ) : Type 0 where
   few : length x.own.passed + 1 ≤ w.view.config.nodes
 
 grows : (v w x : ArrayGhost) (nodes : List ℕ) (found next by_node : ℕ) (y : Payload) → Walked v nodes w → StandsAt nodes found w → length w.view.ends ≡ length v.view.ends + length nodes → length x.view.ends ≡ length v.view.ends + (length nodes + 1) → Extends w.view x.view
-    → (next ≡ 0 → GoesHome w x) → (next ≢ 0 → Passes w by_node x) → Grows w x (length v.view.ends)
+    → (next ≡ 0 → IsHandedOver w x) → (next ≢ 0 → Passes w by_node x) → Grows w x (length v.view.ends)
 grows v w x nodes found zero by_node y k s before many more home passes = let h = home refl in record {
   run = λ i p at. k.run i p (subst (λ ps. At ps i p) h.passed at);
   front = λ i p lt at. subst (λ ps. At ps i p) h.passed at;
@@ -274,7 +274,7 @@ replicate-push (suc n) e = ap (λ es. e ∷ es) (replicate-push n e)
 
 -- a grant ends one more withdrawn request
 pub walked_on : (v w x : ArrayGhost) (nodes : List ℕ) (found next by_node : ℕ) (y : Payload) → v.view.config.nodes ≤ MAX_NODES → Walked v nodes w → StandsAt nodes found w → Ended w x y → Extends w.view x.view → x.view.state ≡ w.view.state
-    → (next ≡ 0 → GoesHome w x) → (next ≢ 0 → Passes w by_node x) → Walked v (nodes ++ found ∷ []) x
+    → (next ≡ 0 → IsHandedOver w x) → (next ≢ 0 → Passes w by_node x) → Walked v (nodes ++ found ∷ []) x
 walked_on v w x nodes found next by_node y low k s e more stays home passes =
     let gone : next_end w y ≡ Gone = ends_gone w.own.passed (is_closed w.view.ends) y (length nodes) s.many in
     let pushed : length (nodes ++ found ∷ []) ≡ suc (length nodes) = omega (arith, length-append nodes (found ∷ [])) in
@@ -313,7 +313,7 @@ stands_next w x nodes found next s p = record {
   high = p.high;
 }
 
-pub is_home : (w x : ArrayGhost) (nodes : List ℕ) (found : ℕ) (y : Payload) → StandsAt nodes found w → Ended w x y → GoesHome w x → IsHome (nodes ++ found ∷ []) x
+pub is_home : (w x : ArrayGhost) (nodes : List ℕ) (found : ℕ) (y : Payload) → StandsAt nodes found w → Ended w x y → IsHandedOver w x → IsHome (nodes ++ found ∷ []) x
 is_home w x nodes found y s e h = record {
   point = h.point ∙ by w.own.passed (length nodes) s.many;
   many = omega (arith, ap length h.passed, length-append nodes (found ∷ []), s.many);
@@ -376,7 +376,7 @@ pub record IsWalking (slot_layout : SlotLayout) (allows : List ℕ → List ℕ 
 
 -- what it carries to the next grant
 pub walk_carries : (slot_layout : SlotLayout) (allows : List ℕ → List ℕ → Type 0) (s t : ArraySeat) (nodes : List ℕ) (steps found node : ℕ) (y : Payload) → IsWalking slot_layout allows s nodes steps found node t → found ≢ 0 → slot_layout.slots_at_grant (length (ghost_of s).view.ends) y s.me.1 → MatchesEnds (ghost_of s) y
-    → slot_layout.slots_at_grant (length (ghost_of t).view.ends) y t.me.1 × CarriesNext allows (ghost_of t) y
+    → slot_layout.slots_at_grant (length (ghost_of t).view.ends) y t.me.1 × IsNextPayload allows (ghost_of t) y
 walk_carries slot_layout allows s t nodes steps found node y k more slot bare =
     let here = k.stands more in (here.0 y slot, carries_gone allows (ghost_of s) (ghost_of t) nodes node y k.walked here.1 bare)
 
@@ -387,7 +387,7 @@ ended_longer v w y e = omega (arith, ap length e.ends, length-append v.view.ends
 -- and what it has done after that
 pub walk_step : (slot_layout : SlotLayout) (allows : List ℕ → List ℕ → Type 0) (s t u : ArraySeat) (nodes : List ℕ) (steps more all found node next by_node : ℕ) (y : Payload) → IsWalking slot_layout allows s nodes steps found node t → found ≢ 0 → (ghost_of s).view.config.nodes ≤ MAX_NODES
     → (ghost_of s).view.state ≡ state_after y.closed → IsSameSeat t u → Advances allows t.me u.me more → Ended (ghost_of t) (ghost_of u) y
-    → (next ≡ 0 → HasNoSlot u × GoesHome (ghost_of t) (ghost_of u)) → (next ≢ 0 → Carried slot_layout t u × Passes (ghost_of t) by_node (ghost_of u)) → steps + more ≡ all
+    → (next ≡ 0 → HasNoSlot u × IsHandedOver (ghost_of t) (ghost_of u)) → (next ≢ 0 → Carried slot_layout t u × Passes (ghost_of t) by_node (ghost_of u)) → steps + more ≡ all
     → IsWalking slot_layout allows s (nodes ++ node ∷ []) all next by_node u
 walk_step slot_layout allows s t u nodes steps more all found node next by_node y k some low state same advances ended home passes sum =
     let here = k.stands some in

@@ -23,7 +23,7 @@ use Rattle.line_cells.specs.declared.local.Point.TheVariants.{Idle, Queued, Hold
 use Rattle.line_generic.specs.declared.table.NodeGhost.{NodeGhost}
 use Rattle.line_generic.specs.declared.table.TableKey.{TableKey}
 use Rattle.line_generic.specs.declared.table.Payload.{Payload}
-use Rattle.line_generic.specs.Entries.{node_of}
+use Rattle.line_generic.specs.NodeGhosts.{node_of}
 use Rattle.line_cells.specs.declared.local.Local.{Local}
 use Rattle.line_cells.specs.SlotLayout.{SlotLayout, Homes, IsAtHome}
 use Rattle.line_cells.specs.Layout.{word_count, ticket_at, node_at, cells_in, ticket_of}
@@ -92,7 +92,7 @@ pub record History : Type 0 where
   pub releaser_of : ℕ → ℕ
   pub flags : ℕ → ℕ
 
--- What holds of the node n, with the entry e, in parts, each over what it reads of the history.
+-- What holds of the node n, with the ghost state e, in parts, each over what it reads of the history.
 
 -- The node has passed the request at the place p and has not freed its node. (Each request is passed by one release, so the lists
 -- of different releases share no place.)

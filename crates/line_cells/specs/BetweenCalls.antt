@@ -45,8 +45,8 @@ module _ (token_of : ℕ → ℕ) where
   phases slots_at_grant slots_in_turn slots_at_release = record { initial = initial; in_state = in_state; holds_open = holds_open; holds_closed = holds_closed; slots_at_grant = slots_at_grant; slots_in_turn = slots_in_turn; slots_at_release = slots_at_release }
 
   -- the word of the turn is the cell of the token of the place at its turn
-  abbrev pub turn_word : (ℕ → ℕ) → View → ℕ
-  turn_word cells view = wait_word cells view.config.nodes view.node (token_of (length view.ends))
+  abbrev pub wake_word : (ℕ → ℕ) → View → ℕ
+  wake_word cells view = wait_word cells view.config.nodes view.node (token_of (length view.ends))
 
 -- no request is linked, and no line is left in a mailbox
 abbrev pub allowed_states : PortState → Type 0

@@ -23,9 +23,9 @@ steps_to_reset (Some steps) = steps
 steps_to_reset None = 1
 
 -- the node may ask, after that many word steps; or its last request was withdrawn and is not clear, so it may not
-abbrev pub IsReset : PortState → ArrayGhost → ArrayGhost → Option ℕ → Type 0
-IsReset state v w (Some steps) = (w.own.point ≡ Idle) × (w.view.count ≡ v.view.count) × (steps ≤ 2) × (state ≢ port_state.Rolled → steps ≡ 0) × (state ≡ port_state.Rolled → steps ≡ 2)
-IsReset state v w None = (state ≡ port_state.Rolled) × (w.own.point ≡ Rolled) × (w.view.state ≡ v.view.state) × (w.view.count ≡ v.view.count) × Lacks w.view.clear (own w.view)
+abbrev pub TriesReset : PortState → ArrayGhost → ArrayGhost → Option ℕ → Type 0
+TriesReset state v w (Some steps) = (w.own.point ≡ Idle) × (w.view.count ≡ v.view.count) × (steps ≤ 2) × (state ≢ port_state.Rolled → steps ≡ 0) × (state ≡ port_state.Rolled → steps ≡ 2)
+TriesReset state v w None = (state ≡ port_state.Rolled) × (w.own.point ≡ Rolled) × (w.view.state ≡ v.view.state) × (w.view.count ≡ v.view.count) × Lacks w.view.clear (own w.view)
 
 -- the payload is the line after the known ends
 pub record MatchesEnds (v : ArrayGhost) (y : Payload) : Type 0 where

@@ -16,7 +16,7 @@ use Rattle.qolb_model.specs.Views.{own, bytes_of}
 use Rattle.qolb_model.specs.Kept.{AreAllowed}
 use Rattle.qolb_model.specs.Enqueueing.{Asks}
 use Rattle.line_generic.specs.declared.table.Payload.{Payload}
-use Rattle.line_generic.specs.Entries as entries
+use Rattle.line_generic.specs.NodeGhosts as node_ghosts
 use Rattle.line_generic.specs.Answers as answers
 use Rattle.line_generic.specs.Steps as line
 use Rattle.line_generic.specs.Steps.{own_end}
@@ -29,31 +29,31 @@ use Rattle.line_cells.specs.BetweenCalls.{initial, in_state, holds_open, holds_c
 use Rattle.line_cells.specs.Array.{ArrayGhost, At}
 
 abbrev pub ArraySeat : Type 0
-ArraySeat = entries.LineSeat Local
+ArraySeat = node_ghosts.LineSeat Local
 
 abbrev pub SeatContents : Type 0
-SeatContents = entries.SeatContents Local
+SeatContents = node_ghosts.SeatContents Local
 
 abbrev pub single : List ArrayGhost → ArrayGhost
 single = line.single initial
 
--- the seat has exactly one entry
-abbrev pub IsSingle : SeatContents → Type 0
-IsSingle m = line.IsSingle initial m
+-- the seat has exactly one node
+abbrev pub IsOfOneNode : SeatContents → Type 0
+IsOfOneNode m = line.IsOfOneNode initial m
 
--- the entry of a seat with exactly one
+-- the ghost state of a seat's only node
 abbrev pub ghost_of : ArraySeat → ArrayGhost
 ghost_of seat = line.ghost_of initial seat
 
--- the seat has the entry of one node, which is at this point
+-- the seat has the ghost state of one node, which is at this point
 abbrev pub IsAt : Point → ArraySeat → Type 0
-IsAt point seat = IsSingle seat.me × ((ghost_of seat).own.point ≡ point)
+IsAt point seat = IsOfOneNode seat.me × ((ghost_of seat).own.point ≡ point)
 
--- the seat is of the table of a line of n nodes, with the cells that these need, and has the entry of this node
+-- the seat is of the table of a line of n nodes, with the cells that these need, and has this node's ghost state
 abbrev pub IsSeatOfNode : (ℕ → ℕ) → ℕ → TableId → ℕ → ArraySeat → Type 0
 IsSeatOfNode cells nodes table_id node seat = answers.IsSeatOfNode (λ n. word_count (cells n)) nodes table_id initial node seat
 
--- after n word steps of its node the seat still has one entry, whose view is extended
+-- after n word steps of its node the seat still has one node, whose view is extended
 abbrev pub Advances : (List ℕ → List ℕ → Type 0) → SeatContents → SeatContents → ℕ → Type 0
 Advances allows old new steps = line.Advances allows initial old new steps
 
@@ -80,7 +80,7 @@ module _ (token_of : ℕ → ℕ) where
   IsRolled token w = line.IsRolledBack (in_state token_of) token w
 
 -- the withdrawn request is clear, or it is not
-pub record HasLoadedNodeWord (v : ArrayGhost) (found : ℕ) (w : ArrayGhost) : Type 0 where
+pub record TellsIfClear (v : ArrayGhost) (found : ℕ) (w : ArrayGhost) : Type 0 where
   pub point : w.own.point ≡ Rolled
   pub state : w.view.state ≡ v.view.state
   pub count : w.view.count ≡ v.view.count
@@ -101,7 +101,7 @@ after_walk [] = Idle
 after_walk (p ∷ ps) = Freeing
 
 -- `y` is the payload after the end that the release makes next: that end is legal, and the change obeys the line's law
-pub record CarriesNext (allows : List ℕ → List ℕ → Type 0) (v : ArrayGhost) (y : Payload) : Type 0 where
+pub record IsNextPayload (allows : List ℕ → List ℕ → Type 0) (v : ArrayGhost) (y : Payload) : Type 0 where
   pub bytes : bytes_after v.view.config.opening.bytes (v.view.ends ++ next_end v y ∷ []) ≡ y.bytes.bytes
   pub closed : is_closed (v.view.ends ++ next_end v y ∷ []) ≡ y.closed
   pub turns : turns_left v.view.config.lease (v.view.ends ++ next_end v y ∷ []) ≡ y.turns_left
@@ -117,7 +117,7 @@ pub record Ended (v w : ArrayGhost) (y : Payload) : Type 0 where
   pub own_turn : v.own.passed ≡ [] → At w.view.order (length v.view.ends) (own w.view)
 
 -- the next request is not withdrawn, and the line is at home
-pub record GoesHome (v w : ArrayGhost) : Type 0 where
+pub record IsHandedOver (v w : ArrayGhost) : Type 0 where
   pub point : w.own.point ≡ after_walk v.own.passed
   pub passed : w.own.passed ≡ v.own.passed
   pub unmarked : (r : Request) → turn_of w.view.order w.view.ends ≡ Some r → Lacks w.view.marked r
@@ -164,7 +164,7 @@ module _ (allows : List ℕ → List ℕ → Type 0) where
       × ((q : ℕ) (ps : List ℕ) (r : Request) → (single m.0).own.passed ≡ q ∷ ps → At (single m.0).view.order q r → Frees (single m.0) ps r (single m'.0))
 
   abbrev pub loaded_node : Step Payload → SeatContents → ℕ → SeatContents → Type 0
-  loaded_node st m n m' = (m'.1 ≡ m.1) × Advances allows m m' 1 × HasLoadedNodeWord (single m.0) n (single m'.0)
+  loaded_node st m n m' = (m'.1 ≡ m.1) × Advances allows m m' 1 × TellsIfClear (single m.0) n (single m'.0)
 
   -- The node's own cell is loaded, or written. By the place of its request, the old word says that the node waits on, or that the
   -- line is granted.
@@ -184,5 +184,5 @@ module _ (allows : List ℕ → List ℕ → Type 0) where
     abbrev pub granted : Step Payload → SeatContents → ℕ → SeatContents → Type 0
     granted st m n m' = Advances allows m m' 1
         × ((y : Payload) → slot_layout.slots_at_release (length (single m.0).view.ends) y m.1 → Ended (single m.0) (single m'.0) y)
-        × (seen (length (single m.0).view.ends + 1) n ≡ 0 → (m'.1 ≡ []) × GoesHome (single m.0) (single m'.0))
+        × (seen (length (single m.0).view.ends + 1) n ≡ 0 → (m'.1 ≡ []) × IsHandedOver (single m.0) (single m'.0))
         × (seen (length (single m.0).view.ends + 1) n ≢ 0 → ((y : Payload) → slot_layout.slots_at_release (length (single m.0).view.ends) y m.1 → slot_layout.slots_at_grant (length (single m.0).view.ends + 1) y m'.1) × Passes (single m.0) (withdrawn_by (length (single m.0).view.ends + 1) n) (single m'.0))

@@ -18,7 +18,7 @@ pub(crate) const STRIDE: usize = 16;
 pub(crate) const BEHIND: usize = 8;
 
 /// The word of the ticket counter.
-pub const TICKET: usize = 0;
+pub const TICKET_WORD: usize = 0;
 
 /// The number of all words, with the maximum of cells.
 pub const WORDS: usize = STRIDE * CELLS as usize;

@@ -5,6 +5,8 @@ mod layout;
 mod local;
 mod plays;
 
-pub use layout::{CELLS, TICKET, WORDS, cell_count, cell_word, is_freed, node_word, word_count};
+pub use layout::{
+    CELLS, TICKET_WORD, WORDS, cell_count, cell_word, is_freed, node_word, word_count,
+};
 pub use local::{Local, Point};
-pub use plays::{Entries, FreeNode, LoadNode, Reset, TakeTicket};
+pub use plays::{FreeNode, LoadNode, NodeGhosts, Reset, TakeTicket};

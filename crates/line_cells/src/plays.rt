@@ -8,15 +8,15 @@ use qolb_model::Keep;
 use std::collections::LinkedList;
 use std::marker::PhantomData;
 
-/// The entries of a seat.
-pub type Entries = LinkedList<NodeGhost<Local>>;
+/// The ghost states of a seat's nodes.
+pub type NodeGhosts = LinkedList<NodeGhost<Local>>;
 
 /// Takes a ticket.
 pub struct TakeTicket<K> {
     law: PhantomData<K>,
 }
 
-impl<K: Keep> Play<Payload, Entries> for TakeTicket<K> {
+impl<K: Keep> Play<Payload, NodeGhosts> for TakeTicket<K> {
     ghost then = { drawn K.allows };
 }
 
@@ -25,7 +25,7 @@ pub struct FreeNode<K> {
     law: PhantomData<K>,
 }
 
-impl<K: Keep> Play<Payload, Entries> for FreeNode<K> {
+impl<K: Keep> Play<Payload, NodeGhosts> for FreeNode<K> {
     ghost then = { freed K.allows };
 }
 
@@ -34,13 +34,13 @@ pub struct LoadNode<K> {
     law: PhantomData<K>,
 }
 
-impl<K: Keep> Play<Payload, Entries> for LoadNode<K> {
+impl<K: Keep> Play<Payload, NodeGhosts> for LoadNode<K> {
     ghost then = { loaded_node K.allows };
 }
 
 /// Clears the node's own word.
 pub struct Reset;
 
-impl Play<Payload, Entries> for Reset {
+impl Play<Payload, NodeGhosts> for Reset {
     ghost then = { reset };
 }

@@ -28,7 +28,7 @@ use Rattle.line_generic.specs.declared.discipline.Enqueued.TheVariants as enqueu
 use Rattle.line_generic.specs.declared.table.LocalCopy.{LocalCopy}
 use Rattle.line_generic.specs.declared.table.Payload.{Payload}
 use Rattle.line_generic.specs.declared.table.TableKey.{TableKey}
-use Rattle.line_generic.specs.Entries.{LineSeat}
+use Rattle.line_generic.specs.NodeGhosts.{LineSeat}
 use Rattle.line_generic.specs.PortPhases.{PortPhases}
 use Rattle.line_generic.specs.Steps.{IsSameSeat, ghost_of, nodes_of, single, HoldsPayload, own_end, IsNextPayload, SeatAdvances}
 use Rattle.line_generic.specs.Ports.{PortModel, port_model, write_in, Holds, IsPort, BelongsTo, IsSeated, IsStored}
@@ -63,7 +63,7 @@ module _ {O : Type 0} {initial : O} {good : List ℕ → Type 0} {allows : List 
   -- its seat is that of its node
   pub call_seat : (node : ℕ) → (ghost_of initial s).view.node ≡ node → IsSeated good allows key table_id initial node t
   call_seat node node_is = record {
-    is_single = w.advances.is_single;
+    of_one_node = w.advances.of_one_node;
     node_is = w.advances.extends.node ∙ node_is;
     table_is = w.seat.0 ∙ (ap (λ (x : PortModel). x.table) is ∙ b.table_is);
     sound = sound_goes good allows key.label key.config p.view (ghost_of initial t).view b.sound call_continues;
@@ -109,17 +109,17 @@ module _ {O : Type 0} {q : PortPhases O} {label node : ℕ} {p : PortModel} (s :
   own_word wait_word nodes many = λ i. wait_word ((sym many ∙ ap (λ (x : PortModel). x.view.config.nodes) is) i) ((sym between.node_is ∙ ap (λ (x : PortModel). x.view.node) is) i) (is i).token
 
   -- if the port holds, that is the word of the turn, as any port has it that sees the turn
-  pub held_word : (wait_word : ℕ → ℕ → ℕ → ℕ) (turn_word : View → ℕ) (nodes : ℕ) → nodes_of q.initial s ≡ nodes
-      → ((m : ℕ) (u v : View) (own : O) → q.holds_open m (length v.ends) own → SeesTurn u v → wait_word v.config.nodes v.node m ≡ turn_word u)
-      → p.view.state ≡ port_state.Holding → (u : View) → SeesTurn u p.view → wait_word nodes node token ≡ turn_word u
-  held_word wait_word turn_word nodes many law held u sees =
+  pub held_word : (wait_word : ℕ → ℕ → ℕ → ℕ) (wake_word : View → ℕ) (nodes : ℕ) → nodes_of q.initial s ≡ nodes
+      → ((m : ℕ) (u v : View) (own : O) → q.holds_open m (length v.ends) own → SeesTurn u v → wait_word v.config.nodes v.node m ≡ wake_word u)
+      → p.view.state ≡ port_state.Holding → (u : View) → SeesTurn u p.view → wait_word nodes node token ≡ wake_word u
+  held_word wait_word wake_word nodes many law held u sees =
       (λ i. wait_word (sym many i) (sym between.node_is i) token) ∙ law token u (ghost_of q.initial s).view (ghost_of q.initial s).own (holds_of held).at (subst (λ (x : PortModel). SeesTurn u x.view) (sym is) sees)
 
   -- it writes
   pub written_port : (z : LocalCopy) (mask : ℕ) (bytes : List ℕ) → p.view.state ≡ port_state.Holding → z.bytes.bytes ≡ merged y.bytes.bytes bytes mask → z.mask.0 ≡ bit_or y.mask.0 mask → z.turns_left ≡ y.turns_left
       → IsPort q label node s z token state
   written_port z mask bytes held b m c = record {
-    is_single = between.is_single;
+    of_one_node = between.of_one_node;
     rests_so = between.rests_so;
     holds_so = λ e. holds_written q s y z token mask bytes (between.holds_so e) b m c;
     shows_state = between.shows_state;

@@ -10,7 +10,7 @@ use Rattle.qolb_model.specs.declared.answer.PortState.{PortState}
 use Rattle.qolb_model.specs.declared.answer.PortState.TheVariants as port_state
 use Rattle.line_generic.specs.declared.table.LocalCopy.{LocalCopy}
 use Rattle.line_generic.specs.declared.table.NodeGhost.{NodeGhost}
-use Rattle.line_generic.specs.Entries.{LineSeat, AtRest, views_of}
+use Rattle.line_generic.specs.NodeGhosts.{LineSeat, AtRest, views_of}
 use Rattle.line_generic.specs.PortPhases.{PortPhases}
 use Rattle.line_generic.specs.Steps.{ghost_of, nodes_of}
 use Rattle.line_generic.specs.Ports.{PortModel, port_model, IsPort}
@@ -50,14 +50,14 @@ module _ {O : Type 0} (q : PortPhases O) (label node : ℕ) (s : LineSeat O) (y 
   none_carried = stands.1
 
   only_at_rest : (i : ℕ) (e : NodeGhost O) → slice_get s.me.0 i ≡ Some e → AtRest q.in_state e
-  only_at_rest i e at = subst (λ (x : NodeGhost O). AtRest q.in_state x) (at_one (ghost_of q.initial s) e i (subst (λ es. slice_get es i ≡ Some e) ok.is_single at)) (state, token, own_state, stands.0)
+  only_at_rest i e at = subst (λ (x : NodeGhost O). AtRest q.in_state x) (at_one (ghost_of q.initial s) e i (subst (λ es. slice_get es i ≡ Some e) ok.of_one_node at)) (state, token, own_state, stands.0)
 
   -- the first seat
   pub gathers_first : (table_id : TableId) (rest : List PortModel) → All (λ (o : PortModel). o.table ≡ table_id) (p ∷ rest) → All (λ (o : PortModel). may_ask o.view.state ≡ true) (p ∷ rest)
       → HasJoinedSome q.in_state table_id (p ∷ rest) rest s
   gathers_first table_id rest tables quiets = record {
     table = ap (λ (o : PortModel). o.table) is ∙ all_first (λ (o : PortModel). o.table ≡ table_id) p rest tables;
-    views = ap (λ es. map (λ (e : NodeGhost O). e.view) es ++ views rest) ok.is_single ∙ ap (λ v. v ∷ views rest) same_view;
+    views = ap (λ es. map (λ (e : NodeGhost O). e.view) es ++ views rest) ok.of_one_node ∙ ap (λ v. v ∷ views rest) same_view;
     at_rest = only_at_rest;
     tables = all_rest (λ (o : PortModel). o.table ≡ table_id) p rest tables;
     quiet = all_rest (λ (o : PortModel). may_ask o.view.state ≡ true) p rest quiets;
@@ -79,7 +79,7 @@ module _ {O : Type 0} (q : PortPhases O) (label node : ℕ) (s : LineSeat O) (y 
     views =
         ap (λ z. map (λ (e : NodeGhost O). e.view) z.0 ++ views rest) m ∙ ap (λ vs. vs ++ views rest) (map-append (λ (e : NodeGhost O). e.view) old.me.0 s.me.0)
         ∙ append_assoc (map (λ (e : NodeGhost O). e.view) old.me.0) (map (λ (e : NodeGhost O). e.view) s.me.0) (views rest)
-        ∙ ap (λ es. map (λ (e : NodeGhost O). e.view) old.me.0 ++ (map (λ (e : NodeGhost O). e.view) es ++ views rest)) ok.is_single
+        ∙ ap (λ es. map (λ (e : NodeGhost O). e.view) old.me.0 ++ (map (λ (e : NodeGhost O). e.view) es ++ views rest)) ok.of_one_node
         ∙ ap (λ v. map (λ (e : NodeGhost O). e.view) old.me.0 ++ (v ∷ views rest)) same_view
         ∙ h.views;
     at_rest = λ i e at. ⊎_elim (λ z. h.at_rest i e z) (λ z. only_at_rest z.0 e z.2) (at_either old.me.0 s.me.0 i e (subst (λ z. slice_get z.0 i ≡ Some e) m at));

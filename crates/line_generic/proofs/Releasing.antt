@@ -24,7 +24,7 @@ use Rattle.qolb_model.proofs.Requests.{has_prefix}
 use Rattle.line_generic.specs.declared.table.NodeGhost.{NodeGhost}
 use Rattle.line_generic.specs.declared.table.LocalCopy.{LocalCopy}
 use Rattle.line_generic.specs.declared.table.Payload.{Payload}
-use Rattle.line_generic.specs.Entries.{LineSeat}
+use Rattle.line_generic.specs.NodeGhosts.{LineSeat}
 use Rattle.line_generic.specs.Steps.{ghost_of, nodes_of, single, write_of, own_end, IsNextPayload, IsAtTurn}
 use Rattle.line_generic.specs.Slots.{IsCopy}
 use Rattle.line_generic.specs.PortPhases.{PortPhases}

@@ -7,7 +7,7 @@ use Rattle.qolb_model.specs.PortStates.{may_ask}
 use Rattle.qolb_model.specs.Calls.{LooksIfClear}
 use Rattle.line_generic.specs.declared.table.LocalCopy.{LocalCopy}
 use Rattle.line_generic.specs.declared.table.TableKey.{TableKey}
-use Rattle.line_generic.specs.Entries.{LineSeat}
+use Rattle.line_generic.specs.NodeGhosts.{LineSeat}
 use Rattle.line_generic.specs.PortPhases.{PortPhases}
 use Rattle.line_generic.specs.Steps.{ghost_of, IsInState, SeatAdvances}
 use Rattle.line_generic.specs.Answers.{LooksAtRest}
@@ -24,7 +24,7 @@ module _ {O : Type 0} {q : PortPhases O} {label node : ℕ} {p : PortModel} (s :
 
   before : IsInState q state token s
   before = record {
-    is_single = between.is_single;
+    of_one_node = between.of_one_node;
     stands = (between.rests_so not_held).0;
     shows_state = between.shows_state;
     slot = (between.rests_so not_held).1;
@@ -39,7 +39,7 @@ module _ {O : Type 0} {q : PortPhases O} {label node : ℕ} {p : PortModel} (s :
 
   pub looked_port : IsPort q label node t y token left
   looked_port = record {
-    is_single = after.is_single;
+    of_one_node = after.of_one_node;
     rests_so = λ _. (after.stands, after.slot);
     holds_so = λ held. absurd (still_not_held held);
     shows_state = after.shows_state;

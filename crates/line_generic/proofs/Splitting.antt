@@ -11,7 +11,7 @@ use Rattle.qolb_model.proofs.Seats.{each_from_more}
 use Rattle.line_generic.specs.declared.table.NodeGhost.{NodeGhost}
 use Rattle.line_generic.specs.declared.table.TableKey.{TableKey}
 use Rattle.line_generic.specs.declared.table.LocalCopy.{LocalCopy}
-use Rattle.line_generic.specs.Entries.{LineSeat, initial_node, initial_nodes_from}
+use Rattle.line_generic.specs.NodeGhosts.{LineSeat, initial_node, initial_nodes_from}
 use Rattle.line_generic.specs.PortPhases.{PortPhases}
 use Rattle.line_generic.specs.Steps.{single}
 use Rattle.line_generic.specs.Ports.{PortModel, port_model, IsPort, AreSplit, IsUnused, AreUnused, IsOpened, BelongsTo}
@@ -25,7 +25,7 @@ module _ {O : Type 0} (q : PortPhases O) (key : TableKey) (n : ℕ) (old first r
 
   pub first_port : ((nodes : ℕ) → q.in_state nodes port_state.Idle 0 q.initial) → (y : LocalCopy) → first.me ≡ (front old.me.0, old.me.1) → IsPort q key.label (n + 1) first y 0 port_state.Idle
   first_port new y e = let is = first_me e in record {
-    is_single = ap (λ m. m.0) is ∙ (λ i. single q.initial (sym is i).0 ∷ []);
+    of_one_node = ap (λ m. m.0) is ∙ (λ i. single q.initial (sym is i).0 ∷ []);
     rests_so = λ _. (subst (λ (e : NodeGhost O). q.in_state e.view.config.nodes port_state.Idle 0 e.own) (ap (λ m. single q.initial m.0) (sym is)) (new key.config.nodes), ap (λ m. m.1) is);
     holds_so = λ e. absurd (cc e);
     shows_state = ap (λ m. (single q.initial m.0).view.state) is;

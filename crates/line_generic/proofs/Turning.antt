@@ -3,12 +3,12 @@ use Rattle.std.proofs.Common.{◌≡◌, ℕ, ◌+◌, ◌-◌, ◌≤◌, List,
 use Rattle.qolb_model.specs.Views.{Extends}
 use Rattle.qolb_model.specs.Sound.{Continues}
 use Rattle.qolb_model.proofs.Agreeing.{extends_trans}
-use Rattle.line_generic.specs.Entries.{SeatContents, LineSeat}
+use Rattle.line_generic.specs.NodeGhosts.{SeatContents, LineSeat}
 use Rattle.line_generic.specs.Steps.{IsSameSeat, single, Advances, SeatAdvances}
 
 pub goes_trans : {O : Type 0} (allows : List ℕ → List ℕ → Type 0) (initial : O) (a b c : SeatContents O) (i j : ℕ) → Advances allows initial a b i → Advances allows initial b c j → Advances allows initial a c (i + j)
 goes_trans allows initial a b c i j f g = record {
-  is_single = g.is_single;
+  of_one_node = g.of_one_node;
   extends = extends_trans (single initial a.0).view (single initial b.0).view (single initial c.0).view f.extends g.extends;
   continues = λ u before. g.continues u (f.continues u before);
   steps = omega (arith, f.steps, g.steps);
@@ -17,7 +17,7 @@ goes_trans allows initial a b c i j f g = record {
 -- what the slot has is no matter
 pub put_on : {O : Type 0} {allows : List ℕ → List ℕ → Type 0} {initial : O} {a b c : SeatContents O} {n : ℕ} → b.0 ≡ a.0 → Advances allows initial b c n → Advances allows initial a c n
 put_on {O} {allows} {initial} {a} {b} {c} {n} same goes = record {
-  is_single = goes.is_single;
+  of_one_node = goes.of_one_node;
   extends = subst (λ es. Extends (single initial es).view (single initial c.0).view) same goes.extends;
   continues = λ u before. goes.continues u (subst (λ es. Continues allows u (single initial es).view) (sym same) before);
   steps = subst (λ es. (single initial c.0).steps ≡ (single initial es).steps + n) same goes.steps;

@@ -18,13 +18,13 @@ use Rattle.line_generic.specs.declared.discipline.Enqueued.{Enqueued}
 use Rattle.line_generic.specs.declared.discipline.Enqueued.TheVariants as enqueued
 use Rattle.line_generic.specs.declared.table.LocalCopy.{LocalCopy}
 use Rattle.line_generic.specs.declared.table.Payload.{Payload}
-use Rattle.line_generic.specs.Entries.{LineSeat}
+use Rattle.line_generic.specs.NodeGhosts.{LineSeat}
 use Rattle.line_generic.specs.Slots.{IsCopy}
 use Rattle.line_generic.specs.PortPhases.{PortPhases}
 use Rattle.line_generic.specs.Ports.{IsStored}
 use Rattle.line_generic.specs.Steps.{ghost_of, IsSameSeat, IsSeatOf, IsOwnNode, HasNoSlot, HoldsPayload, IsStillQueued, IsUnlinked, IsRolledBack, IsAtTurn, IsInState, IsNextPayload, own_end, merged_ghost}
 
--- the seat is of the table of a line of n nodes, and has the entry of this node
+-- the seat is of the table of a line of n nodes, and has this node's ghost state
 abbrev pub IsSeatOfNode : {O : Type 0} → (ℕ → ℕ) → ℕ → TableId → O → ℕ → LineSeat O → Type 0
 IsSeatOfNode word_count nodes table_id initial node s = IsSeatOf (word_count nodes) table_id s × IsOwnNode initial nodes node s
 
@@ -48,7 +48,7 @@ pub record LooksAtRest {O : Type 0} (q : PortPhases O) (state : PortState) (old 
   pub clears : clear ≡ true → IsClear (ghost_of q.initial new).view
   pub busy : clear ≡ false → IsBusy (ghost_of q.initial old).view (ghost_of q.initial new).view
 
--- two seats with one entry each have merged their views; only the first may have slots
+-- two seats with one node each have merged their views; only the first may have slots
 pub record HaveMet {O : Type 0} (allows : List ℕ → List ℕ → Type 0) (initial : O) (a b a_then b_then : LineSeat O) : Type 0 where
   pub tables : (a_then.table_id ≡ a.table_id) × (b_then.table_id ≡ b.table_id)
   pub first : a_then.me ≡ (merged_ghost (ghost_of initial a) (ghost_of initial b) ∷ [], a.me.1)

@@ -14,27 +14,27 @@ use Rattle.line_generic.specs.declared.table.LocalCopy.{LocalCopy}
 use Rattle.line_generic.specs.declared.table.NodeGhost.{NodeGhost}
 use Rattle.line_generic.specs.declared.table.Payload.{Payload}
 use Rattle.line_generic.specs.declared.table.TableKey.{TableKey}
-use Rattle.line_generic.specs.Entries.{LineSeat}
+use Rattle.line_generic.specs.NodeGhosts.{LineSeat}
 use Rattle.line_generic.specs.PortPhases.{PortPhases}
 use Rattle.line_generic.specs.Ports.{looks_at_rest_in, IsForwarded}
 use Rattle.line_generic.specs.Answers.{IsSeatOfNode, HasNodes, CountsRequest, LooksAtRest, MakesRequest, PutsRequest, PollsWord, Rolls, LinksOn, HasStoredClosed, HasStored, HandsOver}
-use Rattle.line_generic.specs.Steps.{IsSingle, ghost_of, IsInState, SeatAdvances}
+use Rattle.line_generic.specs.Steps.{IsOfOneNode, ghost_of, IsInState, SeatAdvances}
 
 -- the table of a line, whose nodes have this ghost state
 abbrev pub LineTable : Type 0 → Type 0 → Type 0
 LineTable O P = Shared Payload (List (NodeGhost O)) TableKey P
 
-module _ {O P : Type 0} (q : PortPhases O) (size_for : ℕ → ℕ) (t : LineTable O P) where
+module _ {O P : Type 0} (q : PortPhases O) (cell_mask_for : ℕ → ℕ) (t : LineTable O P) where
   -- `take`: the line is granted to the node, in the slots of its seat
-  pub record MayTake (width token : ℕ) (s : LineSeat O) : Type 0 where
+  pub record MayTake (cell_mask token : ℕ) (s : LineSeat O) : Type 0 where
     pub table : s.table_id ≡ t.table_id
-    pub size : width ≡ size_for t.key.config.nodes
+    pub mask_fits : cell_mask ≡ cell_mask_for t.key.config.nodes
     pub at_turn : (y : Payload) × q.slots_at_grant t.key.config.nodes token y s.me.1
 
   -- `put`: the holder has the slots of its turn, and at least one turn left
-  pub record MayPut (width token : ℕ) (s : LineSeat O) (turn : LocalCopy) : Type 0 where
+  pub record MayPut (cell_mask token : ℕ) (s : LineSeat O) (turn : LocalCopy) : Type 0 where
     pub table : s.table_id ≡ t.table_id
-    pub size : width ≡ size_for t.key.config.nodes
+    pub mask_fits : cell_mask ≡ cell_mask_for t.key.config.nodes
     pub kept : q.slots_in_turn t.key.config.nodes token turn.turns_left s.me.1
     pub left : turn.turns_left ≢ Some 0
 
@@ -50,33 +50,33 @@ module _ {O P : Type 0} (q : PortPhases O) (word_count : ℕ → ℕ) (t : LineT
     pub seat : IsSeatOfNode word_count t.key.config.nodes t.table_id q.initial node s
     pub in_state : IsInState q port_state.Linking token s
 
-module _ {O P : Type 0} (q : PortPhases O) (word_count size_for : ℕ → ℕ) (t : LineTable O P) where
-  -- `ask`: the node may ask, and the size is the line's
-  pub record IsRequester (width node : ℕ) (state : PortState) (s : LineSeat O) : Type 0 where
+module _ {O P : Type 0} (q : PortPhases O) (word_count cell_mask_for : ℕ → ℕ) (t : LineTable O P) where
+  -- `ask`: the node may ask, and the mask is the line's
+  pub record IsRequester (cell_mask node : ℕ) (state : PortState) (s : LineSeat O) : Type 0 where
     pub seat : IsSeatOfNode word_count t.key.config.nodes t.table_id q.initial node s
-    pub size : width ≡ size_for t.key.config.nodes
+    pub mask_fits : cell_mask ≡ cell_mask_for t.key.config.nodes
     pub in_state : (token : ℕ) × IsInState q state token s
     pub may_ask : IsTrue (states.may_ask state)
 
   -- `look`, `roll`: the node waits with this token
-  pub record IsWaiter (width node token : ℕ) (s : LineSeat O) : Type 0 where
+  pub record IsWaiter (cell_mask node token : ℕ) (s : LineSeat O) : Type 0 where
     pub seat : IsSeatOfNode word_count t.key.config.nodes t.table_id q.initial node s
-    pub size : width ≡ size_for t.key.config.nodes
+    pub mask_fits : cell_mask ≡ cell_mask_for t.key.config.nodes
     pub in_state : IsInState q port_state.Queued token s
 
   -- `release`: the node has stored the line for its successor, closed or not
-  pub record IsReleaser (allows : List ℕ → List ℕ → Type 0) (width node token : ℕ) (closed : Bool) (s : LineSeat O) : Type 0 where
+  pub record IsReleaser (allows : List ℕ → List ℕ → Type 0) (cell_mask node token : ℕ) (closed : Bool) (s : LineSeat O) : Type 0 where
     pub seat : IsSeatOfNode word_count t.key.config.nodes t.table_id q.initial node s
-    pub size : width ≡ size_for t.key.config.nodes
-    pub is_single : IsSingle q.initial s.me
+    pub mask_fits : cell_mask ≡ cell_mask_for t.key.config.nodes
+    pub of_one_node : IsOfOneNode q.initial s.me
     pub nodes : HasNodes (ghost_of q.initial s).view
     pub line : HasStored q t.key.config.nodes token allows closed s
 
   -- the line was granted to the node closed, and is stored for its successor
-  pub record IsForwarder (width node token : ℕ) (s : LineSeat O) : Type 0 where
+  pub record IsForwarder (cell_mask node token : ℕ) (s : LineSeat O) : Type 0 where
     pub seat : IsSeatOfNode word_count t.key.config.nodes t.table_id q.initial node s
-    pub size : width ≡ size_for t.key.config.nodes
-    pub is_single : IsSingle q.initial s.me
+    pub mask_fits : cell_mask ≡ cell_mask_for t.key.config.nodes
+    pub of_one_node : IsOfOneNode q.initial s.me
     pub nodes : HasNodes (ghost_of q.initial s).view
     pub at_turn : HasStoredClosed q t.key.config.nodes token s
 
@@ -87,7 +87,7 @@ module _ {D O P : Type 0} (d : spec.Ghosts D O) (word_count : ℕ → ℕ) (t : 
     pub hands_over : HandsOver d.phases t.key.config.nodes token old new released.state
     pub steps : d.release_steps (length (ghost_of d.phases.initial old).view.ends) (length (ghost_of d.phases.initial new).view.ends) released.steps
     pub unpark : released.unpark.word < word_count t.key.config.nodes
-    pub wakes : released.unpark.word ≡ d.turn_word (ghost_of d.phases.initial new).view
+    pub names_wake_word : released.unpark.word ≡ d.wake_word (ghost_of d.phases.initial new).view
     pub bound : released.steps + 1 ≤ d.max_steps (ghost_of d.phases.initial old).view.config.nodes
 
   -- after a closed line was forwarded: the node was told, and the next holder is to be unparked
@@ -97,7 +97,7 @@ module _ {D O P : Type 0} (d : spec.Ghosts D O) (word_count : ℕ → ℕ) (t : 
     pub told : IsForwarded d.phases new released.state
     pub not_held : released.state ≢ port_state.Holding
     pub unpark : released.unpark.word < word_count t.key.config.nodes
-    pub wakes : released.unpark.word ≡ d.turn_word (ghost_of d.phases.initial new).view
+    pub names_wake_word : released.unpark.word ≡ d.wake_word (ghost_of d.phases.initial new).view
     pub bound : released.steps + 1 ≤ d.max_steps (ghost_of d.phases.initial old).view.config.nodes
 
 module _ {D O P : Type 0} (d : spec.Ghosts D O) (t : LineTable O P) (allows : List ℕ → List ℕ → Type 0) where

@@ -5,16 +5,16 @@ use Rattle.atomic_table.specs.Seated.{TableId}
 use Rattle.qolb_model.specs.declared.answer.PortState.{PortState}
 use Rattle.qolb_model.specs.PortStates.{may_ask}
 use Rattle.line_generic.specs.declared.table.NodeGhost.{NodeGhost}
-use Rattle.line_generic.specs.Entries.{LineSeat, AtRest, views_of}
+use Rattle.line_generic.specs.NodeGhosts.{LineSeat, AtRest, views_of}
 use Rattle.line_generic.specs.Ports.{PortModel}
 
--- the seat has the entries of these ports, each at rest
+-- the seat has the ghost states of these ports' nodes, each at rest
 pub record IsGathered {O : Type 0} (in_state : ℕ → PortState → ℕ → O → Type 0) (table_id : TableId) (ports : List PortModel) (whole : LineSeat O) : Type 0 where
   pub table : whole.table_id ≡ table_id
   pub views : views_of whole.me.0 ≡ map (λ (p : PortModel). p.view) ports
   pub at_rest : (i : ℕ) (e : NodeGhost O) → slice_get whole.me.0 i ≡ Some e → AtRest in_state e
 
--- the seat has the entries of some of the ports, and the others are still to be joined
+-- the seat has the ghost states of some of the ports' nodes, and the others are still to be joined
 pub record HasJoinedSome {O : Type 0} (in_state : ℕ → PortState → ℕ → O → Type 0) (table_id : TableId) (ports rest : List PortModel) (whole : LineSeat O) : Type 0 where
   pub table : whole.table_id ≡ table_id
   pub views : views_of whole.me.0 ++ map (λ (p : PortModel). p.view) rest ≡ map (λ (p : PortModel). p.view) ports

@@ -1,4 +1,4 @@
-pub mod Entries
+pub mod NodeGhosts
 pub mod Slots
 pub mod PortPhases
 pub mod Steps

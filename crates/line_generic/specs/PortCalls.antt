@@ -80,7 +80,7 @@ module _ {X D O P : Type 0} (k : keep.Ghosts X) (d : spec.Ghosts D O) (t : LineT
     pub belongs : IsPortOf k t new
     pub enqueues : Enqueues k.allows old.view new.view new.turn answer
     pub counts : CountsCall d.enqueue_steps d.release_steps (d.max_steps t.key.config.nodes) (call.asks answer) old new
-    pub went_to : answer ≡ enq.Closed → Names (d.turn_word new.view) new.went_to
+    pub went_to : answer ≡ enq.Closed → Names (d.wake_word new.view) new.went_to
 
   -- after `poll`: the port has its answer, with the token of its request
   pub record HasPolled (old new : PortModel) (answer : Poll) : Type 0 where
@@ -88,7 +88,7 @@ module _ {X D O P : Type 0} (k : keep.Ghosts X) (d : spec.Ghosts D O) (t : LineT
     pub polls : Polls k.allows old.view new.view new.turn answer
     pub counts : CountsCall d.enqueue_steps d.release_steps (d.max_steps t.key.config.nodes) (call.polls answer) old new
     pub token : new.token ≡ old.token
-    pub went_to : answer ≡ poll.Closed → Names (d.turn_word new.view) new.went_to
+    pub went_to : answer ≡ poll.Closed → Names (d.wake_word new.view) new.went_to
 
   -- after `withdraw`: the port has its answer, with the token of its request
   pub record HasWithdrawn (old new : PortModel) (answer : Out) : Type 0 where
@@ -96,14 +96,14 @@ module _ {X D O P : Type 0} (k : keep.Ghosts X) (d : spec.Ghosts D O) (t : LineT
     pub withdraws : Withdraws k.allows old.view new.view new.turn answer
     pub counts : CountsCall d.enqueue_steps d.release_steps (d.max_steps t.key.config.nodes) (call.withdraws answer) old new
     pub token : new.token ≡ old.token
-    pub went_to : answer ≡ out.Closed → Names (d.turn_word new.view) new.went_to
+    pub went_to : answer ≡ out.Closed → Names (d.wake_word new.view) new.went_to
 
   -- after `deqolb` or `shut`: the turn is over, and the next holder noted
   pub record HasEndedTurn (shut : Bool) (old new : PortModel) : Type 0 where
     pub belongs : IsPortOf k t new
     pub releases : Releases k.allows shut old.view new.view old.turn
     pub counts : CountsCall d.enqueue_steps d.release_steps (d.max_steps t.key.config.nodes) call.releases old new
-    pub went_to : Names (d.turn_word new.view) new.went_to
+    pub went_to : Names (d.wake_word new.view) new.went_to
 
   -- after `prepend`: the port has its answer, and the steps are counted
   pub record HasPutRequest (prepend_steps : PortState → ℕ) (old new : PortModel) (answer : Prep) : Type 0 where
@@ -114,7 +114,7 @@ module _ {X D O P : Type 0} (k : keep.Ghosts X) (d : spec.Ghosts D O) (t : LineT
     pub steps_if_busy : answer ≡ prep.Busy → new.counters.steps ≡ 1
     pub steps : (answer ≡ prep.Granted) ⊎ (answer ≡ prep.Linking) → new.counters.steps ≡ prepend_steps old.view.state
     pub bound : new.counters.steps ≤ d.max_steps t.key.config.nodes + 2
-    pub went_to : answer ≡ prep.Closed → Names (d.turn_word new.view) new.went_to
+    pub went_to : answer ≡ prep.Closed → Names (d.wake_word new.view) new.went_to
 
   -- after `link`: the port has its answer, and the steps are counted
   pub record HasLinkedRequest (old new : PortModel) (answer : Enq) : Type 0 where
@@ -124,4 +124,4 @@ module _ {X D O P : Type 0} (k : keep.Ghosts X) (d : spec.Ghosts D O) (t : LineT
     pub poll_count : new.counters.poll_count ≡ old.counters.poll_count
     pub steps : answer ≢ enq.Closed → new.counters.steps ≡ 1
     pub bound : new.counters.steps ≤ d.max_steps t.key.config.nodes
-    pub went_to : answer ≡ enq.Closed → Names (d.turn_word new.view) new.went_to
+    pub went_to : answer ≡ enq.Closed → Names (d.wake_word new.view) new.went_to

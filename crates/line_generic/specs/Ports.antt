@@ -23,9 +23,9 @@ use Rattle.qolb_model.specs.Releasing.{IsTold}
 use Rattle.line_generic.specs.declared.table.LocalCopy.{LocalCopy}
 use Rattle.line_generic.specs.declared.table.Payload.{Payload}
 use Rattle.line_generic.specs.declared.table.TableKey.{TableKey}
-use Rattle.line_generic.specs.Entries.{LineSeat, initial_nodes_from}
+use Rattle.line_generic.specs.NodeGhosts.{LineSeat, initial_nodes_from}
 use Rattle.line_generic.specs.PortPhases.{PortPhases}
-use Rattle.line_generic.specs.Steps.{IsSingle, ghost_of, nodes_of, HasNoSlot, IsInState}
+use Rattle.line_generic.specs.Steps.{IsOfOneNode, ghost_of, nodes_of, HasNoSlot, IsInState}
 
 -- the model of a port: its table, its view, the holder's turn (bytes and mask), its counters, its token, and the noted word of the next
 -- holder, if its line notes any
@@ -81,7 +81,7 @@ pub record Holds {O : Type 0} (q : PortPhases O) (s : LineSeat O) (y : LocalCopy
   pub some_left : y.turns_left ≢ Some 0
 
 pub record IsPort {O : Type 0} (q : PortPhases O) (label node : ℕ) (s : LineSeat O) (y : LocalCopy) (token : ℕ) (state : PortState) : Type 0 where
-  pub is_single : IsSingle q.initial s.me
+  pub of_one_node : IsOfOneNode q.initial s.me
   pub rests_so : state ≢ port_state.Holding → q.in_state (nodes_of q.initial s) state token (ghost_of q.initial s).own × HasNoSlot s
   pub holds_so : state ≡ port_state.Holding → Holds q s y token
   pub shows_state : (ghost_of q.initial s).view.state ≡ state
@@ -108,9 +108,9 @@ pub record BelongsTo (good : List ℕ → Type 0) (allows : List ℕ → List �
   pub table_is : p.table ≡ table_id
   pub sound : IsSound good allows key.label key.config p.view
 
--- the seat has the entry of this node alone, and is of the table of this line
+-- the seat has this node's ghost state alone, and is of the table of this line
 pub record IsSeated {O : Type 0} (good : List ℕ → Type 0) (allows : List ℕ → List ℕ → Type 0) (key : TableKey) (table_id : TableId) (initial : O) (node : ℕ) (s : LineSeat O) : Type 0 where
-  pub is_single : IsSingle initial s.me
+  pub of_one_node : IsOfOneNode initial s.me
   pub node_is : (ghost_of initial s).view.node ≡ node
   pub table_is : s.table_id ≡ table_id
   pub sound : IsSound good allows key.label key.config (ghost_of initial s).view
@@ -124,7 +124,7 @@ pub record AreSplit (table_id : TableId) (key : TableKey) (n : ℕ) (ports : Lis
   pub many : length ports ≡ n
   pub each : (k : ℕ) (p : PortModel) → slice_get ports k ≡ Some p → (p.table ≡ table_id) × (p.view ≡ new_view key.label key.config (k + 1)) × IsUnused p
 
--- the ports of the first n nodes are made, and the seat `rest` has the entries of the others
+-- the ports of the first n nodes are made, and the seat `rest` has the ghost states of the others
 pub record HasSplit {O : Type 0} (initial : O) (table_id : TableId) (key : TableKey) (n : ℕ) (rest : LineSeat O) (ports : List PortModel) : Type 0 where
   pub table : rest.table_id ≡ table_id
   pub me : rest.me ≡ (initial_nodes_from initial key n (key.config.nodes - n), [])

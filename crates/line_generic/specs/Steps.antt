@@ -22,18 +22,18 @@ use Rattle.qolb_model.specs.Calls.{MergesViews}
 use Rattle.qolb_model.specs.declared.config.TheConstants.{MAX_NODES}
 use Rattle.line_generic.specs.declared.table.NodeGhost.{NodeGhost}
 use Rattle.line_generic.specs.declared.table.Payload.{Payload}
-use Rattle.line_generic.specs.Entries.{no_view, SeatContents, LineSeat}
+use Rattle.line_generic.specs.NodeGhosts.{no_view, SeatContents, LineSeat}
 use Rattle.line_generic.specs.PortPhases.{PortPhases}
 
 abbrev pub single : {O : Type 0} → O → List (NodeGhost O) → NodeGhost O
 single initial [] = record { view = no_view; own = initial; steps = 0 }
 single initial (e ∷ es) = e
 
--- the seat has exactly one entry
-abbrev pub IsSingle : {O : Type 0} → O → SeatContents O → Type 0
-IsSingle initial m = m.0 ≡ single initial m.0 ∷ []
+-- the seat has exactly one node
+abbrev pub IsOfOneNode : {O : Type 0} → O → SeatContents O → Type 0
+IsOfOneNode initial m = m.0 ≡ single initial m.0 ∷ []
 
--- the entry of a seat with exactly one
+-- the ghost state of a seat's only node
 abbrev pub ghost_of : {O : Type 0} → O → LineSeat O → NodeGhost O
 ghost_of initial s = single initial s.me.0
 
@@ -60,16 +60,16 @@ HasNoSlot seat = seat.me.1 ≡ []
 abbrev pub IsOwnNode : {O : Type 0} → O → ℕ → ℕ → LineSeat O → Type 0
 IsOwnNode initial nodes node seat = (node ≡ (ghost_of initial seat).view.node) × (node ≤ MAX_NODES) × (node ≤ nodes) × (nodes_of initial seat ≡ nodes)
 
--- The seat has the entry of one node, which does not hold. Its port shows this state and has this token.
+-- The seat has the ghost state of one node, which does not hold. Its port shows this state and has this token.
 pub record IsInState {O : Type 0} (q : PortPhases O) (state : PortState) (token : ℕ) (s : LineSeat O) : Type 0 where
-  pub is_single : IsSingle q.initial s.me
+  pub of_one_node : IsOfOneNode q.initial s.me
   pub stands : q.in_state (nodes_of q.initial s) state token (ghost_of q.initial s).own
   pub shows_state : (ghost_of q.initial s).view.state ≡ state
   pub slot : HasNoSlot s
 
--- After n word steps of its node the seat still has one entry: its view is extended, stays true of the history, and the steps are counted.
+-- After n word steps of its node the seat still has one node: its view is extended, stays true of the history, and the steps are counted.
 pub record Advances {O : Type 0} (allows : List ℕ → List ℕ → Type 0) (initial : O) (old new : SeatContents O) (n : ℕ) : Type 0 where
-  pub is_single : IsSingle initial new
+  pub of_one_node : IsOfOneNode initial new
   pub extends : Extends (single initial old.0).view (single initial new.0).view
   pub continues : (v : View) → Continues allows v (single initial old.0).view → Continues allows v (single initial new.0).view
   pub steps : (single initial new.0).steps ≡ (single initial old.0).steps + n

@@ -50,11 +50,11 @@ impl<K: Keep, Q: Discipline<K>, W: WakePolicy> Line<K, Q, W> {
         ensures bound { steps.new + 1 ≤ steps.old
             + Q.max_steps self.now.table.shared.key.config.nodes }
         ensures went_to { granted ≢ closed → result ≡ closed
-            → Names (Q.turn_word (ghost_of Q.phases.initial seat.new).view) (W.went_to note.new) }
+            → Names (Q.wake_word (ghost_of Q.phases.initial seat.new).view) (W.went_to note.new) }
     {
         let table = &self.table.shared;
-        let size = self.width.size;
-        Q::take(table, seat, size, token, payload);
+        let cell_mask = self.width.cell_mask;
+        Q::take(table, seat, cell_mask, token, payload);
         if !payload.closed {
             *state = PortState::Holding;
             return granted;
@@ -63,7 +63,7 @@ impl<K: Keep, Q: Discipline<K>, W: WakePolicy> Line<K, Q, W> {
             state: left,
             steps: more,
             unpark,
-        } = forward_closed(table, seat, size, node, token);
+        } = forward_closed(table, seat, cell_mask, node, token);
         *state = left;
         *steps += more;
         self.sleepers.wake(&self.table, note, unpark);
@@ -77,13 +77,14 @@ impl<K: Keep, Q: Discipline<K>, W: WakePolicy> Line<K, Q, W> {
 fn forward_closed<K: Keep, Q: Discipline<K>>(
     table: &SharedTable<K, Q>,
     seat: &mut LineSeat<Q::Local>,
-    size: u64,
+    cell_mask: u64,
     node: u64,
     token: u64,
 ) -> Released
-    requires { IsForwarder Q.phases Q.word_count Q.size_for table.now size node token seat.old }
+    requires { IsForwarder Q.phases Q.word_count Q.cell_mask_for table.now cell_mask node token
+        seat.old }
     ensures { HasForwarded Q.DisciplineSpec Q.word_count table.now K.allows seat.old
         seat.new result }
 {
-    Q::release(table, seat, size, node, token, true)
+    Q::release(table, seat, cell_mask, node, token, true)
 }

@@ -85,7 +85,7 @@ impl<K: Keep, Q: Discipline<K>, W: WakePolicy> LineSync<K> for Line<K, Q, W> {
         let made = Q::ask(
             table,
             &mut port.seat,
-            self.width.size,
+            self.width.cell_mask,
             port.node,
             port.state,
         );
@@ -125,7 +125,7 @@ impl<K: Keep, Q: Discipline<K>, W: WakePolicy> LineSync<K> for Line<K, Q, W> {
         if !Q::look(
             table,
             &mut port.seat,
-            self.width.size,
+            self.width.cell_mask,
             port.node,
             port.token,
         ) {
@@ -154,7 +154,7 @@ impl<K: Keep, Q: Discipline<K>, W: WakePolicy> LineSync<K> for Line<K, Q, W> {
         if !Q::roll(
             table,
             &mut port.seat,
-            self.width.size,
+            self.width.cell_mask,
             port.node,
             port.token,
         ) {
@@ -206,7 +206,7 @@ impl<K: Keep, Q: Discipline<K>, W: WakePolicy> LineSync<K> for Line<K, Q, W> {
         } else if !a.holds() {
             meet_seats(table, &mut b.seat, &mut a.seat);
         } else {
-            // Unreachable: two ports of one line never both hold. The proof sees this only from their entries in one seat, and a seat that
+            // Unreachable: two ports of one line never both hold. The proof sees this only from their ghost states in one seat, and a seat that
             // holds slots cannot be joined to another. So this branch returns the slots first.
             return_slots(table, &mut b.seat);
             meet_seats(table, &mut a.seat, &mut b.seat);
@@ -243,17 +243,24 @@ impl<K: Keep, Q: Discipline<K>, W: WakePolicy> Line<K, Q, W> {
             port.old port.new }
     {
         let table = &self.table.shared;
-        let size = self.width.size;
+        let cell_mask = self.width.cell_mask;
         let closed = shut | (port.payload.turns_left == Some(1));
         Q::put(
             table,
             &mut port.seat,
-            size,
+            cell_mask,
             port.token,
             &port.payload,
             closed,
         );
-        let released = Q::release(table, &mut port.seat, size, port.node, port.token, closed);
+        let released = Q::release(
+            table,
+            &mut port.seat,
+            cell_mask,
+            port.node,
+            port.token,
+            closed,
+        );
         let Released {
             state,
             steps,

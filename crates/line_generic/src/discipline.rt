@@ -73,7 +73,7 @@ pub trait DisciplineSpec {
     ghost wait_word: { ℕ → ℕ → ℕ → ℕ };
 
     /// The word on which the node at its turn waits, by a port's view. Any word if no node waits for the turn.
-    ghost turn_word: { View → ℕ };
+    ghost wake_word: { View → ℕ };
 
     /// `signals_turn token low`: a node with this token finds its turn if its word has the lower half `low`.
     ghost signals_turn: { ℕ → ℕ → Bool };
@@ -101,10 +101,10 @@ pub trait DisciplineSpec {
 
     /// A holder of the open line waited on the word of its turn. Any port that sees the turn knows so: a predecessor names the word on
     /// which the holder waited.
-    ghost holder_waits_there: { HasHolderWord phases wait_word turn_word };
+    ghost holder_waits_there: { HasHolderWord phases wait_word wake_word };
 
     /// A node that got the line closed waited at the word of its turn, too.
-    ghost closed_waits_there: { HasClosedWord phases wait_word turn_word };
+    ghost closed_waits_there: { HasClosedWord phases wait_word wake_word };
 
     /// A poll takes at least one step.
     ghost max_steps_positive: { (nodes : ℕ) → 1 ≤ nodes → 1 ≤ max_steps nodes };
@@ -149,13 +149,13 @@ pub trait Discipline<K: Keep>: DisciplineInvariant<K> {
         requires { AreNodes nodes }
         ensures { result ≡ slot_count nodes };
 
-    /// `size_for nodes`: the number by which the calls find words and slots. A mask of cells, for example.
-    ghost size_for: { ℕ → ℕ };
+    /// The mask by which the calls find a token's word and slot, so that they need not divide; 0 if they use none.
+    ghost cell_mask_for: { ℕ → ℕ };
 
-    /// Returns the number by which the calls find words and slots.
-    fn size_for(nodes: u64) -> u64
+    /// Returns the mask by which the calls find a token's word and slot; 0 if they use none.
+    fn cell_mask_for(nodes: u64) -> u64
         requires { AreNodes nodes }
-        ensures { result ≡ size_for nodes };
+        ensures { result ≡ cell_mask_for nodes };
 
     /// Copies the granted line from its slot to `payload`, for a turn without a write yet.
     ///
@@ -163,11 +163,11 @@ pub trait Discipline<K: Keep>: DisciplineInvariant<K> {
     fn take(
         table: &SharedTable<K, Self>,
         seat: &mut LineSeat<Self::Local>,
-        size: u64,
+        cell_mask: u64,
         token: u64,
         payload: &mut LocalCopy,
     )
-        requires { MayTake Self.phases size_for table.now size token seat.old }
+        requires { MayTake Self.phases cell_mask_for table.now cell_mask token seat.old }
         ensures { Takes Self.phases table.now.key.config.nodes token seat.old seat.new
             payload.new };
 
@@ -175,12 +175,12 @@ pub trait Discipline<K: Keep>: DisciplineInvariant<K> {
     fn put(
         table: &SharedTable<K, Self>,
         seat: &mut LineSeat<Self::Local>,
-        size: u64,
+        cell_mask: u64,
         token: u64,
         payload: &LocalCopy,
         closed: bool,
     )
-        requires { MayPut Self.phases size_for table.now size token seat.old payload.now }
+        requires { MayPut Self.phases cell_mask_for table.now cell_mask token seat.old payload.now }
         ensures { Puts Self.phases table.now.key.config.nodes token seat.old seat.new
             payload.now closed };
 
@@ -196,11 +196,12 @@ pub trait Discipline<K: Keep>: DisciplineInvariant<K> {
     fn ask(
         table: &SharedTable<K, Self>,
         seat: &mut LineSeat<Self::Local>,
-        size: u64,
+        cell_mask: u64,
         node: u64,
         state: PortState,
     ) -> EnqueueResult
-        requires { IsRequester Self.phases word_count size_for table.now size node state seat.old }
+        requires { IsRequester Self.phases word_count cell_mask_for table.now cell_mask node state
+            seat.old }
         ensures { HasRequested Self.DisciplineSpec table.now K.allows state seat.old
             seat.new result };
 
@@ -218,41 +219,43 @@ pub trait Discipline<K: Keep>: DisciplineInvariant<K> {
     fn look(
         table: &SharedTable<K, Self>,
         seat: &mut LineSeat<Self::Local>,
-        size: u64,
+        cell_mask: u64,
         node: u64,
         token: u64,
     ) -> bool
-        requires { IsWaiter Self.phases word_count size_for table.now size node token seat.old }
+        requires { IsWaiter Self.phases word_count cell_mask_for table.now cell_mask node token
+            seat.old }
         ensures { HasLooked Self.phases table.now K.allows token seat.old seat.new result };
 
     /// Withdraws the request in one word step. Returns `true` if the request was at its turn, and is then not withdrawn.
     fn roll(
         table: &SharedTable<K, Self>,
         seat: &mut LineSeat<Self::Local>,
-        size: u64,
+        cell_mask: u64,
         node: u64,
         token: u64,
     ) -> bool
-        requires { IsWaiter Self.phases word_count size_for table.now size node token seat.old }
+        requires { IsWaiter Self.phases word_count cell_mask_for table.now cell_mask node token
+            seat.old }
         ensures { HasRolled Self.phases table.now K.allows token seat.old seat.new result };
 
     /// Releases the line that `put` stored, closed or not, and hands it to the successor. Does not block.
     fn release(
         table: &SharedTable<K, Self>,
         seat: &mut LineSeat<Self::Local>,
-        size: u64,
+        cell_mask: u64,
         node: u64,
         token: u64,
         closed: bool,
     ) -> Released
-        requires { IsReleaser Self.phases word_count size_for table.now K.allows size node token
-            closed seat.old }
+        requires { IsReleaser Self.phases word_count cell_mask_for table.now K.allows cell_mask node
+            token closed seat.old }
         ensures { HasReleased Self.DisciplineSpec word_count table.now K.allows token seat.old
             seat.new result };
 
     /// Returns the word on which a waiting node polls.
-    fn wait_word(table: &SharedTable<K, Self>, size: u64, node: u64, token: u64) -> usize
-        requires size { size ≡ size_for table.now.key.config.nodes }
+    fn wait_word(table: &SharedTable<K, Self>, cell_mask: u64, node: u64, token: u64) -> usize
+        requires mask_fits { cell_mask ≡ cell_mask_for table.now.key.config.nodes }
         requires node { (node ≤ MAX_NODES) × (node ≤ table.now.key.config.nodes) }
         ensures bound { result < word_count table.now.key.config.nodes }
         ensures wait_word { result ≡ Self.wait_word table.now.key.config.nodes node token };
@@ -266,7 +269,7 @@ pub trait Discipline<K: Keep>: DisciplineInvariant<K> {
         ensures polls { HasPollOutcome Self.holds Self.phases Self.wait_word
             Self.signals_turn token };
 
-    /// Seats are split and joined: behind the first entry, into a seat and an empty one, and into one with the entries of both.
+    /// Seats are split and joined: behind the first node, into a seat and an empty one, and into one with the nodes of both.
     ghost cuts: { HasFirstSplit Self.holds };
 
     ghost blanks: { HasEmptySplit Self.holds };
@@ -280,13 +283,13 @@ pub trait Discipline<K: Keep>: DisciplineInvariant<K> {
     ghost starts: { HasOpening Self.holds K.good word_count are_first slot_count
         Self.phases.initial };
 
-    /// Two entries of one seat merge their views.
+    /// Two nodes of one seat merge their views.
     ghost meets: { HasMeeting Self.holds K.allows Self.phases.initial };
 
     /// A holder can return its slots to the table.
     ghost return_slots_law: { HasSlotReturn Self.holds Self.phases };
 
-    /// If one seat has all entries, each at rest, slot `last` has the line after all ends.
+    /// If one seat has all nodes, each at rest, slot `last` has the line after all ends.
     ghost finishes: { HasFinalLine Self.holds K.good K.allows Self.phases Self.last };
 }
 

@@ -69,9 +69,14 @@ impl<K: Keep, Q: Discipline<K>, W: WakePolicy> Line<K, Q, W> {
         ensures word { result ≡ Q.wait_word port.now.view.config.nodes port.now.view.node
             port.now.token }
         ensures turn { port.now.view.state ≡ port_state.Holding → (u : View)
-            → SeesTurn u port.now.view → result ≡ Q.turn_word u }
+            → SeesTurn u port.now.view → result ≡ Q.wake_word u }
     {
-        Q::wait_word(&self.table.shared, self.width.size, port.node, port.token)
+        Q::wait_word(
+            &self.table.shared,
+            self.width.cell_mask,
+            port.node,
+            port.token,
+        )
     }
 }
 

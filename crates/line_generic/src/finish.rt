@@ -2,7 +2,7 @@
 ghost use Rattle.std.specs.Prelude.{◌≡◌, ◌<◌, length, All, IfOk, IfErr, true};
 ghost use Rattle.qolb_model.specs.Finishing.{IsFinalLine};
 ghost use Rattle.qolb_model.specs.PortStates.{may_ask};
-ghost use Rattle.line_generic.specs.Entries.{AllInState, views_of};
+ghost use Rattle.line_generic.specs.NodeGhosts.{AllInState, views_of};
 ghost use Rattle.line_generic.specs.Finish.{IsGathered};
 ghost use Rattle.line_generic.specs.PortCalls.{AreOwnPorts, HasFinished, MayNotFinish};
 
@@ -71,7 +71,7 @@ fn gather<K: Keep, Q: Discipline<K>, W: WakePolicy, A: Allocator>(
     whole
 }
 
-/// Closes the table and returns the line's bytes. `seat` has the entries of all nodes, each at rest.
+/// Closes the table and returns the line's bytes. `seat` has the ghost states of all nodes, each at rest.
 fn close<K: Keep, Q: Discipline<K>, W: WakePolicy>(
     line: Line<K, Q, W>,
     seat: LineSeat<Q::Local>,

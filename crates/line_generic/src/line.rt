@@ -13,16 +13,16 @@ use line_lanes::{Mask, set_lane};
 use qolb_model::{Keep, PortState};
 use std::marker::PhantomData;
 
-/// The numbers of words and nodes of a line's table, and the discipline's `size_for` of the nodes.
+/// The numbers of words and nodes of a line's table, and its discipline's mask.
 #[derive(Drop)]
 pub struct TableWidth<K: Keep, Q: Discipline<K>> {
     pub(crate) words: usize,
     pub(crate) nodes: u64,
-    pub(crate) size: u64,
+    pub(crate) cell_mask: u64,
     /// Marks the line as a shared table, so that it can be sent wherever its table can.
     pub(crate) of: PhantomData<SharedTable<K, Q>>,
     ghost sized: { words ≡ Q.Discipline.word_count nodes },
-    ghost fits: { size ≡ Q.Discipline.size_for nodes },
+    ghost fits: { cell_mask ≡ Q.Discipline.cell_mask_for nodes },
     ghost some: { 0 < words },
 }
 

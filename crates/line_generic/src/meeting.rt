@@ -1,6 +1,6 @@
 //! Seats that are split and joined.
 ghost use Rattle.line_generic.specs.Answers.{HaveMet};
-ghost use Rattle.line_generic.specs.Steps.{IsSeatOf, HasNoSlot, IsSingle};
+ghost use Rattle.line_generic.specs.Steps.{IsSeatOf, HasNoSlot, IsOfOneNode};
 
 use crate::discipline::Discipline;
 use crate::plays::{Concat, Meet, SplitEmpty, SplitFirst};
@@ -8,9 +8,9 @@ use crate::table::{LineSeat, SharedTable};
 use qolb_model::Keep;
 use std::mem;
 
-/// Merges the views of two seats with one entry each; only `a` may have slots.
+/// Merges the views of two seats with one node each; only `a` may have slots.
 ///
-/// A step compares entries of one seat only, so seat `b` is joined into `a` and split off again. Meanwhile an empty seat is in its place,
+/// A step compares nodes of one seat only, so seat `b` is joined into `a` and split off again. Meanwhile an empty seat is in its place,
 /// since a `&mut` can't be empty.
 pub(crate) fn meet_seats<K: Keep, Q: Discipline<K>>(
     table: &SharedTable<K, Q>,
@@ -19,7 +19,8 @@ pub(crate) fn meet_seats<K: Keep, Q: Discipline<K>>(
 )
     requires table_a { IsSeatOf (Q.word_count table.now.key.config.nodes) table.now.table_id a.old }
     requires table_b { IsSeatOf (Q.word_count table.now.key.config.nodes) table.now.table_id b.old }
-    requires phase { IsSingle Q.phases.initial a.old.me × IsSingle Q.phases.initial b.old.me }
+    requires single { IsOfOneNode Q.phases.initial a.old.me
+        × IsOfOneNode Q.phases.initial b.old.me }
     requires slot { HasNoSlot b.old }
     ensures { HaveMet K.allows Q.phases.initial a.old b.old a.new b.new }
 {

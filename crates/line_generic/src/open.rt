@@ -2,7 +2,7 @@
 ghost use Rattle.std.specs.Prelude.{◌≡◌, ◌<◌, ◌≤◌, [], length, vec_capacity, Some, None, IfOk, IfErr};
 ghost use Rattle.qolb_model.specs.declared.config.TheConstants.{MAX_NODES};
 ghost use Rattle.qolb_model.specs.Opening.{MayOpen, MayNotOpen};
-ghost use Rattle.line_generic.specs.Entries.{initial_nodes};
+ghost use Rattle.line_generic.specs.NodeGhosts.{initial_nodes};
 ghost use Rattle.line_generic.specs.Ports.{AreSplit};
 ghost use Rattle.line_generic.specs.PortCalls.{config_with, HasOpened};
 
@@ -86,7 +86,7 @@ impl<K: Keep, Q: Discipline<K>, W: WakePolicy> Line<K, Q, W> {
         Ok((line, ports))
     }
 
-    /// Makes the table, and one seat with the entries of all nodes.
+    /// Makes the table, and one seat with the ghost states of all nodes.
     fn new_table(
         alloc: Global,
         key: &TableKey,
@@ -110,7 +110,7 @@ impl<K: Keep, Q: Discipline<K>, W: WakePolicy> Line<K, Q, W> {
         let width = TableWidth {
             words: words.len(),
             nodes: config.nodes,
-            size: Q::size_for(config.nodes),
+            cell_mask: Q::cell_mask_for(config.nodes),
             of: PhantomData,
         };
         let slots = vec![in alloc; payload; Q::slot_count(config.nodes)]?;
@@ -152,7 +152,7 @@ fn room_for<Q: DisciplineSpec, W: WakePolicy>(
     Vec::with_capacity(alloc, nodes as usize)
 }
 
-/// Splits the seat `rest`, which has the entries of all nodes, into a port for each node.
+/// Splits the seat `rest`, which has the ghost states of all nodes, into a port for each node.
 fn split_ports<K: Keep, Q: Discipline<K>, W: WakePolicy>(
     alloc: Global,
     table: &SharedTable<K, Q>,

@@ -10,7 +10,7 @@ use qolb_model::Keep;
 use std::collections::LinkedList;
 use std::marker::PhantomData;
 
-/// Keeps the first entry, and moves the others to a new seat.
+/// Keeps the first node, and moves the others to a new seat.
 pub(crate) struct SplitFirst;
 
 impl<O> Split<LinkedList<NodeGhost<O>>> for SplitFirst {
@@ -19,7 +19,7 @@ impl<O> Split<LinkedList<NodeGhost<O>>> for SplitFirst {
     ghost right = { behind };
 }
 
-/// Joins the entries of another seat to one.
+/// Joins the nodes of another seat to one.
 pub(crate) struct Concat;
 
 impl<O> Join<LinkedList<NodeGhost<O>>> for Concat {
@@ -28,7 +28,7 @@ impl<O> Join<LinkedList<NodeGhost<O>>> for Concat {
     ghost spent = { [] };
 }
 
-/// Splits off a new seat without entries.
+/// Splits off a new seat without nodes.
 pub(crate) struct SplitEmpty;
 
 impl<O> Split<LinkedList<NodeGhost<O>>> for SplitEmpty {

@@ -4,7 +4,7 @@ ghost use mathlib.Core.Option.{some};
 ghost use lib.ListN.{get_elem?};
 ghost use Rattle.std.specs.Slots.{slots_items, slots_len, IsFull};
 ghost use Rattle.line_generic.specs.Slots.{in_single_slot, open_in_single_slot, IsCopy};
-ghost use Rattle.line_generic.specs.Steps.{IsSameSeat, IsSeatOf, IsSingle, ghost_of, nodes_of};
+ghost use Rattle.line_generic.specs.Steps.{IsSameSeat, IsSeatOf, IsOfOneNode, ghost_of, nodes_of};
 ghost use Rattle.line_generic.specs.Ports.{IsStored};
 ghost use Rattle.line_generic.specs.declared.table.Payload.{Payload};
 
@@ -90,7 +90,7 @@ pub(crate) fn return_slots<K: Keep, Q: Discipline<K>>(
 )
     requires table { IsSeatOf (Q.word_count table.now.key.config.nodes)
         table.now.table_id seat.old }
-    requires phase { IsSingle Q.phases.initial seat.old.me
+    requires holding { IsOfOneNode Q.phases.initial seat.old.me
         × ((ghost_of Q.phases.initial seat.old).view.state ≡ PortState.Holding) }
     requires kept { (token : ℕ) × (left : Option ℕ)
         × Q.phases.slots_in_turn (nodes_of Q.phases.initial seat.old) token left seat.old.me.1 }

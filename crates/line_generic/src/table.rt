@@ -57,7 +57,7 @@ impl<K: Keep, Q: DisciplineInvariant<K>> TableRule<
     LinkedList<NodeGhost<Q::Local>>,
     TableKey,
 > for Rule<K, Q> {
-    ghost use Rattle.line_generic.specs.Entries.{initial_nodes};
+    ghost use Rattle.line_generic.specs.NodeGhosts.{initial_nodes};
 
     ghost holds = { Q.holds };
 

@@ -202,7 +202,7 @@ impl<K: Keep, Q: Discipline<K>> Line<K, Q> {
         requires in_state { IsInState Q.phases PortState.Queued token seat.now }
         requires no_signal { Q.signals_turn token low ≡ false }
     {
-        let word = Q::wait_word(&self.table.shared, self.width.size, node, token);
+        let word = Q::wait_word(&self.table.shared, self.width.cell_mask, node, token);
         self.table.shared.park_timeout(rt, word, low, at_most);
     }
 }
@@ -214,7 +214,12 @@ impl<K: Keep, Q: Discipline<K>> ParkingLine<K> for Line<K, Q> {
     /// waiter finds the grant, or the release finds the waiter. A thread is only put to sleep if the word is still what was seen, so no unpark
     /// between peek and park is lost.
     fn sleep<R: Wait>(&self, rt: &R, port: &Port<Q>, at_most: Duration) {
-        let word = Q::wait_word(&self.table.shared, self.width.size, port.node, port.token);
+        let word = Q::wait_word(
+            &self.table.shared,
+            self.width.cell_mask,
+            port.node,
+            port.token,
+        );
         self.sleepers.enter(word);
         let low = low_half(self.table.shared.peek(word));
         if !Q::signals_turn(port.token, low) {

@@ -1,5 +1,5 @@
 -- The locks' names on command lines. (Of this project.)
-use Rattle.std.specs.Prelude.{Bool, if◌then◌else◌, List, Option, Some, None, codes, ℕ}
+use Rattle.std.specs.Prelude.{if◌then◌else◌, List, Option, Some, None, codes, ℕ}
 use Rattle.std.specs.Str.{bytes_eq}
 use Rattle.line_kinds.specs.declared.Lines.{Lines}
 use Rattle.line_kinds.specs.declared.Lines.TheVariants as lines

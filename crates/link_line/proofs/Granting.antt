@@ -37,7 +37,7 @@ use Rattle.line_generic.specs.declared.table.TableKey.{TableKey}
 use Rattle.link_line.specs.declared.layout.TheConstants.{GRANTED}
 use Rattle.link_line.specs.Layout.{entry_at, pack, is_rolled}
 use Rattle.link_line.specs.Links.{At, History, NodeInv, PassedInv, Represents, InSlot, Homes, is_leaving, is_shut_by, state_of, state_in_release}
-use Rattle.link_line.specs.Steps.{SeatContents, granted, Ended, LeavesNode}
+use Rattle.link_line.specs.Steps.{SeatContents, granted, Ended, IsHandedOver}
 use Rattle.link_line.proofs.Going.{on, wide}
 use Rattle.link_line.specs.Laws.Histories.{at_point}
 use Rattle.link_line.specs.Laws.PortModel.{names_joined}
@@ -175,7 +175,7 @@ module _ (good : List ℕ → Type 0) (allows : List ℕ → List ℕ → Type 0
               subst (λ (q : Payload). Ended v w q) (line_is z y' has) (ended good allows key s r me v at z r.history h k refl order ends v.own.passed),
               (λ _. (
                 refl,
-                subst (λ (q : Payload). LeavesNode v w q) (line_is z y' has) (goes_out good allows key s r me v at z r.history h k refl order ends p quiet own behind refl no_hand),
+                subst (λ (q : Payload). IsHandedOver v w q) (line_is z y' has) (goes_out good allows key s r me v at z r.history h k refl order ends p quiet own behind refl no_hand),
                 (λ m' to. names_joined w.view (request y.queue.order (length y.queue.ends)) (get_request y.queue.order (length y.queue.ends) more) its_joined ∙ ap entry_at (its ∙ next_is m m' (sym granting ∙ to))),
               )),
               (λ f. absurd (never f (rolled_as ∙ un))),

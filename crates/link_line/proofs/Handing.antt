@@ -12,7 +12,7 @@ use Rattle.link_line.specs.declared.release.Handoff.TheVariants as handoff
 use Rattle.link_line.specs.Links.{At}
 use Rattle.link_line.specs.Layout.{IsWithin}
 use Rattle.line_generic.specs.Steps.{HasSlot, HasNoSlot}
-use Rattle.link_line.specs.Steps.{LinkSeat, ghost_of, Advances, KeepsPayload, IsOneLeft, Ended, LeavesNode, IsLeft, Passes, end_of, after_release, left_in}
+use Rattle.link_line.specs.Steps.{LinkSeat, ghost_of, Advances, KeepsPayload, HasUnpassedNode, Ended, IsHandedOver, IsLeftForLinker, Passes, end_of, after_release, left_in}
 use Rattle.link_line.specs.Releases.{HandsOff, with_line}
 
 -- the line was carried on from v to h; what a step then tells is true of the line and the node as they were before
@@ -25,7 +25,7 @@ module _ (v h w : LinkGhost) (y : Payload) (point : Point) (c : KeepsPayload v h
     own_turn = λ none. subst (λ es. At w.view.order (length es) (own w.view)) c.ends (e.own_turn (c.passed ∙ none));
   }
 
-  pub carried_out : LeavesNode h w h.own.line → LeavesNode v w y
+  pub carried_out : IsHandedOver h w h.own.line → IsHandedOver v w y
   carried_out o = record {
     point = o.point ∙ (λ i. after_release (state_after (c.line_is i).closed) (c.passed i));
     state = o.state ∙ (λ i. state_after (c.line_is i).closed);
@@ -34,7 +34,7 @@ module _ (v h w : LinkGhost) (y : Payload) (point : Point) (c : KeepsPayload v h
     clear = λ none. o.clear (c.passed ∙ none);
   }
 
-  pub carried_left : IsLeft h w h.own.line → IsLeft v w y
+  pub carried_left : IsLeftForLinker h w h.own.line → IsLeftForLinker v w y
   carried_left l = record {
     point = l.point ∙ (λ i. after_release (left_in (c.passed i) (c.line_is i).closed) (c.passed i));
     state = l.state ∙ (λ i. left_in (c.passed i) (c.line_is i).closed);
@@ -66,12 +66,12 @@ module _ (v h w : LinkGhost) (y : Payload) (point : Point) (c : KeepsPayload v h
     line_is = d.line_is ∙ c.line_is;
   }
 
-one_left : (v h : LinkGhost) (y : Payload) (point : Point) → KeepsPayload v h y point → Extends v.view h.view → IsOneLeft h → IsOneLeft v
+one_left : (v h : LinkGhost) (y : Payload) (point : Point) → KeepsPayload v h y point → Extends v.view h.view → HasUnpassedNode h → HasUnpassedNode v
 one_left v h y point c e l = omega (arith, l, ap length c.passed, ap (λ (t : LineConfig). t.nodes) e.config)
 
 -- home does not name the entry, and so it is marked as done; s, t and u are the seat before, between and after
-module _ (allows : List ℕ → List ℕ → Type 0) (s t u : LinkSeat) (y : Payload) (at : ℕ) (first : Advances allows s.me t.me 1) (one : IsOneLeft (ghost_of t)) (c : KeepsPayload (ghost_of s) (ghost_of t) y (Marking at)) where
-  pub hands_left : HasNoSlot u → Ended (ghost_of t) (ghost_of u) (ghost_of t).own.line → IsLeft (ghost_of t) (ghost_of u) (ghost_of t).own.line → HandsOff s y u 2 handoff.Left
+module _ (allows : List ℕ → List ℕ → Type 0) (s t u : LinkSeat) (y : Payload) (at : ℕ) (first : Advances allows s.me t.me 1) (one : HasUnpassedNode (ghost_of t)) (c : KeepsPayload (ghost_of s) (ghost_of t) y (Marking at)) where
+  pub hands_left : HasNoSlot u → Ended (ghost_of t) (ghost_of u) (ghost_of t).own.line → IsLeftForLinker (ghost_of t) (ghost_of u) (ghost_of t).own.line → HandsOff s y u 2 handoff.Left
   hands_left slot ended left = (
     slot,
     carried_ended (ghost_of s) (ghost_of t) (ghost_of u) y (Marking at) c ended,
@@ -85,7 +85,7 @@ module _ (allows : List ℕ → List ℕ → Type 0) (s t u : LinkSeat) (y : Pay
     both : KeepsPayload (ghost_of s) (ghost_of u) y (Granting next)
     both = carried_on (ghost_of s) (ghost_of t) (ghost_of u) y (Marking at) c (Granting next) d
 
-    pub hands_out : (word behind : ℕ) → HasNoSlot w → Ended (ghost_of u) (ghost_of w) (ghost_of u).own.line → LeavesNode (ghost_of u) (ghost_of w) (ghost_of u).own.line → HandsOff s y w 3 (handoff.HandedOn word behind)
+    pub hands_out : (word behind : ℕ) → HasNoSlot w → Ended (ghost_of u) (ghost_of w) (ghost_of u).own.line → IsHandedOver (ghost_of u) (ghost_of w) (ghost_of u).own.line → HandsOff s y w 3 (handoff.HandedOver word behind)
     hands_out word behind slot ended out = (
       slot,
       carried_ended (ghost_of s) (ghost_of u) (ghost_of w) y (Granting next) both ended,

@@ -42,7 +42,7 @@ use Rattle.line_generic.specs.declared.table.Payload.{Payload}
 use Rattle.line_generic.specs.declared.table.TableKey.{TableKey}
 use Rattle.link_line.specs.Layout.{home_at}
 use Rattle.link_line.specs.Links.{History, NodeInv, HistoryInv, Represents, InSlot, Homes, is_leaving, is_shut_by, state_at, state_in_release}
-use Rattle.link_line.specs.Steps.{SeatContents, homed, Ended, LeavesNode, KeepsPayload, TurnIsOver, MayHandOff}
+use Rattle.link_line.specs.Steps.{SeatContents, homed, Ended, IsHandedOver, KeepsPayload, TurnIsOver, MayHandOff}
 use Rattle.link_line.proofs.Going.{SetsGrow, next, on, wide, fine_next, others_next}
 use Rattle.link_line.specs.Laws.Histories.{at_point}
 use Rattle.link_line.specs.Laws.PortModel.{names_nobody}
@@ -99,7 +99,7 @@ module _ (good : List ℕ → Type 0) (allows : List ℕ → List ℕ → Type 0
               (λ _. (
                 refl,
                 subst (λ (q : Payload). Ended v w q) (line_is z y' has) (ended good allows key s r me v at z x h k refl order ends v.own.passed),
-                subst (λ (q : Payload). LeavesNode v w q) (line_is z y' has) (goes_out good allows key s r me v at z x h k refl order ends p quiet own (inl refl) refl no_hand),
+                subst (λ (q : Payload). IsHandedOver v w q) (line_is z y' has) (goes_out good allows key s r me v at z x h k refl order ends p quiet own (inl refl) refl no_hand),
                 names_nobody w.view (turn_none (on allows key r.may_open.nodes.few x h.via.history_inv k).shows refl),
               )),
               (λ ne. absurd (ne f)),

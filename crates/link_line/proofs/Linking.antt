@@ -27,7 +27,7 @@ use Rattle.link_core.proofs.Steady.{after_is}
 use Rattle.link_line.specs.Ghost.{LinkGhost}
 use Rattle.line_generic.specs.declared.table.Payload.{Payload}
 use Rattle.line_generic.specs.declared.table.TableKey.{TableKey}
-use Rattle.link_line.specs.declared.layout.TheConstants.{LINK}
+use Rattle.link_line.specs.declared.layout.TheConstants.{LINK_UNIT}
 use Rattle.link_line.specs.Layout.{entry_at, pack, is_done}
 use Rattle.link_line.specs.Links.{History, NodeInv, Represents, InSlot, SlotHasLine, Homes}
 use Rattle.link_line.specs.Steps.{SeatContents, linked}
@@ -67,7 +67,7 @@ module _ (good : List ℕ → Type 0) (allows : List ℕ → List ℕ → Type 0
     with_link = record (entry r.history.core p) { link = v.view.node }
 
     abbrev word : ℕ
-    word = (slice_index s.words (entry_at p) + LINK * v.view.node) % 2 ^ 64
+    word = (slice_index s.words (entry_at p) + LINK_UNIT * v.view.node) % 2 ^ 64
 
     found_word : slice_index s.words (entry_at p) ≡ pack (entry r.history.core p)
     found_word = r.represents.entries p behind.node
@@ -76,7 +76,7 @@ module _ (good : List ℕ → Type 0) (allows : List ℕ → List ℕ → Type 0
     done_as = ap is_done found_word ∙ done_is (entry r.history.core p)
 
     new_word : word ≡ pack with_link
-    new_word = ap (λ (k : ℕ). (k + LINK * v.view.node) % 2 ^ 64) found_word ∙ add_link (entry r.history.core p) (subst (λ (k : ℕ). k < 18446744073709551616) found_word small) v.view.node (let a = node.1 in let b = few in omega arith) ((unset r.history_inv.shown).link v.view.node p node here)
+    new_word = ap (λ (k : ℕ). (k + LINK_UNIT * v.view.node) % 2 ^ 64) found_word ∙ add_link (entry r.history.core p) (subst (λ (k : ℕ). k < 18446744073709551616) found_word small) v.view.node (let a = node.1 in let b = few in omega arith) ((unset r.history_inv.shown).link v.view.node p node here)
 
     laid : (d : Core) (homes : Homes) → d.nodes ≡ r.history.core.nodes → d.home ≡ r.history.core.home → d.entries ≡ set r.history.core.entries p with_link → length homes ≡ 1 → InSlot d homes d.place → Represents d (set s.words (entry_at p) word) homes
     laid d homes n h e deep slot = entry_laid r.history.core d s.words s.homes homes p word with_link r.represents behind.node few (let w = inside.entries in let a = behind.node.1 in omega arith) new_word n h e deep slot
@@ -101,7 +101,7 @@ module _ (good : List ℕ → Type 0) (allows : List ℕ → List ℕ → Type 0
     links k line = record { count = refl; joined = has_last v.view.joined (own v.view) }
 
     abbrev Goal : Type 0
-    Goal = (w : List LinkGhost) × (a : Act Payload) × Valid s.homes carried a × Rule good allows key (stepped s (entry_at p) word me carried w a) × linked allows (step slots (entry_at p) (LINK * v.view.node) 0 none) (v ∷ [], carried) (slice_index s.words (entry_at p)) (w, carried_after carried a)
+    Goal = (w : List LinkGhost) × (a : Act Payload) × Valid s.homes carried a × Rule good allows key (stepped s (entry_at p) word me carried w a) × linked allows (step slots (entry_at p) (LINK_UNIT * v.view.node) 0 none) (v ∷ [], carried) (slice_index s.words (entry_at p)) (w, carried_after carried a)
 
     link_comes : (entry r.history.core p).done ≡ true → Goal
     link_comes dn =
@@ -164,8 +164,8 @@ module _ (good : List ℕ → Type 0) (allows : List ℕ → List ℕ → Type 0
           ),
         )
 
-  pub links_next : (me slots i node : ℕ) (m : SeatContents) → m.0 ≡ v ∷ [] → i ≡ entry_at p → node ≡ v.view.node → Allows (Rule good allows key) slots me m i (λ k. (k + LINK * node) % 2 ^ 64) (linked allows (step slots i (LINK * node) 0 none) m)
-  links_next me slots i number m is word its = subst (λ (z : ℕ × ℕ × SeatContents). Allows (Rule good allows key) slots me z.2 z.0 (λ k. (k + LINK * z.1) % 2 ^ 64) (linked allows (step slots z.0 (LINK * z.1) 0 none) z.2)) (λ j. (sym word j, sym its j, (sym is j, m.1)))
+  pub links_next : (me slots i node : ℕ) (m : SeatContents) → m.0 ≡ v ∷ [] → i ≡ entry_at p → node ≡ v.view.node → Allows (Rule good allows key) slots me m i (λ k. (k + LINK_UNIT * node) % 2 ^ 64) (linked allows (step slots i (LINK_UNIT * node) 0 none) m)
+  links_next me slots i number m is word its = subst (λ (z : ℕ × ℕ × SeatContents). Allows (Rule good allows key) slots me z.2 z.0 (λ k. (k + LINK_UNIT * z.1) % 2 ^ 64) (linked allows (step slots z.0 (LINK_UNIT * z.1) 0 none) z.2)) (λ j. (sym word j, sym its j, (sym is j, m.1)))
       (λ s r deep at small. elim (cases_Bool (entry r.history.core p).done) [
         | inl t ↦ link_comes me slots m.1 s r at small t
         | inr f ↦ link_waits me slots m.1 s r at small f

@@ -7,7 +7,7 @@ use Rattle.qolb_model.specs.Entries.{Member, AreMembers}
 use Rattle.qolb_model.proofs.Lists.{same_some}
 use Rattle.qolb_model.proofs.Updates.{put, put_here, put_else}
 use Rattle.link_line.specs.Ghost.{LinkGhost}
-use Rattle.line_generic.specs.Entries.{node_of}
+use Rattle.line_generic.specs.NodeGhosts.{node_of}
 use Rattle.link_line.specs.Links.{At}
 
 -- the seat `me` with the view v alone gets the view w of the same node

@@ -32,7 +32,7 @@ use Rattle.line_generic.specs.declared.table.TableKey.{TableKey}
 use Rattle.link_line.specs.declared.layout.TheConstants.{DONE}
 use Rattle.link_line.specs.Layout.{entry_at, pack, link_of}
 use Rattle.link_line.specs.Links.{History, NodeInv, Represents, InSlot, Homes, is_leaving}
-use Rattle.link_line.specs.Steps.{SeatContents, marked, KeepsPayload, Ended, IsLeft}
+use Rattle.link_line.specs.Steps.{SeatContents, marked, KeepsPayload, Ended, IsLeftForLinker}
 use Rattle.link_line.proofs.Going.{on, wide}
 use Rattle.link_line.specs.Laws.Histories.{at_point}
 use Rattle.link_line.proofs.Packed.{link_is, add_done}
@@ -157,7 +157,7 @@ module _ (good : List ℕ → Type 0) (allows : List ℕ → List ℕ → Type 0
                 (λ _. (
                   refl,
                   subst (λ (q : Payload). Ended v w q) (line_is z y' has) (ended good allows key s r me v at z r.history h k refl order ends v.own.passed),
-                  subst (λ (q : Payload). IsLeft v w q) (line_is z y' has) (is_left good allows key s r me v at z r.history h k refl order ends p quiet own behind e' (λ m f. no_hand m f) short),
+                  subst (λ (q : Payload). IsLeftForLinker v w q) (line_is z y' has) (is_left good allows key s r me v at z r.history h k refl order ends p quiet own behind e' (λ m f. no_hand m f) short),
                 )),
                 (λ ne. absurd (ne (link_as ∙ un))),
               )),

@@ -4,7 +4,7 @@ use Rattle.std.specs.Prelude.{◌==◌}
 use Rattle.qolb_model.specs.declared.config.TheConstants.{MAX_NODES}
 use Rattle.link_core.specs.declared.entry.Entry.{Entry}
 use Rattle.link_core.specs.State.{empty}
-use Rattle.link_line.specs.declared.layout.TheConstants.{GRANTED, ROLLED, DONE, FREED, LINK}
+use Rattle.link_line.specs.declared.layout.TheConstants.{GRANTED, ROLLED, DONE, FREED, LINK_UNIT}
 use Rattle.link_line.specs.Layout.{one_if, pack, is_granted, is_rolled, is_done, is_freed, link_of}
 
 pub one_if_low : (b : Bool) → one_if b ≤ 1
@@ -51,5 +51,5 @@ module _ (e : Entry) (small : pack e < 18446744073709551616) where
   pub add_freed : e.freed ≡ false → (pack e + FREED) % 2 ^ 64 ≡ pack (record e { freed = true })
   add_freed u = let z : one_if e.freed ≡ 0 = ap one_if u in let b = bits in let s = small in omega arith
 
-  pub add_link : (n : ℕ) → n ≤ MAX_NODES → e.link ≡ 0 → (pack e + LINK * n) % 2 ^ 64 ≡ pack (record e { link = n })
+  pub add_link : (n : ℕ) → n ≤ MAX_NODES → e.link ≡ 0 → (pack e + LINK_UNIT * n) % 2 ^ 64 ≡ pack (record e { link = n })
   add_link n l u = let z : e.link ≡ 0 = u in let b = bits in let s = small in omega arith

@@ -37,7 +37,7 @@ use Rattle.line_generic.specs.declared.table.Payload.{Payload}
 use Rattle.line_generic.specs.declared.table.TableKey.{TableKey}
 use Rattle.link_line.specs.Layout.{home_at}
 use Rattle.link_line.specs.Links.{At, History, NodeInv, InSlot, SlotHasLine, state_at, is_leaving}
-use Rattle.link_line.specs.Steps.{SeatContents, prepended, LinksTo}
+use Rattle.link_line.specs.Steps.{SeatContents, prepended, MustLinkTo}
 use Rattle.link_line.proofs.Window.{few_open}
 use Rattle.link_line.proofs.Going.{next, on, wide}
 use Rattle.link_line.specs.Laws.Histories.{at_point}
@@ -46,7 +46,7 @@ use Rattle.link_line.proofs.Laying.{home_laid, deep_taken, in_slot}
 use Rattle.link_line.proofs.Turning.{whole, goes_step, grows_none, grows_joined, joins_same, joins_push, passes_none, Owes, via_none, turned, own_marked}
 use Rattle.link_line.proofs.AtTurn.{view_come, Arrives, at_turn, come_turned}
 
-module _ (good : List ℕ → Type 0) (allows : List ℕ → List ℕ → Type 0) (key : TableKey) (v : LinkGhost) (phase : v.own.seat.point ≡ Ready) where
+module _ (good : List ℕ → Type 0) (allows : List ℕ → List ℕ → Type 0) (key : TableKey) (v : LinkGhost) (is_ready : v.own.seat.point ≡ Ready) where
   abbrev n : ℕ
   n = v.view.node
 
@@ -61,7 +61,7 @@ module _ (good : List ℕ → Type 0) (allows : List ℕ → List ℕ → Type 0
     node = is_node good allows key s r me v at
 
     here : point r.history.core n ≡ Ready
-    here = at_point allows key r.history r.history_inv n v node ok ∙ phase
+    here = at_point allows key r.history r.history_inv n v node ok ∙ is_ready
 
     inside : IsWide r.history.core
     inside = wide allows key r.may_open.nodes.few r.history r.history_inv
@@ -175,7 +175,7 @@ module _ (good : List ℕ → Type 0) (allows : List ℕ → List ℕ → Type 0
         let t = turned good allows key s r me v at r.history (via_none good allows key r.history v r.history_inv) k refl r.history.joined r.history.early r.history.late (grows_none r.history y n refl refl refl) (v.view.count + 1) v.view.joined [] v.own.line owes (set s.words home_at n) s.homes
         (home_laid r.history.core y.core s.words s.homes s.homes n r.represents refl refl refl r.represents.deep (in_slot r.history.core y.core s.homes r.history.core.place refl refl refl r.represents.slot)) in
         let w : LinkGhost = whole y v (v.view.count + 1) v.view.joined [] v.own.line in
-        let links : LinksTo r.history.core.home w = record {
+        let links : MustLinkTo r.history.core.home w = record {
           stands = (own', (let z = subst (Names y.core) own' ((found step'.shows).names n node) in let f = few in let l = z.1 in let k = many in (omega arith, omega arith)));
           linking = record {
             state = ap (λ (p : Point). state_at p (seat y.core n).reason (seat y.core n).passed) own';
@@ -193,7 +193,7 @@ module _ (good : List ℕ → Type 0) (allows : List ℕ → List ℕ → Type 0
             goes_step allows v w carried carried t.continues refl,
             asks k r.history.joined order v.view.joined v.own.line,
             (λ idle. absurd (busy (sym found_word ∙ idle))),
-            (λ _. (refl, subst (λ (predecessor : ℕ). LinksTo predecessor w) (sym found_word) links)),
+            (λ _. (refl, subst (λ (predecessor : ℕ). MustLinkTo predecessor w) (sym found_word) links)),
           ),
         )
       where

@@ -21,7 +21,7 @@ use Rattle.line_generic.specs.Steps as shared
 use Rattle.line_generic.specs.Steps.{HasNoSlot, HoldsPayload, write_of, own_end}
 use Rattle.link_line.specs.Ghost.{LinkGhost, no_line}
 use Rattle.link_line.specs.BetweenCalls.{holds_open, holds_closed}
-use Rattle.link_line.specs.Steps.{end_of, next_end, point_by, after_release, left_in, TurnIsOver, MayHandOff, Ended, LeavesNode, IsLeft, Passes}
+use Rattle.link_line.specs.Steps.{end_of, next_end, point_by, after_release, left_in, TurnIsOver, MayHandOff, Ended, IsHandedOver, IsLeftForLinker, Passes}
 use Rattle.link_line.specs.Releases.{with_line, ReleasesLine, FinishesWalk}
 
 -- a node that has passed none ends its own request next
@@ -37,7 +37,7 @@ module _ (v : LinkGhost) (y : Payload) (none : v.own.passed ≡ []) where
   one_more w e = omega (arith, ap length (ends_now w e), length-append v.view.ends (own_end (is_closed v.view.ends) y ∷ []))
 
   -- it is over if the line goes home or to the next request
-  pub lets_out : (w : LinkGhost) → Ended v w y → LeavesNode v w y → ReleasesLine v y (state_after y.closed) w
+  pub lets_out : (w : LinkGhost) → Ended v w y → IsHandedOver v w y → ReleasesLine v y (state_after y.closed) w
   lets_out w e o = record {
     point = o.point ∙ ap (after_release (state_after y.closed)) none;
     state_is = o.state;
@@ -58,7 +58,7 @@ module _ (v : LinkGhost) (y : Payload) (none : v.own.passed ≡ []) where
   }
 
   -- and if the line is left for a late linker
-  pub lets_left : (w : LinkGhost) → Ended v w y → IsLeft v w y → ReleasesLine v y port_state.Left w
+  pub lets_left : (w : LinkGhost) → Ended v w y → IsLeftForLinker v w y → ReleasesLine v y port_state.Left w
   lets_left w e l = let state : w.view.state ≡ port_state.Left = l.state ∙ ap (λ ps. left_in ps y.closed) none in record {
     point = l.point ∙ (λ i. after_release (left_in (none i) y.closed) (none i));
     state_is = state;

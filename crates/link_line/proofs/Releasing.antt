@@ -42,7 +42,7 @@ use Rattle.link_line.specs.Ghost.{LinkGhost}
 use Rattle.line_generic.specs.declared.table.Payload.{Payload}
 use Rattle.line_generic.specs.declared.table.TableKey.{TableKey}
 use Rattle.link_line.specs.Links.{At, History, NodeInv, HistoryInv, PassedInv, Represents, Homes, MayServe, serves, is_leaving, is_shut_by, state_of, state_at, state_in_release}
-use Rattle.link_line.specs.Steps.{Ended, LeavesNode, IsLeft, KeepsPayload, end_of, next_end, after_release, left_in}
+use Rattle.link_line.specs.Steps.{Ended, IsHandedOver, IsLeftForLinker, KeepsPayload, end_of, next_end, after_release, left_in}
 use Rattle.link_line.proofs.Going.{next, on, leaving_lined, map_get}
 use Rattle.link_line.specs.Laws.Nodes.{St, Rule, mine_ok, is_node}
 use Rattle.link_line.proofs.Turning.{whole, grows_none, joins_all, Owes, Via, via_none, Turned, turned, own_at}
@@ -342,7 +342,7 @@ module _ (good : List ℕ → Type 0) (allows : List ℕ → List ℕ → Type 0
           seated : seat d n ≡ seat_with (map (requester_at x.queue.order) v.own.passed) p st.reason
           seated = own_seat ∙ ap (λ (ps : List ℕ). seat_with ps p st.reason) places
 
-          pub goes_out : p ≡ point_at_end st.reason → ((m : ℕ) → d.place ≢ Hand m) → LeavesNode v (view_after v.own.passed) z
+          pub goes_out : p ≡ point_at_end st.reason → ((m : ℕ) → d.place ≢ Hand m) → IsHandedOver v (view_after v.own.passed) z
           goes_out e nowhere = record {
             point = ap (λ (s : NodeCall). s.point) seated ∙ ap (λ (p : Point). (seat_with (map (requester_at x.queue.order) v.own.passed) p st.reason).point) e ∙ out_point (requester_at x.queue.order) st.reason v.own.passed z.closed h.shut;
             state = ap state_of seated ∙ ap (λ (p : Point). state_of (seat_with (map (requester_at x.queue.order) v.own.passed) p st.reason)) e ∙ out_state (requester_at x.queue.order) st.reason v.own.passed z.closed h.shut;
@@ -351,7 +351,7 @@ module _ (good : List ℕ → Type 0) (allows : List ℕ → List ℕ → Type 0
             clear = λ none. own_cleared none (point_at_end st.reason) (ap (λ (s : NodeCall). s.point) seated ∙ ap (λ (ps : List ℕ). (seat_with (map (requester_at x.queue.order) ps) p st.reason).point) none ∙ e) (end_clear st.reason);
           }
 
-          pub is_left : (v.own.passed ≡ [] → p ≡ Left) → ((m : ℕ) → d.place ≢ Hand m) → SuccessorUnlinked (view_after v.own.passed).view → IsLeft v (view_after v.own.passed) z
+          pub is_left : (v.own.passed ≡ [] → p ≡ Left) → ((m : ℕ) → d.place ≢ Hand m) → SuccessorUnlinked (view_after v.own.passed).view → IsLeftForLinker v (view_after v.own.passed) z
           is_left e nowhere short = record {
             point = ap (λ (s : NodeCall). s.point) seated ∙ left_point (requester_at x.queue.order) st.reason v.own.passed z.closed p e;
             state = ap state_of seated ∙ left_state (requester_at x.queue.order) st.reason v.own.passed z.closed p h.shut e;

@@ -24,7 +24,7 @@ use Rattle.line_generic.specs.declared.table.Payload.{Payload}
 use Rattle.line_generic.specs.declared.table.TableKey.{TableKey}
 use Rattle.link_line.specs.Layout.{entry_at, pack}
 use Rattle.link_line.specs.Links.{History, NodeInv, HistoryInv, state_of}
-use Rattle.link_line.specs.Steps.{SeatContents, readied, looked, is_free}
+use Rattle.link_line.specs.Steps.{SeatContents, readied, loaded_last, is_free}
 use Rattle.link_line.proofs.Going.{on, wide}
 use Rattle.link_line.specs.Laws.Histories.{at_point}
 use Rattle.link_line.proofs.Packed.{pack_empty, done_is, freed_is, link_is}
@@ -97,7 +97,7 @@ module _ (good : List ℕ → Type 0) (allows : List ℕ → List ℕ → Type 0
     ]
 
     abbrev Looks : Type 0
-    Looks = (w : List LinkGhost) × (a : Act Payload) × Valid s.homes carried a × Rule good allows key (stepped s word (slice_index s.words word) me carried w a) × looked allows (step slots word 0 0 none) (v ∷ [], carried) (slice_index s.words word) (w, carried_after carried a)
+    Looks = (w : List LinkGhost) × (a : Act Payload) × Valid s.homes carried a × Rule good allows key (stepped s word (slice_index s.words word) me carried w a) × loaded_last allows (step slots word 0 0 none) (v ∷ [], carried) (slice_index s.words word) (w, carried_after carried a)
 
     module _ (rest : (v.own.seat.point ≡ Left) ⊎ (v.own.seat.point ≡ Rolled)) where
       at_core : (point r.history.core v.view.node ≡ Left) ⊎ (point r.history.core v.view.node ≡ Rolled)
@@ -122,7 +122,7 @@ module _ (good : List ℕ → Type 0) (allows : List ℕ → List ℕ → Type 0
             (
               refl,
               goes_step allows v (view_after good allows key s r me v at k) carried carried t.continues refl,
-              record { count = refl; clear = λ _. (ap (λ (z : NodeCall). z.point) own, ap state_of own); unclear = λ no'. let z = sym no' ∙ clear_as ∙ fr in cc },
+              record { count = refl; is_clear = λ _. (ap (λ (z : NodeCall). z.point) own, ap state_of own); unclear = λ no'. let z = sym no' ∙ clear_as ∙ fr in cc },
             ),
           )
 
@@ -151,7 +151,7 @@ module _ (good : List ℕ → Type 0) (allows : List ℕ → List ℕ → Type 0
               goes_step allows v (view_after good allows key s r me v at k) carried carried t.continues refl,
               record {
                 count = refl;
-                clear = λ yes'. let z = sym yes' ∙ clear_as ∙ un in cc;
+                is_clear = λ yes'. let z = sym yes' ∙ clear_as ∙ un in cc;
                 unclear = λ _. (here v.own.seat.point refl, ap state_of (sym ok.stands.seat) ∙ sym ok.stands.state, unclear y (view_after good allows key s r me v at k) t.history_inv t.own step'.says);
               },
             ),
@@ -161,8 +161,8 @@ module _ (good : List ℕ → Type 0) (allows : List ℕ → List ℕ → Type 0
   resets_next rest me slots i m is word = subst (λ (z : ℕ × SeatContents). Allows (Rule good allows key) slots me z.1 z.0 (λ _. 0) (λ _. readied allows (step slots z.0 0 0 none) z.1 0)) (λ j. (sym word j, (sym is j, m.1)))
       (λ s r deep at small. resets me slots m.1 s r at rest)
 
-  pub looks_next : (v.own.seat.point ≡ Left) ⊎ (v.own.seat.point ≡ Rolled) → (me slots i : ℕ) (m : SeatContents) → m.0 ≡ v ∷ [] → i ≡ entry_at v.view.node → Allows (Rule good allows key) slots me m i (λ k. k) (looked allows (step slots i 0 0 none) m)
-  looks_next rest me slots i m is word = subst (λ (z : ℕ × SeatContents). Allows (Rule good allows key) slots me z.1 z.0 (λ k. k) (looked allows (step slots z.0 0 0 none) z.1)) (λ j. (sym word j, (sym is j, m.1)))
+  pub loads_last_next : (v.own.seat.point ≡ Left) ⊎ (v.own.seat.point ≡ Rolled) → (me slots i : ℕ) (m : SeatContents) → m.0 ≡ v ∷ [] → i ≡ entry_at v.view.node → Allows (Rule good allows key) slots me m i (λ k. k) (loaded_last allows (step slots i 0 0 none) m)
+  loads_last_next rest me slots i m is word = subst (λ (z : ℕ × SeatContents). Allows (Rule good allows key) slots me z.1 z.0 (λ k. k) (loaded_last allows (step slots z.0 0 0 none) z.1)) (λ j. (sym word j, (sym is j, m.1)))
       (λ s r deep at small. elim (cases_Bool (is_clear (point r.history.core v.view.node) (entry r.history.core v.view.node))) [
         | inl t ↦ looks_free me slots m.1 s r at rest t
         | inr f ↦ looks_busy me slots m.1 s r at rest f

@@ -4,15 +4,15 @@ use Rattle.qolb_model.proofs.Agreeing.{extends_trans}
 use Rattle.qolb_model.proofs.Going.{extends_self}
 use Rattle.qolb_model.specs.declared.config.LineConfig.{LineConfig}
 use Rattle.atomic_table.specs.Seated.{TableId}
-use Rattle.link_line.specs.Steps.{SeatContents, LinkSeat, IsSingle, single, Advances, SeatAdvances, IsOwnNode, IsSeatOfNode}
+use Rattle.link_line.specs.Steps.{SeatContents, LinkSeat, IsOfOneNode, single, Advances, SeatAdvances, IsOwnNode, IsSeatOfNode}
 
 -- no step, and some after others
-pub goes_none : (allows : List ℕ → List ℕ → Type 0) (m : SeatContents) → IsSingle m → Advances allows m m 0
-goes_none allows m is_single = record { is_single = is_single; extends = extends_self (single m.0).view; continues = λ u before. before; steps = omega arith }
+pub goes_none : (allows : List ℕ → List ℕ → Type 0) (m : SeatContents) → IsOfOneNode m → Advances allows m m 0
+goes_none allows m of_one_node = record { of_one_node = of_one_node; extends = extends_self (single m.0).view; continues = λ u before. before; steps = omega arith }
 
 pub goes_trans : (allows : List ℕ → List ℕ → Type 0) (a b c : SeatContents) (i j : ℕ) → Advances allows a b i → Advances allows b c j → Advances allows a c (i + j)
 goes_trans allows a b c i j f g = record {
-  is_single = g.is_single;
+  of_one_node = g.of_one_node;
   extends = extends_trans (single a.0).view (single b.0).view (single c.0).view f.extends g.extends;
   continues = λ u before. g.continues u (f.continues u before);
   steps = omega (arith, f.steps, g.steps);

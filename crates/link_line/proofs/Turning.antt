@@ -115,7 +115,7 @@ passes_none order w e f = record {
 -- one counted step
 pub goes_step : (allows : List ℕ → List ℕ → Type 0) (v w : LinkGhost) (before after : List (ℕ × Payload)) → Continues allows v.view w.view → w.steps ≡ v.steps + 1 → Advances allows (v ∷ [], before) (w ∷ [], after) 1
 goes_step allows v w before after c n = record {
-  is_single = refl;
+  of_one_node = refl;
   extends = c.extends;
   continues = λ u b. record { extends = extends_trans u v.view w.view b.extends c.extends; history = c.history; kept = c.kept; freed_clear = c.freed_clear; own_history = c.own_history };
   steps = n;

@@ -23,9 +23,9 @@ use Rattle.link_line.specs.declared.release.Handoff.TheVariants as handoff
 use Rattle.link_line.specs.Links.{At}
 use Rattle.link_line.specs.Layout.{IsWithin}
 use Rattle.line_generic.specs.Steps.{IsSameSeat, HasSlot, HasNoSlot}
-use Rattle.link_line.specs.Steps.{LinkSeat, ghost_of, after_release, left_in, end_of, next_end, point_by, Ended, IsOneLeft, Passes, Advances}
-use Rattle.link_line.specs.Releases.{HandsOff, granted_word, NamesTurn, with_line, FinishesWalk, AreNodesAt, FreesAll}
-use Rattle.link_line.specs.BetweenCalls.{word_of, turn_word}
+use Rattle.link_line.specs.Steps.{LinkSeat, ghost_of, after_release, left_in, end_of, next_end, point_by, Ended, HasUnpassedNode, Passes, Advances}
+use Rattle.link_line.specs.Releases.{HandsOff, granted_word, NamesWakeWord, with_line, FinishesWalk, AreNodesAt, FreesAll}
+use Rattle.link_line.specs.BetweenCalls.{word_of, wake_word}
 use Rattle.link_line.proofs.Stepping.{goes_trans}
 
 -- a walk that began at v has passed the requests of these nodes
@@ -187,7 +187,7 @@ walked_long v w x nodes k f = ap length (f.ends ∙ k.ends) ∙ omega (arith, le
 -- the result of a walk from the seat s, by that of its last handoff, in `taken` word steps: each passed request took three; and if the line
 -- is handed over, the last one took one to three, and a step more for each is within what a release may take
 abbrev pub StandsBy : LinkSeat → List ℕ → LinkSeat → ℕ → Handoff → Type 0
-StandsBy s nodes t taken (handoff.HandedOn word behind) = HasNoSlot t × IsAway nodes (ghost_of t) × (taken + length nodes + 6 ≤ 4 * (ghost_of s).view.config.nodes) × (3 * length nodes ≤ taken + 2) × (taken ≤ 3 * length nodes)
+StandsBy s nodes t taken (handoff.HandedOver word behind) = HasNoSlot t × IsAway nodes (ghost_of t) × (taken + length nodes + 6 ≤ 4 * (ghost_of s).view.config.nodes) × (3 * length nodes ≤ taken + 2) × (taken ≤ 3 * length nodes)
 StandsBy s nodes t taken handoff.Left = HasNoSlot t × IsAway nodes (ghost_of t) × (taken + length nodes + 6 ≤ 4 * (ghost_of s).view.config.nodes) × (3 * length nodes ≤ taken + 2) × (taken ≤ 3 * length nodes)
 StandsBy s nodes t taken (handoff.Passed node) = (t.me.1 ≡ s.me.1) × StandsAt nodes node (ghost_of t) × ((ghost_of t).own.line ≡ (ghost_of s).own.line) × (taken ≡ 3 * length nodes)
 
@@ -228,10 +228,10 @@ module _ (allows : List ℕ → List ℕ → Type 0) (s t u : LinkSeat) (nodes :
       unmarked = unmarked;
     }
 
-  steps_out : n ≤ 3 → IsOneLeft (ghost_of t) → taken + n + length (nodes ++ node ∷ []) + 6 ≤ 4 * (ghost_of s).view.config.nodes
+  steps_out : n ≤ 3 → HasUnpassedNode (ghost_of t) → taken + n + length (nodes ++ node ∷ []) + 6 ≤ 4 * (ghost_of s).view.config.nodes
   steps_out max_steps one = omega (arith, max_steps, one, b.3, b.1.many, longer, ap (λ (z : LineConfig). z.nodes) k.config)
 
-  walks_out : (word behind : ℕ) → HandsOff t (ghost_of s).own.line u n (handoff.HandedOn word behind) → Walked (ghost_of s) (nodes ++ node ∷ []) (ghost_of u) × StandsBy s (nodes ++ node ∷ []) u (taken + n) (handoff.HandedOn word behind)
+  walks_out : (word behind : ℕ) → HandsOff t (ghost_of s).own.line u n (handoff.HandedOver word behind) → Walked (ghost_of s) (nodes ++ node ∷ []) (ghost_of u) × StandsBy s (nodes ++ node ∷ []) u (taken + n) (handoff.HandedOver word behind)
   walks_out word behind h = (
     out_walked h.1 h.2.passed (state_after (ghost_of s).own.line.closed) h.2.point h.2.state h.2.unmarked,
     (
@@ -269,7 +269,7 @@ module _ (allows : List ℕ → List ℕ → Type 0) (s t u : LinkSeat) (nodes :
   )
 
   pub walks : (result : Handoff) → HandsOff t (ghost_of s).own.line u n result → Walked (ghost_of s) (nodes ++ node ∷ []) (ghost_of u) × StandsBy s (nodes ++ node ∷ []) u (taken + n) result
-  walks (handoff.HandedOn word behind) h = walks_out word behind h
+  walks (handoff.HandedOver word behind) h = walks_out word behind h
   walks handoff.Left h = walks_left h
   walks (handoff.Passed to) h = walks_passed to h
 
@@ -288,17 +288,17 @@ walking_on allows s t u before nodes node steps later n result k slot state same
     }
 
 -- the line is away, and the word of the turn was named
-pub names_away : (w : LinkGhost) (result : Handoff) → ((node : ℕ) → result ≢ handoff.Passed node) → NamesTurn w result → granted_word result ≡ turn_word w.view
-names_away w (handoff.HandedOn word behind) none names = names
+pub names_away : (w : LinkGhost) (result : Handoff) → ((node : ℕ) → result ≢ handoff.Passed node) → NamesWakeWord w result → granted_word result ≡ wake_word w.view
+names_away w (handoff.HandedOver word behind) none names = names
 names_away w handoff.Left none names = names
 names_away w (handoff.Passed node) none names = absurd (none node refl)
 
 -- it stays that while the passed nodes are freed
-pub turn_stays : (w x : LinkGhost) → FreesAll w x → turn_word x.view ≡ turn_word w.view
+pub turn_stays : (w x : LinkGhost) → FreesAll w x → wake_word x.view ≡ wake_word w.view
 turn_stays w x f = λ i. word_of (f.joined i) (turn_of (f.order i) (f.ends i))
 
 -- when the walk is over, the line is away
 pub away_by : (allows : List ℕ → List ℕ → Type 0) (s t : LinkSeat) (before : ℕ) (nodes : List ℕ) (result : Handoff) (steps : ℕ) → ((node : ℕ) → result ≢ handoff.Passed node) → (k : IsWalking allows s before nodes result t steps) → HasNoSlot t × IsAway nodes (ghost_of t) × (k.taken + length nodes + 6 ≤ 4 * (ghost_of s).view.config.nodes) × (3 * length nodes ≤ k.taken + 2) × (k.taken ≤ 3 * length nodes)
-away_by allows s t from nodes (handoff.HandedOn word behind) steps none k = k.stands
+away_by allows s t from nodes (handoff.HandedOver word behind) steps none k = k.stands
 away_by allows s t from nodes handoff.Left steps none k = k.stands
 away_by allows s t from nodes (handoff.Passed node) steps none k = absurd (none node refl)

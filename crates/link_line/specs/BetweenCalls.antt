@@ -53,8 +53,8 @@ word_of joined (Some r) = if has joined r then entry_at r.node else home_at
 word_of joined None = home_at
 
 -- the word of the turn is that of the request at its turn
-abbrev pub turn_word : View → ℕ
-turn_word v = word_of v.joined (turn_of v.order v.ends)
+abbrev pub wake_word : View → ℕ
+wake_word v = word_of v.joined (turn_of v.order v.ends)
 
 -- each state may be shown
 abbrev pub allowed_states : PortState → Type 0

@@ -2,7 +2,7 @@
 use Rattle.std.specs.Prelude.{◌≡◌, ℕ, ◌+◌, ◌*◌, ◌/◌, ◌%◌, ◌<◌, ◌≤◌, ◌==◌, Bool, true, false, List, slice_index}
 use Rattle.qolb_model.specs.declared.config.TheConstants.{MAX_NODES}
 use Rattle.link_core.specs.declared.entry.Entry.{Entry}
-use Rattle.link_line.specs.declared.layout.TheConstants.{ENTRY_STRIDE, GRANTED, ROLLED, DONE, FREED, LINK}
+use Rattle.link_line.specs.declared.layout.TheConstants.{ENTRY_STRIDE, GRANTED, ROLLED, DONE, FREED, LINK_UNIT}
 
 abbrev pub home_at : ℕ
 home_at = 0
@@ -24,7 +24,7 @@ one_if false = 0
 
 -- the word of an entry
 abbrev pub pack : Entry → ℕ
-pack e = GRANTED * one_if e.granted + ROLLED * one_if e.rolled + DONE * one_if e.done + FREED * one_if e.freed + LINK * e.link
+pack e = GRANTED * one_if e.granted + ROLLED * one_if e.rolled + DONE * one_if e.done + FREED * one_if e.freed + LINK_UNIT * e.link
 
 -- the fields of an entry word
 abbrev pub is_granted : ℕ → Bool
@@ -44,7 +44,7 @@ abbrev pub is_freed : ℕ → Bool
 is_freed w = (w / 8 % 2) == 1
 
 abbrev pub link_of : ℕ → ℕ
-link_of w = w / LINK
+link_of w = w / LINK_UNIT
 
 -- the words of a new line are all 0
 abbrev pub AreBlank : ℕ → List ℕ → Type 0

@@ -35,7 +35,7 @@ use Rattle.link_core.specs.Places.{requester_at, IsLast}
 use Rattle.link_core.specs.Shown.{has_line, Shows}
 use Rattle.line_generic.specs.declared.table.Payload.{Payload}
 use Rattle.line_generic.specs.declared.table.TableKey.{TableKey}
-use Rattle.line_generic.specs.Entries.{node_of}
+use Rattle.line_generic.specs.NodeGhosts.{node_of}
 use Rattle.link_line.specs.Ghost.{LinkGhost}
 use Rattle.link_line.specs.Layout.{home_at, entry_at, word_count, pack}
 

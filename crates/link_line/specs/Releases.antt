@@ -1,11 +1,10 @@
 -- What a release as a whole tells a port.
-use Rattle.std.specs.Prelude.{◌≡◌, ◌≢◌, ◌⊎◌, ℕ, suc, ◌+◌, ◌*◌, ◌<◌, ◌≤◌, List, ◌++◌, length, replicate, Option, Some, None}
+use Rattle.std.specs.Prelude.{◌≡◌, ◌≢◌, ◌⊎◌, ℕ, suc, ◌+◌, ◌<◌, ◌≤◌, List, ◌++◌, length, replicate, Option, Some, None}
 use Rattle.qolb_model.specs.declared.answer.PortState.{PortState}
 use Rattle.qolb_model.specs.declared.answer.PortState.TheVariants as port_state
 use Rattle.qolb_model.specs.declared.request.Request.{Request}
 use Rattle.qolb_model.specs.declared.view.View.{View}
 use Rattle.qolb_model.specs.declared.end.End.TheVariants.{Gone}
-use Rattle.qolb_model.specs.declared.config.TheConstants.{MAX_NODES}
 use Rattle.qolb_model.specs.Requests.{Has, Lacks, AreOfDifferentNodes}
 use Rattle.qolb_model.specs.PortStates.{state_after}
 use Rattle.qolb_model.specs.Ends.{is_closed}
@@ -16,16 +15,12 @@ use Rattle.link_core.specs.declared.point.Point.TheVariants.{Idle, Left, Rolled,
 use Rattle.line_generic.specs.declared.table.Payload.{Payload}
 use Rattle.line_generic.specs.Steps.{HasSlot, HasNoSlot, own_end}
 use Rattle.link_line.specs.Ghost.{LinkGhost}
-use Rattle.link_line.specs.BetweenCalls.{steps_to_ask, turn_word}
+use Rattle.link_line.specs.BetweenCalls.{steps_to_ask, wake_word}
 use Rattle.link_line.specs.declared.release.Handoff.{Handoff}
 use Rattle.link_line.specs.declared.release.Handoff.TheVariants as handoff
 use Rattle.link_line.specs.Links.{At}
 use Rattle.link_line.specs.Layout.{IsWithin, home_at}
-use Rattle.link_line.specs.Steps.{LinkSeat, ghost_of, point_by, IsReady, IsOneLeft, Ended, LeavesNode, IsLeft, Passes}
-
--- no call has taken more word steps before it has handed over the line
-abbrev pub AreFew : ℕ → Type 0
-AreFew steps = steps ≤ 4 * MAX_NODES
+use Rattle.link_line.specs.Steps.{LinkSeat, ghost_of, point_by, IsReady, HasUnpassedNode, Ended, IsHandedOver, IsLeftForLinker, Passes}
 
 -- the number of word steps by which a node finds out whether it may ask, and resets its entry
 abbrev pub steps_to_reset : Option ℕ → ℕ
@@ -40,21 +35,21 @@ rest_of port_state.Shut = Shut
 rest_of _ = Idle
 
 -- the node may ask, after all but the last of those steps; or its last request is not clear, so it may not
-abbrev pub IsReset : PortState → LinkGhost → LinkGhost → Option ℕ → Type 0
-IsReset state v w (Some steps) = IsReady v w × (steps ≤ 2) × (steps + 1 ≡ steps_to_ask state)
-IsReset state v w None = ((state ≡ port_state.Left) ⊎ (state ≡ port_state.Rolled)) × (w.own.seat.point ≡ v.own.seat.point) × (w.view.state ≡ v.view.state) × (w.view.count ≡ v.view.count) × Lacks w.view.clear (own w.view)
+abbrev pub TriesReset : PortState → LinkGhost → LinkGhost → Option ℕ → Type 0
+TriesReset state v w (Some steps) = IsReady v w × (steps ≤ 2) × (steps + 1 ≡ steps_to_ask state)
+TriesReset state v w None = ((state ≡ port_state.Left) ⊎ (state ≡ port_state.Rolled)) × (w.own.seat.point ≡ v.own.seat.point) × (w.view.state ≡ v.view.state) × (w.view.count ≡ v.view.count) × Lacks w.view.clear (own w.view)
 
 -- the word of the granted entry, or the home word if none was granted
 abbrev pub granted_word : Handoff → ℕ
-granted_word (handoff.HandedOn word behind) = word
+granted_word (handoff.HandedOver word behind) = word
 granted_word handoff.Left = home_at
 granted_word (handoff.Passed next) = home_at
 
 -- unless the next request was passed, the handoff names the word of the turn
-abbrev pub NamesTurn : LinkGhost → Handoff → Type 0
-NamesTurn w (handoff.HandedOn word behind) = word ≡ turn_word w.view
-NamesTurn w handoff.Left = home_at ≡ turn_word w.view
-NamesTurn w (handoff.Passed next) = Unit {0}
+abbrev pub NamesWakeWord : LinkGhost → Handoff → Type 0
+NamesWakeWord w (handoff.HandedOver word behind) = word ≡ wake_word w.view
+NamesWakeWord w handoff.Left = home_at ≡ wake_word w.view
+NamesWakeWord w (handoff.Passed next) = Unit {0}
 
 -- the node, with the line y
 abbrev pub with_line : LinkGhost → Payload → LinkGhost
@@ -64,8 +59,8 @@ with_line v y = record v { own = record v.own { line = y } }
 -- there, for a late linker; or the next request is withdrawn, and the node still has the line. More than one step is taken only if another
 -- node is left.
 abbrev pub HandsOff : LinkSeat → Payload → LinkSeat → ℕ → Handoff → Type 0
-HandsOff s y t steps (handoff.HandedOn word behind) = HasNoSlot t × Ended (ghost_of s) (ghost_of t) y × LeavesNode (ghost_of s) (ghost_of t) y × ((steps ≡ 1) ⊎ ((steps ≡ 3) × IsOneLeft (ghost_of s)))
-HandsOff s y t steps handoff.Left = HasNoSlot t × Ended (ghost_of s) (ghost_of t) y × IsLeft (ghost_of s) (ghost_of t) y × (steps ≡ 2) × IsOneLeft (ghost_of s)
+HandsOff s y t steps (handoff.HandedOver word behind) = HasNoSlot t × Ended (ghost_of s) (ghost_of t) y × IsHandedOver (ghost_of s) (ghost_of t) y × ((steps ≡ 1) ⊎ ((steps ≡ 3) × HasUnpassedNode (ghost_of s)))
+HandsOff s y t steps handoff.Left = HasNoSlot t × Ended (ghost_of s) (ghost_of t) y × IsLeftForLinker (ghost_of s) (ghost_of t) y × (steps ≡ 2) × HasUnpassedNode (ghost_of s)
 HandsOff s y t steps (handoff.Passed next) = HasSlot t y × Ended (ghost_of s) (ghost_of t) y × Passes (with_line (ghost_of s) y) (ghost_of t) next × (steps ≡ 3) × IsWithin (ghost_of t).view.config.nodes next
 
 -- the release of the line y is over, and has left the port in this state

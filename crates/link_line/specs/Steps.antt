@@ -20,7 +20,7 @@ use Rattle.qolb_model.specs.Releasing.{SuccessorUnlinked}
 use Rattle.link_core.specs.declared.point.Point.{Point}
 use Rattle.link_core.specs.declared.point.Point.TheVariants.{Idle, Ready, Holding, Leaving, Marking, Granting, Freeing, Left, Rolled, Shut}
 use Rattle.line_generic.specs.declared.table.Payload.{Payload}
-use Rattle.line_generic.specs.Entries as entries
+use Rattle.line_generic.specs.NodeGhosts as node_ghosts
 use Rattle.line_generic.specs.Answers as answers
 use Rattle.line_generic.specs.Steps as shared
 use Rattle.line_generic.specs.Steps.{write_of, own_end}
@@ -28,21 +28,21 @@ use Rattle.link_line.specs.Ghost.{LinkGhost}
 use Rattle.link_line.specs.declared.local.LinkLocal.{LinkLocal}
 use Rattle.link_line.specs.Layout.{home_at, entry_at, word_count, IsWithin, is_granted, is_rolled, is_done, is_freed, link_of}
 use Rattle.link_line.specs.Links.{At}
-use Rattle.link_line.specs.BetweenCalls.{initial, in_state, holds_open, holds_closed, phases, turn_word}
+use Rattle.link_line.specs.BetweenCalls.{initial, in_state, holds_open, holds_closed, phases, wake_word}
 
 -- The definitions of `line_generic`, for the nodes of a list. If a port's token means nothing, they hold of any.
 
 abbrev pub LinkSeat : Type 0
-LinkSeat = entries.LineSeat LinkLocal
+LinkSeat = node_ghosts.LineSeat LinkLocal
 
 abbrev pub SeatContents : Type 0
-SeatContents = entries.SeatContents LinkLocal
+SeatContents = node_ghosts.SeatContents LinkLocal
 
 abbrev pub single : List LinkGhost → LinkGhost
 single es = shared.single initial es
 
-abbrev pub IsSingle : SeatContents → Type 0
-IsSingle m = shared.IsSingle initial m
+abbrev pub IsOfOneNode : SeatContents → Type 0
+IsOfOneNode m = shared.IsOfOneNode initial m
 
 abbrev pub ghost_of : LinkSeat → LinkGhost
 ghost_of s = shared.ghost_of initial s
@@ -54,10 +54,10 @@ abbrev pub IsOwnNode : ℕ → ℕ → LinkSeat → Type 0
 IsOwnNode nodes node seat = shared.IsOwnNode initial nodes node seat
 
 -- the seat's node knows that the line has n nodes
-abbrev pub IsSized : ℕ → LinkSeat → Type 0
-IsSized nodes seat = (ghost_of seat).view.config.nodes ≡ nodes
+abbrev pub KnowsNodes : ℕ → LinkSeat → Type 0
+KnowsNodes nodes seat = (ghost_of seat).view.config.nodes ≡ nodes
 
--- the seat is of the table of a line of n nodes, and has the entry of this node
+-- the seat is of the table of a line of n nodes, and has this node's ghost state
 abbrev pub IsSeatOfNode : ℕ → TableId → ℕ → LinkSeat → Type 0
 IsSeatOfNode nodes table_id node seat = answers.IsSeatOfNode word_count nodes table_id initial node seat
 
@@ -75,8 +75,8 @@ abbrev pub IsStillQueued : LinkGhost → Type 0
 IsStillQueued w = (token : ℕ) → shared.IsStillQueued in_state token w
 
 -- the node made a request, and is to link it to that of this node
-abbrev pub LinksTo : ℕ → LinkGhost → Type 0
-LinksTo predecessor w = shared.IsUnlinked in_state predecessor w
+abbrev pub MustLinkTo : ℕ → LinkGhost → Type 0
+MustLinkTo predecessor w = shared.IsUnlinked in_state predecessor w
 
 -- the request is not at its turn, and withdrawn
 abbrev pub IsRolled : LinkGhost → Type 0
@@ -86,9 +86,9 @@ IsRolled w = (token : ℕ) → shared.IsRolledBack in_state token w
 abbrev pub IsAtTurn : LinkGhost → Payload → Type 0
 IsAtTurn w y = (token : ℕ) → shared.IsAtTurn holds_open holds_closed token w y
 
--- the seat has the entry of one node, which is at this point
+-- the seat has the ghost state of one node, which is at this point
 abbrev pub IsAt : Point → LinkSeat → Type 0
-IsAt point seat = IsSingle seat.me × ((ghost_of seat).own.seat.point ≡ point)
+IsAt point seat = IsOfOneNode seat.me × ((ghost_of seat).own.seat.point ≡ point)
 
 -- the own entry is clear
 pub record IsReady (v w : LinkGhost) : Type 0 where
@@ -102,11 +102,11 @@ is_free Left w = not (link_of w == 0)
 is_free Rolled w = is_freed w && not (is_done w && (link_of w == 0))
 is_free _ w = false
 
--- the node may ask, or its last request is not clear
-pub record HasLoadedNodeWord (v : LinkGhost) (free : Bool) (w : LinkGhost) : Type 0 where
+-- the last request is clear, so the node may ask, if `clear`; else it is not
+pub record TellsIfClear (v : LinkGhost) (clear : Bool) (w : LinkGhost) : Type 0 where
   pub count : w.view.count ≡ v.view.count
-  pub clear : free ≡ true → (w.own.seat.point ≡ Idle) × (w.view.state ≡ port_state.Idle)
-  pub unclear : free ≡ false → (w.own.seat.point ≡ v.own.seat.point) × (w.view.state ≡ v.view.state) × Lacks w.view.clear (own w.view)
+  pub is_clear : clear ≡ true → (w.own.seat.point ≡ Idle) × (w.view.state ≡ port_state.Idle)
+  pub unclear : clear ≡ false → (w.own.seat.point ≡ v.own.seat.point) × (w.view.state ≡ v.view.state) × Lacks w.view.clear (own w.view)
 
 -- the end that a release makes next: of the node's own request if it has passed none, else of a withdrawn one
 abbrev pub end_of : List ℕ → Bool → Payload → End
@@ -137,8 +137,8 @@ pub record KeepsPayload (v w : LinkGhost) (y : Payload) (point : Point) : Type 0
   pub line_is : w.own.line ≡ y
 
 -- a release has passed so few nodes that another one is left
-abbrev pub IsOneLeft : LinkGhost → Type 0
-IsOneLeft w = length w.own.passed + 2 ≤ w.view.config.nodes
+abbrev pub HasUnpassedNode : LinkGhost → Type 0
+HasUnpassedNode w = length w.own.passed + 2 ≤ w.view.config.nodes
 
 -- the request at its turn has ended, and the node knows it
 pub record Ended (v w : LinkGhost) (y : Payload) : Type 0 where
@@ -159,7 +159,7 @@ after_release state [] = point_by state
 after_release state (p ∷ ps) = Freeing
 
 -- the node has handed over the line: it is at home, or granted to the next request, which is not withdrawn
-pub record LeavesNode (v w : LinkGhost) (y : Payload) : Type 0 where
+pub record IsHandedOver (v w : LinkGhost) (y : Payload) : Type 0 where
   pub point : w.own.seat.point ≡ after_release (state_after y.closed) v.own.passed
   pub state : w.view.state ≡ state_after y.closed
   pub passed : w.own.passed ≡ v.own.passed
@@ -172,7 +172,7 @@ left_in [] closed = port_state.Left
 left_in (p ∷ ps) closed = state_after closed
 
 -- the node has left the line for a late linker
-pub record IsLeft (v w : LinkGhost) (y : Payload) : Type 0 where
+pub record IsLeftForLinker (v w : LinkGhost) (y : Payload) : Type 0 where
   pub point : w.own.seat.point ≡ after_release (left_in v.own.passed y.closed) v.own.passed
   pub state : w.view.state ≡ left_in v.own.passed y.closed
   pub passed : w.own.passed ≡ v.own.passed
@@ -213,7 +213,7 @@ module _ (allows : List ℕ → List ℕ → Type 0) where
   abbrev pub prepended : Step Payload → SeatContents → ℕ → SeatContents → Type 0
   prepended st m n m' = Advances allows m m' 1 × Asks (single m.0).view (single m'.0).view
       × (n ≡ 0 → IsJoined (single m'.0).view × ((y : Payload) × (m'.1 ≡ (0, y) ∷ m.1) × IsAtTurn (single m'.0) y))
-      × (n ≢ 0 → (m'.1 ≡ m.1) × LinksTo n (single m'.0))
+      × (n ≢ 0 → (m'.1 ≡ m.1) × MustLinkTo n (single m'.0))
 
   abbrev pub linked : Step Payload → SeatContents → ℕ → SeatContents → Type 0
   linked st m n m' = Advances allows m m' 1 × Links (single m.0).view (single m'.0).view
@@ -230,22 +230,22 @@ module _ (allows : List ℕ → List ℕ → Type 0) where
       × (is_granted n ≡ true → (y : Payload) × (m'.1 ≡ (0, y) ∷ m.1) × IsAtTurn (single m'.0) y)
       × (is_granted n ≡ false → (m'.1 ≡ m.1) × IsRolled (single m'.0))
 
-  abbrev pub looked : Step Payload → SeatContents → ℕ → SeatContents → Type 0
-  looked st m n m' = (m'.1 ≡ m.1) × Advances allows m m' 1 × HasLoadedNodeWord (single m.0) (is_free (single m.0).own.seat.point n) (single m'.0)
+  abbrev pub loaded_last : Step Payload → SeatContents → ℕ → SeatContents → Type 0
+  loaded_last st m n m' = (m'.1 ≡ m.1) × Advances allows m m' 1 × TellsIfClear (single m.0) (is_free (single m.0).own.seat.point n) (single m'.0)
 
   abbrev pub homed : Step Payload → SeatContents → ℕ → SeatContents → Type 0
   homed st m n m' = Advances allows m m' 1 × ((y : Payload) → m.1 ≡ (0, y) ∷ []
-      → (n ≡ st.first → (m'.1 ≡ []) × Ended (single m.0) (single m'.0) y × LeavesNode (single m.0) (single m'.0) y × (turn_word (single m'.0).view ≡ home_at))
-      × (n ≢ st.first → (m'.1 ≡ m.1) × KeepsPayload (single m.0) (single m'.0) y (Marking st.first) × IsOneLeft (single m'.0)))
+      → (n ≡ st.first → (m'.1 ≡ []) × Ended (single m.0) (single m'.0) y × IsHandedOver (single m.0) (single m'.0) y × (wake_word (single m'.0).view ≡ home_at))
+      × (n ≢ st.first → (m'.1 ≡ m.1) × KeepsPayload (single m.0) (single m'.0) y (Marking st.first) × HasUnpassedNode (single m'.0)))
 
   abbrev pub marked : Step Payload → SeatContents → ℕ → SeatContents → Type 0
   marked st m n m' = Advances allows m m' 1 × ((y : Payload) → m.1 ≡ (0, y) ∷ []
-      → (link_of n ≡ 0 → (m'.1 ≡ []) × Ended (single m.0) (single m'.0) y × IsLeft (single m.0) (single m'.0) y)
+      → (link_of n ≡ 0 → (m'.1 ≡ []) × Ended (single m.0) (single m'.0) y × IsLeftForLinker (single m.0) (single m'.0) y)
       × (link_of n ≢ 0 → (m'.1 ≡ m.1) × KeepsPayload (single m.0) (single m'.0) y (Granting (link_of n)) × IsWithin (single m'.0).view.config.nodes (link_of n)))
 
   abbrev pub granted : Step Payload → SeatContents → ℕ → SeatContents → Type 0
   granted st m n m' = Advances allows m m' 1 × ((y : Payload) → m.1 ≡ (0, y) ∷ [] → Ended (single m.0) (single m'.0) y
-      × (is_rolled n ≡ false → (m'.1 ≡ []) × LeavesNode (single m.0) (single m'.0) y × ((next : ℕ) → (single m.0).own.seat.point ≡ Granting next → turn_word (single m'.0).view ≡ entry_at next))
+      × (is_rolled n ≡ false → (m'.1 ≡ []) × IsHandedOver (single m.0) (single m'.0) y × ((next : ℕ) → (single m.0).own.seat.point ≡ Granting next → wake_word (single m'.0).view ≡ entry_at next))
       × (is_rolled n ≡ true → (m'.1 ≡ m.1) × ((next : ℕ) → (single m.0).own.seat.point ≡ Granting next → Passes (single m.0) (single m'.0) next)))
 
   abbrev pub freed : Step Payload → SeatContents → ℕ → SeatContents → Type 0

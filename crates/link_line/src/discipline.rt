@@ -35,18 +35,18 @@ impl<K: Keep> Discipline<K> for LinkQueue {
         1
     }
 
-    ghost size_for = { λ nodes. nodes };
+    ghost cell_mask_for = { λ nodes. 0 };
 
     #[inline]
-    fn size_for(nodes: u64) -> u64 {
-        nodes
+    fn cell_mask_for(_nodes: u64) -> u64 {
+        0
     }
 
     #[inline]
     fn take(
         table: &SharedTable<K>,
         seat: &mut LinkSeat,
-        _size: u64,
+        _cell_mask: u64,
         _token: u64,
         payload: &mut LocalCopy,
     ) {
@@ -57,7 +57,7 @@ impl<K: Keep> Discipline<K> for LinkQueue {
     fn put(
         table: &SharedTable<K>,
         seat: &mut LinkSeat,
-        _size: u64,
+        _cell_mask: u64,
         _token: u64,
         payload: &LocalCopy,
         closed: bool,
@@ -74,7 +74,7 @@ impl<K: Keep> Discipline<K> for LinkQueue {
     fn ask(
         table: &SharedTable<K>,
         seat: &mut LinkSeat,
-        _size: u64,
+        _cell_mask: u64,
         node: u64,
         state: PortState,
     ) -> EnqueueResult {
@@ -109,7 +109,7 @@ impl<K: Keep> Discipline<K> for LinkQueue {
     fn look(
         table: &SharedTable<K>,
         seat: &mut LinkSeat,
-        _size: u64,
+        _cell_mask: u64,
         node: u64,
         _token: u64,
     ) -> bool {
@@ -120,7 +120,7 @@ impl<K: Keep> Discipline<K> for LinkQueue {
     fn roll(
         table: &SharedTable<K>,
         seat: &mut LinkSeat,
-        _size: u64,
+        _cell_mask: u64,
         node: u64,
         _token: u64,
     ) -> bool {
@@ -131,7 +131,7 @@ impl<K: Keep> Discipline<K> for LinkQueue {
     fn release(
         table: &SharedTable<K>,
         seat: &mut LinkSeat,
-        _size: u64,
+        _cell_mask: u64,
         node: u64,
         _token: u64,
         closed: bool,
@@ -140,7 +140,7 @@ impl<K: Keep> Discipline<K> for LinkQueue {
     }
 
     #[inline]
-    fn wait_word(_table: &SharedTable<K>, _size: u64, node: u64, _token: u64) -> usize {
+    fn wait_word(_table: &SharedTable<K>, _cell_mask: u64, node: u64, _token: u64) -> usize {
         entry_word(node)
     }
 

@@ -7,11 +7,11 @@ ghost use Rattle.line_generic.specs.Steps.{HasSlot, HasNoSlot};
 ghost use Rattle.line_generic.specs.Answers.{LooksAtRest};
 ghost use Rattle.line_generic.specs.Ports.{looks_at_rest_in};
 ghost use Rattle.link_line.specs.BetweenCalls.{phases, steps_to_ask};
-ghost use Rattle.link_line.specs.Steps.{IsSeatOfNode, IsSingle, ghost_of, SeatAdvances, IsInState, IsAtTurn, LinksTo};
-ghost use Rattle.link_line.specs.Releases.{IsReset, steps_to_reset, rest_of};
+ghost use Rattle.link_line.specs.Steps.{IsSeatOfNode, IsOfOneNode, ghost_of, SeatAdvances, IsInState, IsAtTurn, MustLinkTo};
+ghost use Rattle.link_line.specs.Releases.{TriesReset, steps_to_reset, rest_of};
 
 use crate::invariant::{LinkSeat, SharedTable};
-use crate::steps::{look_left, look_rolled, prepend, reset};
+use crate::steps::{load_left, load_rolled, prepend, reset};
 use line_generic::{EnqueueResult, Enqueued, Rested};
 use qolb_model::{Keep, PortState};
 
@@ -37,7 +37,7 @@ pub(crate) fn request<K: Keep>(
         → Asks (ghost_of seat.old).view (ghost_of seat.new).view }
     ensures joined { result.answer ≡ Enqueued.AtTurn → IsJoined (ghost_of seat.new).view }
     ensures must_link { result.answer ≡ Enqueued.Queued
-        → HasNoSlot seat.new × LinksTo result.token (ghost_of seat.new) }
+        → HasNoSlot seat.new × MustLinkTo result.token (ghost_of seat.new) }
     ensures at_turn { result.answer ≡ Enqueued.AtTurn → (y : Payload) × HasSlot seat.new y
         × IsAtTurn (ghost_of seat.new) y }
     ensures steps_if_busy { result.answer ≡ Enqueued.Busy → result.steps ≡ 1 }
@@ -74,21 +74,21 @@ pub(crate) fn try_reset<K: Keep>(
     state: PortState,
 ) -> Option<u64>
     requires seat { IsSeatOfNode table.now.key.config.nodes table.now.table_id node seat.old }
-    requires is_single { IsSingle seat.old.me }
+    requires of_one_node { IsOfOneNode seat.old.me }
     requires point { (ghost_of seat.old).own.seat.point ≡ rest_of state }
     requires may_ask { states.may_ask state ≡ true }
-    ensures slot { seat.new.me.1 ≡ seat.old.me.1 }
+    ensures keeps_slot { seat.new.me.1 ≡ seat.old.me.1 }
     ensures advances { SeatAdvances K.allows seat.old seat.new (steps_to_reset result) }
-    ensures is_reset { IsReset state (ghost_of seat.old) (ghost_of seat.new) result }
+    ensures is_reset { TriesReset state (ghost_of seat.old) (ghost_of seat.new) result }
 {
     // By comparisons, rarest last: a `match` on all states would be a jump table in each round.
     let loads = if state == PortState::Left {
-        if !look_left(table, seat, node) {
+        if !load_left(table, seat, node) {
             return None;
         }
         1
     } else if state == PortState::Rolled {
-        if !look_rolled(table, seat, node) {
+        if !load_rolled(table, seat, node) {
             return None;
         }
         1
@@ -114,8 +114,8 @@ pub(crate) fn look_at_rest<K: Keep>(
     ensures steps { looks_at_rest_in state result.steps }
 {
     match state {
-        PortState::Left => rested(state, look_left(table, seat, node)),
-        PortState::Rolled => rested(state, look_rolled(table, seat, node)),
+        PortState::Left => rested(state, load_left(table, seat, node)),
+        PortState::Rolled => rested(state, load_rolled(table, seat, node)),
         _ => Rested {
             clear: true,
             state,

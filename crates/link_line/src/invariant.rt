@@ -12,7 +12,7 @@ use std::collections::LinkedList;
 ///
 /// A request is one swap of the home word, which names the newest requester. Later its node is linked: it adds its number to the
 /// predecessor's entry. A release looks at its own entry once and never waits for the link: if the link is missing, the release leaves the
-/// line there with a mark, and the late linker takes it. Between any two word steps the table shows one history of the line: an order of
+/// line there with a flag, and the late linker takes it. Between any two word steps the table shows one history of the line: an order of
 /// requests, and the ends of a prefix of them. Each port's view is a prefix of it. A port's token is the predecessor's node, to which its
 /// request is still to be linked.
 pub struct LinkQueue;
@@ -24,7 +24,7 @@ impl DisciplineSpec for LinkQueue {
 
     ghost wait_word = { between_calls.wait_word };
 
-    ghost turn_word = { between_calls.turn_word };
+    ghost wake_word = { between_calls.wake_word };
 
     ghost signals_turn = { layout.signals_turn };
 
@@ -70,5 +70,5 @@ pub(crate) type SharedTable<K> = line_generic::SharedTable<K, LinkQueue>;
 /// A seat of the table.
 pub(crate) type LinkSeat = LineSeat<LinkLocal>;
 
-/// The entries of a seat.
-pub(crate) type Entries = LinkedList<NodeGhost<LinkLocal>>;
+/// The ghost states of a seat's nodes.
+pub(crate) type NodeGhosts = LinkedList<NodeGhost<LinkLocal>>;

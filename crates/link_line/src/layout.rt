@@ -18,8 +18,8 @@ pub(crate) const DONE: u64 = 4;
 /// The flag that a release adds to the entry of a passed node.
 pub(crate) const FREED: u64 = 8;
 
-/// The number that a link adds to an entry, times its node's number. The flags are below it.
-pub(crate) const LINK: u64 = 256;
+/// The unit of an entry's link: a link adds it times its node's number. The flags are below it.
+pub(crate) const LINK_UNIT: u64 = 256;
 
 /// The home word. The entries are behind it.
 pub(crate) const HOME: usize = 0;
@@ -41,9 +41,9 @@ pub(crate) fn entry_word(node: u64) -> usize
     ENTRY_STRIDE * node as usize
 }
 
-/// Returns the entry word of a linked node, for any number. For 0 it is the home word, on which no node waits.
+/// Returns the entry word of a linked node, for any number; for 0 the home word, on which no node waits.
 #[inline]
-pub(crate) fn linked_word(node: u64) -> usize {
+pub(crate) fn entry_or_home(node: u64) -> usize {
     ENTRY_STRIDE.wrapping_mul(node as usize)
 }
 
@@ -84,5 +84,5 @@ pub(crate) fn is_freed(word: u64) -> bool
 pub(crate) fn link_of(word: u64) -> u64
     ensures { result ≡ layout.link_of word }
 {
-    word / LINK
+    word / LINK_UNIT
 }

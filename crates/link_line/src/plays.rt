@@ -1,7 +1,7 @@
 //! The ghost updates of the word steps.
-ghost use Rattle.link_line.specs.Steps.{readied, prepended, linked, loaded, looked, homed, marked, granted, rolled, freed};
+ghost use Rattle.link_line.specs.Steps.{readied, prepended, linked, loaded, loaded_last, homed, marked, granted, rolled, freed};
 
-use crate::invariant::Entries;
+use crate::invariant::NodeGhosts;
 use atomic_table::Play;
 use line_generic::Payload;
 use qolb_model::Keep;
@@ -12,7 +12,7 @@ pub(crate) struct Reset<K> {
     law: PhantomData<K>,
 }
 
-impl<K: Keep> Play<Payload, Entries> for Reset<K> {
+impl<K: Keep> Play<Payload, NodeGhosts> for Reset<K> {
     ghost then = { readied K.allows };
 }
 
@@ -21,7 +21,7 @@ pub(crate) struct Prepend<K> {
     law: PhantomData<K>,
 }
 
-impl<K: Keep> Play<Payload, Entries> for Prepend<K> {
+impl<K: Keep> Play<Payload, NodeGhosts> for Prepend<K> {
     ghost then = { prepended K.allows };
 }
 
@@ -30,7 +30,7 @@ pub(crate) struct Link<K> {
     law: PhantomData<K>,
 }
 
-impl<K: Keep> Play<Payload, Entries> for Link<K> {
+impl<K: Keep> Play<Payload, NodeGhosts> for Link<K> {
     ghost then = { linked K.allows };
 }
 
@@ -39,17 +39,17 @@ pub(crate) struct Load<K> {
     law: PhantomData<K>,
 }
 
-impl<K: Keep> Play<Payload, Entries> for Load<K> {
+impl<K: Keep> Play<Payload, NodeGhosts> for Load<K> {
     ghost then = { loaded K.allows };
 }
 
-/// Loads the node's own entry after its request has ended or was withdrawn.
-pub(crate) struct Look<K> {
+/// Loads the node's own entry after its last request has ended or was withdrawn.
+pub(crate) struct LoadLast<K> {
     law: PhantomData<K>,
 }
 
-impl<K: Keep> Play<Payload, Entries> for Look<K> {
-    ghost then = { looked K.allows };
+impl<K: Keep> Play<Payload, NodeGhosts> for LoadLast<K> {
+    ghost then = { loaded_last K.allows };
 }
 
 /// Tries to return the line to the home slot, in a release.
@@ -57,16 +57,16 @@ pub(crate) struct Home<K> {
     law: PhantomData<K>,
 }
 
-impl<K: Keep> Play<Payload, Entries> for Home<K> {
+impl<K: Keep> Play<Payload, NodeGhosts> for Home<K> {
     ghost then = { homed K.allows };
 }
 
-/// Marks the entry that a release has reached as done.
+/// Sets the done flag in the entry that a release has reached.
 pub(crate) struct Done<K> {
     law: PhantomData<K>,
 }
 
-impl<K: Keep> Play<Payload, Entries> for Done<K> {
+impl<K: Keep> Play<Payload, NodeGhosts> for Done<K> {
     ghost then = { marked K.allows };
 }
 
@@ -75,7 +75,7 @@ pub(crate) struct Grant<K> {
     law: PhantomData<K>,
 }
 
-impl<K: Keep> Play<Payload, Entries> for Grant<K> {
+impl<K: Keep> Play<Payload, NodeGhosts> for Grant<K> {
     ghost then = { granted K.allows };
 }
 
@@ -84,7 +84,7 @@ pub(crate) struct Roll<K> {
     law: PhantomData<K>,
 }
 
-impl<K: Keep> Play<Payload, Entries> for Roll<K> {
+impl<K: Keep> Play<Payload, NodeGhosts> for Roll<K> {
     ghost then = { rolled K.allows };
 }
 
@@ -93,6 +93,6 @@ pub(crate) struct FreeNode<K> {
     law: PhantomData<K>,
 }
 
-impl<K: Keep> Play<Payload, Entries> for FreeNode<K> {
+impl<K: Keep> Play<Payload, NodeGhosts> for FreeNode<K> {
     ghost then = { freed K.allows };
 }

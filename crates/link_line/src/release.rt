@@ -11,13 +11,13 @@ ghost use Rattle.link_core.specs.declared.point.Point.TheVariants.{Leaving, Free
 ghost use Rattle.line_generic.specs.declared.table.Payload.{Payload};
 ghost use Rattle.line_generic.specs.Steps.{IsSameSeat, HasSlot, HasNoSlot};
 ghost use Rattle.link_line.specs.Links.{At};
-ghost use Rattle.link_line.specs.BetweenCalls.{release_steps, turn_word};
+ghost use Rattle.link_line.specs.BetweenCalls.{release_steps, wake_word};
 ghost use Rattle.link_line.specs.Layout as layout;
-ghost use Rattle.link_line.specs.Steps.{IsSeatOf, IsAt, IsSeatOfNode, IsSized, IsSingle, ghost_of, Advances, SeatAdvances, MayHandOff};
-ghost use Rattle.link_line.specs.Releases.{AreFew, HandsOff, granted_word, NamesTurn, ReleasesLine, FinishesWalk, AreNodesAt, FreesAll};
+ghost use Rattle.link_line.specs.Steps.{IsSeatOf, IsAt, IsSeatOfNode, KnowsNodes, IsOfOneNode, ghost_of, Advances, SeatAdvances, MayHandOff};
+ghost use Rattle.link_line.specs.Releases.{HandsOff, granted_word, NamesWakeWord, ReleasesLine, FinishesWalk, AreNodesAt, FreesAll};
 
 use crate::invariant::{LinkSeat, SharedTable};
-use crate::layout::{HOME, entry_word, linked_word};
+use crate::layout::{HOME, entry_or_home, entry_word};
 use crate::steps::{done, free, grant, home};
 use arrayvec::ArrayVec;
 use line_generic::{Released, UnparkHandle};
@@ -29,10 +29,10 @@ const MAX_PASSED: usize = MAX_NODES as usize - 1;
 /// The result of one attempt to hand the line off from an entry.
 #[derive(Clone, Copy)]
 pub(crate) enum Handoff {
-    /// The line is handed on: granted to the successor, or at home if there is none.
-    HandedOn {
+    /// The line is granted to the successor, or put home if there is none.
+    HandedOver {
         /// The word of the granted entry, or `HOME`.
-        granted: usize,
+        word: usize,
         /// The node that is linked to the granted entry by now, or 0.
         behind: u64,
     },
@@ -45,14 +45,15 @@ pub(crate) enum Handoff {
 impl Handoff {
     /// Returns the words whose waiters are to be unparked, the granted node's and that of the node behind it.
     ///
-    /// `HOME`, where no node waits, unless the line was granted.
+    /// A word is `HOME` if there is nobody to unpark: both if the line was not granted, the second if no node is linked behind the granted
+    /// one.
     #[inline]
     fn unpark_handle(self) -> UnparkHandle
         ensures { result.word ≡ granted_word self }
     {
         match self {
-            Handoff::HandedOn { granted, behind } => {
-                UnparkHandle::at(granted, linked_word(behind))
+            Handoff::HandedOver { word, behind } => {
+                UnparkHandle::at(word, entry_or_home(behind))
             }
             Handoff::Left | Handoff::Passed(_) => UnparkHandle::at(HOME, HOME),
         }
@@ -72,26 +73,26 @@ pub(crate) fn release<K: Keep>(
     closed: bool,
 ) -> Released
     requires seat { IsSeatOfNode table.now.key.config.nodes table.now.table_id node seat.old }
-    requires is_single { IsSingle seat.old.me }
+    requires of_one_node { IsOfOneNode seat.old.me }
     requires none_passed { (ghost_of seat.old).own.passed ≡ [] }
     requires nodes { (1 ≤ (ghost_of seat.old).view.config.nodes)
         × ((ghost_of seat.old).view.config.nodes ≤ MAX_NODES) }
     requires payload { (y : Payload) × HasSlot seat.old y
         × MayHandOff K.allows (ghost_of seat.old) y node × (y.closed ≡ closed) }
-    ensures slot { HasNoSlot seat.new }
+    ensures no_slot { HasNoSlot seat.new }
     ensures advances { SeatAdvances K.allows seat.old seat.new result.steps }
     ensures releases { (y : Payload) → HasSlot seat.old y
         → ReleasesLine (ghost_of seat.old) y result.state (ghost_of seat.new) }
     ensures steps { release_steps (length (ghost_of seat.old).view.ends)
         (length (ghost_of seat.new).view.ends) result.steps }
     ensures unpark { result.unpark.word < layout.word_count table.now.key.config.nodes }
-    ensures wakes { result.unpark.word ≡ turn_word (ghost_of seat.new).view }
+    ensures names_wake_word { result.unpark.word ≡ wake_word (ghost_of seat.new).view }
     ensures bound { result.steps + 3 ≤ 4 * (ghost_of seat.old).view.config.nodes }
 {
     let mut steps = 0;
     let handoff = try_handoff(table, seat, &mut steps, node);
     match handoff {
-        Handoff::HandedOn { .. } => Released {
+        Handoff::HandedOver { .. } => Released {
             state: state_after(closed),
             steps,
             unpark: handoff.unpark_handle(),
@@ -105,61 +106,62 @@ pub(crate) fn release<K: Keep>(
     }
 }
 
-/// Tries to hand the line to the successor of node `at`.
+/// Tries to hand the line to the successor of node `from`.
 ///
-/// If there is none, the line returns to the home slot. If the successor has not linked yet, the line is left in `at`'s entry. A withdrawn
+/// If there is none, the line is put home. If the successor has not linked yet, the line is left in `from`'s entry. A withdrawn
 /// successor is passed, and the caller goes on from it. One to three word steps, added to `steps`.
 #[inline]
 fn try_handoff<K: Keep>(
     table: &SharedTable<K>,
     seat: &mut LinkSeat,
     steps: &mut u64,
-    at: u64,
+    from: u64,
 ) -> Handoff
     requires table { IsSeatOf table.now.key.config.nodes table.now.table_id seat.old }
-    requires is_single { IsSingle seat.old.me }
-    requires in_range { layout.IsWithin table.now.key.config.nodes at }
-    requires size { IsSized table.now.key.config.nodes seat.old }
-    requires no_overflow { AreFew steps.old }
+    requires of_one_node { IsOfOneNode seat.old.me }
+    requires in_range { layout.IsWithin table.now.key.config.nodes from }
+    requires knows_nodes { KnowsNodes table.now.key.config.nodes seat.old }
+    requires no_overflow { steps.old ≤ 4 * MAX_NODES }
     requires payload { (y : Payload) × HasSlot seat.old y
-        × MayHandOff K.allows (ghost_of seat.old) y at }
+        × MayHandOff K.allows (ghost_of seat.old) y from }
     ensures seat { IsSameSeat seat.old seat.new }
     ensures outcome { (n : ℕ) × (steps.new ≡ steps.old + n)
         × Advances K.allows seat.old.me seat.new.me n
         × ((y : Payload) → HasSlot seat.old y → HandsOff seat.old y seat.new n result) }
     ensures within { granted_word result < layout.word_count table.now.key.config.nodes }
-    ensures wakes { NamesTurn (ghost_of seat.new) result }
+    ensures names_wake_word { NamesWakeWord (ghost_of seat.new) result }
 {
-    // No look at the link first, though it would save the step of `home` where there is a successor: if `home` fails there is one, so a
-    // missing link is only late. The late linker takes the line as it links, and no release waits for a link.
+    // `home` is the first step: if it fails there is a successor, so that a missing link is only late, and `done` may leave the line to the
+    // late linker. Loading the link first, as MCS does, would save a step if a successor has linked (two, not three) and cost one if there
+    // is none (two, not one).
     *steps += 1;
-    if home(table, seat, at) {
-        return Handoff::HandedOn {
-            granted: HOME,
+    if home(table, seat, from) {
+        return Handoff::HandedOver {
+            word: HOME,
             behind: 0,
         };
     }
     *steps += 1;
-    let next = done(table, seat, at);
+    let next = done(table, seat, from);
     if next == 0 {
         return Handoff::Left;
     }
     *steps += 1;
     let mut behind = 0;
     if grant(table, seat, &mut behind, next) {
-        Handoff::Passed(next)
-    } else {
-        Handoff::HandedOn {
-            granted: entry_word(next),
+        Handoff::HandedOver {
+            word: entry_word(next),
             behind,
         }
+    } else {
+        Handoff::Passed(next)
     }
 }
 
-/// Hands the line on from the passed node `first`, past each withdrawn request, and then frees all passed nodes.
+/// Hands the line on from the passed node `first`, past the withdrawn requests directly behind it, and then frees all passed nodes.
 ///
-/// `steps` are the word steps before the walk; the result counts them, too. The port is never `Left` after it: a walk can leave the line
-/// only in the entry of a passed node, never in its own.
+/// `steps` are the word steps of the first attempt; the result counts them, too. The port is never `Left` after it: a walk can leave the
+/// line only in the entry of a passed node, never in its own.
 ///
 /// Cold and not inlined: it has an array of the passed nodes, which a release without withdrawn successors should not set up.
 #[cold]
@@ -172,7 +174,7 @@ fn walk<K: Keep>(
     first: u64,
 ) -> Released
     requires table { IsSeatOf table.now.key.config.nodes table.now.table_id seat.old }
-    requires phase { IsAt (Leaving first) seat.old }
+    requires point { IsAt (Leaving first) seat.old }
     requires in_range { layout.IsWithin table.now.key.config.nodes first }
     requires passed { (ghost_of seat.old).own.passed ≡ length (ghost_of seat.old).view.ends ∷ [] }
     requires others { AreOfOthers (ghost_of seat.old).view.node (ghost_of seat.old).view.order
@@ -181,13 +183,13 @@ fn walk<K: Keep>(
         (length (ghost_of seat.old).view.ends) r × (r.node ≡ first) }
     requires nodes { (2 ≤ (ghost_of seat.old).view.config.nodes)
         × ((ghost_of seat.old).view.config.nodes ≤ MAX_NODES) }
-    requires size { IsSized table.now.key.config.nodes seat.old }
-    requires no_overflow { steps ≤ 6 }
+    requires knows_nodes { KnowsNodes table.now.key.config.nodes seat.old }
+    requires first_attempt { steps ≤ 3 }
     requires payload { HasSlot seat.old (ghost_of seat.old).own.line }
     requires state { (ghost_of seat.old).view.state ≡ states.state_after
         (ghost_of seat.old).own.line.closed }
     ensures seat { IsSameSeat seat.old seat.new }
-    ensures slot { HasNoSlot seat.new }
+    ensures no_slot { HasNoSlot seat.new }
     ensures advances { (n : ℕ) × (result.steps ≡ steps + n)
         × Advances K.allows seat.old.me seat.new.me n }
     ensures finishes_walk { FinishesWalk (ghost_of seat.old) (ghost_of seat.new) }
@@ -198,7 +200,7 @@ fn walk<K: Keep>(
         × (n + 4 * length (ghost_of seat.old).view.ends
         ≤ 4 * length (ghost_of seat.new).view.ends) }
     ensures within { result.unpark.word < layout.word_count table.now.key.config.nodes }
-    ensures wakes { result.unpark.word ≡ turn_word (ghost_of seat.new).view }
+    ensures names_wake_word { result.unpark.word ≡ wake_word (ghost_of seat.new).view }
     ensures bound { result.steps + 6 ≤ steps + 4 * (ghost_of seat.old).view.config.nodes }
 {
     let mut steps = steps;
@@ -208,7 +210,7 @@ fn walk<K: Keep>(
         passed.push(node);
         handoff = try_handoff(table, seat, &mut steps, node);
     }
-    // Freed only now: a freed node may ask again, and a walk that passed it twice would have no bound.
+    // Freed only now: a freed node may become clear and request again, so a walk that freed early might pass it again and again.
     free_passed(table, seat, &passed);
     Released {
         state: state_after(closed),
@@ -220,12 +222,12 @@ fn walk<K: Keep>(
 /// Frees the nodes of all passed requests, in their order. One word step for each.
 fn free_passed<K: Keep>(table: &SharedTable<K>, seat: &mut LinkSeat, nodes: &[u64])
     requires table { IsSeatOf table.now.key.config.nodes table.now.table_id seat.old }
-    requires phase { IsAt Freeing seat.old }
-    requires size { IsSized table.now.key.config.nodes seat.old }
+    requires point { IsAt Freeing seat.old }
+    requires knows_nodes { KnowsNodes table.now.key.config.nodes seat.old }
     requires not_empty { (ghost_of seat.old).own.passed ≢ [] }
     requires same_length { length nodes.now ≡ length (ghost_of seat.old).own.passed }
     requires nodes { AreNodesAt (ghost_of seat.old).view (ghost_of seat.old).own.passed nodes.now }
-    ensures slot { seat.new.me.1 ≡ seat.old.me.1 }
+    ensures keeps_slot { seat.new.me.1 ≡ seat.old.me.1 }
     ensures advances { SeatAdvances K.allows seat.old seat.new (length nodes.now) }
     ensures frees { FreesAll (ghost_of seat.old) (ghost_of seat.new) }
 {
@@ -234,9 +236,9 @@ fn free_passed<K: Keep>(table: &SharedTable<K>, seat: &mut LinkSeat, nodes: &[u6
     }
 }
 
-/// Returns the state of a port that did not leave the line in its own entry: `Shut` if the line is closed, else `Idle`.
+/// Returns the state after a release that did not leave the line in the node's own entry: `Shut` if the line is closed, else `Idle`.
 ///
-/// The line is closed by this turn or an earlier one.
+/// `closed`: the line is closed, by this turn or an earlier one.
 #[inline]
 fn state_after(closed: bool) -> PortState
     ensures { result ≡ states.state_after closed }

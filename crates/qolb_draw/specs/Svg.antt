@@ -1,5 +1,5 @@
 -- The timeline of a schedule as an SVG. (Of this project.)
-use Rattle.std.specs.Prelude.{ℕ, ◌+◌, ◌/◌, max, List, ◌++◌, length, fold, flat_map, sum_by, codes}
+use Rattle.std.specs.Prelude.{ℕ, ◌+◌, max, List, ◌++◌, length, fold, flat_map, sum_by, codes}
 use Rattle.std.specs.List.{range_with_len}
 use Rattle.qolb_script.specs.Script.{Script}
 use Rattle.qolb_shapes.specs.declared.svg.TheConstants.{LEGEND, TAIL}

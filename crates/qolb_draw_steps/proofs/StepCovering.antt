@@ -1,7 +1,6 @@
 -- The bars of a step script's picture, over the points of its nodes.
-use Rattle.std.proofs.Common.{◌≡◌, ◌≢◌, ℕ, zero, suc, ◌+◌, ◌*◌, ◌<◌, ◌≤◌, ◌==◌, ◌&&◌, ◌||◌, cond, Bool, true, false, List, [], ◌∷◌, ◌++◌, length, map, drop, take, flat_map, slice_get, Option, Some, None, refl, sym, ap, ◌∙◌, subst, arith, append-nil, add-one, eqb-true, eq-eqb, get_or, get_or-set_other}
-use Rattle.std.specs.List.{list_any, range_with_len}
-use Rattle.std.proofs.lemmas.Bool.Decides.{nat_tests}
+use Rattle.std.proofs.Common.{◌≡◌, ◌≢◌, ℕ, zero, suc, ◌+◌, ◌*◌, ◌<◌, ◌≤◌, ◌==◌, ◌&&◌, ◌||◌, cond, Bool, true, false, List, [], ◌∷◌, ◌++◌, length, map, drop, flat_map, slice_get, Some, None, refl, sym, ap, ◌∙◌, subst, arith, append-nil, add-one, eqb-true, eq-eqb, get_or, get_or-set_other}
+use Rattle.std.specs.List.{range_with_len}
 use Rattle.std.proofs.lemmas.Grind.{flat_map-append}
 use Rattle.std.proofs.lemmas.Option.{slice_get_within, same_Some}
 use Rattle.link_core.specs.declared.entry.Entry.{Entry}
@@ -14,10 +13,9 @@ use Rattle.link_core.specs.State.{empty, entry, first, point, unused}
 use Rattle.link_core.specs.Steps.{Step, closed_by, node_of}
 use Rattle.link_core.specs.Steps as row
 use Rattle.qolb_replay.specs.StepRuns.{line_of}
-use Rattle.qolb_script.specs.StepScript.{StepScript}
 use Rattle.qolb_shapes.specs.declared.svg.TheConstants.{NAMED_EVERY}
 use Rattle.qolb_draw_steps.specs.StepLaws.{BarsCoverPoints, has_acted, point_over, points_over}
-use Rattle.qolb_draw_steps.specs.StepShapes.{StepShape, Lane, Name, Number, At, Lies, Home, Word, Act, Seen, Watches, nothing, made, refused, entries_of, event_shapes, home_shapes, is_same_entry, lane_shapes, rows_shapes, seen_shapes, step_timeline, until, word_shapes, words_shapes}
+use Rattle.qolb_draw_steps.specs.StepShapes.{StepShape, Name, Number, At, Lies, Home, Word, Act, Seen, Watches, nothing, made, refused, entries_of, event_shapes, home_shapes, is_same_entry, lane_shapes, rows_shapes, seen_shapes, until, word_shapes, words_shapes}
 use Rattle.qolb_shapes.specs.Shapes.{name_count}
 use Rattle.qolb_shapes.proofs.Bars.{and_false, is_over, no_more, not_yet, over}
 use Rattle.qolb_shapes.proofs.Bars.{or_none}

@@ -1,5 +1,5 @@
 -- The shapes of a step script's picture lie within it.
-use Rattle.std.proofs.Common.{◌≡◌, ℕ, ◌+◌, ◌-◌, ◌*◌, ◌/◌, ◌<◌, ◌≤◌, ◌==◌, cond, min, max, Bool, true, false, List, [], ◌∷◌, ◌++◌, length, map, drop, flat_map, get_or, Option, Some, None, refl, sym, ap, ◌∙◌, subst, arith, All}
+use Rattle.std.proofs.Common.{◌≡◌, ℕ, ◌+◌, ◌*◌, ◌<◌, ◌≤◌, ◌==◌, cond, true, false, List, [], ◌∷◌, ◌++◌, length, map, flat_map, get_or, Some, None, refl, sym, ◌∙◌, subst, arith, All}
 use Rattle.std.specs.List.{range_with_len}
 use Rattle.std.proofs.lemmas.List.Elements.{All-append, All-cons, All-head, All-map, All-nil, All-push, All-tail, All-weaker}
 use Rattle.std.proofs.lemmas.List.FromFn.{get_or-range_with_len, length-map-range_with_len, length-range_with_len}
@@ -7,16 +7,13 @@ use Rattle.link_core.specs.declared.entry.Entry.{Entry}
 use Rattle.link_core.specs.declared.event.Event.{Event}
 use Rattle.link_core.specs.declared.place.Place.{Place}
 use Rattle.link_core.specs.declared.state.State.{State}
-use Rattle.link_core.specs.Places.{requester_at}
 use Rattle.link_core.specs.Promise.{IsSound}
 use Rattle.link_core.specs.Shown.{Lies, at_home, in_hand, granted, left}
 use Rattle.link_core.specs.State.{IsNode, empty, entry, first, point}
 use Rattle.link_core.specs.Steps.{Names, node_of}
 use Rattle.link_core.proofs.Sound.{names, step_sizes}
 use Rattle.link_core.proofs.Steady.{first_sound, step_sound}
-use Rattle.qolb_model.specs.declared.config.TheConstants.{MAX_NODES}
 use Rattle.qolb_replay.specs.StepRuns.{line_of}
-use Rattle.qolb_script.specs.StepScript.{IsOfItsNodes, StepScript}
 use Rattle.qolb_shapes.specs.declared.svg.TheConstants.{NAMED_EVERY}
 use Rattle.qolb_draw_steps.specs.StepLaws.{IsWithinSteps, StepShapesLieWithin, step_foot_of, step_right_of}
 use Rattle.qolb_draw_steps.specs.StepShapes.{StepShape, Lane, Name, Number, At, Home, Word, Act, Seen, Watches, nothing, made, refused, entries_of, event_shapes, home_shapes, is_same_entry, lane_shapes, rows_shapes, seen_shapes, step_timeline, until, word_shapes, words_shapes}

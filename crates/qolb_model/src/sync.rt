@@ -25,13 +25,19 @@ use std::alloc::Global;
 /// A FIFO queue lock that hands 64 bytes from holder to holder.
 ///
 /// Each node calls it through its own port. `enqolb` and `deqolb` are QOLB's (Scalable Coherent Interface, IEEE 1596; as QOSB by Goodman,
-/// Vernon and Woest 1989); withdrawal, closing and leases are this project's. `K` says which bytes the line may have and which changes a
-/// turn may make. Each call promises one record of `specs/Calls` about the port's view before and after it, with a field for each answer.
+/// Vernon and Woest 1989); the call that withdraws (after SCI's rollout), closing and leases are this project's. `K` says which bytes the
+/// line may have and which changes a turn may make. `enqolb`, `poll`, `withdraw`, `is_clear`, `deqolb`, `shut` and `meet` promise one
+/// record of `specs/Calls` each, about the views before and after the call, with a field for each answer. A node is a participant, not a
+/// queue node in the sense of MCS.
 ///
 /// A word step is one atomic operation on a word that nodes share, sequentially consistent in all locks. Calls are wait-free: one takes at
-/// most `max_steps` of them, whatever other nodes do meanwhile: a constant number, but for a release, and for a call that finds the line
-/// closed and releases it. These take two to four for each withdrawn request that they pass. Only `finish` allocates. No lock can park in a
-/// call, as it is given no `Wait`; a wrapper that keeps one may park in `poll`. A call changes no port but its arguments.
+/// most `max_steps` of them, whatever other nodes do meanwhile. A call that releases the line (`deqolb`, `shut`, or one that answers
+/// `Closed`) takes, beyond a constant, two to four steps for each withdrawn request that it passes, by the lock. All others have a constant
+/// bound. Only `finish` allocates. No call parks: parking takes a `Wait`, which no call has as an argument. A wrapper that keeps a `Wait`
+/// may park in its `poll`, which is then not wait-free. A call changes no port but its arguments.
+///
+/// A request is at its turn once all before it have ended. To free a node is to promise that the release which passed the node's withdrawn
+/// request uses the node's word no more. The request is then clear, unless another node has still to use that word.
 pub trait LineSync<K: Keep> {
     /// A node's handle of the line.
     type Port;
@@ -51,7 +57,7 @@ pub trait LineSync<K: Keep> {
     /// `call_steps line call before after n`: the call may take `n` word steps, by the port's views before and after it.
     ghost call_steps: { Self → Call → View → View → ℕ → Type 0 };
 
-    /// The maximum of word steps of one call of a port, whatever other nodes do meanwhile.
+    /// The maximum number of word steps of one call of a port, whatever other nodes do meanwhile.
     ghost max_steps: { Self → ℕ };
 
     /// The port was opened with the line.
@@ -80,7 +86,8 @@ pub trait LineSync<K: Keep> {
         ensures state { result ≡ (view port.now).state }
         ensures allowed { allowed_states result };
 
-    /// Returns `true` if the port's label is the line's. Two lines may have one label, so this is weaker than `belongs`.
+    /// Returns `true` if the port has the line's label. Two lines may have one label, so this is weaker than `belongs`. Does not say who
+    /// holds.
     fn owns(&self, port: &Self::Port) -> bool
         ensures { IsTrue result ↔ ((view port.now).label ≡ label_of self.now) };
 
@@ -90,7 +97,8 @@ pub trait LineSync<K: Keep> {
         ensures bytes { result.now ≡ (turn port.now).bytes }
         ensures turn { IsTurn (view port.now) (turn port.now) };
 
-    /// Returns the number of turns left, counting the current one: at least 1. `None` if the line has no lease, a limit of its turns.
+    /// Returns the number of turns left, counting the current one: at least 1. An end as served uses up a turn. `None` if the line has no lease
+    /// (a limit on the number of its turns).
     fn turns_left(&self, port: &Self::Port) -> Option<u64>
         requires belongs { belongs self.now port.now }
         requires state { (view port.now).state ≡ PortState.Holding }
@@ -105,7 +113,8 @@ pub trait LineSync<K: Keep> {
         ensures counters { counters port.new ≡ counters port.old }
         ensures belongs { (line : Self) → belongs line port.old → belongs line port.new };
 
-    /// Requests the line, and answers at once: granted, queued or closed. `Busy`: no request was made, as the node's last is not clear (`is_clear`).
+    /// Requests the line, and answers at once: granted, queued or closed. `Busy`: no request was made, as the node's last is not clear
+    /// (`is_clear`).
     ///
     /// `Closed`: the request was at its turn on a closed line, and this call has released the line for the next node.
     fn enqolb(&self, port: &mut Self::Port) -> Enq
@@ -117,7 +126,7 @@ pub trait LineSync<K: Keep> {
         ensures counts { Counts (call_steps self.now) (max_steps self.now) (call.asks result)
             (view port.old) (view port.new) (counters port.old) (counters port.new) };
 
-    /// Polls the request. If it is at its turn, the port takes the line and holds it.
+    /// Polls the request. If it is at its turn and the line is not closed, the port takes the line and holds it.
     ///
     /// `Closed`: the request was at its turn on a closed line, and this call has released the line for the next node.
     fn poll(&self, port: &mut Self::Port) -> Poll
@@ -128,10 +137,10 @@ pub trait LineSync<K: Keep> {
         ensures counts { Counts (call_steps self.now) (max_steps self.now) (call.polls result)
             (view port.old) (view port.new) (counters port.old) (counters port.new) };
 
-    /// Withdraws the request. If it is at its turn, the port takes the line and holds it instead.
+    /// Withdraws the request. If it is at its turn and the line is not closed, the port takes the line and holds it instead.
     ///
     /// `Closed`: the request was at its turn on a closed line, and this call has released the line for the next node. A withdrawn request
-    /// stays unclear at least until a release has passed it and freed the node's word.
+    /// is not clear before a release has passed it and freed its node; it may become clear later still.
     fn withdraw(&self, port: &mut Self::Port) -> Out
         requires belongs { belongs self.now port.old }
         requires state { (view port.old).state ≡ PortState.Queued }
@@ -143,7 +152,8 @@ pub trait LineSync<K: Keep> {
 
     /// Returns `true` if the port's last request is clear, so that the next is not answered `Busy`. Makes no request.
     ///
-    /// A request is clear once no other node uses its node's word. At most one word step; the port's view records what the look found.
+    /// A request is clear once no other node will use, because of it, the word that belongs to its node. At most one word step; the port's
+    /// view records what the look found.
     fn is_clear(&self, port: &mut Self::Port) -> bool
         requires belongs { belongs self.now port.old }
         requires state { IsTrue (may_ask (view port.old).state) }
@@ -153,7 +163,8 @@ pub trait LineSync<K: Keep> {
             (call.looks_if_clear result) (view port.old) (view port.new) (counters port.old)
             (counters port.new) };
 
-    /// Ends the holder's request as served and releases the line. If this turn is the lease's last, the line closes, as by `shut`.
+    /// Ends the holder's request as served and releases the line. The turn's change must be one that `K` allows. If this turn is the
+    /// lease's last, the line closes, as by `shut`.
     fn deqolb(&self, port: &mut Self::Port)
         requires belongs { belongs self.now port.old }
         requires state { (view port.old).state ≡ PortState.Holding }
@@ -163,7 +174,8 @@ pub trait LineSync<K: Keep> {
         ensures counts { Counts (call_steps self.now) (max_steps self.now) call.releases
             (view port.old) (view port.new) (counters port.old) (counters port.new) };
 
-    /// Ends the holder's request as served and releases the line closed: no request behind it is served, not even one queued now.
+    /// Ends the holder's request as served and releases the line closed: no request behind it is served, not even one that is already
+    /// queued.
     fn shut(&self, port: &mut Self::Port)
         requires belongs { belongs self.now port.old }
         requires state { (view port.old).state ≡ PortState.Holding }
@@ -175,7 +187,7 @@ pub trait LineSync<K: Keep> {
 
     /// Merges the views of two ports, and proves that at most one of them holds. For proofs: it returns nothing.
     ///
-    /// It costs one load, which `steps` does not count: there the proof reads the invariant.
+    /// It costs one load, which `counters` does not count: at that load the proof opens the invariant.
     fn meet(&self, a: &mut Self::Port, b: &mut Self::Port)
         requires belongs_a { belongs self.now a.old }
         requires belongs_b { belongs self.now b.old }
@@ -189,8 +201,9 @@ pub trait LineSync<K: Keep> {
 
     /// Finishes the line and returns its bytes, given the ports of all its nodes in any order.
     ///
-    /// A port with this line's label must be this line's. Refused if a node has an open request or holds the line, if its port is missing, if a
-    /// port is of another line, or if an allocation fails. A refusal returns its cause, the line, and the ports in the order given.
+    /// Refused if a node waits or holds the line, if any node's port is missing, if a port has another label, or if an allocation fails. A
+    /// port of another line with this line's label must not be given. A refusal returns its cause, the line, and the ports in the order
+    /// given.
     fn finish(
         self,
         alloc: Global,

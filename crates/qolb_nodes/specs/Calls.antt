@@ -23,7 +23,7 @@ use Rattle.qolb_nodes.specs.declared.any_node.AnyNode.{AnyNode}
 use Rattle.qolb_nodes.specs.declared.any_node.AnyNode.TheVariants as kind
 use Rattle.qolb_nodes.specs.Answers.{enq_told, poll_told, out_told, prep_told, clear_told}
 use Rattle.qolb_nodes.specs.Nodes.{anything, IsOneCall, PollsWithin, turns_number, with_lane, with_added}
-use Rattle.qolb_nodes.specs.Waits.{wait_word_of, turn_word_of, went_to_of}
+use Rattle.qolb_nodes.specs.Waits.{wait_word_of, wake_word_of, went_to_of}
 
 -- the view of the node's port
 abbrev pub view_of : AnyNode → View
@@ -61,7 +61,7 @@ state_of node = (view_of node).state
 
 -- the node has released, and has noted the word of the node at its turn, as its view has it
 abbrev pub NamesNext : AnyNode → Type 0
-NamesNext node = Names (turn_word_of node (view_of node)) (went_to_of node)
+NamesNext node = Names (wake_word_of node (view_of node)) (went_to_of node)
 
 -- two nodes are of one line
 abbrev pub AreOfOneLine : AnyNode → AnyNode → Type 0
@@ -152,4 +152,4 @@ pub record TellsTurns (node : AnyNode) (n : ℕ) : Type 0 where
 -- the word on which the node waits; if it holds, the word of its turn, as any port has it that sees the turn
 pub record TellsWord (node : AnyNode) (n : ℕ) : Type 0 where
   pub word : n ≡ wait_word_of node
-  pub turn : state_of node ≡ Holding → (u : View) → SeesTurn u (view_of node) → n ≡ turn_word_of node u
+  pub turn : state_of node ≡ Holding → (u : View) → SeesTurn u (view_of node) → n ≡ wake_word_of node u

@@ -70,17 +70,17 @@ module _ {L : Type 0} where
 
   -- the word of the node's turn, as any port has it that sees the turn
   abbrev pub IsTurnWord : (View → ℕ) → NodeOf L PortModel → ℕ → Type 0
-  IsTurnWord turn_word node word = (u : View) → SeesTurn u node.port.view → word ≡ turn_word u
+  IsTurnWord wake_word node word = (u : View) → SeesTurn u node.port.view → word ≡ wake_word u
 
   -- the node has released, and has noted the word of the node at its turn, as its view has it
   abbrev pub NamesNext : (View → ℕ) → NodeOf L PortModel → Type 0
-  NamesNext turn_word node = Names (turn_word node.port.view) node.port.went_to
+  NamesNext wake_word node = Names (wake_word node.port.view) node.port.went_to
 
   -- `wait`: it polls as often as it may while its request waits. If the line is closed, the node has forwarded it, and has noted the next word.
   abbrev pub Waits : (View → ℕ) → ℕ → NodeOf L PortModel → NodeOf L PortModel → Answer → Type 0
-  Waits turn_word polls was now a =
+  Waits wake_word polls was now a =
       (made : Poll) × (a ≡ poll_told made) × line.Polls anything was.port.view now.port.view now.port.turn made
-      × PollsWithin polls was.port.counters.poll_count now.port.counters.poll_count made × (made ≡ poll.Closed → NamesNext turn_word now)
+      × PollsWithin polls was.port.counters.poll_count now.port.counters.poll_count made × (made ≡ poll.Closed → NamesNext wake_word now)
 
   -- `write` and `write_lane`
   abbrev pub Writes : ℕ → List ℕ → NodeOf L PortModel → NodeOf L PortModel → Answer → Type 0
@@ -102,13 +102,13 @@ module _ {K Q O W N : Type 0} {q : discipline.Ghosts Q K O} {w : wake.Ghosts W N
   abbrev pub Enqolbs : spec.Ghosts Q O → Node q w → Node q w → Answer → Type 0
   Enqolbs d was now a =
       (made : Enq) × (a ≡ enq_told made) × line.Enqueues anything was.port.view now.port.view now.port.turn made
-      × CallsOnce d.max_steps was now × (made ≡ enq.Closed → NamesNext d.turn_word now)
+      × CallsOnce d.max_steps was now × (made ≡ enq.Closed → NamesNext d.wake_word now)
 
   -- `withdraw`
   abbrev pub Withdraws : spec.Ghosts Q O → Node q w → Node q w → Answer → Type 0
   Withdraws d was now a =
       (made : Out) × (a ≡ out_told made) × line.Withdraws anything was.port.view now.port.view now.port.turn made
-      × CallsOnce d.max_steps was now × (made ≡ out.Closed → NamesNext d.turn_word now)
+      × CallsOnce d.max_steps was now × (made ≡ out.Closed → NamesNext d.wake_word now)
 
   -- `is_clear`
   abbrev pub LooksIfClear : spec.Ghosts Q O → Node q w → Node q w → Answer → Type 0
@@ -119,15 +119,15 @@ module _ {K Q O W N : Type 0} {q : discipline.Ghosts Q K O} {w : wake.Ghosts W N
   abbrev pub Releases : spec.Ghosts Q O → Bool → Node q w → Node q w → Answer → Type 0
   Releases d shut was now a =
       (a ≡ answer.Done) × line.Releases anything shut was.port.view now.port.view was.port.turn
-      × CallsOnce d.max_steps was now × NamesNext d.turn_word now
+      × CallsOnce d.max_steps was now × NamesNext d.wake_word now
 
   -- `prepend` and `link`, of a list
   abbrev pub Prepends : Node q w → Node q w → Answer → Type 0
   Prepends was now a =
       (made : Prep) × (a ≡ prep_told made) × line.Prepends anything was.port.view now.port.view now.port.turn made
-      × CallsOnce list.max_steps was now × (made ≡ prep.Closed → NamesNext list.turn_word now)
+      × CallsOnce list.max_steps was now × (made ≡ prep.Closed → NamesNext list.wake_word now)
 
   abbrev pub LinksUp : Node q w → Node q w → Answer → Type 0
   LinksUp was now a =
       (made : Enq) × (a ≡ enq_told made) × line.LinksUp anything was.port.view now.port.view now.port.turn made
-      × CallsOnce list.max_steps was now × (made ≡ enq.Closed → NamesNext list.turn_word now)
+      × CallsOnce list.max_steps was now × (made ≡ enq.Closed → NamesNext list.wake_word now)

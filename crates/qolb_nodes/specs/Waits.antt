@@ -21,10 +21,10 @@ wait_word_of (kind.List node) = list.wait_word node.port.view.config.nodes node.
 wait_word_of (kind.Ticket node) = array.wait_word cells_for node.port.view.config.nodes node.port.view.node node.port.token
 
 -- the word on which the node at its turn waits, on a line of the node's kind, by a port's view
-abbrev pub turn_word_of : AnyNode → View → ℕ
-turn_word_of (kind.Ring node) view = array.turn_word cell_of (λ _. CELLS) view
-turn_word_of (kind.List node) view = list.turn_word view
-turn_word_of (kind.Ticket node) view = array.turn_word ticket_of cells_for view
+abbrev pub wake_word_of : AnyNode → View → ℕ
+wake_word_of (kind.Ring node) view = array.wake_word cell_of (λ _. CELLS) view
+wake_word_of (kind.List node) view = list.wake_word view
+wake_word_of (kind.Ticket node) view = array.wake_word ticket_of cells_for view
 
 -- the word that the node noted at its last release
 abbrev pub went_to_of : AnyNode → Option ℕ

@@ -156,7 +156,7 @@ impl<Q: Discipline<Free>> Node<LineFor<Q>> {
         ensures some { Holds self.now → 1 ≤ result.turns_left }
         ensures none { ¬ Holds self.now → result.turns_left ≡ 0 }
         ensures word { result.wait_word ≡ word_of Q.wait_word self.now }
-        ensures turn { Holds self.now → IsTurnWord Q.turn_word self.now result.wait_word }
+        ensures turn { Holds self.now → IsTurnWord Q.wake_word self.now result.wait_word }
         ensures went_to { self.now.port.went_to ≡ Some result.went_to }
     {
         Shown {
@@ -192,7 +192,7 @@ impl<Q: Discipline<Free>> Node<LineFor<Q>> {
     pub fn wait(&mut self, polls: u64) -> Answer
         ensures line { self.new.line ≡ self.old.line }
         ensures misuse { ¬ MayPoll polls self.old → IsMisuse self.old self.new result }
-        ensures does { MayPoll polls self.old → Waits Q.turn_word polls self.old self.new result }
+        ensures does { MayPoll polls self.old → Waits Q.wake_word polls self.old self.new result }
     {
         if polls == 0 || self.state() != PortState::Queued {
             return Answer::Misuse;
@@ -256,7 +256,7 @@ impl<Q: Discipline<Free>> Node<LineFor<Q>> {
     /// If the node holds, this is the word on which it was granted.
     fn wait_word(&self) -> u64
         ensures word { result ≡ word_of Q.wait_word self.now }
-        ensures turn { Holds self.now → IsTurnWord Q.turn_word self.now result }
+        ensures turn { Holds self.now → IsTurnWord Q.wake_word self.now result }
     {
         self.line.wait_word(&self.port) as u64
     }
@@ -317,7 +317,7 @@ fn poll_on<Q: Discipline<Free>>(
     ensures polls { Polls anything port.old.view port.new.view port.new.turn result }
     ensures within { PollsWithin polls port.old.counters.poll_count
         port.new.counters.poll_count result }
-    ensures went_to { result ≡ Poll.Closed → Names (Q.turn_word port.new.view) port.new.went_to }
+    ensures went_to { result ≡ Poll.Closed → Names (Q.wake_word port.new.view) port.new.went_to }
 {
     for _look in 1..polls {
         match line.poll(port) {

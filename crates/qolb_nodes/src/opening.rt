@@ -21,7 +21,7 @@ const RING: u32 = 0;
 const LIST: u32 = 1;
 
 /// C's number for a ticket line.
-const TICKET: u32 = 2;
+const TICKET_WORD: u32 = 2;
 
 /// Opens a line of this kind, and puts its nodes into the first of the handles.
 pub fn open(alloc: Global, kind: u32, label: u64, config: LineConfig, out: &mut [Handle]) -> Answer
@@ -29,7 +29,7 @@ pub fn open(alloc: Global, kind: u32, label: u64, config: LineConfig, out: &mut 
     ensures unchanged { result ≢ Answer.Done → held_by out.new ≡ held_by out.old }
     ensures why { result ≢ Answer.Done → WhyRefused kind config out.old result }
 {
-    if kind != RING && kind != LIST && kind != TICKET {
+    if kind != RING && kind != LIST && kind != TICKET_WORD {
         return Answer::BadKind;
     }
     if let Err(error) = config.check() {
@@ -60,7 +60,7 @@ pub fn memory(kind: u32, nodes: u64) -> u64
     match kind {
         RING => Lines::Ring.bytes_for(nodes),
         LIST => Lines::Link.bytes_for(nodes),
-        TICKET => Lines::Ticket.bytes_for(nodes),
+        TICKET_WORD => Lines::Ticket.bytes_for(nodes),
         _ => 0,
     }
 }

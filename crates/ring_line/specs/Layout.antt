@@ -2,11 +2,11 @@
 use Rattle.std.specs.Prelude.{ℕ, ◌/◌, List, Bool, not, ◌==◌}
 use Rattle.line_cells.specs.declared.layout.TheConstants.{CELLS}
 use Rattle.line_cells.specs.Layout as array
-use Rattle.ring_line.specs.declared.layout.TheConstants.{WITHDRAWN}
+use Rattle.ring_line.specs.declared.layout.TheConstants.{WITHDRAWN_UNIT}
 
 -- the node that withdrew at a cell with this word
 abbrev pub withdrawn_by : ℕ → ℕ
-withdrawn_by word = word / WITHDRAWN
+withdrawn_by word = word / WITHDRAWN_UNIT
 
 -- a node that waits at a cell with this lower half finds its turn, with any token
 abbrev pub signals_turn : ℕ → ℕ → Bool

@@ -5,14 +5,14 @@ use Rattle.line_cells.specs.declared.layout.TheConstants.{CELLS}
 use Rattle.ring_line.specs.Layout.{cell_of}
 use Rattle.line_cells.specs.SlotLayout.{one_slot}
 use Rattle.line_cells.specs.Array.{ArrayState, ArrayRule}
-use Rattle.ring_line.specs.declared.layout.TheConstants.{WITHDRAWN}
+use Rattle.ring_line.specs.declared.layout.TheConstants.{WITHDRAWN_UNIT}
 
 -- The words of the cells. The cell at its turn is blank once it is cleared, and granted if no node has the line; a
 -- later one has the mark of its request.
 pub record RingCells (ended holder : ℕ) (cleared : Bool) (marks says : ℕ → ℕ) : Type 0 where
   pub blank : cleared ≡ true → says (cell_of ended) ≡ 0
   pub granted : holder ≡ 0 → says (cell_of ended) ≡ 1
-  pub later : (k : ℕ) → 0 < k → k < CELLS → says (cell_of (ended + k)) ≡ WITHDRAWN * marks (ended + k)
+  pub later : (k : ℕ) → 0 < k → k < CELLS → says (cell_of (ended + k)) ≡ WITHDRAWN_UNIT * marks (ended + k)
 
 -- the invariant of any table of tickets and cells, over these cells
 abbrev pub RingRule : (List ℕ → Type 0) → (List ℕ → List ℕ → Type 0) → TableKey → ArrayState → Type 0

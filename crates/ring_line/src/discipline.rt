@@ -41,18 +41,18 @@ impl<K: Keep> Discipline<K> for RingQueue {
         1
     }
 
-    ghost size_for = { λ nodes. nodes };
+    ghost cell_mask_for = { λ nodes. 0 };
 
     #[inline]
-    fn size_for(nodes: u64) -> u64 {
-        nodes
+    fn cell_mask_for(_nodes: u64) -> u64 {
+        0
     }
 
     #[inline]
     fn take(
         table: &SharedTable<K>,
         seat: &mut RingSeat,
-        _size: u64,
+        _cell_mask: u64,
         _token: u64,
         payload: &mut LocalCopy,
     ) {
@@ -63,7 +63,7 @@ impl<K: Keep> Discipline<K> for RingQueue {
     fn put(
         table: &SharedTable<K>,
         seat: &mut RingSeat,
-        _size: u64,
+        _cell_mask: u64,
         _token: u64,
         payload: &LocalCopy,
         closed: bool,
@@ -80,7 +80,7 @@ impl<K: Keep> Discipline<K> for RingQueue {
     fn ask(
         table: &SharedTable<K>,
         seat: &mut RingSeat,
-        _size: u64,
+        _cell_mask: u64,
         node: u64,
         state: PortState,
     ) -> EnqueueResult {
@@ -130,7 +130,7 @@ impl<K: Keep> Discipline<K> for RingQueue {
     fn look(
         table: &SharedTable<K>,
         seat: &mut RingSeat,
-        _size: u64,
+        _cell_mask: u64,
         _node: u64,
         token: u64,
     ) -> bool {
@@ -141,7 +141,7 @@ impl<K: Keep> Discipline<K> for RingQueue {
     fn roll(
         table: &SharedTable<K>,
         seat: &mut RingSeat,
-        _size: u64,
+        _cell_mask: u64,
         node: u64,
         token: u64,
     ) -> bool {
@@ -152,7 +152,7 @@ impl<K: Keep> Discipline<K> for RingQueue {
     fn release(
         table: &SharedTable<K>,
         seat: &mut RingSeat,
-        _size: u64,
+        _cell_mask: u64,
         _node: u64,
         token: u64,
         closed: bool,
@@ -169,7 +169,7 @@ impl<K: Keep> Discipline<K> for RingQueue {
     }
 
     #[inline]
-    fn wait_word(_table: &SharedTable<K>, _size: u64, _node: u64, token: u64) -> usize {
+    fn wait_word(_table: &SharedTable<K>, _cell_mask: u64, _node: u64, token: u64) -> usize {
         cell_word(cell_of(token))
     }
 

@@ -27,7 +27,7 @@ impl DisciplineSpec for RingQueue {
 
     ghost wait_word = { between_calls.wait_word (λ _. CELLS) };
 
-    ghost turn_word = { between_calls.turn_word cell_of (λ _. CELLS) };
+    ghost wake_word = { between_calls.wake_word cell_of (λ _. CELLS) };
 
     ghost signals_turn = { layout.signals_turn };
 

@@ -10,8 +10,8 @@ use std::alloc::{AllocError, Global};
 /// The number that a grant adds to a cell.
 pub(crate) const GRANTED: u64 = 1;
 
-/// The number that a withdrawal adds to a cell, times its node's number. The grant's bit is below it.
-pub(crate) const WITHDRAWN: u64 = 256;
+/// The unit of a withdrawal: a cell gets it times the number of the node that withdraws there. The grant's bit is below it.
+pub(crate) const WITHDRAWN_UNIT: u64 = 256;
 
 /// Returns the cell of a ticket.
 #[inline]
@@ -51,7 +51,7 @@ pub(crate) fn is_withdrawn(word: u64) -> bool
 pub(crate) fn withdrawn_by(word: u64) -> u64
     ensures { result ≡ layout.withdrawn_by word }
 {
-    word / WITHDRAWN
+    word / WITHDRAWN_UNIT
 }
 
 /// Allocates the words of a new line: cell 0 is granted.

@@ -2,7 +2,7 @@
 ghost use Rattle.ring_line.specs.Steps.{loaded, rolled, cleared, granted};
 
 use atomic_table::Play;
-use line_cells::Entries;
+use line_cells::NodeGhosts;
 use line_generic::Payload;
 use qolb_model::Keep;
 use std::marker::PhantomData;
@@ -12,7 +12,7 @@ pub(crate) struct Load<K> {
     law: PhantomData<K>,
 }
 
-impl<K: Keep> Play<Payload, Entries> for Load<K> {
+impl<K: Keep> Play<Payload, NodeGhosts> for Load<K> {
     ghost then = { loaded K.allows };
 }
 
@@ -21,14 +21,14 @@ pub(crate) struct Roll<K> {
     law: PhantomData<K>,
 }
 
-impl<K: Keep> Play<Payload, Entries> for Roll<K> {
+impl<K: Keep> Play<Payload, NodeGhosts> for Roll<K> {
     ghost then = { rolled K.allows };
 }
 
 /// Clears the cell at its turn.
 pub(crate) struct Clear;
 
-impl Play<Payload, Entries> for Clear {
+impl Play<Payload, NodeGhosts> for Clear {
     ghost then = { cleared };
 }
 
@@ -37,6 +37,6 @@ pub(crate) struct Grant<K> {
     law: PhantomData<K>,
 }
 
-impl<K: Keep> Play<Payload, Entries> for Grant<K> {
+impl<K: Keep> Play<Payload, NodeGhosts> for Grant<K> {
     ghost then = { granted K.allows };
 }

@@ -8,8 +8,8 @@ ghost use Rattle.line_generic.specs.declared.table.Payload.{Payload};
 ghost use Rattle.line_generic.specs.Steps.{IsSeatOf, HasSlot, HasNoSlot};
 ghost use Rattle.ring_line.specs.Layout.{word_count};
 ghost use Rattle.line_cells.specs.Array.{At};
-ghost use Rattle.line_cells.specs.Steps.{IsAt, ghost_of, SeatAdvances, CarriesNext};
-ghost use Rattle.line_cells.specs.Releases.{IsReset, steps_to_reset, MatchesEnds, ReleasesLine, FinishesWalk, AreNodesAt, FreesAll};
+ghost use Rattle.line_cells.specs.Steps.{IsAt, ghost_of, SeatAdvances, IsNextPayload};
+ghost use Rattle.line_cells.specs.Releases.{TriesReset, steps_to_reset, MatchesEnds, ReleasesLine, FinishesWalk, AreNodesAt, FreesAll};
 ghost use Rattle.ring_line.specs.Layout.{withdrawn_by};
 ghost use Rattle.ring_line.specs.Steps.{IsSeatOfNode, turn_cell};
 ghost use Rattle.line_cells.specs.declared.local.Point.TheVariants.{Idle, Holding, Passing, Freeing, Rolled};
@@ -24,16 +24,17 @@ use qolb_model::{Keep, MAX_NODES, PortState};
 /// The maximum number of requests that a release passes: those of all nodes but its own.
 const MAX_PASSED: usize = MAX_NODES as usize - 1;
 
-/// A release that is over: its word steps, and the last granted cell, whose node may have to be unparked.
+/// The word steps taken, and the cell granted last. The request there is at its turn: its node may be parked, or may not have made it yet.
 #[derive(Clone, Copy)]
 pub(crate) struct Handoff {
     pub(crate) steps: u64,
     pub(crate) cell: u64,
 }
 
-/// Resets the node's word for a new request, and returns the word steps taken: 0 or 2.
+/// Sets the node's own word back to 0 for a new request, if the last one is clear.
 ///
-/// Returns `None`, after one step, if the last request is withdrawn and the node not freed yet.
+/// Returns the word steps taken: `Some(0)` if the last request was not withdrawn, or there was none; `Some(2)` if it was withdrawn and is
+/// clear. Returns `None`, after one step, if it is not clear yet.
 #[inline]
 pub(crate) fn try_reset<K: Keep>(
     table: &SharedTable<K>,
@@ -44,9 +45,9 @@ pub(crate) fn try_reset<K: Keep>(
     requires seat { IsSeatOfNode table.now.key.config.nodes table.now.table_id node seat.old }
     requires rolled { state ≡ PortState.Rolled → IsAt Rolled seat.old }
     requires idle { state ≢ PortState.Rolled → IsAt Idle seat.old }
-    ensures slot { seat.new.me.1 ≡ seat.old.me.1 }
+    ensures keeps_slot { seat.new.me.1 ≡ seat.old.me.1 }
     ensures advances { SeatAdvances K.allows seat.old seat.new (steps_to_reset result) }
-    ensures is_reset { IsReset state (ghost_of seat.old) (ghost_of seat.new) result }
+    ensures is_reset { TriesReset state (ghost_of seat.old) (ghost_of seat.new) result }
 {
     if state != PortState::Rolled {
         return Some(0);
@@ -58,18 +59,19 @@ pub(crate) fn try_reset<K: Keep>(
     Some(2)
 }
 
-/// Releases the line in the slot to the successor, or to the next request if there is none yet. Two word steps if the successor has not
-/// withdrawn, else three more for each passed request.
+/// Gives the line to the next request that is not withdrawn, made already or not.
+///
+/// Two word steps, and three more for each passed request. Does not block.
 #[inline]
 pub(crate) fn release<K: Keep>(table: &SharedTable<K>, seat: &mut RingSeat, cell: u64) -> Handoff
     requires table { IsSeatOf word_count table.now.table_id seat.old }
-    requires phase { IsAt Holding seat.old }
+    requires point { IsAt Holding seat.old }
     requires none_passed { (ghost_of seat.old).own.passed ≡ [] }
     requires cell { cell ≡ turn_cell seat.old }
     requires nodes { 1 ≤ (ghost_of seat.old).view.config.nodes }
     requires payload { (y : Payload) × HasSlot seat.old y
-        × CarriesNext K.allows (ghost_of seat.old) y }
-    ensures slot { HasNoSlot seat.new }
+        × IsNextPayload K.allows (ghost_of seat.old) y }
+    ensures no_slot { HasNoSlot seat.new }
     ensures advances { SeatAdvances K.allows seat.old seat.new result.steps }
     ensures releases { (y : Payload) → HasSlot seat.old y
         → ReleasesLine (ghost_of seat.old) y (ghost_of seat.new) }
@@ -95,14 +97,14 @@ pub(crate) fn release<K: Keep>(table: &SharedTable<K>, seat: &mut RingSeat, cell
     }
 }
 
-/// Passes withdrawn requests, up to the first that is not, and frees their nodes. Three word steps for each.
+/// Passes withdrawn requests, up to the first cell without a withdrawal, and frees their nodes. Three word steps for each.
 ///
 /// Cold and not inlined: it has an array of the passed nodes, which a release without withdrawn successors should not set up.
 #[cold]
 #[inline(never)]
 fn walk<K: Keep>(table: &SharedTable<K>, seat: &mut RingSeat, cell: u64, found: u64) -> Handoff
     requires table { IsSeatOf word_count table.now.table_id seat.old }
-    requires phase { IsAt Passing seat.old }
+    requires point { IsAt Passing seat.old }
     requires cell { cell ≡ turn_cell seat.old }
     requires found { found ≢ 0 }
     requires passed { (ghost_of seat.old).own.passed ≡ length (ghost_of seat.old).view.ends ∷ [] }
@@ -115,7 +117,7 @@ fn walk<K: Keep>(table: &SharedTable<K>, seat: &mut RingSeat, cell: u64, found: 
         × ((ghost_of seat.old).view.config.nodes ≤ MAX_NODES) }
     requires payload { (y : Payload) × HasSlot seat.old y × MatchesEnds (ghost_of seat.old) y
         × ((ghost_of seat.old).view.state ≡ state_after y.closed) }
-    ensures slot { HasNoSlot seat.new }
+    ensures no_slot { HasNoSlot seat.new }
     ensures advances { SeatAdvances K.allows seat.old seat.new result.steps }
     ensures finishes_walk { FinishesWalk (ghost_of seat.old) (ghost_of seat.new) }
     ensures granted { result.cell ≡ turn_cell seat.new }
@@ -132,7 +134,7 @@ fn walk<K: Keep>(table: &SharedTable<K>, seat: &mut RingSeat, cell: u64, found: 
         found = grant(table, seat, cell);
         cell = cell_after(cell);
     }
-    // Freed only now: a freed node may request again, and this walk must not pass it twice.
+    // Freed only now: a freed node may request again, so a walk that freed early might pass it again and again.
     free_passed(table, seat, &passed);
     Handoff {
         steps: 3 * passed.len() as u64,
@@ -143,11 +145,11 @@ fn walk<K: Keep>(table: &SharedTable<K>, seat: &mut RingSeat, cell: u64, found: 
 /// Frees the nodes of all passed requests, in their order.
 fn free_passed<K: Keep>(table: &SharedTable<K>, seat: &mut RingSeat, nodes: &[u64])
     requires table { IsSeatOf word_count table.now.table_id seat.old }
-    requires phase { IsAt Freeing seat.old }
+    requires point { IsAt Freeing seat.old }
     requires not_empty { (ghost_of seat.old).own.passed ≢ [] }
     requires same_length { length nodes.now ≡ length (ghost_of seat.old).own.passed }
     requires nodes { AreNodesAt (ghost_of seat.old).view (ghost_of seat.old).own.passed nodes.now }
-    ensures slot { seat.new.me.1 ≡ seat.old.me.1 }
+    ensures keeps_slot { seat.new.me.1 ≡ seat.old.me.1 }
     ensures advances { SeatAdvances K.allows seat.old seat.new (length nodes.now) }
     ensures frees { FreesAll (ghost_of seat.old) (ghost_of seat.new) }
 {

@@ -1,5 +1,18 @@
-//! The word steps: each is one sequentially consistent operation on one word of the table. Its type argument is its play: what the step does
-//! to the ghost state, with the count of steps.
+//! The word steps: each is one atomic operation on one word, sequentially consistent. The operation's type argument is its play: the ghost
+//! transition, which counts the step.
+//!
+//! - A *node* is a participant. To *free* a node is to set its *node word*, which is 0 before: then its withdrawn request is clear.
+//! - A *seat* is a node's access to the shared table: its node's ghost state (`me.0`, a list of one: `IsOfOneNode`), and
+//!   the slot with the line while the seat has it (`me.1`).
+//! - A *cell* is the word at which a request waits (a slot of Anderson's): 0, `GRANTED`, the node that withdrew there times
+//!   `WITHDRAWN_UNIT`, or the sum. The *slot* has the line's 64 bytes, and whether the line is closed.
+//! - A request is *at its turn* once its cell is granted. Its node's seat *has* the line from the step that finds this. Its port *holds*
+//!   the line only if the line is not closed.
+//! - To *pass* a withdrawn request is to go on from its cell with the line. Each grant ends the request at its turn: at first the releasing
+//!   node's own, then each that was passed.
+//! - A node's last request is *clear* if no other node will use the node's word on account of it. The next request is then not answered
+//!   `Busy`.
+//! - A view's `count` is the number of its node's requests.
 ghost use Rattle.std.specs.Prelude.{◌≡◌, ◌≢◌, ◌⊎◌, ℕ, ◌≤◌, ◌∷◌, [], List, true, false};
 ghost use Rattle.qolb_model.specs.declared.request.Request.{Request};
 ghost use Rattle.qolb_model.specs.Requests.{Has};
@@ -9,36 +22,37 @@ ghost use Rattle.line_generic.specs.declared.table.Payload.{Payload};
 ghost use Rattle.line_generic.specs.Steps.{IsSameSeat, IsSeatOf, HasSlot, HasNoSlot};
 ghost use Rattle.ring_line.specs.Layout.{word_count};
 ghost use Rattle.line_cells.specs.Array.{At};
-ghost use Rattle.line_cells.specs.Steps.{IsAt, ghost_of, SeatAdvances, TakesTicket, HasLoadedNodeWord, CarriesNext, Ended, GoesHome, Passes, Frees, after_reset};
+ghost use Rattle.line_cells.specs.Steps.{IsAt, ghost_of, SeatAdvances, TakesTicket, TellsIfClear, IsNextPayload, Ended, IsHandedOver, Passes, Frees, after_reset};
 ghost use Rattle.ring_line.specs.Layout.{withdrawn_by};
 ghost use Rattle.ring_line.specs.Steps.{IsSeatOfNode, own_cell, turn_cell, IsStillQueued, IsAtTurn, IsRolled, after_clear};
 ghost use Rattle.line_cells.specs.declared.local.Point.TheVariants.{Idle, Queued, Holding, Passing, Cleared, Freeing, Rolled};
 
 use crate::invariant::{RingSeat, SharedTable};
-use crate::layout::{GRANTED, WITHDRAWN, cell_after, cell_of, is_granted};
+use crate::layout::{GRANTED, WITHDRAWN_UNIT, cell_after, cell_of, is_granted};
 use crate::plays::{Clear, Grant, Load, Roll};
-use line_cells::{FreeNode, LoadNode, Reset, TICKET, TakeTicket, cell_word, node_word};
+use line_cells::{FreeNode, LoadNode, Reset, TICKET_WORD, TakeTicket, cell_word, node_word};
 use qolb_model::Keep;
 
 /// Takes a ticket and returns its cell. The linearization point of a request: it puts the request into the order.
 ///
-/// There are more cells than nodes, so no two open requests have one cell, though the counter wraps.
+/// No two requests that have not ended share a cell: each node has at most one, there are more cells than nodes, and their number divides
+/// that of the tickets, so this holds when the counter wraps, too.
 pub(crate) fn take_ticket<K: Keep>(table: &SharedTable<K>, seat: &mut RingSeat) -> u64
     requires table { IsSeatOf word_count table.now.table_id seat.old }
-    requires phase { IsAt Idle seat.old }
-    ensures slot { seat.new.me.1 ≡ seat.old.me.1 }
+    requires point { IsAt Idle seat.old }
+    ensures keeps_slot { seat.new.me.1 ≡ seat.old.me.1 }
     ensures advances { SeatAdvances K.allows seat.old seat.new 1 }
     ensures cell { result ≡ own_cell seat.new }
     ensures takes_ticket { TakesTicket (ghost_of seat.old) (ghost_of seat.new) }
 {
-    cell_of(table.fetch_add::<TakeTicket<K>>(seat, TICKET, 1))
+    cell_of(table.fetch_add::<TakeTicket<K>>(seat, TICKET_WORD, 1))
 }
 
-/// Loads the node's own cell. Returns `true` if it is granted: the request is at its turn, and the line's slot is the caller's.
+/// Loads the request's cell. Returns `true` if it is granted: the request is at its turn, and the line's slot is the caller's.
 pub(crate) fn load<K: Keep>(table: &SharedTable<K>, seat: &mut RingSeat, cell: u64) -> bool
     requires table { IsSeatOf word_count table.now.table_id seat.old }
-    requires phase { IsAt Queued seat.old }
-    requires slot { HasNoSlot seat.old }
+    requires point { IsAt Queued seat.old }
+    requires no_slot { HasNoSlot seat.old }
     requires cell { cell ≡ own_cell seat.old }
     ensures advances { SeatAdvances K.allows seat.old seat.new 1 }
     ensures count { (ghost_of seat.new).view.count ≡ (ghost_of seat.old).view.count }
@@ -49,9 +63,10 @@ pub(crate) fn load<K: Keep>(table: &SharedTable<K>, seat: &mut RingSeat, cell: u
     is_granted(table.load::<Load<K>>(seat, cell_word(cell)))
 }
 
-/// Returns `true` if the cell is granted, and withdraws the request otherwise. The linearization point of a withdrawal.
+/// Adds a withdrawal to the request's cell. The linearization point of a withdrawal.
 ///
-/// Adds to the cell either way. If it was granted, nobody reads what was added: the node clears the cell before it grants the next one.
+/// Returns `true` if the grant was there first: the request is at its turn, and no other node reads what was added, as the node clears the
+/// cell before it grants the next one. `false`: the request is withdrawn.
 pub(crate) fn roll<K: Keep>(
     table: &SharedTable<K>,
     seat: &mut RingSeat,
@@ -59,8 +74,8 @@ pub(crate) fn roll<K: Keep>(
     node: u64,
 ) -> bool
     requires seat { IsSeatOfNode table.now.key.config.nodes table.now.table_id node seat.old }
-    requires phase { IsAt Queued seat.old }
-    requires slot { HasNoSlot seat.old }
+    requires point { IsAt Queued seat.old }
+    requires no_slot { HasNoSlot seat.old }
     requires cell { cell ≡ own_cell seat.old }
     ensures advances { SeatAdvances K.allows seat.old seat.new 1 }
     ensures count { (ghost_of seat.new).view.count ≡ (ghost_of seat.old).view.count }
@@ -68,13 +83,13 @@ pub(crate) fn roll<K: Keep>(
     ensures at_turn { result ≡ true → (y : Payload) × HasSlot seat.new y
         × IsAtTurn cell (ghost_of seat.new) y }
 {
-    is_granted(table.fetch_add::<Roll<K>>(seat, cell_word(cell), WITHDRAWN * node))
+    is_granted(table.fetch_add::<Roll<K>>(seat, cell_word(cell), WITHDRAWN_UNIT * node))
 }
 
-/// Clears the cell whose turn it is: the node's own, or a withdrawn one.
+/// Sets the cell of the request at its turn to 0: the caller's, or one that it passes.
 pub(crate) fn clear<K: Keep>(table: &SharedTable<K>, seat: &mut RingSeat, cell: u64)
     requires table { IsSeatOf word_count table.now.table_id seat.old }
-    requires phase { IsAt Holding seat.old ⊎ IsAt Passing seat.old }
+    requires point { IsAt Holding seat.old ⊎ IsAt Passing seat.old }
     requires cell { cell ≡ turn_cell seat.old }
     ensures seat { IsSameSeat seat.old seat.new }
     ensures cleared { seat.new.me ≡ (after_clear (ghost_of seat.old) ∷ [], seat.old.me.1) }
@@ -82,21 +97,21 @@ pub(crate) fn clear<K: Keep>(table: &SharedTable<K>, seat: &mut RingSeat, cell: 
     table.store::<Clear>(seat, cell_word(cell), 0);
 }
 
-/// Ends the request at its turn, the node's own or a withdrawn one, and grants the cell behind `cell`. The linearization point of an end.
+/// Ends the request at its turn, the caller's or one that it passes, and grants the next cell. The linearization point of an end.
 ///
-/// Returns the old word of that next cell: 0 if the line is now in the slot for the next request, which may not have been made yet; else
-/// the number of the node that withdrew there, whose request is then passed.
+/// Returns the old word of that next cell. 0: its request has the line, whether it was made already or not. Else the cell names the node
+/// that withdrew there (`withdrawn_by`): the caller still has the line, and must pass that request.
 pub(crate) fn grant<K: Keep>(table: &SharedTable<K>, seat: &mut RingSeat, cell: u64) -> u64
     requires table { IsSeatOf word_count table.now.table_id seat.old }
-    requires phase { IsAt Cleared seat.old }
+    requires point { IsAt Cleared seat.old }
     requires cell { cell ≡ turn_cell seat.old }
     requires payload { (y : Payload) × HasSlot seat.old y
-        × CarriesNext K.allows (ghost_of seat.old) y }
+        × IsNextPayload K.allows (ghost_of seat.old) y }
     ensures advances { SeatAdvances K.allows seat.old seat.new 1 }
     ensures ended { (y : Payload) → HasSlot seat.old y
         → Ended (ghost_of seat.old) (ghost_of seat.new) y }
-    ensures home { result ≡ 0 → HasNoSlot seat.new
-        × GoesHome (ghost_of seat.old) (ghost_of seat.new) }
+    ensures handed_over { result ≡ 0 → HasNoSlot seat.new
+        × IsHandedOver (ghost_of seat.old) (ghost_of seat.new) }
     ensures passes { result ≢ 0 → ((y : Payload) → HasSlot seat.old y → HasSlot seat.new y)
         × Passes (ghost_of seat.old) (withdrawn_by result) (ghost_of seat.new) }
 {
@@ -106,12 +121,12 @@ pub(crate) fn grant<K: Keep>(table: &SharedTable<K>, seat: &mut RingSeat, cell: 
 /// Frees the node of the first passed request whose node is not freed yet: it may request again.
 pub(crate) fn free<K: Keep>(table: &SharedTable<K>, seat: &mut RingSeat, node: u64)
     requires table { IsSeatOf word_count table.now.table_id seat.old }
-    requires phase { IsAt Freeing seat.old }
+    requires point { IsAt Freeing seat.old }
     requires in_range { node ≤ MAX_NODES }
-    requires next { (q : ℕ) × (ps : List ℕ) × (r : Request)
+    requires next_to_free { (q : ℕ) × (ps : List ℕ) × (r : Request)
         × ((ghost_of seat.old).own.passed ≡ q ∷ ps) × At (ghost_of seat.old).view.order q r
         × (r.node ≡ node) }
-    ensures slot { seat.new.me.1 ≡ seat.old.me.1 }
+    ensures keeps_slot { seat.new.me.1 ≡ seat.old.me.1 }
     ensures advances { SeatAdvances K.allows seat.old seat.new 1 }
     ensures frees { (q : ℕ) (ps : List ℕ) (r : Request) → (ghost_of seat.old).own.passed ≡ q ∷ ps
         → At (ghost_of seat.old).view.order q r
@@ -120,21 +135,21 @@ pub(crate) fn free<K: Keep>(table: &SharedTable<K>, seat: &mut RingSeat, node: u
     table.store::<FreeNode<K>>(seat, node_word(node), 1);
 }
 
-/// Loads the node's own word: not 0 if its withdrawn request was passed and the node freed.
+/// Loads the node's own word: not 0 if its withdrawn request was passed and the node freed, so that the request is clear.
 pub(crate) fn load_node<K: Keep>(table: &SharedTable<K>, seat: &mut RingSeat, node: u64) -> u64
     requires seat { IsSeatOfNode table.now.key.config.nodes table.now.table_id node seat.old }
-    requires phase { IsAt Rolled seat.old }
-    ensures slot { seat.new.me.1 ≡ seat.old.me.1 }
+    requires point { IsAt Rolled seat.old }
+    ensures keeps_slot { seat.new.me.1 ≡ seat.old.me.1 }
     ensures advances { SeatAdvances K.allows seat.old seat.new 1 }
-    ensures still { HasLoadedNodeWord (ghost_of seat.old) result (ghost_of seat.new) }
+    ensures tells { TellsIfClear (ghost_of seat.old) result (ghost_of seat.new) }
 {
     table.load::<LoadNode<K>>(seat, node_word(node))
 }
 
-/// Clears the node's own word, before its next request.
+/// Sets the node's own word back to 0, before its next request.
 pub(crate) fn reset<K: Keep>(table: &SharedTable<K>, seat: &mut RingSeat, node: u64)
     requires seat { IsSeatOfNode table.now.key.config.nodes table.now.table_id node seat.old }
-    requires phase { IsAt Rolled seat.old }
+    requires point { IsAt Rolled seat.old }
     requires clear { Has (ghost_of seat.old).view.clear (own (ghost_of seat.old).view) }
     ensures seat { IsSameSeat seat.old seat.new }
     ensures reset { seat.new.me ≡ (after_reset (ghost_of seat.old) ∷ [], seat.old.me.1) }

@@ -12,7 +12,7 @@ mod kept;
 mod noted;
 mod parked;
 mod passing;
-mod seats;
+mod pool;
 mod together;
 
 use counted::Counting;
@@ -107,9 +107,9 @@ where
         }
         Row::Ahead => ahead::each_release_wakes_one_ahead::<R, L>(rt, alloc),
         Row::Busy => again::each_manner::<R, L>(rt, alloc),
-        Row::LentPorts => seats::no_addition_is_lost::<R, L>(rt, alloc),
-        Row::BusyPort => seats::a_busy_port_is_passed_over::<R, L>(rt, alloc),
-        Row::OneThread => seats::one_thread_is_granted_late_and_told::<R, L>(rt, alloc),
+        Row::LentPorts => pool::no_addition_is_lost::<R, L>(rt, alloc),
+        Row::BusyPort => pool::a_busy_port_is_passed_over::<R, L>(rt, alloc),
+        Row::OneThread => pool::one_thread_is_granted_late_and_told::<R, L>(rt, alloc),
     }
     Ok(())
 }

@@ -14,14 +14,14 @@ use Rattle.line_cells.proofs.Taking.{Takes, StaysBehind, cells_apart}
 use Rattle.line_cells.proofs.Roll.{Withdraws}
 use Rattle.line_cells.proofs.Grant.{GrantsNext}
 use Rattle.ticket_line.specs.declared.layout.TheConstants.{NUMBER_UNIT, NUMBERS}
-use Rattle.ticket_line.specs.Layout.{number, granted, withdrawn}
+use Rattle.ticket_line.specs.Layout.{number, granted_word, withdrawn_word}
 use Rattle.ticket_line.specs.Ticket.{IsLater, TicketCells}
 use Rattle.ticket_line.specs.Steps.{is_other, is_granted, is_granted_half, withdrawn_by}
 use Rattle.ticket_line.proofs.Numbers.{granted_ticket, withdrawn_ticket, not_granted, not_granted_half, number_of_granted, number_of_withdrawn, by_nobody, by_node}
 
 -- a granted cell has the own ticket, which no node reads as waiting, and a node that takes the line leaves that number there
-pub takes_by : (nodes : ℕ) (waits : ℕ → ℕ → Type 0) (place n : ℕ) (change : ℕ → ℕ) → (waits place (granted place) → ⊥)
-    → ((word : ℕ) → word ≡ granted place → change word / NUMBER_UNIT ≡ number place) → Takes (cells_for nodes) (TicketCells nodes) waits place n change
+pub takes_by : (nodes : ℕ) (waits : ℕ → ℕ → Type 0) (place n : ℕ) (change : ℕ → ℕ) → (waits place (granted_word place) → ⊥)
+    → ((word : ℕ) → word ≡ granted_word place → change word / NUMBER_UNIT ≡ number place) → Takes (cells_for nodes) (TicketCells nodes) waits place n change
 takes_by nodes waits place n change own slots_in_turn cleared marks says low free c = (
   (λ w. own (subst (waits place) (c.granted refl) w)),
   record {
@@ -32,14 +32,14 @@ takes_by nodes waits place n change own slots_in_turn cleared marks says low fre
   },
 )
 
-pub takes : (nodes : ℕ) (place n : ℕ) (change : ℕ → ℕ) → ((word : ℕ) → word ≡ granted place → change word / NUMBER_UNIT ≡ number place) → Takes (cells_for nodes) (TicketCells nodes) is_other place n change
+pub takes : (nodes : ℕ) (place n : ℕ) (change : ℕ → ℕ) → ((word : ℕ) → word ≡ granted_word place → change word / NUMBER_UNIT ≡ number place) → Takes (cells_for nodes) (TicketCells nodes) is_other place n change
 takes nodes place n change = takes_by nodes is_other place n change (λ other. other (sym (granted_ticket place)))
 
 -- as by a poll, and by a withdrawal after the grant
-pub looked : (place word : ℕ) → word ≡ granted place → word / NUMBER_UNIT ≡ number place
+pub looked : (place word : ℕ) → word ≡ granted_word place → word / NUMBER_UNIT ≡ number place
 looked place word e = number_of_granted place word e
 
-pub written : (place n new : ℕ) → n ≤ MAX_NODES → new ≡ withdrawn (ticket_of place) n → new / NUMBER_UNIT ≡ number place
+pub written : (place n new : ℕ) → n ≤ MAX_NODES → new ≡ withdrawn_word (ticket_of place) n → new / NUMBER_UNIT ≡ number place
 written place n new high e = number_of_withdrawn place n new high (e ∙ withdrawn_ticket place n)
 
 -- behind the turn a cell is a later one
@@ -55,7 +55,7 @@ pub stays : (nodes : ℕ) (place : ℕ) → StaysBehind (cells_for nodes) (Ticke
 stays nodes place ended holder cleared marks says below near free c e = not_granted nodes place (marks place) (says (cell_of nodes place)) (later_at nodes ended holder place cleared marks says below near c) free (e ∙ granted_ticket place)
 
 -- the own number is written into the own cell, with the node
-pub withdraws : (nodes : ℕ) (place n new : ℕ) → new ≡ withdrawn (ticket_of place) n → Withdraws (cells_for nodes) (TicketCells nodes) place n (λ _. new)
+pub withdraws : (nodes : ℕ) (place n new : ℕ) → new ≡ withdrawn_word (ticket_of place) n → Withdraws (cells_for nodes) (TicketCells nodes) place n (λ _. new)
 withdraws nodes place n new add ended holder cleared marks says low high below near free c = record {
   kept = c.kept;
   turn = ap (λ q. q / NUMBER_UNIT) at_turn ∙ c.turn;
@@ -74,12 +74,12 @@ withdraws nodes place n new add ended holder cleared marks says low high below n
     -- the own cell names the node
     own_cell : IsLater nodes place (put marks place n place) (put says (cell_of nodes place) new (cell_of nodes place))
     own_cell = record {
-      withdrawn = λ _. put_here says (cell_of nodes place) new ∙ add ∙ withdrawn_ticket place n ∙ ap (withdrawn place) (sym (put_here marks place n));
+      withdrawn = λ _. put_here says (cell_of nodes place) new ∙ add ∙ withdrawn_ticket place n ∙ ap (withdrawn_word place) (sym (put_here marks place n));
       before = λ none. absurd (let k = put_here marks place n in omega arith);
     }
 
 -- the next number is written into the next cell
-pub grants : (nodes : ℕ) (ended new : ℕ) (cleared : Bool) → new ≡ granted (ticket_of (ended + 1)) → GrantsNext (cells_for nodes) (TicketCells nodes) withdrawn_by withdrawn_by ended cleared (λ _. new)
+pub grants : (nodes : ℕ) (ended new : ℕ) (cleared : Bool) → new ≡ granted_word (ticket_of (ended + 1)) → GrantsNext (cells_for nodes) (TicketCells nodes) withdrawn_by withdrawn_by ended cleared (λ _. new)
 grants nodes ended new cleared is holder marks says far c = (
   (λ free. (
     by_nobody nodes (ended + 1) (marks (ended + 1)) (says (cell_of nodes (ended + 1))) found free,
@@ -108,7 +108,7 @@ grants nodes ended new cleared is holder marks says far c = (
     found : IsLater nodes (ended + 1) (marks (ended + 1)) (says (cell_of nodes (ended + 1)))
     found = c.later 1 (omega arith) (let two = two_cells nodes in omega arith)
 
-    granted_cell : put says (cell_of nodes (ended + 1)) new (cell_of nodes (ended + 1)) ≡ granted (ended + 1)
+    granted_cell : put says (cell_of nodes (ended + 1)) new (cell_of nodes (ended + 1)) ≡ granted_word (ended + 1)
     granted_cell = put_here says (cell_of nodes (ended + 1)) new ∙ is ∙ granted_ticket (ended + 1)
 
     -- the last cell is the one that the turn has left

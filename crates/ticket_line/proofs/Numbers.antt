@@ -9,7 +9,7 @@ use Rattle.line_cells.proofs.Counting.{some_cells, few_cells, wraps}
 use Rattle.line_cells.specs.Layout.{ticket_of}
 use Rattle.ticket_line.specs.Layout.{cell_of}
 use Rattle.ticket_line.specs.declared.layout.TheConstants.{NUMBER_UNIT, NUMBERS}
-use Rattle.ticket_line.specs.Layout.{ticket_after, number, granted, withdrawn, withdrawn_by, number_before}
+use Rattle.ticket_line.specs.Layout.{ticket_after, number, granted_word, withdrawn_word, withdrawn_by, number_before}
 use Rattle.ticket_line.specs.Ticket.{IsLater}
 
 -- a place has the cell and the number of its ticket
@@ -23,17 +23,17 @@ number_ticket p = sym (mod-add-mod (ticket_of p) NUMBERS 1) ∙ ap (λ k. (k + 1
 pub ticket_next : (p : ℕ) → ticket_after (ticket_of p) ≡ ticket_of (p + 1)
 ticket_next p = mod-add-mod p (2 ^ 64) 1
 
-pub granted_ticket : (p : ℕ) → granted (ticket_of p) ≡ granted p
+pub granted_ticket : (p : ℕ) → granted_word (ticket_of p) ≡ granted_word p
 granted_ticket p = ap (λ k. NUMBER_UNIT * k) (number_ticket p)
 
-pub withdrawn_ticket : (p n : ℕ) → withdrawn (ticket_of p) n ≡ withdrawn p n
+pub withdrawn_ticket : (p n : ℕ) → withdrawn_word (ticket_of p) n ≡ withdrawn_word p n
 withdrawn_ticket p n = ap (λ k. NUMBER_UNIT * k + n) (number_ticket p)
 
 -- a cell that is granted to a place has its number, and so has a cell where a node withdrew
-pub number_of_granted : (p word : ℕ) → word ≡ granted p → word / NUMBER_UNIT ≡ number p
+pub number_of_granted : (p word : ℕ) → word ≡ granted_word p → word / NUMBER_UNIT ≡ number p
 number_of_granted p word e = omega arith
 
-pub number_of_withdrawn : (p n word : ℕ) → n ≤ MAX_NODES → word ≡ withdrawn p n → word / NUMBER_UNIT ≡ number p
+pub number_of_withdrawn : (p n word : ℕ) → n ≤ MAX_NODES → word ≡ withdrawn_word p n → word / NUMBER_UNIT ≡ number p
 number_of_withdrawn p n word high e = omega arith
 
 -- the number of a place is not that of the place before with its cell
@@ -41,11 +41,11 @@ numbers_differ : (nodes p : ℕ) → number_before nodes p ≢ number p
 numbers_differ nodes p e = let some = some_cells nodes in let few = few_cells nodes in let same = one_turn (p + 1 - cells_for nodes) (p + 1) NUMBERS (omega arith) (omega arith) e in omega arith
 
 -- so a cell that is not granted yet is not taken for granted
-pub not_granted : (nodes p token word : ℕ) → IsLater nodes p token word → token ≡ 0 → word ≢ granted p
+pub not_granted : (nodes p token word : ℕ) → IsLater nodes p token word → token ≡ 0 → word ≢ granted_word p
 not_granted nodes p token word l none e = numbers_differ nodes p (sym (l.before none) ∙ number_of_granted p word e)
 
 -- nor is its lower half, in which the numbers differ too
-pub not_granted_half : (nodes p token word : ℕ) → IsLater nodes p token word → token ≡ 0 → word % 2 ^ 32 ≢ granted p % 2 ^ 32
+pub not_granted_half : (nodes p token word : ℕ) → IsLater nodes p token word → token ≡ 0 → word % 2 ^ 32 ≢ granted_word p % 2 ^ 32
 not_granted_half nodes p token word l none e = let b = l.before none in let some = some_cells nodes in let few = few_cells nodes in absurd (omega arith)
 
 -- so a grant finds the node that had withdrawn there, and 0 if none had

@@ -10,11 +10,11 @@ use Rattle.line_cells.specs.declared.local.Point.TheVariants.{Queued}
 use Rattle.line_cells.specs.Layout.{cell_at, ticket_of}
 use Rattle.line_cells.specs.Array.{ArrayGhost, has_line, is_cleared}
 use Rattle.line_cells.specs.Steps as array
-use Rattle.line_cells.specs.Steps.{SeatContents, CarriesNext, single}
+use Rattle.line_cells.specs.Steps.{SeatContents, IsNextPayload, single}
 use Rattle.line_cells.proofs.Load.{loads_next}
 use Rattle.line_cells.proofs.Roll.{rolls_next}
 use Rattle.line_cells.proofs.Grant.{grants_next}
-use Rattle.ticket_line.specs.Layout.{cell_of, granted, withdrawn}
+use Rattle.ticket_line.specs.Layout.{cell_of, granted_word, withdrawn_word}
 use Rattle.ticket_line.specs.Slots.{slot_layout, slots_at_release}
 use Rattle.ticket_line.specs.Ticket.{TicketCells, TicketRule}
 use Rattle.ticket_line.specs.Steps.{is_other, is_granted, withdrawn_by, loaded, rolled, handed}
@@ -35,18 +35,18 @@ module _ (good : List ℕ → Type 0) (allows : List ℕ → List ℕ → Type 0
         (takes key.config.nodes v.own.place v.view.node (λ n. n) (looked v.own.place)) (stays key.config.nodes v.own.place) me slots i m is own_word)
 
     -- or puts the own number there
-    pub ticket_rolls : (new : ℕ) → v.view.node ≤ MAX_NODES → new ≡ withdrawn (ticket_of v.own.place) v.view.node → Allows (TicketRule good allows key) slots me m i (λ _. new) (rolled allows (step slots i 0 0 none) m)
+    pub ticket_rolls : (new : ℕ) → v.view.node ≤ MAX_NODES → new ≡ withdrawn_word (ticket_of v.own.place) v.view.node → Allows (TicketRule good allows key) slots me m i (λ _. new) (rolled allows (step slots i 0 0 none) m)
     ticket_rolls new high says = subst (λ (n : ℕ). Allows (TicketRule good allows key) slots me m i (λ _. new) (array.rolled allows ticket_of (slot_layout n) is_other is_granted (step slots i 0 0 none) m)) (sym sized)
         (rolls_next (TicketCells key.config.nodes) (slot_layout key.config.nodes) good allows key v queued ticket_of is_other is_granted (λ _. new) (take key.config.nodes)
         (takes key.config.nodes v.own.place v.view.node (λ _. new) (λ _ _. written v.own.place v.view.node new high says)) (stays key.config.nodes v.own.place) (withdraws key.config.nodes v.own.place v.view.node new says) me slots i m is own_word)
 
   -- a node that has laid the line for the next one grants that one's cell, by its word
-  module _ (goes : (a b : List ℕ) → good a → allows a b → good b) (has_it : has_line v.own.point ≡ true) (y : Payload) (carries : CarriesNext allows v y) (carried : Slots) (is : m ≡ (v ∷ [], carried)) (laid : slots_at_release key.config.nodes (ticket_of (length v.view.ends)) y carried)
+  module _ (goes : (a b : List ℕ) → good a → allows a b → good b) (has_it : has_line v.own.point ≡ true) (y : Payload) (carries : IsNextPayload allows v y) (carried : Slots) (is : m ≡ (v ∷ [], carried)) (laid : slots_at_release key.config.nodes (ticket_of (length v.view.ends)) y carried)
       (next : ℕ) (behind : next ≡ ticket_of (length v.view.ends + 1)) (word : i ≡ cell_at (cell_of key.config.nodes next)) where
     next_word : i ≡ cell_at (cell_of key.config.nodes (length v.view.ends + 1))
     next_word = word ∙ (ap (λ t. cell_at (cell_of key.config.nodes t)) behind ∙ ap cell_at (cell_ticket key.config.nodes (length v.view.ends + 1)))
 
-    pub ticket_grants : (new : ℕ) → new ≡ granted (ticket_of (length v.view.ends + 1)) → Allows (TicketRule good allows key) slots me m i (λ _. new) (handed allows (step slots i 0 0 none) m)
+    pub ticket_grants : (new : ℕ) → new ≡ granted_word (ticket_of (length v.view.ends + 1)) → Allows (TicketRule good allows key) slots me m i (λ _. new) (handed allows (step slots i 0 0 none) m)
     ticket_grants new says = subst (λ (n : ℕ). Allows (TicketRule good allows key) slots me m i (λ _. new) (array.granted allows (slot_layout n) withdrawn_by withdrawn_by (step slots i 0 0 none) m)) (sym sized)
         (grants_next (TicketCells key.config.nodes) (slot_layout key.config.nodes) good allows key goes v has_it y carries withdrawn_by withdrawn_by (λ _. new) (give key.config.nodes) (keep key.config.nodes) (lays_one key.config.nodes)
         (grants key.config.nodes (length v.view.ends) new (is_cleared v.own.point) says) me slots i m carried is laid next_word)

@@ -8,7 +8,7 @@ use Rattle.line_generic.specs.declared.table.Payload.{Payload}
 use Rattle.line_generic.specs.Steps.{IsSameSeat, HasNoSlot}
 use Rattle.line_cells.specs.Layout.{ticket_of}
 use Rattle.line_cells.specs.Array.{ArrayGhost}
-use Rattle.line_cells.specs.Steps.{ArraySeat, SeatContents, ghost_of, single, CarriesNext, Ended, GoesHome, Passes, Advances}
+use Rattle.line_cells.specs.Steps.{ArraySeat, SeatContents, ghost_of, single, IsNextPayload, Ended, IsHandedOver, Passes, Advances}
 use Rattle.line_cells.specs.Releases.{MatchesEnds}
 use Rattle.line_cells.proofs.Walking as walk
 use Rattle.ticket_line.specs.Layout.{ticket_after}
@@ -30,7 +30,7 @@ pub record IsLaid (m ticket : ℕ) (t d : ArraySeat) : Type 0 where
 
 goes_from : (allows : List ℕ → List ℕ → Type 0) (a b m : SeatContents) (n : ℕ) → b.0 ≡ a.0 → Advances allows b m n → Advances allows a m n
 goes_from allows a b m n same g = record {
-  is_single = g.is_single;
+  of_one_node = g.of_one_node;
   extends = subst (λ es. Extends (single es).view (single m.0).view) same g.extends;
   continues = λ v before. g.continues v (subst (λ es. Continues allows v (single es).view) (sym same) before);
   steps = subst (λ es. (single m.0).steps ≡ (single es).steps + n) same g.steps;
@@ -42,19 +42,19 @@ walk_has m allows s t nodes first ticket found y k more begins slot = subst (λ 
 
 -- what the next grant asks
 pub walk_carries : (m : ℕ) (allows : List ℕ → List ℕ → Type 0) (s t d : ArraySeat) (nodes : List ℕ) (first ticket found : ℕ) (y : Payload) → IsWalking m allows s nodes ticket found t → found ≢ 0 → IsLaid m ticket t d → first ≡ turn_ticket s → SlotsAtGrant m first s y → MatchesEnds (ghost_of s) y
-    → SlotsAtRelease m (turn_ticket d) d y × CarriesNext allows (ghost_of d) y
+    → SlotsAtRelease m (turn_ticket d) d y × IsNextPayload allows (ghost_of d) y
 walk_carries m allows s t d nodes first ticket found y k more laid begins slot bare =
     let both = walk.walk_carries (slot_layout m) allows s t nodes (length nodes) found found y k.walking more (subst (λ n. SlotsAtGrant m n s y) begins slot) bare in
     let entry : ghost_of d ≡ ghost_of t = ap single laid.entries in
     let turn : turn_ticket d ≡ turn_ticket t = ap (λ (e : ArrayGhost). ticket_of (length e.view.ends)) entry in (
       subst (λ n. SlotsAtRelease m n d y) (k.ticket_is ∙ sym turn) (laid.stored y (subst (λ n. SlotsAtGrant m n t y) (sym k.ticket_is) both.0)),
-      subst (λ e. CarriesNext allows e y) (sym entry) both.1,
+      subst (λ e. IsNextPayload allows e y) (sym entry) both.1,
     )
 
 -- and what it has done after it
 pub walk_step : (m : ℕ) (allows : List ℕ → List ℕ → Type 0) (s t d u : ArraySeat) (nodes : List ℕ) (first ticket found after next : ℕ) (y : Payload) → IsWalking m allows s nodes ticket found t → found ≢ 0 → (ghost_of s).view.config.nodes ≤ MAX_NODES → IsLaid m ticket t d
     → first ≡ turn_ticket s → SlotsAtGrant m first s y → MatchesEnds (ghost_of s) y → (ghost_of s).view.state ≡ state_after y.closed → IsSameSeat d u → Advances allows d.me u.me 1 → ((x : Payload) → SlotsAtRelease m (turn_ticket d) d x → Ended (ghost_of d) (ghost_of u) x)
-    → (next ≡ 0 → HasNoSlot u × GoesHome (ghost_of d) (ghost_of u)) → (next ≢ 0 → ((x : Payload) → SlotsAtRelease m (turn_ticket d) d x → SlotsAtGrant m after u x) × Passes (ghost_of d) next (ghost_of u)) → after ≡ ticket_after ticket
+    → (next ≡ 0 → HasNoSlot u × IsHandedOver (ghost_of d) (ghost_of u)) → (next ≢ 0 → ((x : Payload) → SlotsAtRelease m (turn_ticket d) d x → SlotsAtGrant m after u x) × Passes (ghost_of d) next (ghost_of u)) → after ≡ ticket_after ticket
     → IsWalking m allows s (nodes ++ found ∷ []) after next u
 walk_step m allows s t d u nodes first ticket found after next y k more low laid begins slot bare state same advances end home passes step =
     let entry : ghost_of d ≡ ghost_of t = ap single laid.entries in
@@ -65,7 +65,7 @@ walk_step m allows s t d u nodes first ticket found after next y k more low laid
       ticket_is = place;
       walking = walk.walk_step (slot_layout m) allows s t u nodes (length nodes) 1 (length (nodes ++ found ∷ [])) found found next next y k.walking more low state
           (same.0 ∙ laid.seat.0, same.1 ∙ laid.seat.1) (goes_from allows t.me d.me u.me 1 laid.entries advances) ended
-          (λ z. ((home z).0, subst (λ e. GoesHome e (ghost_of u)) entry (home z).1))
+          (λ z. ((home z).0, subst (λ e. IsHandedOver e (ghost_of u)) entry (home z).1))
           (λ z. (
             (λ x has. subst (λ n. SlotsAtGrant m n u x) place ((passes z).0 x (subst (λ n. SlotsAtRelease m n d x) (k.ticket_is ∙ sym turn) (laid.stored x (subst (λ n. SlotsAtGrant m n t x) (sym k.ticket_is) has))))),
             subst (λ e. Passes e next (ghost_of u)) entry (passes z).1,

@@ -15,11 +15,11 @@ use Rattle.line_cells.specs.BetweenCalls as between_calls
 use Rattle.line_cells.specs.Counting.{mask_for}
 use Rattle.line_cells.specs.Layout.{ticket_of}
 use Rattle.line_cells.specs.Releases.{MatchesEnds, ReleasesLine, FinishesWalk, AreNodesAt, FreesAll}
-use Rattle.line_cells.specs.Steps.{ArraySeat, IsAt, ghost_of, SeatAdvances, CarriesNext, Ended, GoesHome, Passes}
+use Rattle.line_cells.specs.Steps.{ArraySeat, IsAt, ghost_of, SeatAdvances, IsNextPayload, Ended, IsHandedOver, Passes}
 use Rattle.ticket_line.specs.declared.release.Handoff.{Handoff}
 use Rattle.ticket_line.specs.Layout.{word_count}
 use Rattle.ticket_line.specs.Slots.{slots_at_grant, slots_in_turn, slots_at_release}
-use Rattle.ticket_line.specs.Steps.{IsSized, turn_ticket, next_ticket, SlotsAtGrant, SlotsAtRelease}
+use Rattle.ticket_line.specs.Steps.{KnowsNodes, turn_ticket, next_ticket, SlotsAtGrant, SlotsAtRelease}
 
 -- the phases of a node, with the slots that it has in each
 abbrev pub phases : PortPhases Local
@@ -29,20 +29,20 @@ module _ {P : Type 0} (t : LineTable Local P) where
   -- the seat of a holder that has not passed any request
   pub record IsReleaser (allows : List ℕ → List ℕ → Type 0) (mask turn : ℕ) (s : ArraySeat) : Type 0 where
     pub table : IsSeatOf (word_count t.key.config.nodes) t.table_id s
-    pub phase : IsAt Holding s
-    pub size : mask ≡ mask_for t.key.config.nodes
-    pub sized : IsSized t.key.config.nodes s
+    pub point : IsAt Holding s
+    pub mask_fits : mask ≡ mask_for t.key.config.nodes
+    pub knows_nodes : KnowsNodes t.key.config.nodes s
     pub none_passed : (ghost_of s).own.passed ≡ []
     pub ticket : turn ≡ turn_ticket s
     pub nodes : 1 ≤ (ghost_of s).view.config.nodes
-    pub payload : (y : Payload) × SlotsAtRelease t.key.config.nodes turn s y × CarriesNext allows (ghost_of s) y
+    pub payload : (y : Payload) × SlotsAtRelease t.key.config.nodes turn s y × IsNextPayload allows (ghost_of s) y
 
   -- the seat of a holder whose successor had withdrawn as this node
-  pub record HasPassedFirst (mask turn node : ℕ) (s : ArraySeat) : Type 0 where
+  pub record MayWalk (mask turn node : ℕ) (s : ArraySeat) : Type 0 where
     pub table : IsSeatOf (word_count t.key.config.nodes) t.table_id s
-    pub phase : IsAt Passing s
-    pub size : mask ≡ mask_for t.key.config.nodes
-    pub sized : IsSized t.key.config.nodes s
+    pub point : IsAt Passing s
+    pub mask_fits : mask ≡ mask_for t.key.config.nodes
+    pub knows_nodes : KnowsNodes t.key.config.nodes s
     pub ticket : turn ≡ turn_ticket s
     pub not_zero : node ≢ 0
     pub passed : (ghost_of s).own.passed ≡ length (ghost_of s).view.ends ∷ []
@@ -52,28 +52,28 @@ module _ {P : Type 0} (t : LineTable Local P) where
     pub payload : (y : Payload) × SlotsAtGrant t.key.config.nodes turn s y × MatchesEnds (ghost_of s) y × ((ghost_of s).view.state ≡ state_after y.closed)
 
   -- the seat has passed requests of these nodes, none of them freed yet
-  pub record HasNodesToFree (passed : List ℕ) (s : ArraySeat) : Type 0 where
+  pub record MayFreeAll (passed : List ℕ) (s : ArraySeat) : Type 0 where
     pub table : IsSeatOf (word_count t.key.config.nodes) t.table_id s
-    pub phase : IsAt Freeing s
-    pub sized : IsSized t.key.config.nodes s
+    pub point : IsAt Freeing s
+    pub knows_nodes : KnowsNodes t.key.config.nodes s
     pub not_empty : (ghost_of s).own.passed ≢ []
     pub same_length : length passed ≡ length (ghost_of s).own.passed
     pub nodes : AreNodesAt (ghost_of s).view (ghost_of s).own.passed passed
 
   -- the seat has the line stored for the successor with this ticket
-  pub record HasSuccessor (allows : List ℕ → List ℕ → Type 0) (mask ticket : ℕ) (s : ArraySeat) : Type 0 where
+  pub record MayGrant (allows : List ℕ → List ℕ → Type 0) (mask ticket : ℕ) (s : ArraySeat) : Type 0 where
     pub table : IsSeatOf (word_count t.key.config.nodes) t.table_id s
-    pub phase : IsAt Holding s ⊎ IsAt Passing s
-    pub size : mask ≡ mask_for t.key.config.nodes
-    pub nodes : IsSized t.key.config.nodes s
+    pub point : IsAt Holding s ⊎ IsAt Passing s
+    pub mask_fits : mask ≡ mask_for t.key.config.nodes
+    pub nodes : KnowsNodes t.key.config.nodes s
     pub next : ticket ≡ next_ticket s
-    pub payload : (y : Payload) × SlotsAtRelease t.key.config.nodes (turn_ticket s) s y × CarriesNext allows (ghost_of s) y
+    pub payload : (y : Payload) × SlotsAtRelease t.key.config.nodes (turn_ticket s) s y × IsNextPayload allows (ghost_of s) y
 
   -- after `grant`: the turn has ended, and the line is home or passes a request
   pub record HasGranted (allows : List ℕ → List ℕ → Type 0) (ticket : ℕ) (old new : ArraySeat) (node : ℕ) : Type 0 where
     pub advances : SeatAdvances allows old new 1
     pub ended : (y : Payload) → SlotsAtRelease t.key.config.nodes (turn_ticket old) old y → Ended (ghost_of old) (ghost_of new) y
-    pub home : node ≡ 0 → HasNoSlot new × GoesHome (ghost_of old) (ghost_of new)
+    pub handed_over : node ≡ 0 → HasNoSlot new × IsHandedOver (ghost_of old) (ghost_of new)
     pub passes : node ≢ 0 → ((y : Payload) → SlotsAtRelease t.key.config.nodes (turn_ticket old) old y → SlotsAtGrant t.key.config.nodes ticket new y) × Passes (ghost_of old) node (ghost_of new)
 
   -- after `copy_to_next_slot`: the granted line is in the successor's slot, too
@@ -83,7 +83,7 @@ module _ {P : Type 0} (t : LineTable Local P) where
 
   -- after `release`: the line is released, by this handoff
   pub record HasReleased (allows : List ℕ → List ℕ → Type 0) (ticket : ℕ) (old new : ArraySeat) (handoff : Handoff) : Type 0 where
-    pub slot : HasNoSlot new
+    pub no_slot : HasNoSlot new
     pub advances : SeatAdvances allows old new handoff.steps
     pub releases : (y : Payload) → SlotsAtRelease t.key.config.nodes ticket old y → ReleasesLine (ghost_of old) y (ghost_of new)
     pub granted : handoff.ticket ≡ turn_ticket new
@@ -93,7 +93,7 @@ module _ {P : Type 0} (t : LineTable Local P) where
 module _ (allows : List ℕ → List ℕ → Type 0) where
   -- after `walk`: the withdrawn requests are passed, by this handoff
   pub record HasWalked (old new : ArraySeat) (handoff : Handoff) : Type 0 where
-    pub slot : HasNoSlot new
+    pub no_slot : HasNoSlot new
     pub advances : SeatAdvances allows old new handoff.steps
     pub finishes_walk : FinishesWalk (ghost_of old) (ghost_of new)
     pub granted : handoff.ticket ≡ turn_ticket new
@@ -102,6 +102,6 @@ module _ (allows : List ℕ → List ℕ → Type 0) where
 
   -- after `free_passed`: the nodes of all passed requests are freed
   pub record HasFreedAll (passed : List ℕ) (old new : ArraySeat) : Type 0 where
-    pub slot : new.me.1 ≡ old.me.1
+    pub keeps_slot : new.me.1 ≡ old.me.1
     pub advances : SeatAdvances allows old new (length passed)
     pub frees : FreesAll (ghost_of old) (ghost_of new)

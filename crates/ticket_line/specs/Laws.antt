@@ -14,7 +14,7 @@ use Rattle.line_cells.proofs.Counting.{node_below, some_cells}
 use Rattle.line_cells.specs.BetweenCalls.{max_steps}
 use Rattle.line_cells.specs.Layout.{cell_at, cells_in, ticket_at, ticket_of}
 use Rattle.ticket_line.specs.declared.layout.TheConstants.{NUMBER_UNIT, NUMBERS}
-use Rattle.ticket_line.specs.Layout.{cell_of, number, granted}
+use Rattle.ticket_line.specs.Layout.{cell_of, number, granted_word}
 use Rattle.line_generic.specs.declared.table.TableKey.{TableKey}
 use Rattle.qolb_model.specs.Opening.{MayOpen}
 use Rattle.line_cells.proofs.Slots.{MayReturnSlots, stays_home}
@@ -33,7 +33,7 @@ max_steps_fits nodes few = omega arith
 pub first_cells : (nodes : ℕ) (words : List ℕ) → AreFirst nodes words → TicketCells nodes 0 0 false (λ _. 0) (cells_in words)
 first_cells nodes words first = record {
   kept = refl;
-  turn = ap (λ k. k / NUMBER_UNIT) granted_first ∙ (let one : granted 0 / NUMBER_UNIT ≡ number 0 = omega arith in one);
+  turn = ap (λ k. k / NUMBER_UNIT) granted_first ∙ (let one : granted_word 0 / NUMBER_UNIT ≡ number 0 = omega arith in one);
   granted = λ _. granted_first;
   later = later_blank;
 }
@@ -41,7 +41,7 @@ first_cells nodes words first = record {
     zeroth : cell_of nodes 0 ≡ 0
     zeroth = mod-eq_of_lt (some_cells nodes)
 
-    granted_first : cells_in words (cell_of nodes 0) ≡ granted 0
+    granted_first : cells_in words (cell_of nodes 0) ≡ granted_word 0
     granted_first = ap (cells_in words) zeroth ∙ first.0
 
     later_blank : (k : ℕ) → 0 < k → k < cells_for nodes → IsLater nodes (0 + k) 0 (cells_in words (cell_of nodes (0 + k)))

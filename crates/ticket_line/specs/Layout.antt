@@ -14,11 +14,11 @@ abbrev pub number : ℕ → ℕ
 number ticket = (ticket + 1) % NUMBERS
 
 -- the word of a cell that is granted to a ticket, and of one where a node has withdrawn the ticket
-abbrev pub granted : ℕ → ℕ
-granted ticket = NUMBER_UNIT * number ticket
+abbrev pub granted_word : ℕ → ℕ
+granted_word ticket = NUMBER_UNIT * number ticket
 
-abbrev pub withdrawn : ℕ → ℕ → ℕ
-withdrawn ticket node = NUMBER_UNIT * number ticket + node
+abbrev pub withdrawn_word : ℕ → ℕ → ℕ
+withdrawn_word ticket node = NUMBER_UNIT * number ticket + node
 
 -- the node that had withdrawn a ticket at its cell, or 0
 abbrev pub withdrawn_by : ℕ → ℕ → ℕ
@@ -26,7 +26,7 @@ withdrawn_by ticket word = if word / NUMBER_UNIT == number ticket then word % NU
 
 -- a node that waits with this ticket at a cell with this lower half finds its turn
 abbrev pub signals_turn : ℕ → ℕ → Bool
-signals_turn ticket low = low == granted ticket % 2 ^ 32
+signals_turn ticket low = low == granted_word ticket % 2 ^ 32
 
 -- in a line of n nodes, the number of the last earlier place with the same cell, or 0 if there is none
 abbrev pub number_before : ℕ → ℕ → ℕ
@@ -34,7 +34,7 @@ number_before nodes place = (place + 1 - cells_for nodes) % NUMBERS
 
 -- the words of a new line: the first cell is granted to the first ticket, and all else is blank
 abbrev pub AreFirst : ℕ → List ℕ → Type 0
-AreFirst nodes words = array.AreFirst (cells_for nodes) (granted 0) words
+AreFirst nodes words = array.AreFirst (cells_for nodes) (granted_word 0) words
 
 -- the cell of a ticket, of as many as n nodes need
 abbrev pub cell_of : ℕ → ℕ → ℕ

@@ -26,8 +26,8 @@ abbrev pub IsSeatOfNode : ℕ → TableId → ℕ → ArraySeat → Type 0
 IsSeatOfNode nodes table_id node seat = array.IsSeatOfNode cells_for nodes table_id node seat
 
 -- the seat's node knows that the line has n nodes
-abbrev pub IsSized : ℕ → ArraySeat → Type 0
-IsSized nodes seat = (ghost_of seat).view.config.nodes ≡ nodes
+abbrev pub KnowsNodes : ℕ → ArraySeat → Type 0
+KnowsNodes nodes seat = (ghost_of seat).view.config.nodes ≡ nodes
 
 -- A port's token is its ticket. The request is not at its turn, and not withdrawn; it is at its turn; it is not at its
 -- turn, and withdrawn.
@@ -49,17 +49,17 @@ SlotsAtRelease nodes ticket seat y = slots_at_release nodes ticket y seat.me.1
 
 -- the own cell is granted to the own ticket, or is not
 abbrev pub is_other : ℕ → ℕ → Type 0
-is_other place found = found ≢ layout.granted (ticket_of place)
+is_other place found = found ≢ layout.granted_word (ticket_of place)
 
 abbrev pub is_granted : ℕ → ℕ → Type 0
-is_granted place found = found ≡ layout.granted (ticket_of place)
+is_granted place found = found ≡ layout.granted_word (ticket_of place)
 
 -- by the lower half of its word, the own cell is granted to the own ticket, or is not
 abbrev pub is_other_half : ℕ → ℕ → Type 0
-is_other_half place found = found % 2 ^ 32 ≢ layout.granted (ticket_of place) % 2 ^ 32
+is_other_half place found = found % 2 ^ 32 ≢ layout.granted_word (ticket_of place) % 2 ^ 32
 
 abbrev pub is_granted_half : ℕ → ℕ → Type 0
-is_granted_half place found = found % 2 ^ 32 ≡ layout.granted (ticket_of place) % 2 ^ 32
+is_granted_half place found = found % 2 ^ 32 ≡ layout.granted_word (ticket_of place) % 2 ^ 32
 
 -- the node that had withdrawn the ticket of the next place, or 0
 abbrev pub withdrawn_by : ℕ → ℕ → ℕ

@@ -12,7 +12,7 @@ use Rattle.ticket_line.specs.Slots.{slot_layout}
 -- The word of a later cell. It names the node that withdrew there; or the cell was not granted since the last earlier
 -- place with the same cell, and has that place's number.
 pub record IsLater (nodes place token word : ℕ) : Type 0 where
-  pub withdrawn : 0 < token → word ≡ layout.withdrawn place token
+  pub withdrawn : 0 < token → word ≡ layout.withdrawn_word place token
   pub before : token ≡ 0 → word / NUMBER_UNIT ≡ number_before nodes place
 
 -- The words of the cells of a line of n nodes. None is ever cleared. The cell at its turn has that place's number, and
@@ -20,7 +20,7 @@ pub record IsLater (nodes place token word : ℕ) : Type 0 where
 pub record TicketCells (nodes ended holder : ℕ) (cleared : Bool) (marks says : ℕ → ℕ) : Type 0 where
   pub kept : cleared ≡ false
   pub turn : says (cell_of nodes ended) / NUMBER_UNIT ≡ number ended
-  pub granted : holder ≡ 0 → says (cell_of nodes ended) ≡ layout.granted ended
+  pub granted : holder ≡ 0 → says (cell_of nodes ended) ≡ layout.granted_word ended
   pub later : (k : ℕ) → 0 < k → k < cells_for nodes → IsLater nodes (ended + k) (marks (ended + k)) (says (cell_of nodes (ended + k)))
 
 -- the invariant of any table of tickets and cells, over these cells

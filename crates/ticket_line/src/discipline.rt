@@ -43,9 +43,9 @@ impl<K: Keep> Discipline<K> for TicketQueue {
         slot_count(nodes)
     }
 
-    ghost size_for = { mask_for };
+    ghost cell_mask_for = { mask_for };
 
-    fn size_for(nodes: u64) -> u64 {
+    fn cell_mask_for(nodes: u64) -> u64 {
         cell_count(nodes) - 1
     }
 
@@ -53,11 +53,11 @@ impl<K: Keep> Discipline<K> for TicketQueue {
     fn take(
         table: &SharedTable<K>,
         seat: &mut TicketSeat,
-        size: u64,
+        cell_mask: u64,
         token: u64,
         payload: &mut LocalCopy,
     ) {
-        take(table, seat, size, token, payload);
+        take(table, seat, cell_mask, token, payload);
     }
 
     /// Stores the payload of a turn that is over in the slot of the next ticket.
@@ -65,12 +65,12 @@ impl<K: Keep> Discipline<K> for TicketQueue {
     fn put(
         table: &SharedTable<K>,
         seat: &mut TicketSeat,
-        size: u64,
+        cell_mask: u64,
         token: u64,
         payload: &LocalCopy,
         closed: bool,
     ) {
-        let slot = seat.slot_mut(table, slot_of(table, size, ticket_after(token)));
+        let slot = seat.slot_mut(table, slot_of(table, cell_mask, ticket_after(token)));
         slot.bytes = payload.bytes;
         slot.mask = payload.mask;
         slot.turns_left = match payload.turns_left {
@@ -89,7 +89,7 @@ impl<K: Keep> Discipline<K> for TicketQueue {
     fn ask(
         table: &SharedTable<K>,
         seat: &mut TicketSeat,
-        size: u64,
+        cell_mask: u64,
         node: u64,
         state: PortState,
     ) -> EnqueueResult {
@@ -101,7 +101,7 @@ impl<K: Keep> Discipline<K> for TicketQueue {
             };
         };
         let ticket = take_ticket(table, seat);
-        let answer = if load(table, seat, size, ticket) {
+        let answer = if load(table, seat, cell_mask, ticket) {
             Enqueued::AtTurn
         } else {
             Enqueued::Queued
@@ -139,47 +139,47 @@ impl<K: Keep> Discipline<K> for TicketQueue {
     fn look(
         table: &SharedTable<K>,
         seat: &mut TicketSeat,
-        size: u64,
+        cell_mask: u64,
         _node: u64,
         token: u64,
     ) -> bool {
-        load(table, seat, size, token)
+        load(table, seat, cell_mask, token)
     }
 
     #[inline]
     fn roll(
         table: &SharedTable<K>,
         seat: &mut TicketSeat,
-        size: u64,
+        cell_mask: u64,
         node: u64,
         token: u64,
     ) -> bool {
-        roll(table, seat, size, token, node)
+        roll(table, seat, cell_mask, token, node)
     }
 
     #[inline]
     fn release(
         table: &SharedTable<K>,
         seat: &mut TicketSeat,
-        size: u64,
+        cell_mask: u64,
         _node: u64,
         token: u64,
         closed: bool,
     ) -> Released {
-        let released = release(table, seat, size, token);
+        let released = release(table, seat, cell_mask, token);
         Released {
             state: state_after(closed),
             steps: released.steps,
             unpark: UnparkHandle::at(
-                cell_word(table, size, released.ticket),
-                cell_word(table, size, ticket_after(released.ticket)),
+                cell_word(table, cell_mask, released.ticket),
+                cell_word(table, cell_mask, ticket_after(released.ticket)),
             ),
         }
     }
 
     #[inline]
-    fn wait_word(table: &SharedTable<K>, size: u64, _node: u64, token: u64) -> usize {
-        cell_word(table, size, token)
+    fn wait_word(table: &SharedTable<K>, cell_mask: u64, _node: u64, token: u64) -> usize {
+        cell_word(table, cell_mask, token)
     }
 
     #[inline]
@@ -200,7 +200,7 @@ impl<K: Keep> Discipline<K> for TicketQueue {
         (slot_layout key.config.nodes) K.good K.allows key };
 
     ghost starts = { λ key. seats.starts (TicketCells key.config.nodes)
-        (slot_layout key.config.nodes) K.good K.allows key (layout.granted 0) (enough key)
+        (slot_layout key.config.nodes) K.good K.allows key (layout.granted_word 0) (enough key)
         (first_slot key.config.nodes) (first_cells key.config.nodes) };
 
     ghost meets = { λ key. meeting.meets_next (TicketCells key.config.nodes)

@@ -28,7 +28,7 @@ impl DisciplineSpec for TicketQueue {
 
     ghost wait_word = { between_calls.wait_word cells_for };
 
-    ghost turn_word = { between_calls.turn_word ticket_of cells_for };
+    ghost wake_word = { between_calls.wake_word ticket_of cells_for };
 
     ghost signals_turn = { layout.signals_turn };
 

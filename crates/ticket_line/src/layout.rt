@@ -69,27 +69,28 @@ pub(crate) fn ticket_after(ticket: u64) -> u64
 
 /// Returns the word of a cell that is granted to `ticket`: the ticket's number, and no node.
 #[inline]
-pub(crate) fn granted(ticket: u64) -> u64
-    ensures { result ≡ layout.granted ticket }
+pub(crate) fn granted_word(ticket: u64) -> u64
+    ensures { result ≡ layout.granted_word ticket }
 {
     NUMBER_UNIT * (ticket_after(ticket) % NUMBERS)
 }
 
 /// Returns the word of a cell where `node` has withdrawn `ticket`.
 #[inline]
-pub(crate) fn withdrawn(ticket: u64, node: u64) -> u64
+pub(crate) fn withdrawn_word(ticket: u64, node: u64) -> u64
     requires { node ≤ MAX_NODES }
-    ensures { result ≡ layout.withdrawn ticket node }
+    ensures { result ≡ layout.withdrawn_word ticket node }
 {
-    granted(ticket) + node
+    granted_word(ticket) + node
 }
 
 /// Returns `true` if a cell with this word is granted to `ticket`.
 #[inline]
 pub(crate) fn is_granted(word: u64, ticket: u64) -> bool
-    ensures { MatchBool result (word ≡ layout.granted ticket) (word ≢ layout.granted ticket) }
+    ensures { MatchBool result (word ≡ layout.granted_word ticket)
+        (word ≢ layout.granted_word ticket) }
 {
-    word == granted(ticket)
+    word == granted_word(ticket)
 }
 
 /// Returns `true` if a cell with this lower half is granted to `ticket`, which waits there.
@@ -99,7 +100,7 @@ pub(crate) fn is_granted(word: u64, ticket: u64) -> bool
 pub(crate) fn is_granted_half(low: u32, ticket: u64) -> bool
     ensures { result ≡ layout.signals_turn ticket low }
 {
-    u64::from(low) == granted(ticket) % (1 << 32)
+    u64::from(low) == granted_word(ticket) % (1 << 32)
 }
 
 /// Returns the node that had withdrawn `ticket` at a cell with this word, or 0.
@@ -108,7 +109,7 @@ pub(crate) fn withdrawn_by(word: u64, ticket: u64) -> u64
     ensures { result ≡ layout.withdrawn_by ticket word }
 {
     // Only words with the ticket's number are less than a unit above it.
-    let node = word.wrapping_sub(granted(ticket));
+    let node = word.wrapping_sub(granted_word(ticket));
     if node < NUMBER_UNIT { node } else { 0 }
 }
 
@@ -120,6 +121,6 @@ pub(crate) fn first_words(alloc: Global, nodes: u64) -> Result<Vec<u64>, AllocEr
 {
     let count = word_count(cell_count(nodes));
     let mut words = vec![in alloc; 0u64; count]?;
-    words[line_cells::cell_word(0)] = granted(0);
+    words[line_cells::cell_word(0)] = granted_word(0);
     Ok(words)
 }

@@ -15,7 +15,7 @@ use crate::invariant::{SharedTable, TicketSeat};
 use crate::layout::{slot_count, slot_for, slot_of};
 use crate::release::copy_to_next_slot;
 use atomic_table::Closed;
-use line_cells::TICKET;
+use line_cells::TICKET_WORD;
 use line_generic::{LocalCopy, Payload};
 use line_lanes::Mask;
 use qolb_model::Keep;
@@ -26,20 +26,20 @@ use std::alloc::Global;
 pub(crate) fn take<K: Keep>(
     table: &SharedTable<K>,
     seat: &mut TicketSeat,
-    size: u64,
+    cell_mask: u64,
     ticket: u64,
     payload: &mut LocalCopy,
 )
-    requires { MayTake phases mask_for table.now size ticket seat.old }
+    requires { MayTake phases mask_for table.now cell_mask ticket seat.old }
     ensures { Takes phases table.now.key.config.nodes ticket seat.old seat.new payload.new }
 {
-    let slot = seat.slot_mut(table, slot_of(table, size, ticket));
+    let slot = seat.slot_mut(table, slot_of(table, cell_mask, ticket));
     payload.bytes = slot.bytes;
     payload.turns_left = slot.turns_left;
     payload.closed = slot.closed;
     payload.mask = Mask(0);
     if payload.closed {
-        copy_to_next_slot(table, seat, size, ticket);
+        copy_to_next_slot(table, seat, cell_mask, ticket);
     } else {
         seat.turn();
     }
@@ -53,7 +53,7 @@ pub(crate) fn take_final(closed: Closed<Payload, Global>, nodes: u64) -> Payload
         ≡ some result }
 {
     let mut closed = closed;
-    let place = slot_for(nodes, closed.word(TICKET));
+    let place = slot_for(nodes, closed.word(TICKET_WORD));
     let count = slot_count(nodes);
     let mut line = closed.take(0);
     let mut at = 1;

@@ -1,5 +1,18 @@
-//! The word steps, but for the last ones of a walk, which frees the passed nodes. Each is one sequentially consistent operation on one word of
-//! the table. Its type argument is its play: what the step does to the ghost state, with the count of steps.
+//! The word steps, but for those that free passed nodes (`free_passed`): each is one atomic operation on one word, sequentially consistent.
+//! The operation's type argument is its play: the ghost transition, which counts the step.
+//!
+//! - A *node* is a participant. To *free* a node is to set its *node word*, which is 0 before: then its withdrawn request is clear.
+//! - A *seat* is a node's access to the shared table: its node's ghost state (`me.0`, a list of one: `IsOfOneNode`), and
+//!   the slot with the line while the seat has it (`me.1`).
+//! - A *cell* is the word at which a request waits: the number of the ticket that was granted there last, or of a withdrawn one with its
+//!   node. A *slot* has the line's 64 bytes, and whether it is closed. Each cell has one; the line is in that of the ticket at its turn.
+//! - A request is *at its turn* once its cell is granted. Its node's seat *has* the line from the step that finds this. Its port *holds*
+//!   the line only if the line is not closed.
+//! - To *pass* a withdrawn request is to go on from its cell with the line. Each grant ends the request at its turn: at first the releasing
+//!   node's own, then each that was passed.
+//! - A node's last request is *clear* if no other node will use the node's word on account of it. The next request is then not answered
+//!   `Busy`.
+//! - A view's `count` is the number of its node's requests.
 ghost use Rattle.std.specs.Prelude.{◌≡◌, ◌∷◌, [], true, false};
 ghost use Rattle.qolb_model.specs.Requests.{Has};
 ghost use Rattle.qolb_model.specs.Views.{own};
@@ -7,41 +20,41 @@ ghost use Rattle.line_generic.specs.declared.table.Payload.{Payload};
 ghost use Rattle.line_generic.specs.Steps.{IsSameSeat, IsSeatOf, HasNoSlot};
 ghost use Rattle.line_cells.specs.Counting.{mask_for};
 ghost use Rattle.ticket_line.specs.Layout.{word_count};
-ghost use Rattle.line_cells.specs.Steps.{IsAt, ghost_of, SeatAdvances, TakesTicket, HasLoadedNodeWord, after_reset};
-ghost use Rattle.ticket_line.specs.Steps.{IsSeatOfNode, IsSized, own_ticket, SlotsAtGrant, IsStillQueued, IsAtTurn, IsRolled};
+ghost use Rattle.line_cells.specs.Steps.{IsAt, ghost_of, SeatAdvances, TakesTicket, TellsIfClear, after_reset};
+ghost use Rattle.ticket_line.specs.Steps.{IsSeatOfNode, KnowsNodes, own_ticket, SlotsAtGrant, IsStillQueued, IsAtTurn, IsRolled};
 ghost use Rattle.line_cells.specs.declared.local.Point.TheVariants.{Idle, Queued, Rolled};
-ghost use Rattle.ticket_line.specs.Calls.{HasSuccessor, HasGranted};
+ghost use Rattle.ticket_line.specs.Calls.{MayGrant, HasGranted};
 
 use crate::invariant::{SharedTable, TicketSeat};
-use crate::layout::{cell_word, granted, is_granted, withdrawn, withdrawn_by};
+use crate::layout::{cell_word, granted_word, is_granted, withdrawn_by, withdrawn_word};
 use crate::plays::{Grant, Load, Roll};
-use line_cells::{LoadNode, Reset, TICKET, TakeTicket, node_word};
+use line_cells::{LoadNode, Reset, TICKET_WORD, TakeTicket, node_word};
 use qolb_model::Keep;
 
-/// Takes a ticket. The linearization point of a request: it puts the request into the order.
+/// Takes a ticket and returns it. The linearization point of a request: it puts the request into the order.
 pub(crate) fn take_ticket<K: Keep>(table: &SharedTable<K>, seat: &mut TicketSeat) -> u64
     requires table { IsSeatOf (word_count table.now.key.config.nodes) table.now.table_id seat.old }
-    requires phase { IsAt Idle seat.old }
-    ensures slot { seat.new.me.1 ≡ seat.old.me.1 }
+    requires point { IsAt Idle seat.old }
+    ensures keeps_slot { seat.new.me.1 ≡ seat.old.me.1 }
     ensures advances { SeatAdvances K.allows seat.old seat.new 1 }
     ensures ticket { result ≡ own_ticket seat.new }
     ensures takes_ticket { TakesTicket (ghost_of seat.old) (ghost_of seat.new) }
 {
-    table.fetch_add::<TakeTicket<K>>(seat, TICKET, 1)
+    table.fetch_add::<TakeTicket<K>>(seat, TICKET_WORD, 1)
 }
 
-/// Loads the node's own cell. Returns `true` if it is granted to its ticket: the request is at its turn.
+/// Loads the ticket's cell. Returns `true` if it is granted to the ticket: the request is at its turn.
 pub(crate) fn load<K: Keep>(
     table: &SharedTable<K>,
     seat: &mut TicketSeat,
-    size: u64,
+    cell_mask: u64,
     ticket: u64,
 ) -> bool
     requires table { IsSeatOf (word_count table.now.key.config.nodes) table.now.table_id seat.old }
-    requires phase { IsAt Queued seat.old }
-    requires size { size ≡ mask_for table.now.key.config.nodes }
-    requires nodes { IsSized table.now.key.config.nodes seat.old }
-    requires slot { HasNoSlot seat.old }
+    requires point { IsAt Queued seat.old }
+    requires mask_fits { cell_mask ≡ mask_for table.now.key.config.nodes }
+    requires nodes { KnowsNodes table.now.key.config.nodes seat.old }
+    requires no_slot { HasNoSlot seat.old }
     requires ticket { ticket ≡ own_ticket seat.old }
     ensures advances { SeatAdvances K.allows seat.old seat.new 1 }
     ensures count { (ghost_of seat.new).view.count ≡ (ghost_of seat.old).view.count }
@@ -52,23 +65,26 @@ pub(crate) fn load<K: Keep>(
         × IsAtTurn ticket (ghost_of seat.new) y }
 {
     is_granted(
-        table.load::<Load<K>>(seat, cell_word(table, size, ticket)),
+        table.load::<Load<K>>(seat, cell_word(table, cell_mask, ticket)),
         ticket,
     )
 }
 
-/// Returns `true` if the cell is granted to the ticket, and withdraws the request otherwise. The linearization point of a withdrawal.
+/// Swaps a withdrawal into the ticket's cell. The linearization point of a withdrawal.
+///
+/// Returns `true` if the grant was there first: the request is at its turn, and the cell's next grant, with another number, takes no notice
+/// of what was swapped in. `false`: the request is withdrawn.
 pub(crate) fn roll<K: Keep>(
     table: &SharedTable<K>,
     seat: &mut TicketSeat,
-    size: u64,
+    cell_mask: u64,
     ticket: u64,
     node: u64,
 ) -> bool
     requires seat { IsSeatOfNode table.now.key.config.nodes table.now.table_id node seat.old }
-    requires phase { IsAt Queued seat.old }
-    requires size { size ≡ mask_for table.now.key.config.nodes }
-    requires slot { HasNoSlot seat.old }
+    requires point { IsAt Queued seat.old }
+    requires mask_fits { cell_mask ≡ mask_for table.now.key.config.nodes }
+    requires no_slot { HasNoSlot seat.old }
     requires ticket { ticket ≡ own_ticket seat.old }
     ensures advances { SeatAdvances K.allows seat.old seat.new 1 }
     ensures count { (ghost_of seat.new).view.count ≡ (ghost_of seat.old).view.count }
@@ -79,45 +95,44 @@ pub(crate) fn roll<K: Keep>(
 {
     let found = table.swap::<Roll<K>>(
         seat,
-        cell_word(table, size, ticket),
-        withdrawn(ticket, node),
+        cell_word(table, cell_mask, ticket),
+        withdrawn_word(ticket, node),
     );
     is_granted(found, ticket)
 }
 
-/// Ends the request at its turn, the node's own or a withdrawn one, and grants the next cell to ticket `next`. The linearization point of
-/// an end.
+/// Ends the request at its turn, the caller's or one that it passes, and grants ticket `next` in that ticket's cell.
 ///
-/// Returns 0 if the line is now in the slot for the next request; else the node that had withdrawn that ticket, whose request is then
-/// passed.
+/// The linearization point of an end. Returns 0 if `next` now has the line, whether a node has taken that ticket or not; else the node that
+/// had withdrawn it: the caller still has the line, and must pass that request.
 pub(crate) fn grant<K: Keep>(
     table: &SharedTable<K>,
     seat: &mut TicketSeat,
-    size: u64,
+    cell_mask: u64,
     next: u64,
 ) -> u64
-    requires { HasSuccessor table.now K.allows size next seat.old }
+    requires { MayGrant table.now K.allows cell_mask next seat.old }
     ensures { HasGranted table.now K.allows next seat.old seat.new result }
 {
-    let found = table.swap::<Grant<K>>(seat, cell_word(table, size, next), granted(next));
+    let found = table.swap::<Grant<K>>(seat, cell_word(table, cell_mask, next), granted_word(next));
     withdrawn_by(found, next)
 }
 
-/// Loads the node's own word: not 0 if its withdrawn request was passed and the node freed.
+/// Loads the node's own word: not 0 if its withdrawn request was passed and the node freed, so that the request is clear.
 pub(crate) fn load_node<K: Keep>(table: &SharedTable<K>, seat: &mut TicketSeat, node: u64) -> u64
     requires seat { IsSeatOfNode table.now.key.config.nodes table.now.table_id node seat.old }
-    requires phase { IsAt Rolled seat.old }
-    ensures slot { seat.new.me.1 ≡ seat.old.me.1 }
+    requires point { IsAt Rolled seat.old }
+    ensures keeps_slot { seat.new.me.1 ≡ seat.old.me.1 }
     ensures advances { SeatAdvances K.allows seat.old seat.new 1 }
-    ensures still { HasLoadedNodeWord (ghost_of seat.old) result (ghost_of seat.new) }
+    ensures tells { TellsIfClear (ghost_of seat.old) result (ghost_of seat.new) }
 {
     table.load::<LoadNode<K>>(seat, node_word(node))
 }
 
-/// Clears the node's own word, before its next request.
+/// Sets the node's own word back to 0, before its next request.
 pub(crate) fn reset<K: Keep>(table: &SharedTable<K>, seat: &mut TicketSeat, node: u64)
     requires seat { IsSeatOfNode table.now.key.config.nodes table.now.table_id node seat.old }
-    requires phase { IsAt Rolled seat.old }
+    requires point { IsAt Rolled seat.old }
     requires clear { Has (ghost_of seat.old).view.clear (own (ghost_of seat.old).view) }
     ensures seat { IsSameSeat seat.old seat.new }
     ensures reset { seat.new.me ≡ (after_reset (ghost_of seat.old) ∷ [], seat.old.me.1) }

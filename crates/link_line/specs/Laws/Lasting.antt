@@ -20,14 +20,14 @@ use Rattle.link_core.specs.Shown.{has_line, Lies, at_home, in_hand, granted, lef
 use Rattle.link_line.specs.Ghost.{LinkGhost}
 use Rattle.line_generic.specs.declared.table.TableKey.{TableKey}
 use Rattle.line_generic.specs.declared.table.Payload.{Payload}
-use Rattle.line_generic.specs.Entries.{node_of}
+use Rattle.line_generic.specs.NodeGhosts.{node_of}
 use Rattle.qolb_model.specs.declared.answer.PortState.{PortState}
 use Rattle.qolb_model.specs.declared.answer.PortState.TheVariants as port_state
 use Rattle.qolb_model.specs.PortStates.{may_ask}
 use Rattle.link_line.specs.declared.local.LinkLocal.{LinkLocal}
 use Rattle.link_line.specs.BetweenCalls.{in_state}
 use Rattle.link_line.specs.Links.{At, NodeInv, InSlot, SlotHasLine}
-use Rattle.line_generic.specs.Entries.{AllInState, views_of}
+use Rattle.line_generic.specs.NodeGhosts.{AllInState, views_of}
 use Rattle.link_line.specs.Laws.Histories.{one_history, at_point}
 use Rattle.link_line.specs.Laws.Nodes.{St}
 use Rattle.link_line.specs.Laws.Seats.{Rule}

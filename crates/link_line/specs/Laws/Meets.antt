@@ -28,7 +28,7 @@ use Rattle.link_core.proofs.Found.{found}
 use Rattle.link_line.specs.Ghost.{LinkGhost}
 use Rattle.line_generic.specs.declared.table.TableKey.{TableKey}
 use Rattle.line_generic.specs.declared.table.Payload.{Payload}
-use Rattle.line_generic.specs.Entries.{node_of}
+use Rattle.line_generic.specs.NodeGhosts.{node_of}
 use Rattle.link_line.specs.Links.{History, NodeInv, HistoryInv, InSlot}
 use Rattle.link_line.specs.BetweenCalls.{initial}
 use Rattle.link_line.specs.Steps.{SeatContents}

@@ -13,7 +13,7 @@ use Rattle.qolb_model.specs.Views.{own}
 use Rattle.line_generic.specs.declared.table.Payload.{Payload}
 use Rattle.line_generic.specs.AtTurn.{SeesTurn}
 use Rattle.link_line.specs.Layout.{home_at, entry_at}
-use Rattle.link_line.specs.BetweenCalls.{initial, in_state, holds_open, holds_closed, allowed_states, max_steps, wait_word, word_of, turn_word}
+use Rattle.link_line.specs.BetweenCalls.{initial, in_state, holds_open, holds_closed, allowed_states, max_steps, wait_word, word_of, wake_word}
 
 pub starts_idle : (nodes : ℕ) → in_state nodes port_state.Idle 0 initial
 starts_idle nodes = refl
@@ -31,23 +31,23 @@ pub max_steps_fits : (nodes : ℕ) → nodes ≤ MAX_NODES → max_steps nodes <
 max_steps_fits nodes few = omega arith
 
 -- the word of the turn: the entry of whose joined request is at its turn
-pub names_joined : (v : View) (r : Request) → turn_of v.order v.ends ≡ Some r → Has v.joined r → turn_word v ≡ entry_at r.node
+pub names_joined : (v : View) (r : Request) → turn_of v.order v.ends ≡ Some r → Has v.joined r → wake_word v ≡ entry_at r.node
 names_joined v r turn joined = ap (word_of v.joined) turn ∙ ap (λ (b : Bool). if b then entry_at r.node else home_at) joined
 
 -- or home, if no request is at its turn, or one that is not joined
-pub names_nobody : (v : View) → ((r : Request) → turn_of v.order v.ends ≡ Some r → ⊥) → turn_word v ≡ home_at
+pub names_nobody : (v : View) → ((r : Request) → turn_of v.order v.ends ≡ Some r → ⊥) → wake_word v ≡ home_at
 names_nobody v nobody = by (turn_of v.order v.ends) nobody
   where
     by : (o : Option Request) → ((r : Request) → o ≡ Some r → ⊥) → word_of v.joined o ≡ home_at
     by (Some r) nobody = absurd (nobody r refl)
     by None nobody = refl
 
-pub names_short : (v : View) → SuccessorUnlinked v → turn_word v ≡ home_at
+pub names_short : (v : View) → SuccessorUnlinked v → wake_word v ≡ home_at
 names_short v s = ap (word_of v.joined) s.1 ∙ ap (λ (b : Bool). if b then entry_at s.0.node else home_at) s.2
 
 -- a node that has the line waited on the word of the turn, if it was granted open, and if closed
-pub holder_waits_there : (token : ℕ) (u v : View) (local : LinkLocal) → holds_open token (length v.ends) local → SeesTurn u v → wait_word v.config.nodes v.node token ≡ turn_word u
+pub holder_waits_there : (token : ℕ) (u v : View) (local : LinkLocal) → holds_open token (length v.ends) local → SeesTurn u v → wait_word v.config.nodes v.node token ≡ wake_word u
 holder_waits_there token u v local h sees = sym (names_joined u (own v) sees.turn sees.joined)
 
-pub closed_waits_there : (token : ℕ) (u v : View) (local : LinkLocal) (y : Payload) → holds_closed token v local y → SeesTurn u v → wait_word v.config.nodes v.node token ≡ turn_word u
+pub closed_waits_there : (token : ℕ) (u v : View) (local : LinkLocal) (y : Payload) → holds_closed token v local y → SeesTurn u v → wait_word v.config.nodes v.node token ≡ wake_word u
 closed_waits_there token u v local y r sees = sym (names_joined u (own v) sees.turn sees.joined)

@@ -18,7 +18,7 @@ use Rattle.line_generic.specs.declared.table.TableKey.{TableKey}
 use Rattle.line_generic.specs.declared.table.Payload.{Payload}
 use Rattle.link_line.specs.BetweenCalls.{initial}
 use Rattle.link_line.specs.Layout.{home_at, entry_at, word_count, pack, AreBlank}
-use Rattle.line_generic.specs.Entries.{initial_node, initial_nodes, node_of}
+use Rattle.line_generic.specs.NodeGhosts.{initial_node, initial_nodes, node_of}
 use Rattle.link_line.specs.Links.{MayServe, LinkRule}
 use Rattle.link_line.specs.Laws.Nodes.{St}
 

@@ -4,7 +4,7 @@ use lib.ListN.{get_elem?}
 use Rattle.std.specs.Slots.{slots_items}
 use Rattle.line_generic.specs.declared.table.Payload.{Payload}
 use Rattle.qolb_model.specs.Finishing.{IsFinalLine}
-use Rattle.line_generic.specs.Entries.{views_of}
+use Rattle.line_generic.specs.NodeGhosts.{views_of}
 use Rattle.line_generic.proofs.finish.close.Goals as goal
 
 pub take_final-payload-requires-clause-slots : goal.take_final-payload-requires-clause-slots

@@ -1,5 +1,5 @@
 use Rattle.std.proofs.Common.{rules, arith, ap, ◌≡◌, ◌∙◌, [], ◌∷◌, ◌++◌}
-use Rattle.line_generic.specs.Entries.{LineSeat}
+use Rattle.line_generic.specs.NodeGhosts.{LineSeat}
 use Rattle.line_generic.specs.Steps.{ghost_of}
 use Rattle.line_generic.proofs.meeting.meet_seats.Goals as goal
 
@@ -9,5 +9,5 @@ glued initial a b s o j ea eb es eo ej = ej ∙ (λ i. ((es i).0 ++ (eo i).me.0,
 
 pub load-requires : goal.load-requires
 load-requires g c =
-    let all = glued g.Q.DisciplineSpec.phases.initial c.args.a.now c.args.b.now c.split_seat-empty_half.new.seat c.replace-other.result c.join_seat.new.seat c.requires.phase.0 c.requires.phase.1 c.split_seat-empty_half.ensures.2 c.replace-other.ensures.value c.join_seat.ensures.2 in
+    let all = glued g.Q.DisciplineSpec.phases.initial c.args.a.now c.args.b.now c.split_seat-empty_half.new.seat c.replace-other.result c.join_seat.new.seat c.requires.single.0 c.requires.single.1 c.split_seat-empty_half.ensures.2 c.replace-other.ensures.value c.join_seat.ensures.2 in
     (search rules, omega arith, g.met.Q.Discipline.meets c.args.table.now.key _ _ _ c.join_seat.new.seat.me (ghost_of g.Q.DisciplineSpec.phases.initial c.args.a.now) (ghost_of g.Q.DisciplineSpec.phases.initial c.args.b.now) (ap (λ m. m.0) all))

@@ -8,9 +8,9 @@ pub loop-node-init : goal.loop-node-init
 loop-node-init g c = record {
   seat = (refl, refl);
   carried = refl;
-  advances = goes_none g.K.Keep.allows c.args.seat.now.me c.requires.phase.0;
+  advances = goes_none g.K.Keep.allows c.args.seat.now.me c.requires.point.0;
   within = omega arith;
-  frees = frees_none (ghost_of c.args.seat.now) c.requires.phase.1 c.requires.not_empty;
+  frees = frees_none (ghost_of c.args.seat.now) c.requires.point.1 c.requires.not_empty;
 }
 
 pub free-requires : goal.free-requires
@@ -18,17 +18,17 @@ free-requires g c =
     let next = freeing_which c.args.seat.now c.loop-node.seat c.args.nodes.now c.loop-node.node-index c.loop-node.invariant c.requires.same_length c.requires.nodes c.loop-node-test.true in
     record {
       table = (c.loop-node.invariant.seat.0 ∙ c.requires.table.0, c.requires.table.1, c.requires.table.2);
-      phase = (c.loop-node.invariant.advances.is_single, next.0);
-      in_range = (next.1.0, omega (arith, next.1.1, c.requires.size));
-      next = next.2;
+      point = (c.loop-node.invariant.advances.of_one_node, next.0);
+      in_range = (next.1.0, omega (arith, next.1.1, c.requires.knows_nodes));
+      next_to_free = next.2;
     }
 
 pub loop-node-preserved : goal.loop-node-preserved
-loop-node-preserved g c = freeing_next g.K.Keep.allows c.args.seat.now c.loop-node.seat c.free.new.seat c.args.nodes.now c.loop-node.node-index c.loop-node.invariant c.requires.same_length c.requires.nodes c.loop-node-test.true c.free.ensures.advances.seat c.free.ensures.slot c.free.ensures.advances.advances c.free.ensures.frees
+loop-node-preserved g c = freeing_next g.K.Keep.allows c.args.seat.now c.loop-node.seat c.free.new.seat c.args.nodes.now c.loop-node.node-index c.loop-node.invariant c.requires.same_length c.requires.nodes c.loop-node-test.true c.free.ensures.advances.seat c.free.ensures.keeps_slot c.free.ensures.advances.advances c.free.ensures.frees
 
 pub returns : goal.returns
 returns g c = let done = c.loop-node.invariant in record {
   advances = record { seat = done.seat; advances = freed_steps g.K.Keep.allows c.args.seat.now c.loop-node.seat c.args.nodes.now c.loop-node.node-index done c.requires.same_length (omega (arith, c.loop-node-test.false)) };
-  slot = done.carried;
+  keeps_slot = done.carried;
   frees = frees_all (ghost_of c.args.seat.now) (ghost_of c.loop-node.seat) c.loop-node.node-index done.frees (omega (arith, c.requires.same_length, c.loop-node-test.false));
 }

@@ -20,10 +20,10 @@ walk-requires-clause-nodes g c =
     let passes = (on.3 y.0 y.1).2 in
     (walk_nodes (ghost_of c.args.seat.now) (ghost_of c.try_handoff-handoff.new.seat) y.0 c.in-Passed.first c.requires.none_passed passes, omega (arith, c.requires.nodes.1, ap (λ (t : LineConfig). t.nodes) on.2.extends.config))
 
-pub returns-in-HandedOn-clause-releases : goal.returns-in-HandedOn-clause-releases
-returns-in-HandedOn-clause-releases g c y slot =
+pub returns-in-HandedOver-clause-releases : goal.returns-in-HandedOver-clause-releases
+returns-in-HandedOver-clause-releases g c y slot =
     let own = c.requires.payload in
-    let on = c.in-HandedOn.ensures.outcome.3 y slot in
+    let on = c.in-HandedOver.ensures.outcome.3 y slot in
     let closed = ap (λ (z : Payload). state_after z.closed) (same_slot c.args.seat.now.me.1 y own.0 slot own.1) ∙ ap state_after own.3 in
     subst (λ (state : PortState). ReleasesLine (ghost_of c.args.seat.now) y state (ghost_of c.try_handoff-handoff.new.seat)) (closed ∙ sym c.state_after.ensures) (lets_out (ghost_of c.args.seat.now) y c.requires.none_passed (ghost_of c.try_handoff-handoff.new.seat) on.1 on.2)
 
@@ -48,10 +48,10 @@ returns-in-Passed-clause-releases g c y slot =
     subst (λ (state : PortState). ReleasesLine (ghost_of c.args.seat.now) y state (ghost_of c.walk.new.seat)) (closed ∙ sym c.walk.ensures.state)
     (lets_on (ghost_of c.args.seat.now) y c.requires.none_passed (ghost_of c.try_handoff-handoff.new.seat) (ghost_of c.walk.new.seat) c.in-Passed.first on.1 on.2 c.walk.ensures.advances.2.extends c.walk.ensures.finishes_walk)
 
-pub returns-in-HandedOn-clause-advances : goal.returns-in-HandedOn-clause-advances
-returns-in-HandedOn-clause-advances g c = record {
+pub returns-in-HandedOver-clause-advances : goal.returns-in-HandedOver-clause-advances
+returns-in-HandedOver-clause-advances g c = record {
   seat = search rules;
-  advances = let on = c.in-HandedOn.ensures.outcome in after_none c.args.seat.now c.try_handoff-handoff.new.seat on.0 c.try_handoff-handoff.new.steps on.1 on.2;
+  advances = let on = c.in-HandedOver.ensures.outcome in after_none c.args.seat.now c.try_handoff-handoff.new.seat on.0 c.try_handoff-handoff.new.steps on.1 on.2;
 }
 
 pub returns-in-Left-clause-advances : goal.returns-in-Left-clause-advances
@@ -60,10 +60,10 @@ returns-in-Left-clause-advances g c = record {
   advances = let on = c.in-Left.ensures.outcome in after_none c.args.seat.now c.try_handoff-handoff.new.seat on.0 c.try_handoff-handoff.new.steps on.1 on.2;
 }
 
-pub returns-in-HandedOn-clause-steps : goal.returns-in-HandedOn-clause-steps
-returns-in-HandedOn-clause-steps g c =
+pub returns-in-HandedOver-clause-steps : goal.returns-in-HandedOver-clause-steps
+returns-in-HandedOver-clause-steps g c =
     let y = c.requires.payload in
-    let on = c.in-HandedOn.ensures.outcome in
+    let on = c.in-HandedOver.ensures.outcome in
     let away = on.3 y.0 y.1 in
     let one = one_more (ghost_of c.args.seat.now) y.0 c.requires.none_passed (ghost_of c.try_handoff-handoff.new.seat) away.1 in
     (⊎_elim (λ k. omega (arith, k, one, on.1)) (λ k. omega (arith, k.0, one, on.1)) away.3, ⊎_elim (λ k. omega (arith, k, one, on.1)) (λ k. omega (arith, k.0, one, on.1)) away.3)
@@ -93,5 +93,5 @@ walk-requires-clause-in_range g c =
     let size : (ghost_of c.try_handoff-handoff.new.seat).view.config.nodes ≡ (ghost_of c.args.seat.now).view.config.nodes = ap (λ (t : LineConfig). t.nodes) on.2.extends.config in
     (within.0, omega (arith, within.1, size, c.requires.seat.1.3))
 
-pub walk-requires-clause-size : goal.walk-requires-clause-size
-walk-requires-clause-size g c = ap (λ (t : LineConfig). t.nodes) c.in-Passed.ensures.outcome.2.extends.config ∙ c.requires.seat.1.3
+pub walk-requires-clause-knows_nodes : goal.walk-requires-clause-knows_nodes
+walk-requires-clause-knows_nodes g c = ap (λ (t : LineConfig). t.nodes) c.in-Passed.ensures.outcome.2.extends.config ∙ c.requires.seat.1.3

@@ -14,9 +14,9 @@ loop-passed-init g c = subst (λ (nodes : List ℕ). IsWalking g.K.Keep.allows c
   cell_is = c.requires.cell;
   walking = record {
     seat = (refl, refl);
-    advances = goes_none g.K.Keep.allows c.args.seat.now.me c.requires.phase.0;
+    advances = goes_none g.K.Keep.allows c.args.seat.now.me c.requires.point.0;
     walked = walk_begins (ghost_of c.args.seat.now) c.requires.passed c.requires.others c.requires.nodes.0;
-    stands = λ more. ((λ x slot. slot), stands_first (ghost_of c.args.seat.now) (withdrawn_by c.args.found) c.requires.phase.1 c.requires.passed c.requires.first);
+    stands = λ more. ((λ x slot. slot), stands_first (ghost_of c.args.seat.now) (withdrawn_by c.args.found) c.requires.point.1 c.requires.passed c.requires.first);
     home = λ none. absurd (c.requires.found none);
   };
 })
@@ -34,7 +34,7 @@ loop-passed-preserved g c =
     let y = c.requires.payload in
     subst (λ (nodes : List ℕ). IsWalking g.K.Keep.allows c.args.seat.now nodes c.cell_after-cell.result c.grant-found.result c.grant-found.new.seat) (sym (c.push.ensures.items ∙ ap (λ (n : ℕ). c.loop-passed.passed.items ++ n ∷ []) c.withdrawn_by.ensures))
     (walk_step g.K.Keep.allows c.args.seat.now c.loop-passed.seat c.clear.new.seat c.grant-found.new.seat c.loop-passed.passed.items c.loop-passed.cell c.loop-passed.found c.cell_after-cell.result c.grant-found.result y.0 c.loop-passed.invariant more
-    c.requires.nodes.1 c.clear.ensures.seat c.clear.ensures.cleared y.1 y.3 c.grant-found.ensures.advances.seat c.grant-found.ensures.advances.advances c.grant-found.ensures.ended c.grant-found.ensures.home c.grant-found.ensures.passes c.cell_after-cell.ensures)
+    c.requires.nodes.1 c.clear.ensures.seat c.clear.ensures.cleared y.1 y.3 c.grant-found.ensures.advances.seat c.grant-found.ensures.advances.advances c.grant-found.ensures.ended c.grant-found.ensures.handed_over c.grant-found.ensures.passes c.cell_after-cell.ensures)
 
 pub returns-clause-advances : goal.returns-clause-advances
 returns-clause-advances g c = record {

@@ -14,7 +14,7 @@ use Rattle.ring_line.proofs.Cells.{grants}
 use Rattle.ring_line.proofs.steps.grant.Goals as goal
 
 pub fetch_add-requires : goal.fetch_add-requires
-fetch_add-requires g c = let y = c.requires.payload in let r = c.requires.phase in let v = ghost_of c.args.seat.now in let change : ℕ → ℕ = λ w. (w + 1) % 2 ^ 64 in (
+fetch_add-requires g c = let y = c.requires.payload in let r = c.requires.point in let v = ghost_of c.args.seat.now in let change : ℕ → ℕ = λ w. (w + 1) % 2 ^ 64 in (
   search rules,
   omega arith,
   grants_next RingCells one_slot g.K.Keep.good g.K.Keep.allows c.args.table.now.key g.K.Keep.stays_good v (ap has_line r.1) y.0 y.2 seen withdrawn_by change one_give one_keep one_lays

@@ -7,4 +7,4 @@ use Rattle.ring_line.specs.Ring.{RingCells}
 use Rattle.ring_line.proofs.steps.reset.Goals as goal
 
 pub store-requires : goal.store-requires
-store-requires g c = (search rules, omega arith, resets_next RingCells one_slot g.K.Keep.good g.K.Keep.allows c.args.table.now.key (ghost_of c.args.seat.now) c.requires.phase.1 c.requires.clear _ _ _ c.args.seat.now.me c.requires.phase.0 (c.node_word.ensures ∙ ap node_at c.requires.seat.1.0))
+store-requires g c = (search rules, omega arith, resets_next RingCells one_slot g.K.Keep.good g.K.Keep.allows c.args.table.now.key (ghost_of c.args.seat.now) c.requires.point.1 c.requires.clear _ _ _ c.args.seat.now.me c.requires.point.0 (c.node_word.ensures ∙ ap node_at c.requires.seat.1.0))

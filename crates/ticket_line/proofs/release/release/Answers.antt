@@ -13,7 +13,7 @@ use Rattle.ticket_line.proofs.release.release.Goals as goal
 
 pub returns-then-node-ne0 : goal.returns-then-node-ne0
 returns-then-node-ne0 g c = record {
-  slot = search rules;
+  no_slot = search rules;
   advances = record {
     seat = search rules;
     advances = goes_trans g.K.Keep.allows c.args.seat.now.me c.grant-node.new.seat.me c.walk-walked.new.seat.me 1 c.walk-walked.result.steps c.grant-node.ensures.advances.advances c.walk-walked.ensures.advances.advances;
@@ -26,7 +26,7 @@ returns-then-node-ne0 g c = record {
 
 pub returns-else-node-ne0 : goal.returns-else-node-ne0
 returns-else-node-ne0 g c = record {
-  slot = search rules;
+  no_slot = search rules;
   advances = search rules;
   releases = grind (arith, common_steps);
   granted = let y = c.requires.payload in
@@ -39,9 +39,9 @@ returns-else-node-ne0 g c = record {
 pub walk-walked-requires : goal.walk-walked-requires
 walk-walked-requires g c = record {
   table = search rules;
-  phase = search rules;
-  size = search rules;
-  sized = ap (λ (t : LineConfig). t.nodes) c.grant-node.ensures.advances.advances.extends.config ∙ c.requires.sized;
+  point = search rules;
+  mask_fits = search rules;
+  knows_nodes = ap (λ (t : LineConfig). t.nodes) c.grant-node.ensures.advances.advances.extends.config ∙ c.requires.knows_nodes;
   ticket = let y = c.requires.payload in
       c.ticket_after-next.ensures ∙ ap ticket_after c.requires.ticket ∙ ticket_next (length (ghost_of c.args.seat.now).view.ends)
       ∙ ap ticket_of (sym (ended_longer (ghost_of c.args.seat.now) (ghost_of c.grant-node.new.seat) y.0 (c.grant-node.ensures.ended y.0 (subst (λ n. SlotsAtRelease c.args.table.now.key.config.nodes n c.args.seat.now y.0) c.requires.ticket y.1))));

@@ -18,9 +18,9 @@ loop-node-init g c = subst (λ (nodes : List ℕ). IsWalking c.args.table.now.ke
   ticket_is = c.requires.ticket;
   walking = record {
     seat = (refl, refl);
-    advances = goes_none g.K.Keep.allows c.args.seat.now.me c.requires.phase.0;
+    advances = goes_none g.K.Keep.allows c.args.seat.now.me c.requires.point.0;
     walked = walk_begins (ghost_of c.args.seat.now) c.requires.passed c.requires.others c.requires.nodes.0;
-    stands = λ more. ((λ y slot. slot), stands_first (ghost_of c.args.seat.now) c.args.node c.requires.phase.1 c.requires.passed c.requires.first);
+    stands = λ more. ((λ y slot. slot), stands_first (ghost_of c.args.seat.now) c.args.node c.requires.point.1 c.requires.passed c.requires.first);
     home = λ none. absurd (c.requires.not_zero none);
   };
 })
@@ -28,7 +28,7 @@ loop-node-init g c = subst (λ (nodes : List ℕ). IsWalking c.args.table.now.ke
 pub copy_to_next_slot-requires : goal.copy_to_next_slot-requires
 copy_to_next_slot-requires g c = record {
   table = search rules;
-  size = search rules;
+  mask_fits = search rules;
   at_turn = let more : c.loop-node.node ≢ 0 = search rules in
       let y = c.requires.payload in
       (y.0, walk_has c.args.table.now.key.config.nodes g.K.Keep.allows c.args.seat.now c.loop-node.seat c.loop-node.passed.items c.args.ticket c.loop-node.ticket c.loop-node.node y.0 c.loop-node.invariant more c.requires.ticket y.1);
@@ -37,9 +37,9 @@ copy_to_next_slot-requires g c = record {
 pub grant-node-requires : goal.grant-node-requires
 grant-node-requires g c = record {
   table = search rules;
-  phase = search rules;
-  size = search rules;
-  nodes = ap (λ (es : List ArrayGhost). (single es).view.config.nodes) c.copy_to_next_slot.ensures.seat.1 ∙ (ap (λ (t : LineConfig). t.nodes) c.loop-node.invariant.walking.walked.config ∙ c.requires.sized);
+  point = search rules;
+  mask_fits = search rules;
+  nodes = ap (λ (es : List ArrayGhost). (single es).view.config.nodes) c.copy_to_next_slot.ensures.seat.1 ∙ (ap (λ (t : LineConfig). t.nodes) c.loop-node.invariant.walking.walked.config ∙ c.requires.knows_nodes);
   next = c.ticket_after-ticket.ensures ∙ ap ticket_after c.loop-node.invariant.ticket_is ∙ ticket_next (length (ghost_of c.loop-node.seat).view.ends) ∙ ap (λ (es : List ArrayGhost). ticket_of (length (single es).view.ends + 1)) (sym c.copy_to_next_slot.ensures.seat.1);
   payload = let more : c.loop-node.node ≢ 0 = search rules in
       let y = c.requires.payload in
@@ -53,11 +53,11 @@ loop-node-preserved g c =
     let y = c.requires.payload in
     subst (λ (nodes : List ℕ). IsWalking c.args.table.now.key.config.nodes g.K.Keep.allows c.args.seat.now nodes c.ticket_after-ticket.result c.grant-node.result c.grant-node.new.seat) (sym c.push.ensures.items)
     (walk_step c.args.table.now.key.config.nodes g.K.Keep.allows c.args.seat.now c.loop-node.seat c.copy_to_next_slot.new.seat c.grant-node.new.seat c.loop-node.passed.items c.args.ticket c.loop-node.ticket c.loop-node.node c.ticket_after-ticket.result c.grant-node.result y.0 c.loop-node.invariant more
-    c.requires.nodes.1 (record { seat = c.copy_to_next_slot.ensures.seat.0; entries = c.copy_to_next_slot.ensures.seat.1; stored = c.copy_to_next_slot.ensures.stored }) c.requires.ticket y.1 y.2 y.3 c.grant-node.ensures.advances.seat c.grant-node.ensures.advances.advances c.grant-node.ensures.ended c.grant-node.ensures.home c.grant-node.ensures.passes c.ticket_after-ticket.ensures)
+    c.requires.nodes.1 (record { seat = c.copy_to_next_slot.ensures.seat.0; entries = c.copy_to_next_slot.ensures.seat.1; stored = c.copy_to_next_slot.ensures.stored }) c.requires.ticket y.1 y.2 y.3 c.grant-node.ensures.advances.seat c.grant-node.ensures.advances.advances c.grant-node.ensures.ended c.grant-node.ensures.handed_over c.grant-node.ensures.passes c.ticket_after-ticket.ensures)
 
 pub returns : goal.returns
 returns g c = record {
-  slot = search rules;
+  no_slot = search rules;
   advances = record {
     seat = search rules;
     advances = walked_steps (slot_layout c.args.table.now.key.config.nodes) g.K.Keep.allows c.args.seat.now c.loop-node.seat c.free_passed.new.seat c.loop-node.passed.items _ c.loop-node.node _ _ _ c.loop-node.invariant.walking c.free_passed.ensures.advances.advances (ap length (search rules)) (omega arith);
@@ -72,8 +72,8 @@ returns g c = record {
 pub free_passed-requires : goal.free_passed-requires
 free_passed-requires g c = record {
   table = search rules;
-  phase = search rules;
-  sized = ap (λ (t : LineConfig). t.nodes) c.loop-node.invariant.walking.walked.config ∙ c.requires.sized;
+  point = search rules;
+  knows_nodes = ap (λ (t : LineConfig). t.nodes) c.loop-node.invariant.walking.walked.config ∙ c.requires.knows_nodes;
   not_empty = search rules;
   same_length = search rules;
   nodes = search rules;

@@ -2,7 +2,7 @@ use Rattle.std.proofs.Common.{rules, ℕ, ap, sym, subst, ◌≡◌, ◌∙◌, 
 use Rattle.line_cells.specs.Layout.{ticket_of}
 use Rattle.line_cells.specs.Array.{has_line}
 use Rattle.ticket_line.specs.Layout as layout
-use Rattle.ticket_line.specs.Layout.{granted}
+use Rattle.ticket_line.specs.Layout.{granted_word}
 use Rattle.line_cells.specs.Steps.{ghost_of, Passes}
 use Rattle.ticket_line.specs.Steps.{withdrawn_by, turn_ticket, SlotsAtGrant, SlotsAtRelease}
 use Rattle.ticket_line.proofs.Stepping.{ticket_grants}
@@ -12,15 +12,15 @@ pub swap-found-requires : goal.swap-found-requires
 swap-found-requires g c = let y = c.requires.payload in (
   search rules,
   search rules,
-  ticket_grants g.K.Keep.good g.K.Keep.allows c.args.table.now.key (ghost_of c.args.seat.now) _ _ _ c.args.seat.now.me c.requires.nodes g.K.Keep.stays_good (⊎_elim (λ a. ap has_line a.1) (λ a. ap has_line a.1) c.requires.phase) y.0 y.2 c.args.seat.now.me.1
-      (λ i. (⊎_elim (λ a. a.0) (λ a. a.0) c.requires.phase i, c.args.seat.now.me.1)) y.1 c.args.next c.requires.next c.cell_word.ensures.0 c.granted.result (c.granted.ensures ∙ ap granted c.requires.next),
+  ticket_grants g.K.Keep.good g.K.Keep.allows c.args.table.now.key (ghost_of c.args.seat.now) _ _ _ c.args.seat.now.me c.requires.nodes g.K.Keep.stays_good (⊎_elim (λ a. ap has_line a.1) (λ a. ap has_line a.1) c.requires.point) y.0 y.2 c.args.seat.now.me.1
+      (λ i. (⊎_elim (λ a. a.0) (λ a. a.0) c.requires.point i, c.args.seat.now.me.1)) y.1 c.args.next c.requires.next c.cell_word.ensures.0 c.granted_word.result (c.granted_word.ensures ∙ ap granted_word c.requires.next),
 )
 
 pub returns : goal.returns
 returns g c = record {
   advances = search rules;
   ended = λ y laid. c.swap-found.ensures.2.1 y (subst (λ (n : ℕ). SlotsAtRelease n (turn_ticket c.args.seat.now) c.args.seat.now y) (sym c.requires.nodes) laid);
-  home = search rules;
+  handed_over = search rules;
   passes = λ some. let v = ghost_of c.args.seat.now in
       let w = ghost_of c.swap-found.new.seat in
       let same : c.withdrawn_by.result ≡ withdrawn_by (length v.view.ends + 1) c.swap-found.result = c.withdrawn_by.ensures ∙ ap (λ t. layout.withdrawn_by t c.swap-found.result) c.requires.next in

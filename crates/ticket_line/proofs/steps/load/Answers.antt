@@ -7,5 +7,5 @@ pub load-requires : goal.load-requires
 load-requires g c = (
   search rules,
   search rules,
-  ticket_loads g.K.Keep.good g.K.Keep.allows c.args.table.now.key (ghost_of c.args.seat.now) _ _ _ c.args.seat.now.me c.requires.nodes c.requires.phase.1 (λ i. (c.requires.phase.0 i, c.requires.slot i)) c.args.ticket c.requires.ticket c.cell_word.ensures.0,
+  ticket_loads g.K.Keep.good g.K.Keep.allows c.args.table.now.key (ghost_of c.args.seat.now) _ _ _ c.args.seat.now.me c.requires.nodes c.requires.point.1 (λ i. (c.requires.point.0 i, c.requires.no_slot i)) c.args.ticket c.requires.ticket c.cell_word.ensures.0,
 )

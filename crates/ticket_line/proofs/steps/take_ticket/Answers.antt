@@ -6,4 +6,4 @@ use Rattle.ticket_line.specs.Ticket.{TicketCells}
 use Rattle.ticket_line.proofs.steps.take_ticket.Goals as goal
 
 pub fetch_add-requires : goal.fetch_add-requires
-fetch_add-requires g c = (search rules, search rules, asks_next (TicketCells c.args.table.now.key.config.nodes) (slot_layout c.args.table.now.key.config.nodes) g.K.Keep.good g.K.Keep.allows c.args.table.now.key (ghost_of c.args.seat.now) c.requires.phase.1 _ _ c.args.seat.now.me c.requires.phase.0)
+fetch_add-requires g c = (search rules, search rules, asks_next (TicketCells c.args.table.now.key.config.nodes) (slot_layout c.args.table.now.key.config.nodes) g.K.Keep.good g.K.Keep.allows c.args.table.now.key (ghost_of c.args.seat.now) c.requires.point.1 _ _ c.args.seat.now.me c.requires.point.0)

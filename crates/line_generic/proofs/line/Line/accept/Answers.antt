@@ -13,7 +13,7 @@ returns-then-not-payload-clause-port g c label label_is =
     let same = c.take.ensures.seat.1 in
     let held = accepts g.Q.DisciplineSpec.phases c.args.self.now.table.shared.key.config.nodes c.args.token c.args.seat.now c.take.new.seat y.0 c.take.new.payload (ap (λ (t : LineConfig). t.nodes) c.requires.seat.sound.config_is) y.2 same (c.take.ensures.copied y.0 y.1) (c.take.ensures.kept y.0 y.1) c.if-not-payload.true in
     record {
-      is_single = subst (λ es. es ≡ single g.Q.DisciplineSpec.phases.initial es ∷ []) (sym same) c.requires.seat.is_single;
+      of_one_node = subst (λ es. es ≡ single g.Q.DisciplineSpec.phases.initial es ∷ []) (sym same) c.requires.seat.of_one_node;
       rests_so = λ not. absurd (not refl);
       holds_so = λ _. held.0;
       shows_state = held.1;
@@ -37,4 +37,4 @@ pub returns-then-not-payload-clause-went_to : goal.returns-then-not-payload-clau
 returns-then-not-payload-clause-went_to g c apart is = absurd (apart is)
 
 pub returns-clause-went_to : goal.returns-clause-went_to
-returns-clause-went_to g c apart is = subst (λ (word : ℕ). Names word (g.W.WakePolicy.went_to c.wake.new.note)) c.forward_closed-left.ensures.wakes c.wake.ensures
+returns-clause-went_to g c apart is = subst (λ (word : ℕ). Names word (g.W.WakePolicy.went_to c.wake.new.note)) c.forward_closed-left.ensures.names_wake_word c.wake.ensures

@@ -1,7 +1,7 @@
 use Rattle.std.proofs.Common.{◌≡◌, ◌≤◌, subst}
 use Rattle.qolb_model.proofs.Finishing.{finishes_so, refuses_so, all_that, all_quiet, some_port, all_at_rest, is_finished}
 use Rattle.line_generic.specs.Ports.{PortModel, BelongsTo}
-use Rattle.line_generic.specs.Entries.{AtRest, view_of}
+use Rattle.line_generic.specs.NodeGhosts.{AtRest, view_of}
 use Rattle.line_generic.proofs.line.Line.finish_in.Goals as goal
 
 pub returns-in-Some-clause-why : goal.returns-in-Some-clause-why

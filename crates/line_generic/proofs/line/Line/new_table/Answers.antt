@@ -1,7 +1,7 @@
 use Rattle.std.proofs.Common.{rules, sym, refl, subst, ◌≡◌, replicate, false, List, ◌∷◌, [], ℕ}
 use Rattle.atomic_table.specs.Table.{opening}
 use Rattle.line_generic.specs.declared.table.Payload.{Payload}
-use Rattle.line_generic.specs.Entries.{initial_nodes}
+use Rattle.line_generic.specs.NodeGhosts.{initial_nodes}
 use Rattle.line_generic.proofs.line.Line.new_table.Goals as goal
 
 pub new-requires : goal.new-requires

@@ -1,6 +1,0 @@
-use Rattle.line_seats.specs.Lending.{MayAsk}
-use Rattle.example_seats.proofs.count.Given as goal
-
--- the lent ports are ports of the line that may ask
-abbrev pub ghosts-count_at : goal.ghosts-count_at
-ghosts-count_at g a = record { has = MayAsk (g.L.LineSync.belongs a.line) g.L.LineSync.view }

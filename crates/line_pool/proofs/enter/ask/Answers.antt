@@ -1,0 +1,27 @@
+use Rattle.std.proofs.Common.{refl}
+use Rattle.qolb_model.proofs.Going.{extends_self}
+use Rattle.line_blocking.proofs.Acquiring.{granted_at_once, told_at_once, acquired_waiting, soon_at_once, soon_waiting, closed_ungranted}
+use Rattle.line_pool.proofs.enter.ask.Goals as goal
+
+pub returns-in-Granted-clause-acquires : goal.returns-in-Granted-clause-acquires
+returns-in-Granted-clause-acquires g c = granted_at_once _ _ _ _ _ (extends_self _) refl c.in-Granted.ensures.enqueues
+
+pub returns-in-Closed-clause-acquires : goal.returns-in-Closed-clause-acquires
+returns-in-Closed-clause-acquires g c = told_at_once _ _ _ _ _ (extends_self _) refl c.in-Closed.ensures.enqueues
+
+pub returns-in-Queued-clause-acquires : goal.returns-in-Queued-clause-acquires
+returns-in-Queued-clause-acquires g c =
+    acquired_waiting _ _ _ _ _ _ _ _ (extends_self _) refl c.in-Queued.ensures.enqueues c.wait.ensures.continues c.wait.ensures.count c.wait.ensures.granted c.wait.ensures.told
+
+pub returns-in-Granted-clause-soon : goal.returns-in-Granted-clause-soon
+returns-in-Granted-clause-soon g c _ =
+    soon_at_once g.L.LineSync.view g.L.LineSync.counters c.args.port.now c.args.port.now c.enqolb.new.port _ _ (extends_self _) refl refl c.in-Granted.ensures.counts.poll_count _ _ _
+    c.in-Granted.ensures.enqueues (g.met.L.LineSync.sound c.args.line.now c.enqolb.new.port c.in-Granted.ensures.belongs)
+
+pub returns-in-Closed-clause-soon : goal.returns-in-Closed-clause-soon
+returns-in-Closed-clause-soon g c granted = absurd (closed_ungranted granted)
+
+pub returns-in-Queued-clause-soon : goal.returns-in-Queued-clause-soon
+returns-in-Queued-clause-soon g c granted =
+    soon_waiting g.L.LineSync.view g.L.LineSync.counters c.args.port.now c.args.port.now c.enqolb.new.port _ _ (extends_self _) refl refl c.in-Queued.ensures.counts.poll_count _ _
+    c.in-Queued.ensures.enqueues c.wait.ensures.continues c.wait.ensures.count (c.wait.ensures.granted granted)

@@ -1,0 +1,12 @@
+//! A line whose ports are lent to threads that come and go.
+#![tactic(auto)]
+
+mod enter;
+mod pool;
+mod ports;
+mod turn;
+
+pub use enter::EnterError;
+pub use pool::PortPool;
+pub use ports::{Borrowed, PortSet};
+pub use turn::Turn;

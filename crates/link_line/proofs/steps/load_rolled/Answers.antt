@@ -1,0 +1,8 @@
+use Rattle.std.proofs.Common.{rules, arith, ap, ◌∙◌, inr}
+use Rattle.link_line.specs.Layout.{entry_at}
+use Rattle.link_line.specs.Steps.{ghost_of}
+use Rattle.link_line.proofs.Resting.{loads_last_next}
+use Rattle.link_line.proofs.steps.load_rolled.Goals as goal
+
+pub load-word-requires : goal.load-word-requires
+load-word-requires g c = (search rules, omega arith, loads_last_next g.K.Keep.good g.K.Keep.allows c.args.table.now.key (ghost_of c.args.seat.now) (inr c.requires.point.1) _ _ _ c.args.seat.now.me c.requires.point.0 (c.entry_word.ensures ∙ ap entry_at c.requires.seat.1.0))

@@ -1,5 +1,0 @@
-use Rattle.line_seats.specs.Lending.{MayAsk}
-use Rattle.test_blocking.proofs.tests.seats.counting.count.Given as goal
-
-abbrev pub ghosts-count_at : goal.ghosts-count_at
-ghosts-count_at g a = record { has = MayAsk (g.L.LineSync.belongs a.line) g.L.LineSync.view }

@@ -1,5 +1,0 @@
-use Rattle.line_seats.specs.Lending.{MayAsk}
-use Rattle.test_blocking.proofs.tests.seats.one_thread.see.Given as goal
-
-abbrev pub ghosts-see_at : goal.ghosts-see_at
-ghosts-see_at g a = record { has = MayAsk (g.L.LineSync.belongs a.line) g.L.LineSync.view }

@@ -1,5 +1,0 @@
-use Rattle.line_seats.specs.Lending.{MayAsk}
-use Rattle.test_blocking.proofs.tests.seats.passing.two.Given as goal
-
-abbrev pub ghosts-two_at : goal.ghosts-two_at
-ghosts-two_at g a = record { has = MayAsk (g.L.LineSync.belongs a.line) g.L.LineSync.view }
