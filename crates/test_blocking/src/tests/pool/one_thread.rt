@@ -62,8 +62,9 @@ where
         Some((2, PortState::Idle)),
     );
     let late = (Some(EnterError::Late), Some((2, PortState::Rolled)));
-    for _ in 0..2 {
-        let refused = refusal(rt, &pool, Duration::ZERO);
+    // The second time its only free port is busy until the time is over.
+    for limit in [Duration::ZERO, Duration::from_millis(50)] {
+        let refused = refusal(rt, &pool, limit);
         expect(rt, "late", (refused, next_port(rt, &pool)), late);
     }
     pool.shut(rt, turn);
