@@ -26,6 +26,9 @@ use qolb_model::{Keep, MAX_NODES, PortState};
 /// The maximum number of requests that a release passes: those of all nodes but its own.
 const MAX_PASSED: usize = MAX_NODES as usize - 1;
 
+/// The number of node numbers: an entry's link has 16 bits.
+const NODE_NUMBERS: u64 = 1 << 16;
+
 /// The result of one attempt to hand the line off from an entry.
 #[derive(Clone, Copy)]
 pub(crate) enum Handoff {
@@ -42,7 +45,29 @@ pub(crate) enum Handoff {
     Passed(u64),
 }
 
+/// The end of a walk. Its 16 bytes are returned in registers, so a release without withdrawn successors sets up no room for them.
+#[derive(Clone, Copy)]
+struct Walked {
+    /// The word steps of the release.
+    steps: u64,
+    /// The word of the granted entry, or `HOME`.
+    word: u32,
+    /// The node that is linked to it, or 0.
+    behind: u32,
+}
+
 impl Handoff {
+    /// Returns the granted word, and the node that is linked behind the granted one: `HOME` and 0 if the line was not granted.
+    #[inline]
+    fn granted(self) -> (usize, u64)
+        ensures { result.0 ≡ granted_word self }
+    {
+        match self {
+            Handoff::HandedOver { word, behind } => (word, behind),
+            Handoff::Left | Handoff::Passed(_) => (HOME, 0),
+        }
+    }
+
     /// Returns the words whose waiters are to be unparked, the granted node's and that of the node behind it.
     ///
     /// A word is `HOME` if there is nobody to unpark: both if the line was not granted, the second if no node is linked behind the granted
@@ -51,12 +76,8 @@ impl Handoff {
     fn unpark_handle(self) -> UnparkHandle
         ensures { result.word ≡ granted_word self }
     {
-        match self {
-            Handoff::HandedOver { word, behind } => {
-                UnparkHandle::at(word, entry_or_home(behind))
-            }
-            Handoff::Left | Handoff::Passed(_) => UnparkHandle::at(HOME, HOME),
-        }
+        let (word, behind) = self.granted();
+        UnparkHandle::at(word, entry_or_home(behind))
     }
 }
 
@@ -102,7 +123,14 @@ pub(crate) fn release<K: Keep>(
             steps,
             unpark: handoff.unpark_handle(),
         },
-        Handoff::Passed(first) => walk(table, seat, steps, closed, first),
+        Handoff::Passed(first) => {
+            let walked = walk(table, seat, steps, first);
+            Released {
+                state: state_after(closed),
+                steps: walked.steps,
+                unpark: UnparkHandle::at(walked.word as usize, entry_or_home(walked.behind as u64)),
+            }
+        }
     }
 }
 
@@ -166,13 +194,7 @@ fn try_handoff<K: Keep>(
 /// Cold and not inlined: it has an array of the passed nodes, which a release without withdrawn successors should not set up.
 #[cold]
 #[inline(never)]
-fn walk<K: Keep>(
-    table: &SharedTable<K>,
-    seat: &mut LinkSeat,
-    steps: u64,
-    closed: bool,
-    first: u64,
-) -> Released
+fn walk<K: Keep>(table: &SharedTable<K>, seat: &mut LinkSeat, steps: u64, first: u64) -> Walked
     requires table { IsSeatOf table.now.key.config.nodes table.now.table_id seat.old }
     requires point { IsAt (Leaving first) seat.old }
     requires in_range { layout.IsWithin table.now.key.config.nodes first }
@@ -193,14 +215,13 @@ fn walk<K: Keep>(
     ensures advances { (n : ℕ) × (result.steps ≡ steps + n)
         × Advances K.allows seat.old.me seat.new.me n }
     ensures finishes_walk { FinishesWalk (ghost_of seat.old) (ghost_of seat.new) }
-    ensures state { result.state ≡ states.state_after closed }
     ensures steps { (n : ℕ) × (result.steps ≡ steps + n)
         × (4 * length (ghost_of seat.new).view.ends
         ≤ 4 * length (ghost_of seat.old).view.ends + n + 2)
         × (n + 4 * length (ghost_of seat.old).view.ends
         ≤ 4 * length (ghost_of seat.new).view.ends) }
-    ensures within { result.unpark.word < layout.word_count table.now.key.config.nodes }
-    ensures names_wake_word { result.unpark.word ≡ wake_word (ghost_of seat.new).view }
+    ensures within { result.word < layout.word_count table.now.key.config.nodes }
+    ensures names_wake_word { result.word ≡ wake_word (ghost_of seat.new).view }
     ensures bound { result.steps + 6 ≤ steps + 4 * (ghost_of seat.old).view.config.nodes }
 {
     let mut steps = steps;
@@ -212,10 +233,11 @@ fn walk<K: Keep>(
     }
     // Freed only now: a freed node may become clear and request again, so a walk that freed early might pass it again and again.
     free_passed(table, seat, &passed);
-    Released {
-        state: state_after(closed),
+    let (word, behind) = handoff.granted();
+    Walked {
         steps: steps + passed.len() as u64,
-        unpark: handoff.unpark_handle(),
+        word: word as u32,
+        behind: (behind % NODE_NUMBERS) as u32,
     }
 }
 

@@ -33,9 +33,8 @@ returns g c =
         omega (arith, walked_long (ghost_of c.args.seat.now) (ghost_of c.loop-handoff.seat) (ghost_of c.free_passed.new.seat) c.loop-handoff.passed.items k.walked c.free_passed.ensures.frees, away.3),
         omega (arith, walked_long (ghost_of c.args.seat.now) (ghost_of c.loop-handoff.seat) (ghost_of c.free_passed.new.seat) c.loop-handoff.passed.items k.walked c.free_passed.ensures.frees, away.4),
       );
-      state = c.state_after.ensures;
-      within = subst (λ word. word < word_count c.args.table.now.key.config.nodes) (sym c.unpark_handle.ensures) c.loop-handoff.invariant.1;
-      names_wake_word = c.unpark_handle.ensures ∙ names_away (ghost_of c.loop-handoff.seat) c.loop-handoff.handoff c.in_default.not-Passed c.loop-handoff.invariant.2 ∙ sym (turn_stays (ghost_of c.loop-handoff.seat) (ghost_of c.free_passed.new.seat) c.free_passed.ensures.frees);
+      within = subst (λ word. word < word_count c.args.table.now.key.config.nodes) (sym c.granted-word.ensures) c.loop-handoff.invariant.1;
+      names_wake_word = c.granted-word.ensures ∙ names_away (ghost_of c.loop-handoff.seat) c.loop-handoff.handoff c.in_default.not-Passed c.loop-handoff.invariant.2 ∙ sym (turn_stays (ghost_of c.loop-handoff.seat) (ghost_of c.free_passed.new.seat) c.free_passed.ensures.frees);
       bound = omega (arith, k.steps_are, c.len.ensures.value, away.2);
     }
 
