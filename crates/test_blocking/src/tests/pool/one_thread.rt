@@ -3,6 +3,7 @@ ghost use Rattle.std.specs.Prelude.{◌<◌, All, vec_len};
 ghost use Rattle.line_pool.specs.Lending.{MayAsk, IsPortSetOf};
 
 use crate::tests::held::{expect, for_nodes};
+use line_blocking::Deadline;
 use line_pool::{EnterError, PortPool, PortSet};
 use qolb_model::{Free, OpenLine, ParkingLine, PortState};
 use std::alloc::Global;
@@ -64,7 +65,9 @@ where
     let late = (Some(EnterError::Late), Some((2, PortState::Rolled)));
     // The second time its only free port is busy until the time is over.
     for limit in [Duration::ZERO, Duration::from_millis(50)] {
+        let span = Deadline::begin(rt, limit);
         let refused = refusal(rt, &pool, limit);
+        expect(rt, "its time is over", span.left(rt).is_none(), true);
         expect(rt, "late", (refused, next_port(rt, &pool)), late);
     }
     pool.shut(rt, turn);
