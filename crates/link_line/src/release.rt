@@ -189,7 +189,7 @@ fn try_handoff<K: Keep>(
 /// Hands the line on from the passed node `first`, past the withdrawn requests directly behind it, and then frees all passed nodes.
 ///
 /// `steps` are the word steps of the first attempt; the result counts them, too. The port is never `Left` after it: a walk can leave the
-/// line only in the entry of a passed node, never in its own.
+/// line only in the entry of a passed node, never in the releasing node's own.
 ///
 /// Cold and not inlined: it has an array of the passed nodes, which a release without withdrawn successors should not set up.
 #[cold]
@@ -206,7 +206,7 @@ fn walk<K: Keep>(table: &SharedTable<K>, seat: &mut LinkSeat, steps: u64, first:
     requires nodes { (2 ≤ (ghost_of seat.old).view.config.nodes)
         × ((ghost_of seat.old).view.config.nodes ≤ MAX_NODES) }
     requires knows_nodes { KnowsNodes table.now.key.config.nodes seat.old }
-    requires first_attempt { steps ≤ 3 }
+    requires no_overflow { steps ≤ 6 }
     requires payload { HasSlot seat.old (ghost_of seat.old).own.line }
     requires state { (ghost_of seat.old).view.state ≡ states.state_after
         (ghost_of seat.old).own.line.closed }
