@@ -156,7 +156,7 @@ static void shuts(void) {
 
 /* Without a grant, while the first node holds the line. */
 static int late(qolb_node *n) {
-    /* For 20 ms, while it waits and while it is busy: late to the nanosecond. Waiting, it polls 64 times, 16 times more and yields before each of
+    /* For 20 ms, while it waits and while it is busy: late to the nanosecond. Waiting, it polls 256 times, 16 times more and yields before each of
      * these, polls once more, and sleeps as long as it may. Busy, it requests again 16 times, and then every 200 us. */
     for (unsigned busy = 0; busy < 2; busy++) {
         uint64_t since = now;
@@ -168,7 +168,7 @@ static int late(qolb_node *n) {
         WANT(longest, busy ? 200 * US : 20 * MS);
         WANT(asks, busy ? 1 + YIELDS + 100 : 1);
         WANT(spins, !busy);
-        WANT(spun, busy ? 0 : 64);
+        WANT(spun, busy ? 0 : 256);
         WANT(looks, busy ? 0 : YIELDS + 1);
         WANT(qolb_state(&n[1]), QOLB_STATE_ROLLED);
     }
@@ -180,7 +180,7 @@ static int late(qolb_node *n) {
         begins(NULL);
         WANT(qolb_acquire_within(&n[k], 0), QOLB_LATE);
         WANT(asks, 1);
-        WANT(spun, k == 1 ? 0 : 64);
+        WANT(spun, k == 1 ? 0 : 256);
         WANT(yields + sleeps + looks, 0);
         WANT(qolb_state(&n[k]), QOLB_STATE_ROLLED);
     }
@@ -199,7 +199,7 @@ static int sleeps_on(qolb_node *n, int limited) {
     WANT(longest, NEVER);
     WANT(asks, 1);
     WANT(spins, 4);
-    WANT(spun, 4 * 64);
+    WANT(spun, 4 * 256);
     WANT(looks, 3 * (YIELDS + 1));
     WANT(wakes, 1);
     WANT(qolb_deqolb(&n[1]), QOLB_DONE);
@@ -589,7 +589,7 @@ static int late_for_lock(qolb_lock *lock, unsigned has_seat) {
     WANT(sleeps, 1);
     WANT(longest, 20 * MS);
     WANT(asks, has_seat);
-    WANT(spun, has_seat ? 64 : 0);
+    WANT(spun, has_seat ? 256 : 0);
     WANT(looks, has_seat ? YIELDS + 1 : 0);
     return 0;
 }
@@ -632,7 +632,7 @@ static int lock_rests(uint32_t kind) {
     WANT(yields, 2 * YIELDS);
     WANT(sleeps, 2);
     WANT(longest, NEVER);
-    WANT(spun, 3 * 64);
+    WANT(spun, 3 * 256);
     WANT(wakes, 1);
     uint64_t since = now;
     begins(NULL);

@@ -20,7 +20,7 @@
 #define FOR_EVER UINT64_MAX
 
 /* How often a waiter polls, with a pause between two polls, and how often it then yields the processor, before it sleeps. */
-enum { LOOKS = 64, YIELDS = 16 };
+enum { LOOKS = 256, YIELDS = 16 };
 /* The distance in bytes at which two objects share no cache line, nor a pair of lines that is fetched together. */
 enum { APART = 128 };
 

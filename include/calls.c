@@ -68,7 +68,7 @@ uint32_t qolb_close(qolb_node *node) { return qolb_is_lent_(node) ? (uint32_t)QO
 
 /* ---- Waiting for a turn ---- */
 
-/* Polls 64 times, and yields the processor 16 times with a poll after each, while there is time: GRANTED, CLOSED, WAITING. */
+/* Polls 256 times, and yields the processor 16 times with a poll after each, while there is time: GRANTED, CLOSED, WAITING. */
 static uint32_t look_a_while(qolb_node *node, const struct limit *limit) {
     uint32_t got = qolb_wait_proved_(node, LOOKS);
     for (int k = 0; got == QOLB_WAITING && k < YIELDS && left(limit); k++) {
@@ -193,7 +193,7 @@ uint64_t qolb_memory(uint32_t kind, uint64_t nodes) {
     uint64_t table = qolb_memory_proved_(kind, nodes);
     if (table == 0) return 0;
     uint64_t blocks = TABLE_BLOCKS + 1 + nodes;
-    return table + LINE_BYTES + nodes * NODE_BYTES + blocks * GAP_BYTES;
+    return table + KEPT_BYTES(LINE_BYTES) + nodes * KEPT_BYTES(NODE_BYTES) + blocks * 2 * GAP_BYTES;
 }
 
 /* The version of the released library, with its parts in C: the proved part's is that of the last release that changed it. */

@@ -1,18 +1,44 @@
-/* The allocation of the proved part: with a gap behind each block. A thread writes to its node's data in each call. By the gaps no cache line has
- * data of two nodes, nor has a pair of lines that is fetched together, and none has data of a node and data that all nodes read.
+/* The allocation of the proved part: each block begins at a multiple of 128 bytes, and a gap of 128 bytes at least is behind it. A thread writes to its node's
+ * data in each call. So no cache line has data of two nodes, nor has a pair of lines that is fetched together, and none has data of a node and data
+ * that all nodes read; and a slot of a table, with its 64 bytes and what goes with them, is in one pair.
  *
- * The toolchain's lines of C that allocate have these names instead of malloc's and realloc's (Makefile). */
+ * The toolchain's lines of C that allocate have these names instead of malloc's, realloc's and free's (Makefile). */
 #include "gaps.h"
 #include <stdlib.h>
+#include <string.h>
 
 #define HIDDEN __attribute__((visibility("hidden")))
 
 HIDDEN void *qolb_malloc_(size_t size);
 HIDDEN void *qolb_realloc_(void *block, size_t size);
+HIDDEN void qolb_free_(void *block);
+
+/* What stands before a block: what malloc gave, and the size asked for. */
+struct before {
+    void *given;
+    size_t size;
+};
+
+static struct before *before(void *block) { return (struct before *)block - 1; }
 
 /* If nothing can be added to the size, the allocation fails. */
-static size_t with_gap(size_t size) { return size <= SIZE_MAX - GAP_BYTES ? size + GAP_BYTES : SIZE_MAX; }
+void *qolb_malloc_(size_t size) {
+    char *given = size <= SIZE_MAX - 3 * GAP_BYTES ? malloc(KEPT_BYTES(size) + 2 * GAP_BYTES) : NULL;
+    if (!given) return NULL;
+    void *block = given + GAP_BYTES - (uintptr_t)given % GAP_BYTES;
+    *before(block) = (struct before){given, size};
+    return block;
+}
 
-void *qolb_malloc_(size_t size) { return malloc(with_gap(size)); }
+void *qolb_realloc_(void *block, size_t size) {
+    void *moved = qolb_malloc_(size);
+    if (!moved || !block) return moved;
+    size_t had = before(block)->size;
+    memcpy(moved, block, had < size ? had : size);
+    qolb_free_(block);
+    return moved;
+}
 
-void *qolb_realloc_(void *block, size_t size) { return realloc(block, with_gap(size)); }
+void qolb_free_(void *block) {
+    if (block) free(before(block)->given);
+}

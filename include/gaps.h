@@ -8,8 +8,11 @@ enum {
     TABLE_BLOCKS = 2, /* the words, and the slots */
     LINE_BYTES = 112, /* of the block with the line, which all nodes share, and the count of those that do */
     NODE_BYTES = 168, /* of the block of each node, to which its handle points */
-    GAP_BYTES = QOLB_NODE_ALIGN
+    GAP_BYTES = QOLB_NODE_ALIGN /* before each block, as malloc does not align it, and behind it */
 };
+
+/* The bytes of a block of this size: no other begins in its last 128. */
+#define KEPT_BYTES(size) (((size) + GAP_BYTES - 1) / GAP_BYTES * GAP_BYTES)
 
 /* The place of a number of each node that is drawn when its line is opened, the same for all nodes of the line (bell_at, in bells.h). Nothing in
  * the handle or in the proved part has room for it. It is in the middle of the gap: if NODE_BYTES is wrong, it does no harm until

@@ -32,6 +32,7 @@ enum seat_state {
 struct seat {
     _Alignas(QOLB_NODE_ALIGN) qolb_node node;
     atomic_uint state;
+    _Atomic uint64_t holder; /* the thread that holds the line with its node, else 0 */
 };
 
 /* What threads still read after they have left: it is apart from the hall, which may be freed by then. A thread that leaves and finds no sleeper
@@ -49,10 +50,8 @@ struct hall {
     struct door *door;
     unsigned seats;
     qolb_node lent;
-    /* Written by the holder. */
-    _Alignas(QOLB_NODE_ALIGN) _Atomic uint64_t holder;
-    struct seat *held_by;
-    struct waiter *waits;
+    /* Written by the holder, when it waits at a condition. */
+    _Alignas(QOLB_NODE_ALIGN) struct waiter *waits;
     /* The number of threads that use the hall and have no seat. */
     _Alignas(QOLB_NODE_ALIGN) atomic_uint guests;
     struct seat seat[];
@@ -77,7 +76,18 @@ static inline uint64_t own_number(void) { return self ? self : draw_number(); }
 
 static struct hall *hall_of(const qolb_lock *lock) { return __atomic_load_n(&lock->own, __ATOMIC_ACQUIRE); }
 
-static int holds(struct hall *hall) { return hall && atomic_load_explicit(&hall->holder, memory_order_relaxed) == own_number(); }
+static inline int is_of(const struct seat *seat, uint64_t thread) { return atomic_load_explicit(&seat->holder, memory_order_relaxed) == thread; }
+
+/* The seat by which the thread holds the line, mostly its last one. */
+static inline struct seat *held_seat(struct hall *hall) {
+    uint64_t me = own_number();
+    if (hall && last_seat < hall->seats && is_of(&hall->seat[last_seat], me)) return &hall->seat[last_seat];
+    for (unsigned k = 0; hall && k < hall->seats; k++)
+        if (is_of(&hall->seat[k], me)) return &hall->seat[k];
+    return NULL;
+}
+
+static int holds(struct hall *hall) { return held_seat(hall) != NULL; }
 
 static void free_hall(struct hall *hall) {
     for (unsigned k = 0; k < hall->seats; k++) qolb_close_proved_(&hall->seat[k].node);
@@ -92,13 +102,12 @@ static struct hall *made_of(qolb_node *nodes, unsigned seats) {
     hall->door = &doors[atomic_fetch_add(&opened_halls, 1) % DOORS];
     hall->seats = seats;
     hall->lent.own = (void *)((uintptr_t)hall | 1);
-    atomic_init(&hall->holder, 0);
-    hall->held_by = NULL;
     hall->waits = NULL;
     atomic_init(&hall->guests, 0);
     for (unsigned k = 0; k < seats; k++) {
         hall->seat[k].node = qolb_move(&nodes[k]);
         atomic_init(&hall->seat[k].state, FREE);
+        atomic_init(&hall->seat[k].holder, 0);
     }
     return hall;
 }
@@ -248,8 +257,7 @@ static uint32_t await(struct asking *me, uint64_t nanoseconds) {
 static inline uint32_t settle(struct asking *me, uint32_t got) {
     struct hall *hall = me->hall;
     if (got == QOLB_GRANTED) {
-        hall->held_by = me->seat;
-        atomic_store_explicit(&hall->holder, own_number(), memory_order_release);
+        atomic_store_explicit(&me->seat->holder, own_number(), memory_order_release);
     } else if (me->seat) {
         give_back(hall, me->seat, got);
     }
@@ -291,7 +299,7 @@ uint32_t qolb_lock_try(qolb_lock *lock) {
     struct hall *hall;
     uint32_t got = hall_opened(lock, &hall);
     if (got != QOLB_DONE) return got;
-    if (atomic_load(&hall->holder)) return QOLB_BUSY;
+    if (qolb_lock_holder(lock)) return QOLB_BUSY;
     struct asking me = {hall, NULL, 0};
     got = ask_at(&me, &hall->seat[hall->seats - 1]);
     got = settle(&me, got == QOLB_QUEUED ? give_up(&me) : got);
@@ -313,10 +321,9 @@ __attribute__((noinline)) static void free_and_ring(struct door *door, struct se
  *
  * A release uses instructions on the line's words that let no load pass a store before them. So a thread that wants a seat sees that this one is
  * about to be free, and does not sleep; or it has been counted, and the bell is rung. The seat's last store needs no such instruction. */
-static inline void leave_hall(struct hall *hall, uint32_t (*release)(qolb_node *)) {
-    struct seat *seat = hall->held_by;
+static inline void leave_hall(struct hall *hall, struct seat *seat, uint32_t (*release)(qolb_node *)) {
     struct door *door = hall->door;
-    atomic_store_explicit(&hall->holder, 0, memory_order_release);
+    atomic_store_explicit(&seat->holder, 0, memory_order_release);
     atomic_store_explicit(&seat->state, LEAVING, memory_order_release);
     release(&seat->node);
     if (atomic_load(&door->sleepers)) free_and_ring(door, seat);
@@ -325,16 +332,20 @@ static inline void leave_hall(struct hall *hall, uint32_t (*release)(qolb_node *
 
 uint32_t qolb_lock_leave(qolb_lock *lock) {
     struct hall *hall = hall_of(lock);
-    if (!holds(hall)) return QOLB_MISUSE;
-    leave_hall(hall, qolb_deqolb_proved_);
+    struct seat *seat = held_seat(hall);
+    if (!seat) return QOLB_MISUSE;
+    leave_hall(hall, seat, qolb_deqolb_proved_);
     return QOLB_DONE;
 }
 
 uint32_t qolb_lock_leave_for_another_(qolb_lock *lock) {
     struct hall *hall = hall_of(lock);
-    if (!hall || !atomic_exchange(&hall->holder, 0)) return QOLB_MISUSE;
-    leave_hall(hall, qolb_deqolb_proved_);
-    return QOLB_DONE;
+    for (unsigned k = 0; hall && k < hall->seats; k++) {
+        if (!atomic_exchange(&hall->seat[k].holder, 0)) continue;
+        leave_hall(hall, &hall->seat[k], qolb_deqolb_proved_);
+        return QOLB_DONE;
+    }
+    return QOLB_MISUSE;
 }
 
 /* Takes all seats: false if one is taken. Waits for a seat whose thread is about to leave. */
@@ -377,12 +388,15 @@ qolb_node *qolb_lock_turn(qolb_lock *lock) {
 
 uint64_t qolb_lock_holder(const qolb_lock *lock) {
     struct hall *hall = hall_of(lock);
-    return hall ? atomic_load(&hall->holder) : 0;
+    uint64_t thread = 0;
+    for (unsigned k = 0; hall && !thread && k < hall->seats; k++) thread = atomic_load(&hall->seat[k].holder);
+    return thread;
 }
 
 qolb_node *qolb_lent_(const qolb_node *node) {
     struct hall *hall = (struct hall *)((uintptr_t)node->own & ~(uintptr_t)1);
-    return holds(hall) ? &hall->held_by->node : NULL;
+    struct seat *seat = held_seat(hall);
+    return seat ? &seat->node : NULL;
 }
 
 /* ---- Conditions ----
@@ -487,11 +501,12 @@ static void stand_no_more_in(struct waiter *me) {
 
 uint32_t qolb_cond_wait_within(qolb_cond *cond, qolb_lock *lock, uint64_t nanoseconds) {
     struct hall *hall = hall_of(lock);
-    if (!holds(hall)) return QOLB_MISUSE;
+    struct seat *seat = held_seat(hall);
+    if (!seat) return QOLB_MISUSE;
     struct waiter me = {0};
     stand(cond, hall, &me);
     atomic_fetch_add(&hall->guests, 1);
-    leave_hall(hall, qolb_deqolb_proved_);
+    leave_hall(hall, seat, qolb_deqolb_proved_);
     unsigned told = await_word(&me, nanoseconds);
     int stood = told != SIGNALLED && stand_no_more(cond, &me);
     uint32_t got = told == SHUT ? (uint32_t)QOLB_CLOSED : enter_hall(hall, FOR_EVER);
@@ -522,12 +537,13 @@ uint32_t qolb_cond_broadcast(qolb_cond *cond) { return signal_some(cond, 1); }
 /* Tells the waiters at a condition, too. A waiter that is told may end at once: its successor in the list is read before. */
 uint32_t qolb_lock_shut(qolb_lock *lock) {
     struct hall *hall = hall_of(lock);
-    if (!holds(hall)) return QOLB_MISUSE;
+    struct seat *seat = held_seat(hall);
+    if (!seat) return QOLB_MISUSE;
     for (struct waiter *it = hall->waits, *beside; it; it = beside) {
         beside = it->beside;
         tell(it, SHUT);
     }
     hall->waits = NULL;
-    leave_hall(hall, qolb_shut_proved_);
+    leave_hall(hall, seat, qolb_shut_proved_);
     return QOLB_DONE;
 }

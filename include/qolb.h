@@ -126,7 +126,7 @@
  *
  * WAITING
  *
- * Of the calls on a node two wait for other threads: qolb_acquire and qolb_acquire_within. They poll 64 times, with one pause of the processor
+ * Of the calls on a node two wait for other threads: qolb_acquire and qolb_acquire_within. They poll 256 times, with one pause of the processor
  * between two polls (the instruction `pause`, some 10 to 140 cycles), yield the processor 16 times (sched_yield) with a poll after each, and then
  * sleep (on Linux by a futex, and elsewhere for 200 us at a time) until the line is released; then they poll anew. A thread that waits for a lock
  * does the same. A thread that waits at a condition sleeps at once.

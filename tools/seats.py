@@ -61,7 +61,7 @@ FAULTS = {
     "who is late keeps its seat": ("    } else if (me->seat) {\n", "    } else if (me->seat && got != QOLB_LATE) {\n"),
     "a busy seat is asked no more": ("        atomic_store(&seat->state, FREE);\n    } else {", "    } else {"),
     "a lock is closed while a seat is about to be free": ("if (state != LEAVING) {", "if (state != FREE) {"),
-    "who waits stands in the list after it has left": ("    stand(cond, hall, &me);\n    atomic_fetch_add(&hall->guests, 1);\n    leave_hall(hall, qolb_deqolb_proved_);\n", "    atomic_fetch_add(&hall->guests, 1);\n    leave_hall(hall, qolb_deqolb_proved_);\n    stand(cond, hall, &me);\n"),
+    "who waits stands in the list after it has left": ("    stand(cond, hall, &me);\n    atomic_fetch_add(&hall->guests, 1);\n    leave_hall(hall, seat, qolb_deqolb_proved_);\n", "    atomic_fetch_add(&hall->guests, 1);\n    leave_hall(hall, seat, qolb_deqolb_proved_);\n    stand(cond, hall, &me);\n"),
     "who is told is not woken": ("    qolb_wake_at_(word, 1); /* the waiter may be gone */\n", ""),
     "a condition's list has no guard": ("    if (!atomic_compare_exchange_strong(&guard->word, &was, 1))\n        while (atomic_exchange(&guard->word, 2)) qolb_sleep_at_(&guard->word, 2, FOR_EVER);\n", "    (void)was;\n"),
     "a guard wakes nobody": (" == 2) qolb_wake_at_(&guard->word, 1);", " == 2) return;"),

@@ -171,8 +171,9 @@ impl AnyNode {
     {
         match self.lane(k) {
             Some(value) => {
+                let answer = self.write_lane(k, value.wrapping_add(by));
                 *was = value;
-                self.write_lane(k, value.wrapping_add(by))
+                answer
             }
             None => Answer::Misuse,
         }
@@ -191,8 +192,32 @@ impl AnyNode {
     pub fn release(&mut self, shut: bool) -> Answer
         ensures { Releases shut self.old self.new result }
     {
-        of_any!(self, node => node.release(shut))
+        match self {
+            AnyNode::Ring(node) => release_ring(node, shut),
+            AnyNode::List(node) => release_list(node, shut),
+            AnyNode::Ticket(node) => node.release(shut),
+        }
     }
+}
+
+/// Releases a ring's line, and closes it if `shut`.
+///
+/// Not inlined, so that the calls of other lines save no registers for it.
+#[inline(never)]
+fn release_ring(node: &mut Node<Ring>, shut: bool) -> Answer
+    ensures { Releases shut (AnyNode.Ring node.old) (AnyNode.Ring node.new) result }
+{
+    node.release(shut)
+}
+
+/// Releases a list's line, and closes it if `shut`.
+///
+/// Not inlined, so that the calls of other lines save no registers for it.
+#[inline(never)]
+fn release_list(node: &mut Node<List>, shut: bool) -> Answer
+    ensures { Releases shut (AnyNode.List node.old) (AnyNode.List node.new) result }
+{
+    node.release(shut)
 }
 
 /// Requests a list's line.
