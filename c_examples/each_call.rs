@@ -225,10 +225,10 @@ fn says() {
     assert_eq!(held.node.lock().unwrap().turns_left(), Some(LEASE - 1));
 }
 
-/// What a list of three nodes keeps: 256 bytes and 128 for each node, the line, three nodes, each a multiple of 128, and a gap before and
-/// behind each of six blocks.
+/// What a list of three nodes keeps: 256 bytes and 128 for each node, the line, three nodes, each a multiple of 128, and 128 more for each of
+/// six blocks.
 fn tells_memory() {
-    assert_eq!(qolb::memory(Kind::List, 3), Some(256 + 3 * 128 + 128 + 3 * 256 + 6 * 2 * 128));
+    assert_eq!(qolb::memory(Kind::List, 3), Some(256 + 3 * 128 + 128 + 3 * 256 + 6 * 128));
     assert_eq!((qolb::memory(Kind::List, 0), qolb::memory(Kind::List, 201)), (None, None));
 }
 

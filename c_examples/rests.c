@@ -9,6 +9,7 @@
 #include <stdio.h>
 #include <stdlib.h>
 #include <sys/syscall.h>
+#include <sys/wait.h>
 #include <time.h>
 #include <unistd.h>
 
@@ -29,8 +30,14 @@ enum { US = 1000, MS = 1000000 };
  * waiter must not make. */
 static uint64_t now, clocks, yields, sleeps, longest, asks, spins, spun, looks, names, wakes, wrong;
 
-/* How often a waiter yields before it sleeps, as qolb.h says. */
-enum { YIELDS = 16 };
+/* How often a waiter yields before it sleeps, as qolb.h says; and how often it polls before it yields: for 1.5 us, by a clock by which 64 pauses take
+ * 384 ns. */
+enum { YIELDS = 16, LOOKS = 250 };
+
+/* How long 64 pauses take by the clock in each of the runs in which they are timed, between two clock calls; and the number of clock calls for that. */
+enum { TIMED = 5 };
+static uint64_t lasts[TIMED];
+static unsigned timed = 2 * TIMED;
 
 /* The words of the first sleeps and wakes since then, in their order. */
 enum { NOTED = 8 };
@@ -59,7 +66,11 @@ static void happens(void) {
 
 int __wrap_clock_gettime(clockid_t clock, struct timespec *out) {
     if (clock != CLOCK_MONOTONIC) wrong++;
-    clocks++;
+    if (timed < 2 * TIMED) {
+        if (timed++ % 2) now += lasts[timed / 2 - 1];
+    } else {
+        clocks++;
+    }
     if (now >= event.at) happens();
     out->tv_sec = (time_t)(now / 1000000000);
     out->tv_nsec = (long)(now % 1000000000);
@@ -142,6 +153,44 @@ static void begins(void (*does)(void)) {
     event.at_withdrawal = 0;
 }
 
+/* ---- How often a waiter polls ---- */
+
+/* The polls of the first wait of a process in which the runs take so long. */
+static int counts(const uint64_t *runs, uint64_t polls) {
+    qolb_bytes zeros = {{0}};
+    qolb_node n[2] = {{0}};
+    for (int k = 0; k < TIMED; k++) lasts[k] = runs[k];
+    WANT(qolb_open(QOLB_DEFAULT, 1, 2, QOLB_NO_LEASE, &zeros, n, 2), QOLB_DONE);
+    WANT(qolb_acquire(&n[0]), QOLB_GRANTED);
+    begins(NULL);
+    timed = 0;
+    WANT(qolb_acquire_within(&n[1], 0), QOLB_LATE);
+    WANT(timed, 2 * TIMED);
+    WANT(spun, polls);
+    WANT(qolb_deqolb(&n[0]), QOLB_DONE);
+    WANT(qolb_close(&n[0]), QOLB_DONE);
+    WANT(qolb_close(&n[1]), QOLB_DONE);
+    return 0;
+}
+
+/* Each is the first wait of a process of its own, and the last one that of this process. The quickest run counts; 16 to 512 polls. */
+static int counts_looks(void) {
+    static const struct {
+        uint64_t runs[TIMED], polls;
+    } rows[] = {
+        {{0, 0, 0, 0, 0}, 512},               {{187, 187, 187, 187, 187}, 512}, {{188, 188, 188, 188, 188}, 510},
+        {{90000, 3200, 5000, 3300, 4000}, 30}, {{9000, 9000, 9000, 9000, 6000}, 16}, {{7000, 6500, 7000, 7000, 7000}, 16},
+    };
+    for (size_t k = 0; k < sizeof rows / sizeof rows[0]; k++) {
+        int status;
+        pid_t child = fork();
+        if (child == 0) exit(counts(rows[k].runs, rows[k].polls));
+        if (waitpid(child, &status, 0) != child || status != 0) return printf("row %zu of polls\n", k), 1;
+    }
+    static const uint64_t runs[TIMED] = {9000, 384, 70000, 5000, 800};
+    return counts(runs, LOOKS);
+}
+
 /* ---- With a node ---- */
 
 static qolb_node *holder;
@@ -156,7 +205,7 @@ static void shuts(void) {
 
 /* Without a grant, while the first node holds the line. */
 static int late(qolb_node *n) {
-    /* For 20 ms, while it waits and while it is busy: late to the nanosecond. Waiting, it polls 256 times, 16 times more and yields before each of
+    /* For 20 ms, while it waits and while it is busy: late to the nanosecond. Waiting, it polls for 1.5 us, 16 times more and yields before each of
      * these, polls once more, and sleeps as long as it may. Busy, it requests again 16 times, and then every 200 us. */
     for (unsigned busy = 0; busy < 2; busy++) {
         uint64_t since = now;
@@ -168,7 +217,7 @@ static int late(qolb_node *n) {
         WANT(longest, busy ? 200 * US : 20 * MS);
         WANT(asks, busy ? 1 + YIELDS + 100 : 1);
         WANT(spins, !busy);
-        WANT(spun, busy ? 0 : 256);
+        WANT(spun, busy ? 0 : LOOKS);
         WANT(looks, busy ? 0 : YIELDS + 1);
         WANT(qolb_state(&n[1]), QOLB_STATE_ROLLED);
     }
@@ -180,7 +229,7 @@ static int late(qolb_node *n) {
         begins(NULL);
         WANT(qolb_acquire_within(&n[k], 0), QOLB_LATE);
         WANT(asks, 1);
-        WANT(spun, k == 1 ? 0 : 256);
+        WANT(spun, k == 1 ? 0 : LOOKS);
         WANT(yields + sleeps + looks, 0);
         WANT(qolb_state(&n[k]), QOLB_STATE_ROLLED);
     }
@@ -199,7 +248,7 @@ static int sleeps_on(qolb_node *n, int limited) {
     WANT(longest, NEVER);
     WANT(asks, 1);
     WANT(spins, 4);
-    WANT(spun, 4 * 256);
+    WANT(spun, 4 * LOOKS);
     WANT(looks, 3 * (YIELDS + 1));
     WANT(wakes, 1);
     WANT(qolb_deqolb(&n[1]), QOLB_DONE);
@@ -589,7 +638,7 @@ static int late_for_lock(qolb_lock *lock, unsigned has_seat) {
     WANT(sleeps, 1);
     WANT(longest, 20 * MS);
     WANT(asks, has_seat);
-    WANT(spun, has_seat ? 256 : 0);
+    WANT(spun, has_seat ? LOOKS : 0);
     WANT(looks, has_seat ? YIELDS + 1 : 0);
     return 0;
 }
@@ -632,7 +681,7 @@ static int lock_rests(uint32_t kind) {
     WANT(yields, 2 * YIELDS);
     WANT(sleeps, 2);
     WANT(longest, NEVER);
-    WANT(spun, 3 * 256);
+    WANT(spun, 3 * LOOKS);
     WANT(wakes, 1);
     uint64_t since = now;
     begins(NULL);
@@ -686,6 +735,7 @@ static int woken_for_nothing(uint32_t kind) {
 int main(void) {
     alarm(60); /* who never looks at the clock, or never rests, does not end */
     now = 5000000000;
+    if (counts_looks()) return 1;
     for (uint32_t kind = QOLB_RING; kind <= QOLB_TICKET; kind++)
         if (rests(kind) || withdraws_late(kind, 0) || withdraws_late(kind, 1) || each_passes_on(kind) || wakes_whom_it_should(kind) ||
             lock_rests(kind) || lock_at_the_end(kind, 0) || lock_at_the_end(kind, 1) || woken_for_nothing(kind))

@@ -19,8 +19,8 @@
 #define HIDDEN __attribute__((visibility("hidden")))
 #define FOR_EVER UINT64_MAX
 
-/* How often a waiter polls, with a pause between two polls, and how often it then yields the processor, before it sleeps. */
-enum { LOOKS = 256, YIELDS = 16 };
+/* How often a waiter yields the processor, once it has polled qolb_looks_() times and before it sleeps. */
+enum { YIELDS = 16 };
 /* The distance in bytes at which two objects share no cache line, nor a pair of lines that is fetched together. */
 enum { APART = 128 };
 
@@ -46,6 +46,10 @@ HIDDEN void qolb_sleep_at_(atomic_uint *word, unsigned value, uint64_t nanosecon
 
 /* Wakes at most this many sleepers of the word, which need not exist any more. */
 HIDDEN void qolb_wake_at_(atomic_uint *word, int most);
+
+/* How often a waiter polls before it yields the processor: as often as one instruction `pause` behind each poll makes some 1.5 us, which is counted
+ * once. The instruction takes 10 to 140 cycles, by the processor. */
+HIDDEN unsigned qolb_looks_(void);
 
 /* ---- Bells ---- */
 

@@ -68,9 +68,9 @@ uint32_t qolb_close(qolb_node *node) { return qolb_is_lent_(node) ? (uint32_t)QO
 
 /* ---- Waiting for a turn ---- */
 
-/* Polls 256 times, and yields the processor 16 times with a poll after each, while there is time: GRANTED, CLOSED, WAITING. */
+/* Polls for some 1.5 us, and yields the processor 16 times with a poll after each, while there is time: GRANTED, CLOSED, WAITING. */
 static uint32_t look_a_while(qolb_node *node, const struct limit *limit) {
-    uint32_t got = qolb_wait_proved_(node, LOOKS);
+    uint32_t got = qolb_wait_proved_(node, qolb_looks_());
     for (int k = 0; got == QOLB_WAITING && k < YIELDS && left(limit); k++) {
         sched_yield();
         got = qolb_poll_proved_(node);
@@ -188,12 +188,12 @@ SAYS(uint32_t, qolb_state)
 /* ---- Memory ----
  *
  * The bytes that an open line keeps, as its blocks are allocated (gaps.h). The proved part returns those of its table. The other blocks always
- * have the same sizes, as c_examples/memory.c counts. Behind each block is a gap. */
+ * have the same sizes, as c_examples/memory.c counts. Each is a multiple of 128 bytes, and 128 more are asked for so that it begins at one. */
 uint64_t qolb_memory(uint32_t kind, uint64_t nodes) {
     uint64_t table = qolb_memory_proved_(kind, nodes);
     if (table == 0) return 0;
     uint64_t blocks = TABLE_BLOCKS + 1 + nodes;
-    return table + KEPT_BYTES(LINE_BYTES) + nodes * KEPT_BYTES(NODE_BYTES) + blocks * 2 * GAP_BYTES;
+    return table + KEPT_BYTES(LINE_BYTES) + nodes * KEPT_BYTES(NODE_BYTES) + blocks * GAP_BYTES;
 }
 
 /* The version of the released library, with its parts in C: the proved part's is that of the last release that changed it. */

@@ -1,4 +1,4 @@
-/* The allocation of the proved part: each block begins at a multiple of 128 bytes, and a gap of 128 bytes at least is behind it. A thread writes to its node's
+/* The allocation of the proved part: each block begins at a multiple of 128 bytes, and no other begins in its last 128. A thread writes to its node's
  * data in each call. So no cache line has data of two nodes, nor has a pair of lines that is fetched together, and none has data of a node and data
  * that all nodes read; and a slot of a table, with its 64 bytes and what goes with them, is in one pair.
  *
@@ -13,7 +13,7 @@ HIDDEN void *qolb_malloc_(size_t size);
 HIDDEN void *qolb_realloc_(void *block, size_t size);
 HIDDEN void qolb_free_(void *block);
 
-/* What stands before a block: what malloc gave, and the size asked for. */
+/* What stands before each block: what malloc gave, and the size asked for. */
 struct before {
     void *given;
     size_t size;
@@ -21,9 +21,9 @@ struct before {
 
 static struct before *before(void *block) { return (struct before *)block - 1; }
 
-/* If nothing can be added to the size, the allocation fails. */
+/* If nothing can be added to the size, the allocation fails. What malloc gives is a multiple of 16, so there is room for a `struct before`. */
 void *qolb_malloc_(size_t size) {
-    char *given = size <= SIZE_MAX - 3 * GAP_BYTES ? malloc(KEPT_BYTES(size) + 2 * GAP_BYTES) : NULL;
+    char *given = size <= SIZE_MAX - 2 * GAP_BYTES ? malloc(KEPT_BYTES(size) + GAP_BYTES) : NULL;
     if (!given) return NULL;
     void *block = given + GAP_BYTES - (uintptr_t)given % GAP_BYTES;
     *before(block) = (struct before){given, size};

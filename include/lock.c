@@ -199,7 +199,7 @@ static uint32_t take_seat(struct asking *me) {
 static uint32_t look(struct asking *me) { return me->seat ? qolb_poll_proved_(&me->seat->node) : take_seat(me); }
 
 static uint32_t look_a_while(struct asking *me) {
-    uint32_t got = me->seat ? qolb_wait_proved_(&me->seat->node, LOOKS) : take_seat(me);
+    uint32_t got = me->seat ? qolb_wait_proved_(&me->seat->node, qolb_looks_()) : take_seat(me);
     for (int k = 0; got == QOLB_WAITING && k < YIELDS; k++) {
         sched_yield();
         got = look(me);

@@ -90,13 +90,13 @@
  *   request takes one step on shared words, where a ring's takes two. Its answers are those of a ring. Take this one, by the name QOLB_DEFAULT,
  *   unless memory is short or you want requests in two calls.
  *
- * Bytes of heap that an open line keeps, with those by which glibc's malloc rounds its blocks up, and without the 8 that it has before each.
- * qolb_memory returns them without either, for any number of nodes:
+ * Bytes of heap that an open line keeps, as the library asks malloc for them (qolb_memory, for any number of nodes). malloc takes some 16 more for
+ * each of its blocks, which are the number of nodes and 3:
  *
  *     nodes                 1         2         8        64       200
- *     ticket line       1,328     2,136     6,984    52,232   125,272
- *     list              1,200     1,624     4,168    27,912    85,576
- *     ring             33,712    34,008    35,784    52,376    92,616
+ *     ticket line       1,408     2,304     7,680    57,856   142,848
+ *     list              1,280     1,792     4,864    33,536   103,168
+ *     ring             33,792    34,176    36,480    57,984   110,208
  *
  * WHAT YOU MUST KEEP
  *
@@ -126,10 +126,10 @@
  *
  * WAITING
  *
- * Of the calls on a node two wait for other threads: qolb_acquire and qolb_acquire_within. They poll 256 times, with one pause of the processor
- * between two polls (the instruction `pause`, some 10 to 140 cycles), yield the processor 16 times (sched_yield) with a poll after each, and then
- * sleep (on Linux by a futex, and elsewhere for 200 us at a time) until the line is released; then they poll anew. A thread that waits for a lock
- * does the same. A thread that waits at a condition sleeps at once.
+ * Of the calls on a node two wait for other threads: qolb_acquire and qolb_acquire_within. They poll for some 1.5 us, with one pause of the
+ * processor between two polls (the instruction `pause`; the first wait of a process counts how many that is, 16 to 512), yield the processor 16
+ * times (sched_yield) with a poll after each, and then sleep (on Linux by a futex, and elsewhere for 200 us at a time) until the line is released;
+ * then they poll anew. A thread that waits for a lock does the same. A thread that waits at a condition sleeps at once.
  *
  * A call that releases the line wakes at most two sleepers: the next holder, and the waiter behind it, which can wake up during the holder's turn.
  * That waiter polls, and sleeps again if its turn is not reached. The others sleep on. Such calls are qolb_deqolb, qolb_shut, and every call that
