@@ -1,18 +1,26 @@
 /* The heap bytes of a line, and of a lock: those that stay taken after qolb_open and after a lock's first use, by kind and number of nodes or of
  * seats, as malloc_usable_size counts them. qolb_memory must return what opening has allocated and keeps, and opening may ask for at most three
- * times that at a time. The data of two nodes must be in no two cache lines that are fetched together. */
+ * times that at a time. The data of two nodes must be in no two cache lines that are fetched together, and each block of a line must begin at a
+ * multiple of 128 bytes. 100,000 ticket lines of two nodes must take less than 260 MB. */
 #include <malloc.h>
 #include <qolb.h>
 #include <stdio.h>
 #include <stdlib.h>
 
-/* For all allocated blocks: their usable bytes, and the requested ones; and the most that were requested at a time. */
+/* For all allocated blocks: their usable bytes, and the requested ones; and the most that were requested at a time. Blocks are counted while `counts`. */
 static size_t taken, asked, most;
+static int counts = 1;
 static struct {
     void *block;
     size_t asked;
 } blocks[1024];
 
+/* The blocks that a line was given, and whether each began where it must. */
+static size_t given;
+static int aligned = 1;
+
+void *__real_qolb_malloc_(size_t size);
+void *__real_qolb_realloc_(void *block, size_t size);
 void *__real_malloc(size_t size);
 void *__real_realloc(void *block, size_t size);
 void __real_free(void *block);
@@ -25,7 +33,7 @@ static size_t place_of(const void *block) {
 }
 
 static void *takes(void *block, size_t size) {
-    if (!block) return NULL;
+    if (!block || !counts) return block;
     size_t k = place_of(NULL);
     blocks[k].block = block;
     blocks[k].asked = size;
@@ -36,7 +44,7 @@ static void *takes(void *block, size_t size) {
 }
 
 static void gives_back(void *block) {
-    if (!block) return;
+    if (!block || !counts) return;
     size_t k = place_of(block);
     blocks[k].block = NULL;
     asked -= blocks[k].asked;
@@ -45,9 +53,18 @@ static void gives_back(void *block) {
 
 void *__wrap_malloc(size_t size) { return takes(__real_malloc(size), size); }
 
+static void *gives(void *block) {
+    given++;
+    aligned = aligned && (uintptr_t)block % QOLB_NODE_ALIGN == 0;
+    return block;
+}
+
+void *__wrap_qolb_malloc_(size_t size) { return gives(__real_qolb_malloc_(size)); }
+void *__wrap_qolb_realloc_(void *block, size_t size) { return gives(__real_qolb_realloc_(block, size)); }
+
 /* If there is no memory the block stays. */
 void *__wrap_realloc(void *block, size_t size) {
-    size_t before = block ? blocks[place_of(block)].asked : 0;
+    size_t before = block && counts ? blocks[place_of(block)].asked : 0;
     gives_back(block);
     void *moved = __real_realloc(block, size);
     return moved ? takes(moved, size) : (takes(block, before), NULL);
@@ -97,6 +114,23 @@ static int all_are_told(void) {
     return qolb_memory(QOLB_TICKET + 1, 2) == 0;
 }
 
+/* Returns whether so many lines take less than this many bytes, with what malloc has for each block. */
+static int fit(size_t lines, size_t bytes) {
+    qolb_bytes zeros = {{0}};
+    qolb_node *node = calloc(2 * lines, sizeof *node);
+    size_t before = mallinfo2().uordblks;
+    counts = 0;
+    for (size_t k = 0; k < lines; k++)
+        if (qolb_open(QOLB_TICKET, 1, 2, QOLB_NO_LEASE, &zeros, &node[2 * k], 2) != QOLB_DONE) return 0;
+    size_t all = mallinfo2().uordblks - before;
+    for (size_t k = 0; k < 2 * lines; k++)
+        if (qolb_close(&node[k]) != QOLB_DONE) return 0;
+    free(node);
+    counts = 1;
+    printf("%zu ticket lines of two nodes: bytes %zu\n", lines, all);
+    return all < bytes;
+}
+
 int main(void) {
     static const char *const names[] = {"ring", "list", "ticket line"};
     static const uint64_t nodes[] = {1, 2, 8, 64, 200};
@@ -118,5 +152,7 @@ int main(void) {
         }
     }
     if (!all_are_told()) return puts("qolb_memory tells something else"), 1;
+    if (given == 0 || !aligned) return puts("a block begins elsewhere"), 1;
+    if (!fit(100000, 260000000)) return puts("many lines take too much"), 1;
     return 0;
 }

@@ -34,10 +34,12 @@ static uint64_t now, clocks, yields, sleeps, longest, asks, spins, spun, looks, 
  * 384 ns. */
 enum { YIELDS = 16, LOOKS = 250 };
 
-/* How long 64 pauses take by the clock in each of the runs in which they are timed, between two clock calls; and the number of clock calls for that. */
+/* How long 64 pauses take by the clock in each of the runs in which they are timed, between two clock calls; the number of clock calls for that; and
+ * whether the next request begins it. */
 enum { TIMED = 5 };
 static uint64_t lasts[TIMED];
 static unsigned timed = 2 * TIMED;
+static int will_time;
 
 /* The words of the first sleeps and wakes since then, in their order. */
 enum { NOTED = 8 };
@@ -121,6 +123,7 @@ long __wrap_syscall(long number, ...) {
 
 uint32_t __wrap_qolb_enqolb_proved_(qolb_node *node) {
     asks++;
+    if (will_time) will_time = 0, timed = 0;
     return __real_qolb_enqolb_proved_(node);
 }
 
@@ -163,7 +166,7 @@ static int counts(const uint64_t *runs, uint64_t polls) {
     WANT(qolb_open(QOLB_DEFAULT, 1, 2, QOLB_NO_LEASE, &zeros, n, 2), QOLB_DONE);
     WANT(qolb_acquire(&n[0]), QOLB_GRANTED);
     begins(NULL);
-    timed = 0;
+    will_time = 1;
     WANT(qolb_acquire_within(&n[1], 0), QOLB_LATE);
     WANT(timed, 2 * TIMED);
     WANT(spun, polls);
