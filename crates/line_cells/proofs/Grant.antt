@@ -1,6 +1,6 @@
 -- A release grants the next cell: the request at its turn has ended. If the next one is not withdrawn the line is at home, else the node
 -- still has it, and passes that request.
-use Rattle.std.proofs.Common.{◌≡◌, ◌≢◌, ◌⊎◌, ℕ, ◌+◌, ◌<◌, ◌≤◌, List, [], ◌∷◌, ◌++◌, length, set, slice_index, Bool, true, false, sym, refl, ap, ◌∙◌, subst, inl, inr, ⊎_elim, arith, length-append, mod-lt}
+use Rattle.std.proofs.Common.{◌≡◌, ◌≢◌, ◌⊎◌, ℕ, ◌+◌, ◌<◌, ◌≤◌, List, [], ◌∷◌, ◌++◌, length, set, slice_index, Bool, true, false, Option, None, Some, ◌||◌, sym, refl, ap, ◌∙◌, subst, inl, inr, ⊎_elim, arith, length-append, mod-lt}
 use mathlib.Core.Logic.{dite}
 use mathlib.Core.List.{IsPrefix}
 use mathlib.Core.Option.{none, some}
@@ -27,11 +27,12 @@ use Rattle.line_generic.specs.declared.table.TableKey.{TableKey}
 use Rattle.line_generic.specs.declared.table.Payload.{Payload}
 use Rattle.line_cells.specs.Layout.{cell_at, cells_in, cell_of}
 use Rattle.line_generic.specs.Slots.{Slots}
-use Rattle.line_cells.specs.SlotLayout.{SlotLayout, Homes, IsAtHome}
+use Rattle.line_cells.specs.SlotLayout.{SlotLayout, Homes, IsBehind, IsSpare}
 use Rattle.line_cells.specs.Array.{ArrayGhost, ArrayState, At, Cells, History, HasPassed, Walks, NodeInv, HistoryInv, ArrayRule, has_line, is_unfinished, is_cleared}
 use Rattle.line_cells.specs.Steps.{SeatContents, next_end, after_walk, IsNextPayload, Ended, IsHandedOver, Passes, granted}
 use Rattle.line_cells.proofs.OneNode.{clash_at, passed_goes, placed_at, knows_whole, hand_none}
 use Rattle.line_cells.proofs.Nodes.{others_end, others_clear, others_hand, freed_so}
+use Rattle.qolb_model.proofs.Histories.{is_closed-append}
 use Rattle.line_cells.proofs.Histories.{marked_at, continues}
 use Rattle.line_cells.proofs.Keeping.{rule_step, mine_ok, mine_low, blank, cell_shown}
 use Rattle.line_cells.proofs.Slots.{MayGive, MayKeep, LaysOne, AreSpare, elem_within}
@@ -56,6 +57,22 @@ GrantsNext count cells seen withdrawn_by ended cleared change = (holder : ℕ) (
     → (marks (ended + 1) ≡ 0 → (seen (ended + 1) (says (cell_of count (ended + 1))) ≡ 0) × cells (ended + 1) 0 false marks (put says (cell_of count (ended + 1)) (change (says (cell_of count (ended + 1))))))
     × (0 < marks (ended + 1) → marks (ended + 1) ≤ MAX_NODES → 0 < holder
     → (seen (ended + 1) (says (cell_of count (ended + 1))) ≢ 0) × (withdrawn_by (ended + 1) (says (cell_of count (ended + 1))) ≡ marks (ended + 1)) × cells (ended + 1) holder false marks (put says (cell_of count (ended + 1)) (change (says (cell_of count (ended + 1))))))
+
+-- a line that has no lease had none, and one that is open was
+none_before : (lease : Option ℕ) (xs ys : List End) → turns_left lease ys ≡ None → turns_left lease xs ≡ None
+none_before None xs ys is = refl
+none_before (Some turns) xs ys is = absurd (cc is)
+
+or_before : (a b : Bool) → (a || b) ≡ false → a ≡ false
+or_before false b is = refl
+or_before true b is = is
+
+-- so a slot that was behind the line is behind it once more
+behind_goes : (lease : Option ℕ) (ends : List End) (e : End) (z : Payload) → IsBehind (turns_left lease ends) (is_closed ends) z → IsBehind (turns_left lease (ends ++ e ∷ [])) (is_closed (ends ++ e ∷ [])) z
+behind_goes lease ends e z b = record {
+  turns = λ is. b.turns (none_before lease ends (ends ++ e ∷ []) is);
+  is_open = λ is. b.is_open (or_before (is_closed ends) (is_closed (e ∷ [])) (sym (is_closed-append ends (e ∷ [])) ∙ is));
+}
 
 module _ (cells : Cells) (slot_layout : SlotLayout) (good : List ℕ → Type 0) (allows : List ℕ → List ℕ → Type 0) (key : TableKey) (goes : (a b : List ℕ) → good a → allows a b → good b) (v : ArrayGhost) (has_it : has_line v.own.point ≡ true) (y : Payload) (carries : IsNextPayload allows v y) where
   abbrev Rule : ArrayState → Type 0
@@ -351,14 +368,23 @@ module _ (cells : Cells) (slot_layout : SlotLayout) (good : List ℕ → Type 0)
 
     -- the seat's slots, in which the line is stored for the successor
     module _ (slots : Slots) (laid : slot_layout.slots_at_release (length v.view.ends) y slots) where
-      spare : AreSpare slot_layout (length v.view.ends) s.homes
-      spare k few inside = r.shown.spare k few (λ some out. inside (subst (λ es. slot_layout.is_out (length es) k) (sym same_ends) out))
+      -- what was behind the line is behind it after this end
+      spare : AreSpare slot_layout (length v.view.ends) y s.homes
+      spare k few inside =
+          let z = r.shown.spare k few (λ some out. inside (subst (λ es. slot_layout.is_out (length es) k) (sym same_ends) out)) in (
+            z.0,
+            z.1,
+            subst (λ (l : Option ℕ × Bool). IsBehind l.0 l.1 z.0) (λ j. (sym (left r.history r.history_inv ok) j, sym (shut r.history r.history_inv ok) j)) (behind_goes key.config.lease r.history.ends e z.0 z.2),
+          )
+
+      now_spare : (homes : Homes) (k : ℕ) → IsSpare y.turns_left y.closed homes k → IsSpare (turns_left key.config.lease (r.history.ends ++ e ∷ [])) (is_closed (r.history.ends ++ e ∷ [])) homes k
+      now_spare homes k z = subst (λ (l : Option ℕ × Bool). IsSpare l.0 l.1 homes k) (λ j. (left r.history r.history_inv ok j, shut r.history r.history_inv ok j)) z
 
       pub giving : (act : Act Payload) × Valid s.homes slots act × (length (homes_after s.homes slots act) ≡ length s.homes) × (carried_after slots act ≡ [])
-          × (get_elem? (homes_after s.homes slots act) (slot_layout.home_slot (length v.view.ends + 1)) ≡ some (some y)) × ((k : ℕ) → k < slot_layout.count → IsAtHome (homes_after s.homes slots act) k)
+          × (get_elem? (homes_after s.homes slots act) (slot_layout.home_slot (length v.view.ends + 1)) ≡ some (some y)) × ((k : ℕ) → k < slot_layout.count → IsSpare y.turns_left y.closed (homes_after s.homes slots act) k)
       giving = may_give (length v.view.ends) s.homes slots y r.shown.deep laid spare
 
-      pub keeping : (act : Act Payload) × Valid s.homes slots act × (length (homes_after s.homes slots act) ≡ length s.homes) × slot_layout.slots_at_grant (length v.view.ends + 1) y (carried_after slots act) × AreSpare slot_layout (length v.view.ends + 1) (homes_after s.homes slots act)
+      pub keeping : (act : Act Payload) × Valid s.homes slots act × (length (homes_after s.homes slots act) ≡ length s.homes) × slot_layout.slots_at_grant (length v.view.ends + 1) y (carried_after slots act) × AreSpare slot_layout (length v.view.ends + 1) y (homes_after s.homes slots act)
       keeping = may_keep (length v.view.ends) s.homes slots y r.shown.deep laid spare
 
       abbrev pub given : Homes
@@ -375,7 +401,7 @@ module _ (cells : Cells) (slot_layout : SlotLayout) (good : List ℕ → Type 0)
           0 false (r.history.ends ++ e ∷ []) (clear_with (own v.view) v.own.passed r.history.clear) r.history.marks r.history.releaser_of
           (subst (λ q. cells q 0 false r.history.marks (put (cells_in s.words) (cell_of slot_layout.cells (length v.view.ends + 1)) z)) next_is says)
           (λ _. (y, subst (λ q. get_elem? given (slot_layout.home_slot q) ≡ some (some y)) next_is giving.4, bytes r.history r.history_inv ok, shut r.history r.history_inv ok, left r.history r.history_inv ok))
-          (λ k few _. giving.5 k few))
+          (λ k few _. now_spare given k (giving.5 k few)))
           (home_node r.history r.history_inv ok above free)
           (λ n a b ne. home_others r.history r.history_inv ok above free n (r.who n) a ne (r.each n a b))
 
@@ -387,7 +413,7 @@ module _ (cells : Cells) (slot_layout : SlotLayout) (good : List ℕ → Type 0)
           r.history.holder false (r.history.ends ++ e ∷ []) r.history.clear r.history.marks (put r.history.releaser_of next v.view.node)
           (subst (λ q. cells q r.history.holder false r.history.marks (put (cells_in s.words) (cell_of slot_layout.cells (length v.view.ends + 1)) z)) next_is says)
           (λ nobody. absurd (held nobody))
-          (λ k few inside. keeping.4 k few (λ out. inside held (subst (λ q. slot_layout.is_out q k) next_is out))))
+          (λ k few inside. now_spare kept k (keeping.4 k few (λ out. inside held (subst (λ q. slot_layout.is_out q k) next_is out)))))
           (walk_node r.history r.history_inv ok above rolled)
           (λ n a b ne. walk_others r.history r.history_inv ok above rolled n (r.who n) ne (r.each n a b))
         where

@@ -19,7 +19,7 @@ use Rattle.line_generic.specs.NodeGhosts.{node_of}
 use Rattle.line_cells.specs.Layout.{word_count, ticket_at, node_at, cell_at, cells_in}
 use Rattle.line_generic.specs.declared.table.TableKey.{TableKey}
 use Rattle.line_generic.specs.declared.table.Payload.{Payload}
-use Rattle.line_cells.specs.SlotLayout.{SlotLayout, Homes, IsAtHome}
+use Rattle.line_cells.specs.SlotLayout.{SlotLayout, Homes, IsSpare}
 use Rattle.line_cells.specs.Array.{ArrayGhost, ArrayState, At, Cells, History, NodeInv, HistoryInv, Represents, ArrayRule}
 
 -- a word that is no cell's changes none
@@ -105,7 +105,7 @@ module _ (cells : Cells) (slot_layout : SlotLayout) (good : List ℕ → Type 0)
   pub cell_shown : (x : History) (words : List ℕ) (homes homes' : Homes) (i c z : ℕ) → i ≡ cell_at c → c < slot_layout.cells → Represents cells slot_layout good allows key x words homes → length homes' ≡ length homes
       → (holder : ℕ) (cleared : Bool) (ends : List End) (clear : List Request) (marks releaser_of : ℕ → ℕ) → cells (length ends) holder cleared marks (put (cells_in words) c z)
       → (holder ≡ 0 → (y : Payload) × (get_elem? homes' (slot_layout.home_slot (length ends)) ≡ some (some y)) × (y.bytes.bytes ≡ bytes_after key.config.opening.bytes ends) × (y.closed ≡ is_closed ends) × (y.turns_left ≡ turns_left key.config.lease ends))
-      → ((k : ℕ) → k < slot_layout.count → (holder ≢ 0 → slot_layout.is_out (length ends) k → ⊥) → IsAtHome homes' k)
+      → ((k : ℕ) → k < slot_layout.count → (holder ≢ 0 → slot_layout.is_out (length ends) k → ⊥) → IsSpare (turns_left key.config.lease ends) (is_closed ends) homes' k)
       → Represents cells slot_layout good allows key (record x { holder = holder; cleared = cleared; ends = ends; clear = clear; marks = marks; releaser_of = releaser_of }) (set words i z) homes'
   cell_shown x words homes homes' i c z is small h deep holder cleared ends clear marks releaser_of said home spare = record {
     more = h.more;

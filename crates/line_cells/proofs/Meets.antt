@@ -1,5 +1,5 @@
 -- What two entries in one seat say.
-use Rattle.std.proofs.Common.{◌≡◌, ◌≢◌, ℕ, inl, inr, List, [], ◌∷◌, length, set, slice_index, sym, refl, ap, ◌∙◌, subst, ⊎_elim, arith}
+use Rattle.std.proofs.Common.{◌≡◌, ◌≢◌, ℕ, inl, inr, Option, List, [], ◌∷◌, length, set, slice_index, sym, refl, ap, ◌∙◌, subst, ⊎_elim, arith}
 use mathlib.Core.List.{IsPrefix}
 use mathlib.Core.Option.{none, some}
 use lib.ListN.{get_elem?}
@@ -23,7 +23,9 @@ use Rattle.line_generic.specs.NodeGhosts.{node_of}
 use Rattle.line_generic.specs.Steps.{merged_ghost, after_meet, slots_returned}
 use Rattle.line_cells.specs.BetweenCalls.{initial}
 use Rattle.line_generic.specs.declared.table.TableKey.{TableKey}
-use Rattle.line_cells.specs.SlotLayout.{SlotLayout}
+use Rattle.line_cells.specs.SlotLayout.{SlotLayout, IsSpare}
+use Rattle.qolb_model.specs.Ends.{is_closed}
+use Rattle.qolb_model.specs.Leases.{turns_left}
 use Rattle.line_cells.proofs.Slots.{MayReturnSlots}
 use Rattle.line_cells.specs.Array.{ArrayGhost, ArrayState, Cells, History, NodeInv, HistoryInv, ArrayRule}
 use Rattle.line_cells.specs.Steps.{SeatContents}
@@ -159,13 +161,14 @@ module _ (cells : Cells) (slot_layout : SlotLayout) (good : List ℕ → Type 0)
       )
 
   -- the holder's slots go home, for a moment
-  pub return_slots_next : (me slots i : ℕ) (m : SeatContents) (v : ArrayGhost) → m.0 ≡ v ∷ [] → v.view.state ≡ port_state.Holding → (v.view.config ≡ key.config → MayReturnSlots slot_layout m.1) → Allows Rule slots me m i (λ n. n) (slots_returned (step slots i 0 0 none) m)
-  return_slots_next me slots i m v is holds_open may_return_slots s r deep at small =
+  pub return_slots_next : (me slots i : ℕ) (m : SeatContents) (v : ArrayGhost) (left : Option ℕ) → left ≡ turns_left v.view.config.lease v.view.ends → m.0 ≡ v ∷ [] → v.view.state ≡ port_state.Holding → (v.view.config ≡ key.config → MayReturnSlots slot_layout left m.1) → Allows Rule slots me m i (λ n. n) (slots_returned (step slots i 0 0 none) m)
+  return_slots_next me slots i m v left turns is holds_open may_return_slots s r deep at small =
       let at' : get_elem? s.views me ≡ some (v ∷ []) = at ∙ ap some is in
       let mb = r.members me 0 (v ∷ []) v at' refl in
       let ok : NodeInv key r.history v.view.node v = subst (NodeInv key r.history v.view.node) mb.is (r.each v.view.node mb.low mb.high) in
       let park = may_return_slots ok.who.config s.homes r.shown.deep in
       let mine = (ok.holder.holds (ok.holder.is_holder holds_open).0).1 in
+      let same : left ≡ turns_left key.config.lease r.history.ends = turns ∙ (λ j. turns_left (ok.who.config j).lease ((ok.holder.holds (ok.holder.is_holder holds_open).0).0 j)) in
       let low = mb.low in (
         m.0,
         park.0,
@@ -179,7 +182,7 @@ module _ (cells : Cells) (slot_layout : SlotLayout) (good : List ℕ → Type 0)
               may_open = r.may_open;
               line = r.line;
               history_inv = r.history_inv;
-              shown = record { more = r.shown.more; wide = r.shown.wide; deep = park.2 ∙ r.shown.deep; ticket = r.shown.ticket; said = r.shown.said; flags = r.shown.flags; home = λ e. let l = mine in absurd (omega arith); spare = λ k few out. park.4 k (r.shown.spare k few out) };
+              shown = record { more = r.shown.more; wide = r.shown.wide; deep = park.2 ∙ r.shown.deep; ticket = r.shown.ticket; said = r.shown.said; flags = r.shown.flags; home = λ e. let l = mine in absurd (omega arith); spare = λ k few out. subst (λ l. IsSpare l (is_closed r.history.ends) (homes_after s.homes m.1 park.0) k) same (park.4 k (is_closed r.history.ends) (subst (λ l. IsSpare l (is_closed r.history.ends) s.homes k) (sym same) (r.shown.spare k few out))) };
               each = r.each;
               members = r.members;
             },

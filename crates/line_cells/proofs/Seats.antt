@@ -72,7 +72,7 @@ module _ (cells : Cells) (slot_layout : SlotLayout) (good : List ℕ → Type 0)
       marked = λ p h. absurd (omega arith);
       gone = λ p e at. absurd (at_none p e at);
     };
-    shown = record { more = enough may; wide = wide; deep = opened_count slot_layout.count y; ticket = first.1 ticket_at (let m = enough may in omega arith) (λ e. omega arith); said = say words first; flags = λ n a b. first.1 (node_at n) (let m = enough may in omega arith) (λ e. omega arith); home = λ _. (y, opened_slot slot_layout.count (slot_layout.home_slot 0) y first_slot, same, unclosed, left ∙ turns_left-none key.config.lease); spare = λ k few _. (y, opened_slot slot_layout.count k y few) };
+    shown = record { more = enough may; wide = wide; deep = opened_count slot_layout.count y; ticket = first.1 ticket_at (let m = enough may in omega arith) (λ e. omega arith); said = say words first; flags = λ n a b. first.1 (node_at n) (let m = enough may in omega arith) (λ e. omega arith); home = λ _. (y, opened_slot slot_layout.count (slot_layout.home_slot 0) y first_slot, same, unclosed, left ∙ turns_left-none key.config.lease); spare = λ k few _. (y, opened_slot slot_layout.count k y few, record { turns = λ e. left ∙ turns_left-none key.config.lease ∙ e; is_open = λ _. unclosed }) };
     each = λ n a b. record {
       who = record { node = refl; label = refl; config = refl };
       knows = knows_whole [] [] [] n (initial_node initial key n).view refl refl refl refl (λ q h. absurd (cc h));

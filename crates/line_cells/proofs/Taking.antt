@@ -1,5 +1,5 @@
 -- A node that made a request accepts the line: it is at home, and the request at its turn is the node's.
-use Rattle.std.proofs.Common.{◌≡◌, ◌≢◌, ℕ, ◌+◌, ◌<◌, ◌≤◌, List, [], ◌∷◌, length, set, slice_index, Bool, true, false, sym, refl, ap, ◌∙◌, subst, inl, ⊎_elim, arith, mod-lt}
+use Rattle.std.proofs.Common.{◌≡◌, ◌≢◌, ℕ, ◌+◌, ◌<◌, ◌≤◌, List, [], ◌∷◌, length, set, slice_index, Bool, true, false, Option, sym, refl, ap, ◌∙◌, subst, inl, ⊎_elim, arith, mod-lt}
 use mathlib.Core.Logic.{dite}
 use mathlib.Core.Option.{some}
 use native.Mathlib.Decide.{ℕ_discrete}
@@ -22,7 +22,7 @@ use Rattle.line_cells.specs.declared.local.Point.TheVariants.{Idle, Queued, Hold
 use Rattle.line_generic.specs.declared.table.TableKey.{TableKey}
 use Rattle.line_generic.specs.declared.table.Payload.{Payload}
 use Rattle.line_cells.specs.Layout.{cell_at, cells_in, cell_of}
-use Rattle.line_cells.specs.SlotLayout.{SlotLayout, Homes}
+use Rattle.line_cells.specs.SlotLayout.{SlotLayout, Homes, IsSpare}
 use Rattle.line_cells.specs.Array.{ArrayGhost, ArrayState, At, Cells, History, Walks, NodeInv, HistoryInv, Represents, ArrayRule, has_line, is_releasing, is_unfinished}
 use Rattle.line_cells.specs.BetweenCalls.{holds_open}
 use Rattle.line_cells.specs.Steps.{IsAtTurn}
@@ -175,8 +175,8 @@ module _ (cells : Cells) (slot_layout : SlotLayout) (good : List ℕ → Type 0)
       }
 
       -- the act by which the line is taken
-      pub act : (a : Act Payload) × Valid s.homes [] a × (length (homes_after s.homes [] a) ≡ length s.homes) × slot_layout.slots_at_grant (length r.history.ends) home.0 (carried_after [] a) × AreSpare slot_layout (length r.history.ends) (homes_after s.homes [] a)
-      act = may_take (length r.history.ends) s.homes home.0 r.shown.deep home.1 (λ k few. r.shown.spare k few (λ some out. some holder))
+      pub act : (a : Act Payload) × Valid s.homes [] a × (length (homes_after s.homes [] a) ≡ length s.homes) × slot_layout.slots_at_grant (length r.history.ends) home.0 (carried_after [] a) × AreSpare slot_layout (length r.history.ends) home.0 (homes_after s.homes [] a)
+      act = may_take (length r.history.ends) s.homes home.0 r.shown.deep home.1 (λ k few. subst (λ (z : Option ℕ × Bool). IsSpare z.0 z.1 s.homes k) (λ j. (sym home.4 j, sym home.3 j)) (r.shown.spare k few (λ some out. some holder)))
 
       abbrev pub after : Homes
       after = homes_after s.homes [] act.0
@@ -189,7 +189,7 @@ module _ (cells : Cells) (slot_layout : SlotLayout) (good : List ℕ → Type 0)
 
       take_shown : (z : ℕ) → cells (length r.history.ends) v.view.node false r.history.marks (put (cells_in s.words) (cell_of slot_layout.cells v.own.place) z) → Represents cells slot_layout good allows key (take_past r.history) (set s.words i z) after
       take_shown z said = cell_shown cells slot_layout good allows key r.history s.words s.homes after i (cell_of slot_layout.cells v.own.place) z word (mod-lt v.own.place slot_layout.some_cells) r.shown act.2
-          v.view.node false r.history.ends r.history.clear r.history.marks r.history.releaser_of said (λ e. absurd (held e)) (λ k few out. act.4 k few (out (λ e. held e)))
+          v.view.node false r.history.ends r.history.clear r.history.marks r.history.releaser_of said (λ e. absurd (held e)) (λ k few out. subst (λ (z : Option ℕ × Bool). IsSpare z.0 z.1 after k) (λ j. (home.4 j, home.3 j)) (act.4 k few (out (λ e. held e))))
         where
           held : v.view.node ≡ 0 → ⊥
           held e = let l = low in omega arith

@@ -25,7 +25,7 @@ use Rattle.line_generic.specs.declared.table.TableKey.{TableKey}
 use Rattle.line_generic.specs.declared.table.Payload.{Payload}
 use Rattle.line_generic.specs.NodeGhosts.{node_of}
 use Rattle.line_cells.specs.declared.local.Local.{Local}
-use Rattle.line_cells.specs.SlotLayout.{SlotLayout, Homes, IsAtHome}
+use Rattle.line_cells.specs.SlotLayout.{SlotLayout, Homes, IsSpare}
 use Rattle.line_cells.specs.Layout.{word_count, ticket_at, node_at, cells_in, ticket_of}
 
 -- the member of the list at the place
@@ -211,7 +211,7 @@ module _ (cells : Cells) (slot_layout : SlotLayout) (good : List ℕ → Type 0)
     pub said : cells (length x.ends) x.holder x.cleared x.marks (cells_in words)
     pub flags : (n : ℕ) → 0 < n → n ≤ key.config.nodes → slice_index words (node_at n) ≡ x.flags n
     pub home : x.holder ≡ 0 → (y : Payload) × (get_elem? homes (slot_layout.home_slot (length x.ends)) ≡ some (some y)) × (y.bytes.bytes ≡ bytes_after key.config.opening.bytes x.ends) × (y.closed ≡ is_closed x.ends) × (y.turns_left ≡ turns_left key.config.lease x.ends)
-    pub spare : (k : ℕ) → k < slot_layout.count → (x.holder ≢ 0 → slot_layout.is_out (length x.ends) k → ⊥) → IsAtHome homes k
+    pub spare : (k : ℕ) → k < slot_layout.count → (x.holder ≢ 0 → slot_layout.is_out (length x.ends) k → ⊥) → IsSpare (turns_left key.config.lease x.ends) (is_closed x.ends) homes k
 
   pub record ArrayRule (s : ArrayState) : Type 0 where
     pub history : History

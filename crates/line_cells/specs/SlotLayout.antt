@@ -1,5 +1,5 @@
 -- The slots of a lock: one for all turns, for example, or one for each cell.
-use Rattle.std.specs.Prelude.{◌≡◌, ◌<◌, ℕ, List, [], ◌∷◌}
+use Rattle.std.specs.Prelude.{◌≡◌, ◌<◌, ℕ, List, [], ◌∷◌, Bool, false, Option, None}
 use mathlib.Core.Option.{some}
 use mathlib.Core.Option as maybe
 use lib.ListN.{get_elem?}
@@ -14,6 +14,16 @@ Homes = List (maybe.Option Payload)
 
 abbrev pub IsAtHome : Homes → ℕ → Type 0
 IsAtHome homes k = (y : Payload) × (get_elem? homes k ≡ some (some y))
+
+-- A slot that the line was in before, or never: it says nothing of turns if the line has no lease, and is open while the line is. By the
+-- turns left and the closed mark of the line.
+pub record IsBehind (left : Option ℕ) (closed : Bool) (z : Payload) : Type 0 where
+  pub turns : left ≡ None → z.turns_left ≡ None
+  pub is_open : closed ≡ false → z.closed ≡ false
+
+-- at home, and behind
+abbrev pub IsSpare : Option ℕ → Bool → Homes → ℕ → Type 0
+IsSpare left closed homes k = (y : Payload) × (get_elem? homes k ≡ some (some y)) × IsBehind left closed y
 
 -- The numbers of cells and slots of a lock. By the number of ended requests: the slot of the line if no node has it, and the
 -- slots that are out if some node does. And the slots of a node to which this payload was granted, and of one that has stored it

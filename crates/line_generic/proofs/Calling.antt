@@ -116,7 +116,7 @@ module _ {O : Type 0} {q : PortPhases O} {label node : ℕ} {p : PortModel} (s :
       (λ i. wait_word (sym many i) (sym between.node_is i) token) ∙ law token u (ghost_of q.initial s).view (ghost_of q.initial s).own (holds_of held).at (subst (λ (x : PortModel). SeesTurn u x.view) (sym is) sees)
 
   -- it writes
-  pub written_port : (z : LocalCopy) (mask : ℕ) (bytes : List ℕ) → p.view.state ≡ port_state.Holding → z.bytes.bytes ≡ merged y.bytes.bytes bytes mask → z.mask.0 ≡ bit_or y.mask.0 mask → z.turns_left ≡ y.turns_left
+  pub written_port : (z : LocalCopy) (mask : ℕ) (bytes : List ℕ) → p.view.state ≡ port_state.Holding → z.bytes.bytes ≡ merged y.bytes.bytes bytes mask → z.mask.bits ≡ bit_or y.mask.bits mask → z.turns_left ≡ y.turns_left
       → IsPort q label node s z token state
   written_port z mask bytes held b m c = record {
     of_one_node = between.of_one_node;
@@ -170,7 +170,7 @@ module _ {O : Type 0} {q : PortPhases O} {label node : ℕ} {p : PortModel} (s :
         here = subst (λ e. EndsTurn e.view (own_end (is_closed e.view.ends) back.0) (state_after back.0.closed) (ghost_of q.initial t).view) entry l
 
         what : own_end (is_closed (ghost_of q.initial s).view.ends) back.0 ≡ Served (write_in y) (closes (ghost_of q.initial s).view.config.lease (ghost_of q.initial s).view.ends shut)
-        what = ap (λ k. own_end k back.0) its.is_open ∙ (λ i. Served (record { mask = back.2.mask i; bytes = back.2.bytes i }) ((back.2.closed_is ∙ put_closes) i))
+        what = ap (λ k. own_end k back.0) its.is_open ∙ (λ i. Served (record { mask = record { 0 = (back.2.mask i).bits }; bytes = back.2.bytes i }) ((back.2.closed_is ∙ put_closes) i))
 
         leaves : state_after back.0.closed ≡ state_after (closes (ghost_of q.initial s).view.config.lease (ghost_of q.initial s).view.ends shut)
         leaves = ap state_after (back.2.closed_is ∙ put_closes)

@@ -35,7 +35,7 @@ pub carries_served : (allows : List ℕ → List ℕ → Type 0) (v : View) (tur
     → IsStored turn (closes v.config.lease v.ends shut) y → IsNextPayload allows v y
 carries_served allows v turn y shut unclosed left merged may back =
     let end : own_end (is_closed v.ends) y ≡ Served (write_of y) y.closed = ap (λ b. own_end b y) unclosed in
-    let same : write_of y ≡ write_in turn = (λ i. record { mask = back.mask i; bytes = back.bytes i }) in
+    let same : write_of y ≡ write_in turn = (λ i. record { mask = record { 0 = (back.mask i).bits }; bytes = back.bytes i }) in
     let mine : written (bytes_of v) (write_of y) ≡ y.bytes.bytes = subst (λ (z : Write). written (bytes_of v) z ≡ z.bytes.bytes) (sym same) merged in
     let allowed : MayRelease allows v (write_of y) = subst (MayRelease allows v) (sym same) may in
     record {
@@ -83,7 +83,7 @@ told_by w t y c closed more l =
     }
 
 -- an open line that was granted is in the port, without a write
-merged_fresh : (base : List ℕ) (z : LocalCopy) → length z.bytes.bytes ≡ 64 → z.mask.0 ≡ 0 → z.bytes.bytes ≡ base → written base (write_in z) ≡ z.bytes.bytes
+merged_fresh : (base : List ℕ) (z : LocalCopy) → length z.bytes.bytes ≡ 64 → z.mask.bits ≡ 0 → z.bytes.bytes ≡ base → written base (write_in z) ≡ z.bytes.bytes
 merged_fresh base z line mask is = ap (λ m. merged base z.bytes.bytes m) mask ∙ merged-none base z.bytes.bytes (ap length (sym is) ∙ line) ∙ sym is
 
 pub accepts : {O : Type 0} (q : PortPhases O) (nodes token : ℕ) (s t : LineSeat O) (y : Payload) (z : LocalCopy) → nodes_of q.initial s ≡ nodes → IsAtTurn q.holds_open q.holds_closed token (ghost_of q.initial s) y → t.me.0 ≡ s.me.0 → IsCopy z y → (y.closed ≡ false → q.slots_in_turn nodes token y.turns_left t.me.1) → z.closed ≡ false
@@ -114,11 +114,11 @@ accepts q nodes token s t y z many c same copied kept unclosed =
     )
 
 -- the holder writes
-pub holds_written : {O : Type 0} (q : PortPhases O) (s : LineSeat O) (y z : LocalCopy) (token mask : ℕ) (bytes : List ℕ) → Holds q s y token → z.bytes.bytes ≡ merged y.bytes.bytes bytes mask → z.mask.0 ≡ bit_or y.mask.0 mask → z.turns_left ≡ y.turns_left → Holds q s z token
+pub holds_written : {O : Type 0} (q : PortPhases O) (s : LineSeat O) (y z : LocalCopy) (token mask : ℕ) (bytes : List ℕ) → Holds q s y token → z.bytes.bytes ≡ merged y.bytes.bytes bytes mask → z.mask.bits ≡ bit_or y.mask.bits mask → z.turns_left ≡ y.turns_left → Holds q s z token
 holds_written q s y z token mask bytes h b k c = record {
   at = h.at;
   kept = subst (λ left. q.slots_in_turn (nodes_of q.initial s) token left s.me.1) (sym c) h.kept;
-  merged = (λ i. merged (bytes_of (ghost_of q.initial s).view) (b i) (k i)) ∙ merged-twice (bytes_of (ghost_of q.initial s).view) y.bytes.bytes bytes y.mask.0 mask h.merged ∙ sym b;
+  merged = (λ i. merged (bytes_of (ghost_of q.initial s).view) (b i) (k i)) ∙ merged-twice (bytes_of (ghost_of q.initial s).view) y.bytes.bytes bytes y.mask.bits mask h.merged ∙ sym b;
   is_open = h.is_open;
   turns = c ∙ h.turns;
   some_left = λ none. h.some_left (sym c ∙ none);

@@ -7,6 +7,7 @@ use Rattle.qolb_model.specs.Entries.{front, behind}
 use Rattle.qolb_model.specs.declared.answer.PortState.{PortState}
 use Rattle.qolb_model.specs.declared.answer.PortState.TheVariants as port_state
 use Rattle.qolb_model.specs.declared.view.View.{View}
+use Rattle.qolb_model.specs.Leases.{turns_left}
 use Rattle.qolb_model.specs.Opening.{MayOpen}
 use Rattle.qolb_model.specs.Finishing.{IsFinalLine}
 use Rattle.line_generic.specs.declared.table.Payload.{Payload}
@@ -64,7 +65,7 @@ HasMeeting {O} holds allows initial =
 -- a holder can return its slots to the table
 abbrev pub HasSlotReturn : {O : Type 0} → (TableKey → State Payload (List (NodeGhost O)) → Type 0) → PortPhases O → Type 0
 HasSlotReturn {O} holds q =
-    (key : TableKey) (id slots i : ℕ) (m : SeatContents O) (v : NodeGhost O) (token : ℕ) (left : Option ℕ) → m.0 ≡ v ∷ [] → v.view.state ≡ port_state.Holding → q.slots_in_turn v.view.config.nodes token left m.1
+    (key : TableKey) (id slots i : ℕ) (m : SeatContents O) (v : NodeGhost O) (token : ℕ) (left : Option ℕ) → m.0 ≡ v ∷ [] → v.view.state ≡ port_state.Holding → left ≡ turns_left v.view.config.lease v.view.ends → q.slots_in_turn v.view.config.nodes token left m.1
     → Allows (holds key) slots id m i (λ n. n) (slots_returned (step slots i 0 0 none) m)
 
 -- with all nodes in one seat, each at rest, slot `last` has the final line

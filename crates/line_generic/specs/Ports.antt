@@ -39,7 +39,7 @@ pub record PortModel : Type 0 where
 
 -- the bytes and mask of a port's copy
 abbrev pub write_in : LocalCopy → Write
-write_in y = record { mask = y.mask; bytes = y.bytes }
+write_in y = record { mask = record { 0 = y.mask.bits }; bytes = y.bytes }
 
 abbrev pub port_model : {O : Type 0} → O → LineSeat O → LocalCopy → ℕ → ℕ → ℕ → Option ℕ → PortModel
 port_model initial s y steps count token went_to = record {

@@ -20,4 +20,4 @@ pub record IsCopy (z : LocalCopy) (y : Payload) : Type 0 where
   pub bytes : z.bytes ≡ y.bytes
   pub turns : z.turns_left ≡ y.turns_left
   pub closed : z.closed ≡ y.closed
-  pub no_mask : z.mask.0 ≡ 0
+  pub no_mask : z.mask.bits ≡ 0

@@ -114,7 +114,7 @@ pub record IsAtTurn {O : Type 0} (holds_open : ℕ → ℕ → O → Type 0) (ho
 
 -- the write of a turn
 abbrev pub write_of : Payload → Write
-write_of y = record { mask = y.mask; bytes = y.bytes }
+write_of y = record { mask = record { 0 = y.mask.bits }; bytes = y.bytes }
 
 -- the end of a holder's own request: told, if the line is closed, else served with the turn's write
 abbrev pub own_end : Bool → Payload → End

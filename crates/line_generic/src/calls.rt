@@ -73,7 +73,7 @@ impl<K: Keep, Q: Discipline<K>, W: WakePolicy> LineSync<K> for Line<K, Q, W> {
         ensures table { port.new.table ≡ port.old.table }
     {
         port.payload.bytes = merge(&port.payload.bytes, bytes, mask);
-        port.payload.mask = Mask(port.payload.mask.0 | mask.0);
+        port.payload.mask = port.payload.mask.with(&mask);
     }
 
     fn enqolb(&self, port: &mut Port<Q, W>) -> Enq

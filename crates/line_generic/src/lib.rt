@@ -14,6 +14,7 @@ mod port;
 mod single_slot;
 mod split_enqueue;
 mod table;
+mod turn_mask;
 mod wake;
 
 pub use discipline::{
@@ -25,4 +26,5 @@ pub use line::{Line, TableWidth};
 pub use port::Port;
 pub use single_slot::{load_from_slot, store_to_slot, take_from_closed};
 pub use table::{LineSeat, LineTable, LocalCopy, NodeGhost, Payload, Rule, SharedTable, TableKey};
+pub use turn_mask::TurnMask;
 pub use wake::{Parking, SpinOnly, UnparkHandle, WakePolicy};

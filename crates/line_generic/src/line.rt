@@ -9,7 +9,7 @@ use crate::discipline::Discipline;
 use crate::port::Port;
 use crate::table::{LineTable, SharedTable};
 use crate::wake::{Parking, WakePolicy};
-use line_lanes::{Mask, set_lane};
+use line_lanes::set_lane;
 use qolb_model::{Keep, PortState};
 use std::marker::PhantomData;
 
@@ -68,6 +68,6 @@ impl<K: Keep, Q: Discipline<K>, W: WakePolicy> Line<K, Q, W> {
         ensures table { port.new.table ≡ port.old.table }
     {
         let mask = set_lane(&mut port.payload.bytes, k, value);
-        port.payload.mask = Mask(port.payload.mask.0 | mask.0);
+        port.payload.mask = port.payload.mask.with(&mask);
     }
 }

@@ -11,9 +11,10 @@ use crate::line::{Line, TableWidth};
 use crate::plays::SplitFirst;
 use crate::port::Port;
 use crate::table::{LineSeat, LocalCopy, Payload, SharedTable, TableKey};
+use crate::turn_mask::TurnMask;
 use crate::wake::WakePolicy;
 use atomic_table::Table;
-use line_lanes::{Line64, Mask};
+use line_lanes::Line64;
 use qolb_model::{Keep, LineConfig, OpenError, OpenLine, PollCount, PortState};
 use std::alloc::{AllocError, Global};
 use std::marker::PhantomData;
@@ -102,10 +103,10 @@ impl<K: Keep, Q: Discipline<K>, W: WakePolicy> Line<K, Q, W> {
         let words = Q::first_words(alloc, config.nodes)?;
         let payload = Payload {
             bytes: config.opening,
-            mask: Mask(0),
+            mask: TurnMask::none(),
             turns_left: config.lease,
             closed: false,
-            padding: [0; 4],
+            padding: [0; 5],
         };
         let width = TableWidth {
             words: words.len(),
@@ -167,18 +168,17 @@ fn split_ports<K: Keep, Q: Discipline<K>, W: WakePolicy>(
 {
     let mut rest = rest;
     let label = key.label;
-    let payload = LocalCopy {
-        bytes: Line64::zero(),
-        mask: Mask(0),
-        turns_left: None,
-        closed: false,
-    };
     let mut ports = room_for::<Q, W>(alloc, key.config.nodes)?;
     for done in 0..key.config.nodes {
         let others = table.split_seat::<SplitFirst>(&mut rest);
         let seat = mem::replace(&mut rest, others);
         ports.push(Port {
-            payload,
+            payload: LocalCopy {
+                bytes: Line64::zero(),
+                mask: TurnMask::none(),
+                turns_left: None,
+                closed: false,
+            },
             seat,
             token: 0,
             label,

@@ -3,6 +3,7 @@ ghost use Rattle.std.specs.Prelude.{◌≡◌, ◌≢◌, ℕ, Option, [], Some,
 ghost use mathlib.Core.Option.{some};
 ghost use lib.ListN.{get_elem?};
 ghost use Rattle.std.specs.Slots.{slots_items, slots_len, IsFull};
+ghost use Rattle.qolb_model.specs.Leases.{turns_left};
 ghost use Rattle.line_generic.specs.Slots.{in_single_slot, open_in_single_slot, IsCopy};
 ghost use Rattle.line_generic.specs.Steps.{IsSameSeat, IsSeatOf, IsOfOneNode, ghost_of, nodes_of};
 ghost use Rattle.line_generic.specs.Ports.{IsStored};
@@ -11,8 +12,8 @@ ghost use Rattle.line_generic.specs.declared.table.Payload.{Payload};
 use crate::discipline::{Discipline, DisciplineInvariant};
 use crate::plays::ReturnSlots;
 use crate::table::{LineSeat, LocalCopy, Payload, SharedTable};
+use crate::turn_mask::TurnMask;
 use atomic_table::Closed;
-use line_lanes::Mask;
 use qolb_model::{Keep, PortState};
 use std::alloc::Global;
 
@@ -38,7 +39,7 @@ pub fn load_from_slot<K: Keep, Q: DisciplineInvariant<K>>(
     payload.bytes = slot.bytes;
     payload.turns_left = slot.turns_left;
     payload.closed = slot.closed;
-    payload.mask = Mask(0);
+    payload.mask = TurnMask::none();
 }
 
 /// Copies a holder's payload back to the single slot.
@@ -60,7 +61,7 @@ pub fn store_to_slot<K: Keep, Q: DisciplineInvariant<K>>(
 {
     let slot = seat.slot_mut(table, 0);
     slot.bytes = payload.bytes;
-    slot.mask = payload.mask;
+    slot.mask = payload.mask.same();
     if let Some(turns) = payload.turns_left {
         slot.turns_left = Some(turns - 1);
     }
@@ -93,6 +94,8 @@ pub(crate) fn return_slots<K: Keep, Q: Discipline<K>>(
     requires holding { IsOfOneNode Q.phases.initial seat.old.me
         × ((ghost_of Q.phases.initial seat.old).view.state ≡ PortState.Holding) }
     requires kept { (token : ℕ) × (left : Option ℕ)
+        × (left ≡ turns_left (ghost_of Q.phases.initial seat.old).view.config.lease
+        (ghost_of Q.phases.initial seat.old).view.ends)
         × Q.phases.slots_in_turn (nodes_of Q.phases.initial seat.old) token left seat.old.me.1 }
     ensures { (seat.new.table_id ≡ seat.old.table_id) × (seat.new.me ≡ (seat.old.me.0, [])) }
 {

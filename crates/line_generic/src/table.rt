@@ -1,10 +1,12 @@
 //! The table of a line: its words and slots. If no node holds the line, its bytes are in a slot.
+ghost use Rattle.std.specs.Prelude.{◌≡◌, ⊤};
 
 use crate::discipline::{DisciplineInvariant, DisciplineSpec};
+use crate::turn_mask::TurnMask;
 use atomic_table::{Seat, Shared, Table, TableRule};
-use line_lanes::{Line64, Mask};
+use line_lanes::Line64;
 use qolb_model::{Keep, LineConfig, View};
-use std::alloc::Global;
+use std::alloc::{AllocError, Global};
 use std::collections::LinkedList;
 use std::marker::PhantomData;
 
@@ -19,20 +21,46 @@ pub struct TableKey {
 ///
 /// `bytes` is the first field, so that they are copied from an aligned place. `padding` fills a slot to 128 bytes; it is never read or
 /// copied.
-#[derive(Clone, Copy)]
+#[derive(Drop)]
 pub struct Payload {
     pub bytes: Line64,
-    pub mask: Mask,
+    pub mask: TurnMask,
     pub turns_left: Option<u64>,
     pub closed: bool,
-    pub padding: [u64; 4],
+    pub padding: [u64; 5],
+}
+
+impl Payload {
+    /// Returns the same contents again.
+    #[inline]
+    pub fn again(&self) -> Payload
+        ensures { result ≡ self.now }
+    {
+        Payload {
+            bytes: self.bytes,
+            mask: self.mask.same(),
+            turns_left: self.turns_left,
+            closed: self.closed,
+            padding: self.padding,
+        }
+    }
+}
+
+impl Clone for Payload {
+    ghost is_clone = { λ x y. y ≡ x };
+
+    ghost is_infallible = { λ _. ⊤ };
+
+    fn clone(&self) -> Result<Payload, AllocError> {
+        Ok(self.again())
+    }
 }
 
 /// A port's own copy of the line: the bytes that a holder writes, and a slot's other fields.
-#[derive(Clone, Copy)]
+#[derive(Drop)]
 pub struct LocalCopy {
     pub bytes: Line64,
-    pub mask: Mask,
+    pub mask: TurnMask,
     pub turns_left: Option<u64>,
     pub closed: bool,
 }

@@ -50,7 +50,7 @@ impl Lines {
 
     /// Returns the number of bytes of a table for `nodes` nodes: its words and its slots.
     ///
-    /// A port takes 136 more. Opening takes the table's bytes twice for a moment.
+    /// A port takes 128 more. Opening takes the table's bytes twice for a moment.
     pub fn bytes_for(self, nodes: u64) -> u64
         requires { AreNodes nodes }
         ensures bytes { result ≡ bytes_of self nodes }

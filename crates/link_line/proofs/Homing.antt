@@ -37,7 +37,7 @@ use Rattle.link_core.specs.Steps as row
 use Rattle.link_core.specs.Shown.{has_line, IsCarried}
 use Rattle.link_core.proofs.Found.{found}
 use Rattle.link_core.proofs.Steady.{after_is, after_made}
-use Rattle.link_line.specs.Ghost.{LinkGhost}
+use Rattle.link_line.specs.Ghost.{LinkGhost, mask_of}
 use Rattle.line_generic.specs.declared.table.Payload.{Payload}
 use Rattle.line_generic.specs.declared.table.TableKey.{TableKey}
 use Rattle.link_line.specs.Layout.{home_at}
@@ -172,16 +172,16 @@ module _ (good : List ℕ → Type 0) (allows : List ℕ → List ℕ → Type 0
 
     -- the write of the turn, as one event
     abbrev written : History
-    written = next allows key r.may_open.nodes.few r.history r.history_inv (row.write v.view.node z.mask z.bytes its_node here) r.history.joined r.history.early r.history.late
+    written = next allows key r.may_open.nodes.few r.history r.history_inv (row.write v.view.node (mask_of z) z.bytes its_node here) r.history.joined r.history.early r.history.late
 
     written_queue : written.queue ≡ r.history.queue
-    written_queue = after_made (on allows key r.may_open.nodes.few r.history r.history_inv (row.write v.view.node z.mask z.bytes its_node here)) refl
+    written_queue = after_made (on allows key r.may_open.nodes.few r.history r.history_inv (row.write v.view.node (mask_of z) z.bytes its_node here)) refl
 
-    written_mask : z.mask ≡ written.core.mask
-    written_mask = (λ i. record { 0 = sym (or_zero_l z.mask.0) i }) ∙ ap (λ (m : Mask). either m z.mask) (sym (mine.stands.unwritten hold))
+    written_mask : mask_of z ≡ written.core.mask
+    written_mask = (λ i. record { 0 = sym (or_zero_l z.mask.bits) i }) ∙ ap (λ (m : Mask). either m (mask_of z)) (sym (mine.stands.unwritten hold))
 
     written_bytes : z.bytes ≡ written.core.bytes
-    written_bytes = λ i. record { bytes = (sym over.bytes ∙ ap (λ (b : List ℕ). merged b z.bytes.bytes z.mask.0) (is_at_turn ∙ sym held.1)) i }
+    written_bytes = λ i. record { bytes = (sym over.bytes ∙ ap (λ (b : List ℕ). merged b z.bytes.bytes z.mask.bits) (is_at_turn ∙ sym held.1)) i }
 
     written_may : allows (bytes_after key.config.opening.bytes written.queue.ends) written.core.bytes.bytes
     written_may = subst (λ (w : List ℕ × Line64). allows w.0 w.1.bytes) (λ i. ((is_at_turn ∙ ap (λ (q : Queue). bytes_after key.config.opening.bytes q.ends) (sym written_queue)) i, written_bytes i)) over.allowed
@@ -199,14 +199,14 @@ module _ (good : List ℕ → Type 0) (allows : List ℕ → List ℕ → Type 0
     written_grows = grows_none r.history written v.view.node refl refl refl
 
     written_fine : HistoryInv allows key written
-    written_fine = fine_next allows key r.may_open.nodes.few r.history r.history_inv (row.write v.view.node z.mask z.bytes its_node here) r.history.joined r.history.early r.history.late written_grows
+    written_fine = fine_next allows key r.may_open.nodes.few r.history r.history_inv (row.write v.view.node (mask_of z) z.bytes its_node here) r.history.joined r.history.early r.history.late written_grows
         (subst (λ (q : Queue). AreAllowed allows key.config.opening.bytes q.ends) (sym written_queue) r.history_inv.kept)
         (λ m. unleaving (point r.history.core v.view.node) here m.leaves)
         (λ q l. unlinking (point r.history.core v.view.node) q here l)
         (λ l. let a : Holding ≡ Queued = sym here ∙ l in cc)
 
     written_others : (n : ℕ) (u : LinkGhost) → 0 < n → n ≤ key.config.nodes → n ≢ v.view.node → NodeInv key r.history n u → NodeInv key written n u
-    written_others n u a b ne ok = others_next allows key r.may_open.nodes.few r.history r.history_inv (row.write v.view.node z.mask z.bytes its_node here) r.history.joined r.history.early r.history.late written_grows written_fine n u (a, subst (λ (q : ℕ). n ≤ q) (sym r.history_inv.shown.matches.size) b) ne ok
+    written_others n u a b ne ok = others_next allows key r.may_open.nodes.few r.history r.history_inv (row.write v.view.node (mask_of z) z.bytes its_node here) r.history.joined r.history.early r.history.late written_grows written_fine n u (a, subst (λ (q : ℕ). n ≤ q) (sym r.history_inv.shown.matches.size) b) ne ok
 
     turns_over : z.turns_left ≡ decrement r.history.core.left
     turns_over = over.turns ∙ ap decrement ((λ i. turns_left (mine.who.config i).lease (ends_same i)) ∙ sym r.history_inv.shown.matches.turns)

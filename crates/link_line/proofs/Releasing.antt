@@ -38,7 +38,7 @@ use Rattle.link_core.proofs.Close.{close_passed}
 use Rattle.link_core.proofs.Found.{found}
 use Rattle.link_core.proofs.Orders.{get_request, request_got, last_is}
 use Rattle.link_core.proofs.Short.{short}
-use Rattle.link_line.specs.Ghost.{LinkGhost}
+use Rattle.link_line.specs.Ghost.{LinkGhost, mask_of}
 use Rattle.line_generic.specs.declared.table.Payload.{Payload}
 use Rattle.line_generic.specs.declared.table.TableKey.{TableKey}
 use Rattle.link_line.specs.Links.{At, History, NodeInv, HistoryInv, PassedInv, Represents, Homes, MayServe, serves, is_leaving, is_shut_by, state_of, state_at, state_in_release}
@@ -71,11 +71,11 @@ turn_none {config} {c} {q} s home r here = go s.matches.lies
     go (left t y a b e g k l i w) = let z : Home ≡ Mailbox y = sym home ∙ e in cc
 
 -- the end that a release puts, as the core has it and as the port does
-end_is : (config : LineConfig) (c : Core) (order : List Request) (ends : List End) (n : ℕ) (r : ReleaseCause) (ps places : List ℕ) (g : ℕ → ℕ) (z : Payload) → ps ≡ map g places → IsCarried config c order ends n r ps → z.bytes ≡ c.bytes → (ps ≡ [] → serves r ≡ true → z.mask ≡ c.mask) → z.closed ≡ is_shut_by r
+end_is : (config : LineConfig) (c : Core) (order : List Request) (ends : List End) (n : ℕ) (r : ReleaseCause) (ps places : List ℕ) (g : ℕ → ℕ) (z : Payload) → ps ≡ map g places → IsCarried config c order ends n r ps → z.bytes ≡ c.bytes → (ps ≡ [] → serves r ≡ true → mask_of z ≡ c.mask) → z.closed ≡ is_shut_by r
     → end_by c r ps ≡ end_of places (is_closed ends) z
 end_is config c order ends n r [] [] g z e k b m s = unpassed r k (m refl) s
   where
-    unpassed : (r : ReleaseCause) → IsCarried config c order ends n r [] → (serves r ≡ true → z.mask ≡ c.mask) → z.closed ≡ is_shut_by r → end_by c r [] ≡ end_of [] (is_closed ends) z
+    unpassed : (r : ReleaseCause) → IsCarried config c order ends n r [] → (serves r ≡ true → mask_of z ≡ c.mask) → z.closed ≡ is_shut_by r → end_by c r [] ≡ end_of [] (is_closed ends) z
     unpassed Own k m s = rw (k.1) (λ i. Served (record { mask = sym (m refl) i; bytes = sym b i }) (sym s i))
     unpassed Closing k m s = rw (k.1) (λ i. Served (record { mask = sym (m refl) i; bytes = sym b i }) (sym s i))
     unpassed Refused k m s = rw (k.1) refl
@@ -184,7 +184,7 @@ pub record Holds (good : List ℕ → Type 0) (allows : List ℕ → List ℕ �
   pub bytes : z.bytes ≡ x.core.bytes
   pub closed : z.closed ≡ x.core.closed
   pub turns : z.turns_left ≡ turns_after v.view.node x.core
-  pub mask : (seat x.core v.view.node).passed ≡ [] → serves (seat x.core v.view.node).reason ≡ true → z.mask ≡ x.core.mask
+  pub mask : (seat x.core v.view.node).passed ≡ [] → serves (seat x.core v.view.node).reason ≡ true → mask_of z ≡ x.core.mask
   pub shut : z.closed ≡ is_shut_by (seat x.core v.view.node).reason
   pub may : (seat x.core v.view.node).passed ≡ [] → serves (seat x.core v.view.node).reason ≡ true → allows (bytes_after key.config.opening.bytes x.queue.ends) x.core.bytes.bytes
 

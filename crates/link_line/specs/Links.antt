@@ -36,7 +36,7 @@ use Rattle.link_core.specs.Shown.{has_line, Shows}
 use Rattle.line_generic.specs.declared.table.Payload.{Payload}
 use Rattle.line_generic.specs.declared.table.TableKey.{TableKey}
 use Rattle.line_generic.specs.NodeGhosts.{node_of}
-use Rattle.link_line.specs.Ghost.{LinkGhost}
+use Rattle.link_line.specs.Ghost.{LinkGhost, mask_of}
 use Rattle.link_line.specs.Layout.{home_at, entry_at, word_count, pack}
 
 -- the member of the list at the place
@@ -133,7 +133,7 @@ pub record IsInHand (c : Core) (n : ℕ) (s : NodeCall) (line : Payload) : Type 
   pub bytes : line.bytes ≡ c.bytes
   pub closed : line.closed ≡ c.closed
   pub turns : line.turns_left ≡ turns_after n c
-  pub mask : MayServe s → line.mask ≡ c.mask
+  pub mask : MayServe s → mask_of line ≡ c.mask
   pub shut : line.closed ≡ is_shut_by s.reason
 
 -- The node's point in its call, and its line. The writes of a holder are not in the core yet. If its release has left the line with a node

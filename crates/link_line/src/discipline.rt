@@ -162,7 +162,7 @@ impl<K: Keep> Discipline<K> for LinkQueue {
 
     ghost meets = { meeting.meets_next K.good K.allows };
 
-    ghost return_slots_law = { λ key id slots i m v _ _ is holds_open kept.
+    ghost return_slots_law = { λ key id slots i m v _ _ is holds_open _ kept.
         meeting.return_slots_next K.good K.allows key id slots i m v kept.0 is holds_open kept.1 };
 
     ghost finishes = { lasting.lasts K.good K.allows K.stays_good };

@@ -191,9 +191,9 @@ impl<K: Keep> Discipline<K> for RingQueue {
 
     ghost meets = { meeting.meets_next RingCells one_slot K.good K.allows };
 
-    ghost return_slots_law = { λ key id slots i m v _ _ is holds_open kept.
-        meeting.return_slots_next RingCells one_slot K.good K.allows key id slots i m v is
-        holds_open (λ _. one_returns m.1 kept.0 kept.1) };
+    ghost return_slots_law = { λ key id slots i m v _ left is holds_open turns kept.
+        meeting.return_slots_next RingCells one_slot K.good K.allows key id slots i m v
+        left turns is holds_open (λ _. one_returns left m.1 kept) };
 
     ghost finishes = { λ key es id words xs at_rest.
         lasting.final_line RingCells one_slot K.good K.allows key es cell_of at_rest (λ _.

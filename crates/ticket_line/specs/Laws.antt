@@ -17,7 +17,8 @@ use Rattle.ticket_line.specs.declared.layout.TheConstants.{NUMBER_UNIT, NUMBERS}
 use Rattle.ticket_line.specs.Layout.{cell_of, number, granted_word}
 use Rattle.line_generic.specs.declared.table.TableKey.{TableKey}
 use Rattle.qolb_model.specs.Opening.{MayOpen}
-use Rattle.line_cells.proofs.Slots.{MayReturnSlots, stays_home}
+use Rattle.line_cells.specs.SlotLayout.{IsBehind}
+use Rattle.line_cells.proofs.Slots.{MayReturnSlots, stays_spare, open_behind}
 use Rattle.ticket_line.specs.Layout.{AreFirst, ticket_after}
 use Rattle.ticket_line.specs.Slots.{slot_layout, slots_in_turn, slot_of, last}
 use Rattle.ticket_line.specs.Ticket.{IsLater, TicketCells}
@@ -61,18 +62,18 @@ pub is_last : (nodes : ℕ) (words : List ℕ) (n : ℕ) → slice_index words t
 is_last nodes words n is = ap (slot_of nodes) is
 
 -- a holder can return its slots
-may_return_slots : (nodes ticket : ℕ) (z x : Payload) (slots : Slots) → slots ≡ (slot_of nodes (ticket_after ticket), z) ∷ (slot_of nodes ticket, x) ∷ [] → MayReturnSlots (slot_layout nodes) slots
-may_return_slots nodes ticket z x slots is = subst (MayReturnSlots (slot_layout nodes)) (sym is) (λ homes deep. (
+may_return_slots : (nodes ticket : ℕ) (left : Option ℕ) (z x : Payload) (slots : Slots) → IsBehind left false z → IsBehind left false x → slots ≡ (slot_of nodes (ticket_after ticket), z) ∷ (slot_of nodes ticket, x) ∷ [] → MayReturnSlots (slot_layout nodes) left slots
+may_return_slots nodes ticket left z x slots b c is = subst (MayReturnSlots (slot_layout nodes) left) (sym is) (λ homes deep. (
   chain gives gives,
   (tt, tt),
   length-set (set homes (slot_of nodes (ticket_after ticket)) (some z)) (slot_of nodes ticket) (some x) ∙ length-set homes (slot_of nodes (ticket_after ticket)) (some z),
   refl,
-  λ k h. stays_home (set homes (slot_of nodes (ticket_after ticket)) (some z)) (slot_of nodes ticket) k x (stays_home homes (slot_of nodes (ticket_after ticket)) k z h),
+  λ k closed h. stays_spare left closed (set homes (slot_of nodes (ticket_after ticket)) (some z)) (slot_of nodes ticket) k x (open_behind left x c closed) (stays_spare left closed homes (slot_of nodes (ticket_after ticket)) k z (open_behind left z b closed) h),
 ))
 
 -- a holder that knows the number of nodes can return its slots
-pub holder_returns : (key : TableKey) (v : View) (ticket : ℕ) (left : Option ℕ) (slots : Slots) → slots_in_turn v.config.nodes ticket left slots → v.config ≡ key.config → MayReturnSlots (slot_layout key.config.nodes) slots
-holder_returns key v ticket left slots kept same = let k : slots_in_turn key.config.nodes ticket left slots = subst (λ (t : LineConfig). slots_in_turn t.nodes ticket left slots) same kept in may_return_slots key.config.nodes ticket k.0 k.1 slots k.2
+pub holder_returns : (key : TableKey) (v : View) (ticket : ℕ) (left : Option ℕ) (slots : Slots) → slots_in_turn v.config.nodes ticket left slots → v.config ≡ key.config → MayReturnSlots (slot_layout key.config.nodes) left slots
+holder_returns key v ticket left slots kept same = let k : slots_in_turn key.config.nodes ticket left slots = subst (λ (t : LineConfig). slots_in_turn t.nodes ticket left slots) same kept in may_return_slots key.config.nodes ticket left k.0 k.1 slots k.3 k.4 k.2
 
 -- there are more cells than nodes
 pub enough : (key : TableKey) → MayOpen key.config → key.config.nodes < cells_for key.config.nodes

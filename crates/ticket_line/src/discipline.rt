@@ -72,12 +72,13 @@ impl<K: Keep> Discipline<K> for TicketQueue {
     ) {
         let slot = seat.slot_mut(table, slot_of(table, cell_mask, ticket_after(token)));
         slot.bytes = payload.bytes;
-        slot.mask = payload.mask;
-        slot.turns_left = match payload.turns_left {
-            Some(turns) => Some(turns - 1),
-            None => None,
-        };
-        slot.closed = closed;
+        slot.mask = payload.mask.same();
+        if let Some(turns) = payload.turns_left {
+            slot.turns_left = Some(turns - 1);
+        }
+        if closed {
+            slot.closed = true;
+        }
     }
 
     fn take_final(closed: Closed<Payload, Global>, nodes: u64) -> Payload {
@@ -206,9 +207,9 @@ impl<K: Keep> Discipline<K> for TicketQueue {
     ghost meets = { λ key. meeting.meets_next (TicketCells key.config.nodes)
         (slot_layout key.config.nodes) K.good K.allows key };
 
-    ghost return_slots_law = { λ key id slots i m v token left is holds_open kept.
+    ghost return_slots_law = { λ key id slots i m v token left is holds_open turns kept.
         meeting.return_slots_next (TicketCells key.config.nodes)
-        (slot_layout key.config.nodes) K.good K.allows key id slots i m v is holds_open
+        (slot_layout key.config.nodes) K.good K.allows key id slots i m v left turns is holds_open
         (holder_returns key v.view token left m.1 kept) };
 
     ghost finishes = { λ key es id words xs at_rest.

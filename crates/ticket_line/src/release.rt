@@ -129,7 +129,9 @@ pub(crate) fn copy_to_next_slot<K: Keep>(
     requires { MayTake phases mask_for table.now cell_mask ticket seat.old }
     ensures { HasCopied table.now ticket seat.old seat.new }
 {
-    let line = *seat.slot_mut(table, slot_of(table, cell_mask, ticket));
+    let line = seat
+        .slot_mut(table, slot_of(table, cell_mask, ticket))
+        .again();
     seat.turn();
     *seat.slot_mut(table, slot_of(table, cell_mask, ticket_after(ticket))) = line;
 }

@@ -16,8 +16,7 @@ use crate::layout::{slot_count, slot_for, slot_of};
 use crate::release::copy_to_next_slot;
 use atomic_table::Closed;
 use line_cells::TICKET_WORD;
-use line_generic::{LocalCopy, Payload};
-use line_lanes::Mask;
+use line_generic::{LocalCopy, Payload, TurnMask};
 use qolb_model::Keep;
 use std::alloc::Global;
 
@@ -37,7 +36,7 @@ pub(crate) fn take<K: Keep>(
     payload.bytes = slot.bytes;
     payload.turns_left = slot.turns_left;
     payload.closed = slot.closed;
-    payload.mask = Mask(0);
+    payload.mask = TurnMask::none();
     if payload.closed {
         copy_to_next_slot(table, seat, cell_mask, ticket);
     } else {

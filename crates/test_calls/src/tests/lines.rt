@@ -327,7 +327,7 @@ where
 }
 
 /// The bytes of a port.
-const PORT: usize = 136;
+const PORT: usize = 128;
 
 /// Opens a line in a room that grows by the heap's grain. It is refused for want of memory until the room holds all that it allocates, so
 /// each of its allocations is refused once. These are its table, two copies of it for a moment, its ports, and little else.

@@ -14,7 +14,7 @@ invariant_of-port g c =
     let old = q.payload.bytes.bytes in
     written_port q.seat q.payload q.token q.steps q.poll_count.count q.state c.port.invariant c.port.view_is _ (placed_mask (8 * k) 8) (with_lane_of old k c.args.value) c.requires.state
     (c.set_lane-mask.ensures.line ∙ lane_written old k c.args.value (omega arith) c.requires.lane c.ranges.value.fits)
-    (ap (bit_or q.payload.mask.0) c.set_lane-mask.ensures.mask) refl
+    (c.with-port-inside.ensures ∙ ap (bit_or q.payload.mask.bits) c.set_lane-mask.ensures.mask) refl
 
 pub returns-clause-turn : goal.returns-clause-turn
 returns-clause-turn g c =
@@ -22,5 +22,5 @@ returns-clause-turn g c =
     let k = c.args.k in
     let old = q.payload.bytes.bytes in
     let written = c.set_lane-mask.ensures.line ∙ lane_written old k c.args.value (omega arith) c.requires.lane c.ranges.value.fits in
-    (λ i. record { mask = record { 0 = bit_or q.payload.mask.0 (c.set_lane-mask.ensures.mask i) }; bytes = record { bytes = written i } })
+    (λ i. record { mask = record { 0 = (c.with-port-inside.ensures ∙ ap (bit_or q.payload.mask.bits) c.set_lane-mask.ensures.mask) i }; bytes = record { bytes = written i } })
     ∙ ap (λ (x : PortModel). turn_after x.turn (placed_mask (8 * k) 8) (with_lane_of x.turn.bytes.bytes k c.args.value)) c.port.view_is
