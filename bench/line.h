@@ -8,10 +8,9 @@
 
 enum { MAX_NODES = 200, SPINS = 64 };
 
-// The line, with the mask of what its holder has written in this turn. Without a lease turns_left and is_leased are 0.
+// The line. Without a lease turns_left and is_leased are 0.
 struct payload {
     uint8_t bytes[64];
-    uint64_t mask;
     uint64_t turns_left;
     uint8_t is_leased;
     uint8_t closed;
@@ -25,21 +24,19 @@ struct payload {
 #define USED(held) (void)(held)
 #endif
 
-// Copies the line out of a slot at the begin of a turn, with an empty mask.
+// Copies the line out of a slot at the begin of a turn.
 static void take(struct payload *held, const struct payload *slot) {
     memcpy(held->bytes, slot->bytes, 64);
     held->turns_left = slot->turns_left;
     held->is_leased = slot->is_leased;
     held->closed = slot->closed;
-    held->mask = 0;
     USED(held);
 }
 
-// Copies the line back into its slot at the end of a turn.
+// Stores the line in a slot at the end of a turn: its bytes, the turns left under a lease, and the closed mark once it is set.
 static void put(const struct payload *held, struct payload *slot) {
     USED(held);
     memcpy(slot->bytes, held->bytes, 64);
-    slot->mask = held->mask;
     if (held->is_leased) slot->turns_left = held->turns_left - 1;
     if (held->is_leased && held->turns_left == 1) slot->closed = 1;
 }
@@ -53,7 +50,6 @@ static void write_masked(struct payload *held, uint64_t mask, const uint8_t byte
             for (int k = 8 * lane; part; k++, part >>= 1)
                 if (part & 1) held->bytes[k] = bytes[k];
     }
-    held->mask |= mask;
 }
 
 // Adds 1 to lane 0 through a masked write.

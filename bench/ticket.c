@@ -12,14 +12,6 @@ static _Alignas(128) struct payload slots[SLOT_STRIDE * CELLS];
 
 static struct payload *slot_of(uint64_t ticket) { return &slots[ticket % CELLS * SLOT_STRIDE]; }
 
-// Copies the line into another slot at the end of a turn.
-static void lay(const struct payload *held, struct payload *slot) {
-    put(held, slot);
-    if (!held->is_leased) slot->turns_left = 0;
-    slot->is_leased = held->is_leased;
-    slot->closed = held->closed || (held->is_leased && held->turns_left == 1);
-}
-
 struct port {
     struct payload payload;
     uint64_t ticket;
@@ -43,7 +35,7 @@ static int enqolb(struct port *p) {
 }
 
 static void deqolb(struct port *p) {
-    lay(&p->payload, slot_of(p->ticket + 1));
+    put(&p->payload, slot_of(p->ticket + 1));
     p->steps = 1;
     uint64_t next = p->ticket + 1, old = atomic_exchange(cell_word(next), granted(next));
     if (old >> 8 == granted(next) >> 8) abort();  // no node withdraws here

@@ -13,7 +13,7 @@ use test_support::MemoryLimit;
 const MANY_NODES: &str = "nodes 200 lines 8\n";
 
 /// The kinds of lines, by the memory that they take. With 200 nodes a plain line takes 3.3 KB, a list 26 KB of words, a ring 33 KB of
-/// words, a ticket line as much and 33 KB of slots; the last three also take 27 KB of ports each.
+/// words, a ticket line as much and 33 KB of slots; the last three also take 25 KB of ports each.
 static BY_SIZE: [Kind; 4] = [Kind::Plain, Kind::Link, Kind::Ring, Kind::Ticket];
 
 /// Rooms in KB, each of which holds eight lines of one kind more.

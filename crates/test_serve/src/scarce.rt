@@ -93,11 +93,11 @@ fn each_allocation_is_refused(rt: HostRuntime) -> Result<(), Fail> {
 }
 
 /// The kinds of lines, in the order of the memory that they take. With 200 nodes a plain line takes 3.3 KB, a list 26 KB of words, a ring
-/// 33 KB, a ticket line as many and 33 KB of slots; and each of the last three 27 KB of ports.
+/// 33 KB, a ticket line as many and 33 KB of slots; and each of the last three 25 KB of ports.
 static BY_SIZE: [&str; 4] = ["plain", "link", "ring", "ticket"];
 
 /// Rooms, in KB, each of which has place for eight lines of one kind more.
-static LARGER_ROOMS: [usize; 4] = [300, 490, 650, 1_200];
+static LARGER_ROOMS: [usize; 4] = [300, 480, 650, 1_200];
 
 /// The reply of a replay of eight lines for 200 nodes.
 const EIGHT_LINES: &str =
