@@ -7,7 +7,7 @@
 enum {
     TABLE_BLOCKS = 2, /* the words, and the slots */
     LINE_BYTES = 112, /* of the block with the line, which all nodes share, and the count of those that do */
-    NODE_BYTES = 168, /* of the block of each node, to which its handle points */
+    NODE_BYTES = 160, /* of the block of each node, to which its handle points */
     GAP_BYTES = QOLB_NODE_ALIGN
 };
 
