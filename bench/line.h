@@ -6,7 +6,7 @@
 #include <stdlib.h>
 #include <string.h>
 
-enum { MAX_NODES = 200, SPINS = 64 };
+enum { MAX_NODES = 200, SPINS = 256 };
 
 // The line. Without a lease turns_left and is_leased are 0.
 struct payload {

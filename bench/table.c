@@ -5,7 +5,7 @@
  *   cc -std=c11 -O2 -pthread -Iinclude bench/table.c crates/qolb_c/out/libqolb.a -o table && ./table LOCK THREADS BUCKETS SECONDS
  *
  * LOCK is ticket, list or ring, a qolb_lock of that kind, or mutex, a pthread_mutex; with -DMCS, which needs Debian's package libck-dev, also MCS,
- * Concurrency Kit's, whose waiters poll 64 times and then yield between two polls. Before it ends it counts the entries, and compares
+ * Concurrency Kit's, whose waiters poll 256 times and then yield between two polls. Before it ends it counts the entries, and compares
  * their number with the additions and removals that were done. bench/tables runs it with each. */
 #define _DEFAULT_SOURCE
 #include <pthread.h>
@@ -21,7 +21,7 @@
 #include <ck_pr.h>
 static _Thread_local unsigned looks;
 #undef ck_pr_stall
-#define ck_pr_stall() (++looks <= 64 ? __builtin_ia32_pause() : (void)sched_yield())
+#define ck_pr_stall() (++looks <= 256 ? __builtin_ia32_pause() : (void)sched_yield())
 #include <ck_spinlock.h>
 #else
 typedef char ck_spinlock_mcs_t, ck_spinlock_mcs_context_t;

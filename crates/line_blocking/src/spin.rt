@@ -12,7 +12,7 @@ use std::sync::Wait;
 use std::thread::yield_now;
 
 /// How many polls a waiter makes with a single pause behind each, before it yields its processor between polls.
-pub(crate) const SPIN_LIMIT: u32 = 64;
+pub(crate) const SPIN_LIMIT: u32 = 256;
 
 /// How a wait without a time limit ended.
 #[derive(Clone, Copy, Debug, PartialEq, Eq)]

@@ -143,7 +143,7 @@ impl<'r, R> Ticking<'r, R> {
 static TICKS: [u64; 3] = [3_600_000_000_000, 1_000_000, 1];
 
 /// The limit of a wait, in ticks.
-const AT_MOST: u64 = 200;
+const AT_MOST: u64 = 584;
 
 impl<R: Wait> Wait for Ticking<'_, R> {}
 
@@ -218,11 +218,11 @@ where
     Some((got, clock.readings()))
 }
 
-/// A wait of 200 ticks times out at its limit, and sleeps twice before.
+/// A wait of 584 ticks times out at its limit, and sleeps twice before.
 ///
-/// It begins at the first reading, reads the clock between its polls, and times out when it reads the limit: after 199 polls. It stays
-/// awake for 96 polls (64 spins, then 32 yields), and sleeps after the 97th. A release also wakes the waiter behind the next holder, so the
-/// waiter then stays awake as long again: it sleeps after the 194th poll, with 6 ticks left. No sleep may take longer than the time left.
+/// It begins at the first reading, reads the clock between its polls, and times out when it reads the limit: after 583 polls. It stays
+/// awake for 288 polls (256 spins, then 32 yields), and sleeps after the 289th. A release also wakes the waiter behind the next holder, so the
+/// waiter then stays awake as long again: it sleeps after the 578th poll, with 6 ticks left. No sleep may take longer than the time left.
 /// All this holds for `acquire_timeout` and for `add_within`.
 fn a_wait_keeps_to_its_time<R: Wait + Abort, L: OpenLine<Free> + ParkingLine<Free> + Drop>(
     rt: &R,
@@ -241,10 +241,10 @@ where
         let clock = Ticking::new(rt, Some(tick));
         let at_most = Duration::from_nanos(tick.wrapping_mul(AT_MOST));
         let found = wait_by::<R, L>(alloc, &notes, &clock, at_most, adds);
-        expect_at(rt, tick, found, Some((TimedAcquire::TimedOut, 201)));
+        expect_at(rt, tick, found, Some((TimedAcquire::TimedOut, 585)));
         let noted = (notes.looks_before(), notes.sleeps(), notes.last());
-        expect_at(rt, tick, noted, (97, 2, tick.wrapping_mul(6)));
-        expect_at(rt, tick, notes.longest(), tick.wrapping_mul(103));
+        expect_at(rt, tick, noted, (289, 2, tick.wrapping_mul(6)));
+        expect_at(rt, tick, notes.longest(), tick.wrapping_mul(295));
     }
 }
 
@@ -321,7 +321,7 @@ where
         let at_most = Duration::from_nanos(tick.wrapping_mul(AT_MOST));
         let got = ask_in_vain::<R, L>(rt, &clock, alloc, &notes, at_most);
         let found = (got, clock.readings(), notes.busy());
-        expect_at(rt, *tick, found, (Some(TimedAcquire::TimedOut), 201, 200));
+        expect_at(rt, *tick, found, (Some(TimedAcquire::TimedOut), 585, 584));
     }
 }
 
@@ -422,7 +422,7 @@ where
     Ok((saw, renewing.readings.load(Ordering::SeqCst)))
 }
 
-/// Busy tries and polls share one time limit: 50 tries leave time for 150 polls, besides the first one.
+/// Busy tries and polls share one time limit: 50 tries leave time for 534 polls, besides the first one.
 fn a_limit_does_not_begin_again<
     R: Threads + Wait + Clock + Abort + Sync,
     L: OpenLine<Free> + ParkingLine<Free> + Sync + Drop,
@@ -441,7 +441,7 @@ where
         rt,
         "tries and polls",
         (notes.busy(), notes.poll_count()),
-        (BUSY, 151),
+        (BUSY, 535),
     );
 }
 
@@ -711,7 +711,7 @@ where
     all_see_hooked::<R, &Notes, L, Handing>(rt, alloc, 2, notes, &Handing { notes }, &let_go)
 }
 
-/// `acquire_parking` sleeps after 97 polls that found the turn not there, without a limit. Woken ahead of its turn, it polls 97 times again
+/// `acquire_parking` sleeps after 289 polls that found the turn not there, without a limit. Woken ahead of its turn, it polls 289 times again
 /// before it sleeps again.
 fn a_long_wait_sleeps<
     R: Threads + Wait + Abort + Sync,
@@ -731,9 +731,9 @@ where
         rt,
         "polls before",
         (notes.looks_before(), notes.last()),
-        (97, u64::MAX),
+        (289, u64::MAX),
     );
-    expect(rt, "polls again", notes.looks_again(), 194);
+    expect(rt, "polls again", notes.looks_again(), 578);
 }
 
 /// Runs each of these tests over lines of this type.
