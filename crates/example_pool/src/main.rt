@@ -2,7 +2,7 @@
 //! threads than ports.
 #![tactic(auto)]
 
-ghost use Rattle.std.specs.Prelude.{◌<◌, All, vec_len};
+ghost use Rattle.std.specs.Prelude.{◌≡◌, ◌<◌, All, vec_len};
 ghost use Rattle.line_pool.specs.Lending.{MayAsk, IsPortSetOf};
 
 use anyhow::Context;
@@ -61,12 +61,14 @@ where
     L::Port: Send + Drop,
     requires some { 0 < vec_len ports }
     requires set { IsPortSetOf (L.belongs line) L.view S.has }
+    requires many { vec_len ports ≡ S.many }
     requires ports { All (MayAsk (L.belongs line) L.view) ports.items }
 {
     let pool: PortPool<Free, L, S> = PortPool::new(alloc, line, ports).ok()?;
     let parts = Vec::from_elem(alloc, (), threads).ok()?;
     run_scoped(rt, alloc, &Visits { visits }, &pool, parts)?;
-    let last = pool.finish(alloc).ok()?;
+    let own = pool.borrow(rt);
+    let last = pool.finish(rt, alloc, own).ok()?;
     Some(lane(&last, 0))
 }
 

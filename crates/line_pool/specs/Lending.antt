@@ -1,9 +1,7 @@
 -- Ports that are lent. (Of this project.)
-use Rattle.std.specs.Prelude.{ℕ, List, IsTrue}
-use Rattle.qolb_model.specs.declared.config.LineConfig.{LineConfig}
+use Rattle.std.specs.Prelude.{IsTrue}
 use Rattle.qolb_model.specs.declared.view.View.{View}
 use Rattle.qolb_model.specs.PortStates.{may_ask}
-use Rattle.qolb_model.specs.Finishing.{IsFinished}
 
 -- a port that belongs to the line, and may ask
 abbrev pub MayAsk : {Port : Type 0} → (Port → Type 0) → (Port → View) → Port → Type 0
@@ -12,7 +10,3 @@ MayAsk belongs view port = belongs port × IsTrue (may_ask (view port).state)
 -- the set has the ports that belong to the line and may ask
 abbrev pub IsPortSetOf : {Port : Type 0} → (Port → Type 0) → (Port → View) → (Port → Type 0) → Type 0
 IsPortSetOf {Port} belongs view has = ((port : Port) → has port → MayAsk belongs view port) × ((port : Port) → MayAsk belongs view port → has port)
-
--- the line was finished with some ports of all its nodes
-abbrev pub IsFinishedBySome : (List ℕ → Type 0) → (List ℕ → List ℕ → Type 0) → ℕ → LineConfig → List ℕ → Type 0
-IsFinishedBySome good allows label config bytes = (views : List View) × IsFinished good allows label config views bytes

@@ -7,6 +7,6 @@ mod ports;
 mod turn;
 
 pub use enter::EnterError;
-pub use pool::PortPool;
+pub use pool::{Late, PortPool};
 pub use ports::{Borrowed, PortSet};
 pub use turn::Turn;

@@ -1,36 +1,43 @@
 //! A line with a queue of its free ports: a thread borrows a port, works with it, and gives it
 //! back.
-ghost use Rattle.std.specs.Prelude.{◌≡◌, ◌<◌, All, IfOk, IfErr, IfSome, vec_len, map};
-ghost use Rattle.qolb_model.specs.Finishing.{MayRefuse};
-ghost use Rattle.line_pool.specs.Lending.{MayAsk, IsFinishedBySome, IsPortSetOf};
+ghost use Rattle.std.specs.Prelude.{◌≡◌, ◌<◌, List, All, Contains, IfOk, IfErr, IfSome, vec_len, map};
+ghost use Rattle.qolb_model.specs.Finishing.{MayRefuse, IsFinished};
+ghost use Rattle.line_pool.specs.Lending.{MayAsk, IsPortSetOf};
 
-use crate::ports::{Borrowed, FreePort, PortSet};
+use crate::ports::{Borrowed, FreePort, PortSet, Room};
 use crossbeam_queue::ArrayQueue;
 use crossbeam_utils::Backoff;
+use line_blocking::Deadline;
 use line_lanes::Line64;
 use qolb_model::{Keep, LineSync, Unfinished};
 use std::alloc::{AllocError, Global};
 use std::marker::Model;
+use std::rt::Clock;
 use std::sync::{Mutex, Wait};
+use std::time::Duration;
 
 /// A line with its free ports. Contracts see it as the line.
 #[derive(Drop)]
 pub struct PortPool<K: Keep, L: LineSync<K>, S: PortSet<L::Port>> {
     line: L,
     free: ArrayQueue<FreePort<L::Port, S>>,
+    /// The number of ports.
+    many: usize,
     /// Room for all ports, so that `finish` needs no memory to gather them. The lock is only there
     /// so that threads may share the room.
-    room: Mutex<Vec<L::Port>>,
+    room: Mutex<Room<L::Port, S>>,
 }
 
 impl<K: Keep, L: LineSync<K>, S: PortSet<L::Port>> Model for PortPool<K, L, S> {
+    ghost use Rattle.std.specs.Prelude.{◌≡◌, ◌<◌};
     ghost use Rattle.line_pool.specs.Lending.{IsPortSetOf};
 
     ghost Value = { L };
 
     ghost view = { λ pool. pool.line };
 
-    ghost invariant = { λ pool. IsPortSetOf (L.belongs pool.line) L.view S.has };
+    ghost invariant = { λ pool. IsPortSetOf (L.belongs pool.line) L.view S.has
+        × (pool.many ≡ S.many) × (0 < pool.many) };
 }
 
 impl<K: Keep, L: LineSync<K>, S: PortSet<L::Port>> PortPool<K, L, S> {
@@ -46,14 +53,17 @@ impl<K: Keep, L: LineSync<K>, S: PortSet<L::Port>> PortPool<K, L, S> {
         L::Port: Drop,
         requires some { 0 < vec_len ports }
         requires set { IsPortSetOf (L.belongs line) L.view S.has }
+        requires many { vec_len ports ≡ S.many }
         requires ports { All (MayAsk (L.belongs line) L.view) ports.items }
         ensures { IfOk result (λ pool. pool ≡ line) }
     {
-        let room = Vec::with_capacity(alloc, ports.len())?;
-        let free = put_all(ArrayQueue::new(alloc, ports.len())?, ports)?;
+        let many = ports.len();
+        let room = Room::new(alloc, many)?;
+        let free = put_all(ArrayQueue::new(alloc, many)?, ports)?;
         Ok(PortPool {
             line,
             free,
+            many,
             room: Mutex::new(room),
         })
     }
@@ -94,24 +104,101 @@ impl<K: Keep, L: LineSync<K>, S: PortSet<L::Port>> PortPool<K, L, S> {
         put_back(rt, &self.free, FreePort::of(borrowed.into_port()));
     }
 
-    /// Finishes the line with all ports, which must have been given back. If it is refused it
-    /// returns the line and the free ports, with the cause.
-    pub fn finish(self, alloc: Global) -> Result<Line64, Unfinished<L, L::Port>>
+    /// Finishes the line with all ports: `own`, which the caller has borrowed, and the others, for
+    /// which it waits while they are lent. Since it owns the pool, a port that is lent now is never
+    /// given back, and `finish` waits for ever; `finish_within` ends.
+    ///
+    /// If it is refused it returns the line and all ports, with the cause.
+    pub fn finish<R: Wait>(
+        self,
+        rt: &R,
+        alloc: Global,
+        own: Borrowed<L::Port>,
+    ) -> Result<Line64, Unfinished<L, L::Port>>
     where
         L::Port: Drop,
-        ensures finished { IfOk result (λ last.
-            IsFinishedBySome K.good K.allows (L.label_of self) (L.config_of self) last.bytes) }
+        requires own { MayAsk (L.belongs self) L.view own.port }
+        ensures finished { IfOk result (λ last. (ports : List L.Port)
+            × All (MayAsk (L.belongs self) L.view) ports × Contains ports own.port
+            × IsFinished K.good K.allows (L.label_of self) (L.config_of self)
+            (map L.view ports) last.bytes) }
         ensures why { IfErr result (λ back.
             MayRefuse (L.label_of self) (L.config_of self).nodes
             (map L.view back.ports.items) back.why) }
         ensures line { IfErr result (λ back. back.line ≡ self) }
         ensures ports { IfErr result (λ back.
             All (MayAsk (L.belongs self) L.view) back.ports.items) }
+        ensures all { IfErr result (λ back. vec_len back.ports ≡ S.many) }
     {
-        let PortPool { line, free, room } = self;
-        let ports = take_all(free, room.into_inner());
+        let PortPool {
+            line,
+            free,
+            many,
+            room,
+        } = self;
+        let ports = take_all(rt, &free, many, room.into_inner(), own.into_port());
         line.finish(alloc, ports)
     }
+
+    /// Finishes the line as `finish` does, if all other ports are free within `at_most`. No clause
+    /// says when it answers `Late`; `Duration::ZERO` looks once.
+    pub fn finish_within<R: Wait + Clock>(
+        self,
+        rt: &R,
+        alloc: Global,
+        own: Borrowed<L::Port>,
+        at_most: Duration,
+    ) -> Result<Result<Line64, Unfinished<L, L::Port>>, Late<K, L, S>>
+    where
+        L::Port: Drop,
+        requires own { MayAsk (L.belongs self) L.view own.port }
+        ensures finished { IfOk result (λ ended.
+            IfOk ended (λ last. (ports : List L.Port)
+            × All (MayAsk (L.belongs self) L.view) ports × Contains ports own.port
+            × IsFinished K.good K.allows (L.label_of self) (L.config_of self)
+            (map L.view ports) last.bytes)) }
+        ensures why { IfOk result (λ ended.
+            IfErr ended (λ back.
+            MayRefuse (L.label_of self) (L.config_of self).nodes
+            (map L.view back.ports.items) back.why)) }
+        ensures line { IfOk result (λ ended. IfErr ended (λ back. back.line ≡ self)) }
+        ensures ports { IfOk result (λ ended.
+            IfErr ended (λ back. All (MayAsk (L.belongs self) L.view) back.ports.items)) }
+        ensures all { IfOk result (λ ended. IfErr ended (λ back. vec_len back.ports ≡ S.many)) }
+        ensures late { IfErr result (λ late. (late.pool ≡ self) × (late.own.port ≡ own.port)) }
+    {
+        let span = Deadline::begin(rt, at_most);
+        if !are_free(rt, &self.free, self.many - 1, &span) {
+            return Err(Late { pool: self, own });
+        }
+        Ok(self.finish(rt, alloc, own))
+    }
+}
+
+/// The pool and the caller's port, both as they were: another port was lent for too long.
+pub struct Late<K: Keep, L: LineSync<K>, S: PortSet<L::Port>> {
+    pub pool: PortPool<K, L, S>,
+    pub own: Borrowed<L::Port>,
+}
+
+/// Waits until the queue has `others` ports, or the span is over. Returns `true` if it has.
+fn are_free<R: Wait + Clock, P, S: PortSet<P>>(
+    rt: &R,
+    free: &ArrayQueue<FreePort<P, S>>,
+    others: usize,
+    span: &Deadline,
+) -> bool {
+    let backoff = Backoff::new();
+    for _ in rt.forever() {
+        if free.len(rt) >= others {
+            return true;
+        }
+        if span.left(rt).is_none() {
+            return false;
+        }
+        backoff.snooze();
+    }
+    unreachable!()
 }
 
 /// Puts the port into the queue.
@@ -147,20 +234,44 @@ fn put_all<P: Drop, S: PortSet<P>>(
     Ok(free)
 }
 
-/// Moves all ports of the queue into `room`.
-fn take_all<P: Drop, S: PortSet<P>>(free: ArrayQueue<FreePort<P, S>>, room: Vec<P>) -> Vec<P>
-    ensures { All S.has result.items }
+/// Returns a port of the queue, and waits until one is there.
+fn next_port<R: Wait, P, S: PortSet<P>>(rt: &R, free: &ArrayQueue<FreePort<P, S>>) -> P
+    ensures { S.has result }
 {
-    let mut free = free;
-    let mut ports = room;
-    ports.clear();
-    for _count in 0..ports.capacity() {
-        let Some(port) = free.pop_mut() else {
-            break;
-        };
-        let Ok(()) = ports.push(port.into_port()) else {
+    let backoff = Backoff::new();
+    for _ in rt.forever() {
+        if let Some(port) = free.pop(rt) {
+            return port.into_port();
+        }
+        backoff.snooze();
+    }
+    unreachable!()
+}
+
+/// Moves all ports of the set into `room`: those of the queue, and then `own`.
+fn take_all<R: Wait, P: Drop, S: PortSet<P>>(
+    rt: &R,
+    free: &ArrayQueue<FreePort<P, S>>,
+    many: usize,
+    room: Room<P, S>,
+    own: P,
+) -> Vec<P>
+    requires many { many ≡ S.many }
+    requires some { 0 < many }
+    requires own { S.has own }
+    ensures own { Contains result.items own }
+    ensures has { All S.has result.items }
+    ensures all { vec_len result ≡ S.many }
+{
+    let mut ports = room.into_ports();
+    let others = many - 1;
+    for _count in 0..others {
+        let Ok(()) = ports.push(next_port(rt, free)) else {
             unreachable!()
         };
     }
+    let Ok(()) = ports.push(own) else {
+        unreachable!()
+    };
     ports
 }

@@ -1,6 +1,7 @@
 //! Ports of one line: those that are free, and those that a thread has borrowed.
-ghost use Rattle.std.specs.Prelude.{◌≡◌};
+ghost use Rattle.std.specs.Prelude.{◌≡◌, ℕ, ◌≤◌, vec_len, vec_capacity};
 
+use std::alloc::{AllocError, Global};
 use std::marker::{Brand, Model, PhantomData};
 
 /// The set of ports of one line that may ask. It takes no memory: a program chooses the type where
@@ -8,10 +9,15 @@ use std::marker::{Brand, Model, PhantomData};
 pub trait PortSet<P> {
     /// The port is in the set.
     ghost has: { P → Type 0 };
+
+    /// The number of ports of the set.
+    ghost many: { ℕ };
 }
 
 impl<P> PortSet<P> for Brand {
     ghost has = { λ _. Unit {0} };
+
+    ghost many = { 0 };
 }
 
 /// A free port of the set. Contracts see it as the port.
@@ -45,6 +51,38 @@ impl<P, S: PortSet<P>> FreePort<P, S> {
     {
         let FreePort { port, of: _ } = self;
         port
+    }
+}
+
+/// Room for all ports of the set.
+#[derive(Drop)]
+pub(crate) struct Room<P, S: PortSet<P>> {
+    ports: Vec<P>,
+    of: PhantomData<S>,
+    ghost wide: { S.PortSet.many ≤ vec_capacity ports },
+}
+
+impl<P: Drop, S: PortSet<P>> Room<P, S> {
+    /// Allocates the room.
+    pub(crate) fn new(alloc: Global, many: usize) -> Result<Room<P, S>, AllocError>
+        requires { many ≡ S.many }
+    {
+        let ports = Vec::with_capacity(alloc, many)?;
+        Ok(Room {
+            ports,
+            of: PhantomData,
+        })
+    }
+
+    /// Returns an empty vector with room for all ports.
+    pub(crate) fn into_ports(self) -> Vec<P>
+        ensures empty { vec_len result ≡ 0 }
+        ensures wide { S.many ≤ vec_capacity result }
+    {
+        let Room { ports, of: _ } = self;
+        let mut ports = ports;
+        ports.clear();
+        ports
     }
 }
 

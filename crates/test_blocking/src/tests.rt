@@ -54,6 +54,7 @@ enum Row {
     LentPorts,
     BusyPort,
     OneThread,
+    PoolRim,
 }
 
 /// Runs `row` over lines of this type.
@@ -110,6 +111,7 @@ where
         Row::LentPorts => pool::no_addition_is_lost::<R, L>(rt, alloc),
         Row::BusyPort => pool::a_busy_port_is_passed_over::<R, L>(rt, alloc),
         Row::OneThread => pool::one_thread_is_granted_late_and_told::<R, L>(rt, alloc),
+        Row::PoolRim => pool::the_rim_is_seen::<R, L>(rt, alloc),
     }
     Ok(())
 }
@@ -159,7 +161,7 @@ where
     }
 }
 
-/// Four clerks sell all 100 seats to 40 customers each, and 80 seats to 20 customers each; a line for 201 clerks is refused.
+/// Clerks sell as many seats as they have customers, and at most all 100; a line for 201 clerks is refused.
 fn the_house_is_sold_out<R: Threads + Wait + Abort + Sync, H: OpenLine<SeatLimit> + Sync + Drop>(
     rt: &R,
     alloc: Global,
@@ -167,7 +169,14 @@ fn the_house_is_sold_out<R: Threads + Wait + Abort + Sync, H: OpenLine<SeatLimit
 where
     H::Port: Send + Drop,
 {
-    for (clerks, customers, sold) in [(4, 40, Some(100)), (4, 20, Some(80)), (201, 1, None)] {
+    for (clerks, customers, sold) in [
+        (4, 40, Some(100)),
+        (4, 20, Some(80)),
+        (1, 99, Some(99)),
+        (1, 101, Some(100)),
+        (200, 1, Some(100)),
+        (201, 1, None),
+    ] {
         let found = capacity::sell::<R, H>(rt, alloc, clerks, customers);
         expect_at(rt, customers, found, sold);
     }
@@ -372,6 +381,11 @@ fn a_busy_port_is_passed_over(rt: HostRuntime) -> Result<(), Fail> {
 #[test]
 fn one_thread_is_granted_late_and_told(rt: HostRuntime) -> Result<(), Fail> {
     over_each(&rt, rt.alloc(), Row::OneThread)
+}
+
+#[test]
+fn lent_ports_keep_to_time_and_lease(rt: HostRuntime) -> Result<(), Fail> {
+    over_each(&rt, rt.alloc(), Row::PoolRim)
 }
 
 #[test]

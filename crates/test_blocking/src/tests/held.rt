@@ -72,7 +72,7 @@ where
 }
 
 /// The last of the ports.
-fn last_of<L: LineSync<Free>>(line: &L, ports: &mut Vec<L::Port>) -> Option<L::Port>
+pub(super) fn last_of<L: LineSync<Free>>(line: &L, ports: &mut Vec<L::Port>) -> Option<L::Port>
     requires { All (MayAsk (L.belongs line.now) L.view) ports.old.items }
     ensures others { All (MayAsk (L.belongs line.now) L.view) ports.new.items }
     ensures last { IfSome result (MayAsk (L.belongs line.now) L.view) }

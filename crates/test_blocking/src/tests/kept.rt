@@ -100,7 +100,7 @@ impl Hooks for InOrder {
     }
 }
 
-/// The values 1 to 1,000 are handed over in their order; their sum is 500,500.
+/// The values 1 to 1,500 are handed over in their order; their sum is 1,125,750.
 pub(super) fn each_value_is_taken_up<
     R: Threads + Wait + Abort + Sync,
     L: OpenLine<Free> + ParkingLine<Free> + Sync + Drop,
@@ -108,6 +108,6 @@ pub(super) fn each_value_is_taken_up<
 where
     L::Port: Send + Drop,
 {
-    let sum = mailbox::hand_over::<R, HookedLine<InOrder, L>>(rt, alloc, 1_000);
-    expect(rt, "the sum", sum, Some(500_500));
+    let sum = mailbox::hand_over::<R, HookedLine<InOrder, L>>(rt, alloc, 1_500);
+    expect(rt, "the sum", sum, Some(1_125_750));
 }

@@ -118,7 +118,7 @@ impl Hooks for &Notes {
 
 /// A clock that advances by `tick` nanoseconds at each reading; if `tick` is `None`, it can't be read.
 #[derive(Drop)]
-struct Ticking<'r, R> {
+pub(super) struct Ticking<'r, R> {
     /// Allows the clock's reader to wait.
     _rt: &'r R,
     tick: Option<u64>,
@@ -126,7 +126,7 @@ struct Ticking<'r, R> {
 }
 
 impl<'r, R> Ticking<'r, R> {
-    fn new(rt: &'r R, tick: Option<u64>) -> Ticking<'r, R> {
+    pub(super) fn new(rt: &'r R, tick: Option<u64>) -> Ticking<'r, R> {
         Ticking {
             _rt: rt,
             tick,
@@ -134,7 +134,7 @@ impl<'r, R> Ticking<'r, R> {
         }
     }
 
-    fn readings(&self) -> u64 {
+    pub(super) fn readings(&self) -> u64 {
         self.readings.load(Ordering::SeqCst)
     }
 }

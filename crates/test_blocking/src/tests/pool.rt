@@ -1,10 +1,12 @@
 //! Ports that are lent to threads that come and go, over all lines.
 mod counting;
+mod limits;
 mod one_thread;
 mod passing;
 
 use crate::tests::held::{expect, expect_at};
 use counting::count;
+use limits::{Rim, try_one};
 use one_thread::see;
 use passing::pass_over;
 use qolb_model::{Free, OpenLine, ParkingLine};
@@ -15,10 +17,11 @@ use std::sync::Wait;
 use std::thread::Threads;
 
 /// The nodes of a line, the threads that share its ports, how often each adds in each of two ways, and the number at the end.
-static COUNTS: [(u64, usize, u64, u64); 3] = [
+static COUNTS: [(u64, usize, u64, u64); 4] = [
     (1, 3, 100, 600),
     (2, 5, 200, 2_000),
     (3, 8, 100, 1_600),
+    (200, 4, 50, 400),
 ];
 
 /// Threads that borrow ports lose no addition, and give all ports back.
@@ -43,13 +46,15 @@ pub(super) fn a_busy_port_is_passed_over<
 where
     L::Port: Send + Drop,
 {
-    let passed = pass_over::<R, L>(rt, alloc);
-    expect(
-        rt,
-        "nodes that had the line, busy tries",
-        passed,
-        Some(([1, 3], 1)),
-    );
+    for limited in [false, true] {
+        let passed = pass_over::<R, L>(rt, alloc, limited);
+        expect(
+            rt,
+            "nodes that had the line, busy tries",
+            passed,
+            Some(([1, 3], 1)),
+        );
+    }
 }
 
 /// One thread is granted the line, is late, and is told that the line is closed.
@@ -61,4 +66,20 @@ where
     L::Port: Drop,
 {
     expect(rt, "opened and finished", see::<R, L>(rt, alloc), Some(()));
+}
+
+/// A thread is late after its whole time, a turn is one of a lease, and a refused `finish` returns all ports.
+pub(super) fn the_rim_is_seen<
+    R: Wait + Clock + Abort,
+    L: OpenLine<Free> + ParkingLine<Free> + Drop,
+>(rt: &R, alloc: Global)
+where
+    L::Port: Drop,
+{
+    for (at, rim) in [Rim::Limits, Rim::Lease, Rim::Missing]
+        .into_iter()
+        .enumerate()
+    {
+        expect_at(rt, at as u64, try_one::<R, L>(rt, alloc, rim), Some(()));
+    }
 }

@@ -1,5 +1,5 @@
 //! What one thread sees at a line of two nodes, which it enters turn by turn and by both ports.
-ghost use Rattle.std.specs.Prelude.{◌<◌, All, vec_len};
+ghost use Rattle.std.specs.Prelude.{◌≡◌, ◌<◌, All, vec_len};
 ghost use Rattle.line_pool.specs.Lending.{MayAsk, IsPortSetOf};
 
 use crate::tests::held::{expect, for_nodes};
@@ -14,7 +14,7 @@ use std::sync::Wait;
 use std::time::Duration;
 
 /// Returns how `enter_within` refuses the thread. A turn that it is granted is left at once.
-fn refusal<R: Wait + Clock, L: ParkingLine<Free>, S: PortSet<L::Port>>(
+pub(super) fn refusal<R: Wait + Clock, L: ParkingLine<Free>, S: PortSet<L::Port>>(
     rt: &R,
     pool: &PortPool<Free, L, S>,
     at_most: Duration,
@@ -51,6 +51,7 @@ where
     L::Port: Drop,
     requires some { 0 < vec_len ports }
     requires set { IsPortSetOf (L.belongs line) L.view S.has }
+    requires many { vec_len ports ≡ S.many }
     requires ports { All (MayAsk (L.belongs line) L.view) ports.items }
 {
     let pool: PortPool<Free, L, S> = PortPool::new(alloc, line, ports).ok()?;
@@ -77,7 +78,8 @@ where
         Some(turn) => pool.leave(rt, turn),
         None => expect(rt, "a port is back", next_port(rt, &pool).is_some(), true),
     }
-    pool.finish(alloc).ok()?;
+    let own = pool.borrow(rt);
+    pool.finish(rt, alloc, own).ok()?;
     Some(())
 }
 

@@ -1,5 +1,5 @@
 //! A thread that enters by a busy port passes that port over, and queues by another.
-ghost use Rattle.std.specs.Prelude.{◌<◌, All, vec_len};
+ghost use Rattle.std.specs.Prelude.{◌≡◌, ◌<◌, All, vec_len};
 ghost use Rattle.line_pool.specs.Lending.{MayAsk, IsPortSetOf};
 
 use crate::tests::held::{for_nodes, wait_until};
@@ -15,9 +15,11 @@ use std::thread::Threads;
 use std::time::Duration;
 use test_support::{HookedLine, Hooks};
 
-/// How many times a node was busy, how many polls found that the request waits, and whether node 2 is busy.
+/// How many times a node was busy, how many polls found that the request waits, and whether node 2 is busy. The second thread has a time
+/// limit, if `limited`.
 #[derive(Drop)]
 struct Seen {
+    limited: bool,
     busy: AtomicU64,
     waited: AtomicU64,
     ready: AtomicU64,
@@ -60,7 +62,12 @@ impl<R: Wait + Clock, L: ParkingLine<Free>, S: PortSet<L::Port>> ScopedTask<
         if place > 0 {
             wait_until(rt, &self.ready, 1);
         }
-        let Some(turn) = pool.enter(rt) else {
+        let entered = if place > 0 && self.limited {
+            pool.enter_within(rt, Duration::from_secs(60)).ok()
+        } else {
+            pool.enter(rt)
+        };
+        let Some(turn) = entered else {
             return 0;
         };
         if place == 0 {
@@ -87,13 +94,15 @@ where
     L::Port: Send + Drop,
     requires some { 0 < vec_len ports }
     requires set { IsPortSetOf (L.belongs line) L.view S.has }
+    requires many { vec_len ports ≡ S.many }
     requires ports { All (MayAsk (L.belongs line) L.view) ports.items }
 {
     let pool: PortPool<Free, L, S> = PortPool::new(alloc, line, ports).ok()?;
     let parts = Vec::from_elem(alloc, (), 2).ok()?;
     let mut nodes = run_scoped(rt, alloc, seen, &pool, parts)?;
     let (second, first) = (nodes.pop()?, nodes.pop()?);
-    pool.finish(alloc).ok()?;
+    let own = pool.borrow(rt);
+    pool.finish(rt, alloc, own).ok()?;
     Some([first, second])
 }
 
@@ -108,6 +117,7 @@ fn two<R: Threads + Wait + Clock + Sync, L: ParkingLine<Free> + Sync + Drop>(
 where
     L::Port: Send + Drop,
     requires some { 0 < vec_len ports }
+    requires many { vec_len ports ≡ S.many }
     requires ports { All (MayAsk (L.belongs line) L.view) ports.items }
 {
     two_at::<R, L, Brand>(rt, alloc, line, ports, seen)
@@ -117,11 +127,12 @@ where
 pub(super) fn pass_over<
     R: Threads + Wait + Clock + Sync,
     L: OpenLine<Free> + ParkingLine<Free> + Sync + Drop,
->(rt: &R, alloc: Global) -> Option<([u64; 2], u64)>
+>(rt: &R, alloc: Global, limited: bool) -> Option<([u64; 2], u64)>
 where
     L::Port: Send + Drop,
 {
     let seen = Seen {
+        limited,
         busy: AtomicU64::new(0),
         waited: AtomicU64::new(0),
         ready: AtomicU64::new(0),
