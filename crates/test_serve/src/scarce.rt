@@ -97,7 +97,7 @@ fn each_allocation_is_refused(rt: HostRuntime) -> Result<(), Fail> {
 static BY_SIZE: [&str; 4] = ["plain", "link", "ring", "ticket"];
 
 /// Rooms, in KB, each of which has place for eight lines of one kind more.
-static LARGER_ROOMS: [usize; 4] = [300, 480, 650, 1_200];
+static LARGER_ROOMS: [usize; 4] = [300, 478, 650, 1_200];
 
 /// The reply of a replay of eight lines for 200 nodes.
 const EIGHT_LINES: &str =
