@@ -12,16 +12,13 @@ use Rattle.std.proofs.Common.{lit<}
 abbrev pub Homes : Type 0
 Homes = List (maybe.Option Payload)
 
-abbrev pub IsAtHome : Homes → ℕ → Type 0
-IsAtHome homes k = (y : Payload) × (get_elem? homes k ≡ some (some y))
-
 -- A slot that the line was in before, or never: it says nothing of turns if the line has no lease, and is open while the line is. By the
 -- turns left and the closed mark of the line.
 pub record IsBehind (left : Option ℕ) (closed : Bool) (z : Payload) : Type 0 where
   pub turns : left ≡ None → z.turns_left ≡ None
   pub is_open : closed ≡ false → z.closed ≡ false
 
--- at home, and behind
+-- the slot is at home, and behind the line
 abbrev pub IsSpare : Option ℕ → Bool → Homes → ℕ → Type 0
 IsSpare left closed homes k = (y : Payload) × (get_elem? homes k ≡ some (some y)) × IsBehind left closed y
 
