@@ -153,12 +153,13 @@ def run_main(main):
         sys.exit(130)
 
 
-def side_by_side(waits, lanes, start, ended):
+def side_by_side(waits, lanes, start, ended, say_each=None):
     """Runs a process for each name of `waits`, in their order, each after those that it waits for have ended; returns True if all ended well.
 
-    `start` is given a name and the number of processors that it may take, and returns the process, or None if it can't begin yet. `ended` is given the
+    After each `say_each` seconds it prints what is at work. `start` is given a name and the number of processors that it may take, and returns the process, or None if it can't begin yet. `ended` is given the
     name, the status and the seconds, and returns whether to go on. However this function ends, no process is left."""
     left, running, done = list(waits), {}, set()
+    said = time.monotonic()
     try:
         while left or running:
             ready = [it for it in left if done.issuperset(waits[it])]
@@ -173,6 +174,10 @@ def side_by_side(waits, lanes, start, ended):
                     running[name] = process, jobs, time.monotonic()
             show(f"{len(done)} of {len(waits)} done; at work: {', '.join(running)}")
             time.sleep(0.1)
+            if say_each and time.monotonic() - said >= say_each:
+                said = time.monotonic()
+                at_work = ", ".join(f"{name} since {said - since:.0f} s" for name, (_, _, since) in running.items())
+                say(f"{len(done)} of {len(waits)} done; at work: {at_work}")
             for name, (process, _, since) in list(running.items()):
                 if process.poll() is not None:
                     del running[name]
