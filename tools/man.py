@@ -189,7 +189,7 @@ def as_told(text):
 def page_of_program(program):
     head = help_of(program)
     about = " ".join(head.split("\n\n", 1)[0].split()).rstrip(".")
-    version = told_by(program, "sources proved by", "--version")
+    version = told_by(program, "kinds of lines", "--version")
     out = [f'.TH QOLB 1 "" "{version.splitlines()[0]}"', f".SH NAME\nqolb \\- {escaped(about[:1].lower() + about[1:])}", f".SH DESCRIPTION\n{as_told(head)}"]
     out += [f".SH QOLB {name.upper()}\n{as_told(help_of(program, name))}" for name in SUBCOMMANDS]
     out.append(f".SH QOLB \\-\\-VERSION\n{as_told(version)}")

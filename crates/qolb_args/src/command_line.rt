@@ -25,10 +25,9 @@ const SHARED_HELP: &str = "What represents the lines: rings, lists or ticket lin
 const ABOUT: &str =
     "Queued line locks: nodes queue at a line of 64 bytes, and a release hands lock and\nline to the next";
 
-/// What `--version` says after the name: the version, the kit that proved these sources, and the kinds of lines. `tools/sources` compares the
-/// first two.
+/// What `--version` says after the name: the version, which `tools/sources` compares, and the kinds of lines. A program can't know which kit
+/// built it, nor whether it was proved: the script `qolb` adds that.
 const VERSION: &str = "1.7.0
-sources proved by rattle-kit-13f logic dac8208d650f15bf
 kinds of lines: plain, ring, link, ticket";
 
 const STATUSES: &str = "Exit statuses:

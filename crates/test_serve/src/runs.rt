@@ -283,8 +283,7 @@ fn refuses_command_lines(rt: HostRuntime) -> Result<(), Fail> {
 }
 
 /// The output of `--version`.
-const VERSION: &str =
-    "qolb 1.7.0\nsources proved by rattle-kit-13f logic dac8208d650f15bf\nkinds of lines: plain, ring, link, ticket\n";
+const VERSION: &str = "qolb 1.7.0\nkinds of lines: plain, ring, link, ticket\n";
 
 #[test]
 fn tells_its_version(rt: HostRuntime) -> Result<(), Fail> {
