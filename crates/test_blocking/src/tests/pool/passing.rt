@@ -117,7 +117,6 @@ fn two<R: Threads + Wait + Clock + Sync, L: ParkingLine<Free> + Sync + Drop>(
 where
     L::Port: Send + Drop,
     requires some { 0 < vec_len ports }
-    requires many { vec_len ports ≡ S.many }
     requires ports { All (MayAsk (L.belongs line) L.view) ports.items }
 {
     two_at::<R, L, Brand>(rt, alloc, line, ports, seen)
