@@ -2,6 +2,7 @@ pub mod WorkedPictures
 pub mod Rows
 pub mod Shapes
 pub mod Turns
+pub mod Resting
 pub mod Drawn
 pub mod Outs
 pub mod Lines

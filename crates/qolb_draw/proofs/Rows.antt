@@ -1,5 +1,5 @@
 -- Lemmas on rows and blocks that are made of marks.
-use Rattle.std.proofs.Common.{◌≡◌, ℕ, ◌+◌, ◌-◌, ◌*◌, ◌<◌, ◌≤◌, ◌==◌, cond, List, [], ◌∷◌, ◌++◌, map, sym, ap, ◌∙◌, arith, append_assoc, append-nil, Bool, true, false}
+use Rattle.std.proofs.Common.{◌≡◌, length, get_or, suc, refl, ℕ, ◌+◌, ◌-◌, ◌*◌, ◌<◌, ◌≤◌, ◌==◌, cond, List, [], ◌∷◌, ◌++◌, map, sym, ap, ◌∙◌, arith, append_assoc, append-nil, Bool, true, false}
 use Rattle.std.specs.List.{filter, list_any, range_with_len}
 use Rattle.std.proofs.lemmas.List.Elements.{filter-append}
 use Rattle.std.proofs.lemmas.List.FromFn.{map-range_with_len_more}
@@ -42,3 +42,9 @@ pub column_pushed : {X : Type 0} (f : ℕ → X) (before : List X) (n : ℕ) (no
 column_pushed f before n now after x was is pushed =
     pushed ∙ ap (λ xs. xs ++ x ∷ []) was ∙ ap (λ y. (before ++ map f (range_with_len 1 n)) ++ y ∷ []) is ∙ append_assoc before (map f (range_with_len 1 n)) (f (n + 1) ∷ [])
     ∙ ap (λ xs. before ++ xs) (sym (map-range_with_len_more f 1 n (n + 1) (omega arith)))
+
+-- a list by its elements
+pub row_is : (g : ℕ → ℕ) (start : ℕ) (row : List ℕ) → ((k j : ℕ) → k < length row → start + k ≡ j → get_or row k 0 ≡ g j) → row ≡ map g (range_with_len start (length row))
+row_is g start [] each = refl
+row_is g start (x ∷ row) each =
+    ap (λ y. y ∷ row) (each 0 start (omega arith) (omega arith)) ∙ ap (λ ys. g start ∷ ys) (row_is g (start + 1) row (λ k j lt e. each (suc k) j (omega (arith, lt)) (omega (arith, e))))

@@ -127,7 +127,7 @@ nodes_after s t asked g le =
     ∙ sym (drop-map (λ (r : Request). r.node) g.more (open_of s.queue.order s.queue.ends ++ asked))
     ∙ ap (drop g.more) (map-append (λ (r : Request). r.node) (open_of s.queue.order s.queue.ends) asked)
 
-asked_nodes : (b : Bool) (n : ℕ) (s : OwnerState) → map (λ r. r.node) (asked_if b n s) ≡ cond b (n ∷ []) []
+pub asked_nodes : (b : Bool) (n : ℕ) (s : OwnerState) → map (λ r. r.node) (asked_if b n s) ≡ cond b (n ∷ []) []
 asked_nodes true n s = refl
 asked_nodes false n s = refl
 
@@ -188,7 +188,7 @@ itself : (n : ℕ) → (n == n) ≡ true
 itself n = grind (arith, nat_tests)
 
 -- a node has an open request if it has an entry
-open_entry : (line : PlainView) (n : ℕ) (o : Option Waiter) → following.is_open (waiter_state line n o) ≡ is_some o
+pub open_entry : (line : PlainView) (n : ℕ) (o : Option Waiter) → following.is_open (waiter_state line n o) ≡ is_some o
 open_entry line n None = by line.closed
   where
     by : (b : Bool) → following.is_open (cond b port.Shut port.Idle) ≡ false
@@ -201,7 +201,7 @@ open_entry line n (Some w) = by w.withdrawn (line.granted && plain.is_oldest lin
     by false true = refl
     by false false = refl
 
-waits_so : (line : PlainView) (n : ℕ) → following.is_open (node_state line n) ≡ list_any (λ m. m == n) (map (λ w. w.node) line.waiting)
+pub waits_so : (line : PlainView) (n : ℕ) → following.is_open (node_state line n) ≡ list_any (λ m. m == n) (map (λ w. w.node) line.waiting)
 waits_so line n =
     open_entry line n (find (is_at n) line.waiting)
     ∙ sym (entry_says n line.waiting (find (is_at n) line.waiting) (is_some (find (is_at n) line.waiting)) (is_some (find (is_at n) line.waiting)) refl refl refl)
@@ -219,7 +219,7 @@ passed line (x ∷ xs) (suc j) d e =
     ap (λ b. cond b (x ∷ xs) (after_ended line xs)) gone ∙ passed line xs j d.1 e
 
 -- a line that agrees has an entry for each open request
-entries : (line : PlainView) (s : OwnerState) → Agrees line s → waiting_nodes s ≡ map (λ w. w.node) line.waiting
+pub entries : (line : PlainView) (s : OwnerState) → Agrees line s → waiting_nodes s ≡ map (λ w. w.node) line.waiting
 entries line s a = sym (ap (map (λ (w : Waiter). w.node)) a.waiting ∙ map-map (λ (w : Waiter). w.node) (waiter_of s.queue.marked) (open_of s.queue.order s.queue.ends))
 
 -- a node that has asked had no open request

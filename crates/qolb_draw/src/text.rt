@@ -1,8 +1,11 @@
 //! The picture as plain text.
-ghost use Rattle.std.specs.Prelude.{◌≡◌, ◌++◌, ◌<◌, ◌≤◌, ◌*◌, ◌-◌, length, All, OnOk, IfOk};
+ghost use Rattle.std.specs.Prelude.{◌≡◌, ◌++◌, ◌<◌, ◌≤◌, ◌*◌, ◌-◌, ◌+◌, length, map, All, OnOk, IfOk};
 ghost use Rattle.qolb_script.specs.declared.schedule.TheConstants.{MAX_COMMANDS, MAX_LINES};
+ghost use Rattle.qolb_draw.specs.declared.text.TheConstants.{COLUMNS};
+ghost use Rattle.std.specs.List.{range_with_len};
+ghost use Rattle.qolb_draw.specs.Pictures.{letter_of};
 ghost use Rattle.qolb_draw.specs.Pictures as spec;
-ghost use Rattle.qolb_draw.specs.Grids.{row_out_of, block_out_of, blocks_out_of, shown_out_of, line_out_of};
+ghost use Rattle.qolb_draw.specs.Grids.{mark_out_of, row_out_of, block_out_of, blocks_out_of, shown_out_of, line_out_of};
 
 use crate::grid::Grid;
 use qolb_model::MAX_NODES;
@@ -59,17 +62,35 @@ fn push_row<A: Allocator>(
     requires last { node ≤ grid.now.nodes }
     requires size { length grid.now.marks.items ≡ length grid.now.numbers.items * grid.now.nodes }
     requires ordered { start ≤ end }
+    requires block { end - start ≤ COLUMNS }
     requires within { end ≤ length grid.now.numbers.items }
     ensures { OnOk result (text.new.items ≡ text.old.items
         ++ row_out_of grid.now.nodes grid.now.marks.items start (end - start) node) }
 {
     push_label(text, node)?;
-    let nodes = grid.nodes as usize;
-    for command in start..end {
-        text.push(letter(grid.marks[command * nodes + (node as usize - 1)]))?;
-    }
+    let mut room = [b' '; COLUMNS];
+    let row = &mut room[..end - start];
+    fill_row(row, grid, node, start);
+    text.extend_from_slice(row)?;
     text.push(b'\n')?;
     Ok(())
+}
+
+/// Writes the letters of a node after the commands from one on.
+fn fill_row<A: Allocator>(row: &mut [u8], grid: &Grid<A>, node: u64, start: usize)
+    requires first { 1 ≤ node }
+    requires last { node ≤ grid.now.nodes }
+    requires size { length grid.now.marks.items ≡ length grid.now.numbers.items * grid.now.nodes }
+    requires within { start + length row.old ≤ length grid.now.numbers.items }
+    ensures { row.new ≡ map (λ k.
+        letter_of (mark_out_of grid.now.nodes grid.now.marks.items node k))
+        (range_with_len start (length row.old)) }
+{
+    let marks = grid.marks.as_slice();
+    let nodes = grid.nodes as usize;
+    for column in 0..row.len() {
+        row[column] = letter(marks[(start + column) * nodes + (node as usize - 1)]);
+    }
 }
 
 /// Appends a block: the rows of these nodes over some of the commands, below the commands' numbers.
@@ -83,6 +104,7 @@ fn push_block<A: Allocator>(
     requires nodes { All (λ n. (1 ≤ n) × (n ≤ grid.now.nodes)) shown.now }
     requires size { length grid.now.marks.items ≡ length grid.now.numbers.items * grid.now.nodes }
     requires ordered { start ≤ end }
+    requires block { end - start ≤ COLUMNS }
     requires within { end ≤ length grid.now.numbers.items }
     ensures { OnOk result (text.new.items ≡ text.old.items
         ++ block_out_of grid.now.nodes grid.now.marks.items grid.now.numbers.items shown.now start

@@ -35,3 +35,20 @@ mark_of change state n =
     else if is_handed_on change.before change.after n then symbol.Gives
     else if is_handed_on change.after change.before n then symbol.Takes
     else mark_of_state state (is_node change.after n)
+
+-- the mark of a node by its state alone, as if it were not at its turn; the mark of a node at its turn that has this one at rest
+abbrev pub at_rest : PortState → Symbol
+at_rest state = mark_of_state state false
+
+abbrev pub at_turn : Symbol → Symbol
+at_turn symbol.Waits = symbol.AtTurn
+at_turn mark = mark
+
+-- the mark of node n, which has this mark at rest
+abbrev pub mark_by : Change → Symbol → ℕ → Symbol
+mark_by change resting n =
+    if (change.node == n) && change.told then symbol.Told
+    else if is_handed_on change.before change.after n then symbol.Gives
+    else if is_handed_on change.after change.before n then symbol.Takes
+    else if is_node change.after n then at_turn resting
+    else resting

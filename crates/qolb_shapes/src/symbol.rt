@@ -28,6 +28,31 @@ pub enum Symbol {
     Takes,
 }
 
+impl Symbol {
+    /// Returns the mark at rest of a node in this state: if no command has just changed it, and it is not at its turn.
+    pub fn at_rest(state: PortState) -> Symbol
+        ensures { result ≡ spec.at_rest state }
+    {
+        match state {
+            PortState::Idle | PortState::Left => Symbol::Idle,
+            PortState::Queued | PortState::Linking => Symbol::Waits,
+            PortState::Holding => Symbol::Holds,
+            PortState::Rolled => Symbol::Withdrawn,
+            PortState::Shut => Symbol::Shut,
+        }
+    }
+
+    /// Returns the mark at its turn of a node that has this mark at rest.
+    fn at_turn(self) -> Symbol
+        ensures { result ≡ spec.at_turn self }
+    {
+        match self {
+            Symbol::Waits => Symbol::AtTurn,
+            other => other,
+        }
+    }
+}
+
 /// The change that a command made.
 #[derive(Clone, Copy)]
 pub struct Change {
@@ -44,9 +69,9 @@ pub struct Change {
 }
 
 impl Change {
-    /// Returns the mark of a node that is in this state after the command.
-    pub fn mark(&self, state: PortState, node: u64) -> Symbol
-        ensures { result ≡ spec.mark_of self.now state node }
+    /// Returns the mark of a node that has this mark at rest after the command.
+    pub fn mark(&self, resting: Symbol, node: u64) -> Symbol
+        ensures { result ≡ spec.mark_by self.now resting node }
     {
         if self.node == node && self.told {
             Symbol::Told
@@ -54,8 +79,10 @@ impl Change {
             Symbol::Gives
         } else if is_handed_on(self.after, self.before, node) {
             Symbol::Takes
+        } else if is_node(self.after, node) {
+            resting.at_turn()
         } else {
-            mark_of_state(state, is_node(self.after, node))
+            resting
         }
     }
 }
@@ -77,16 +104,3 @@ fn is_node(at: Option<u64>, node: u64) -> bool
     at == Some(node)
 }
 
-/// Returns the mark of a node by its state, if the command did nothing else to the node.
-fn mark_of_state(state: PortState, turn: bool) -> Symbol
-    ensures { result ≡ spec.mark_of_state state turn }
-{
-    match state {
-        PortState::Idle | PortState::Left => Symbol::Idle,
-        PortState::Queued if turn => Symbol::AtTurn,
-        PortState::Queued | PortState::Linking => Symbol::Waits,
-        PortState::Holding => Symbol::Holds,
-        PortState::Rolled => Symbol::Withdrawn,
-        PortState::Shut => Symbol::Shut,
-    }
-}

@@ -1,10 +1,9 @@
-use Rattle.std.proofs.Common.{◌+◌, ap, ◌∙◌}
-use Rattle.qolb_model.specs.Plain.{node_state}
-use Rattle.qolb_shapes.specs.Marks.{mark_of}
-use Rattle.qolb_draw.proofs.Rows.{column_pushed}
+use Rattle.std.proofs.Common.{◌++◌, drop, List, sym, ap, ◌∙◌}
+use Rattle.qolb_shapes.specs.declared.symbol.Symbol.{Symbol}
+use Rattle.qolb_draw.proofs.Resting.{all_marked}
 use Rattle.qolb_draw.proofs.grid.push_column.Goals as goal
 
-pub loop-before-preserved : goal.loop-before-preserved
-loop-before-preserved g c =
-    column_pushed (λ n. mark_of c.args.change.now (node_state c.args.line.now n) n) c.args.marks.now.items c.loop-before.before c.loop-before.marks.items c.push.new.self.items c.mark.result
-    c.loop-before.invariant (c.mark.ensures ∙ ap (λ s. mark_of c.args.change.now s (c.loop-before.before + 1)) c.state.ensures.state) c.in_ok-push.ensures.items
+pub returns-in_ok-extend_from_slice : goal.returns-in_ok-extend_from_slice
+returns-in_ok-extend_from_slice g c =
+    let all = all_marked c.args.change.now c.args.resting.now _ _ _ _ c.copy_from_slice.ensures.after c.mark_at.ensures c.mark_at-2.ensures c.mark_at-3.ensures in
+    c.in_ok-extend_from_slice.ensures.items ∙ ap (λ (column : List Symbol). c.args.marks.now.items ++ drop 1 column) (sym c.in-Some.ensures.cases.0 ∙ all)
