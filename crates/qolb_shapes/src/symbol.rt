@@ -103,4 +103,3 @@ fn is_node(at: Option<u64>, node: u64) -> bool
 {
     at == Some(node)
 }
-
