@@ -1,24 +1,17 @@
 #!/usr/bin/env python3
-"""Explores all orders of the steps by which threads wait, sleep at a bell, and ring it: threads of a lock (include/lock.c), and threads with a node each
-(include/calls.c).
+"""Explores all orders of the steps by which threads with a node each wait, sleep at a bell, and ring it (include/calls.c).
 
-tools/bells.py [--most]     (two minutes of a processor; --most adds scenes of four threads)
+tools/bells.py [--most]     (a minute of a processor; --most adds scenes of four threads)
 
 Each place at which a thread waits has a bell. A thread that is about to sleep adds itself to the sleepers of its place's bell and to the sleepers in
 all, reads the bell's word, polls once more, and sleeps while the word is what it read. A release tells its thread in the same step the next holder and
 the waiter behind it. Then the thread loads the sleepers in all (a Dekker handshake). If there are some, it rings for the two: it loads the sleepers of
-a bell, and if there are some, it adds to the bell's word and wakes all that sleep there. All steps except one are sequentially consistent: any thread
-may be next, and all see the step.
+a bell, and if there are some, it adds to the bell's word and wakes all that sleep there. All steps are sequentially consistent: any thread may be next,
+and all see the step.
 
-With nodes: a thread asks, unless its node is busy, polls and sleeps. A thread that releases or shuts the line rings, and so does a thread that is told
-that the line is closed and so forwards it. A thread of an older program only polls, and sleeps nowhere. In the scenes threads are late, withdraw, return
-while they are busy, and shut the line.
-
-Of a lock: a thread takes a free seat and asks, and then waits at its seat's place. A thread that finds no seat waits at the door. It does not sleep if it
-met a seat that is about to be free, or got a seat at its poll. A thread that leaves first announces that its seat is about to be free, and rings, also at
-the door; the others may see that the seat is free as late as before the thread's next step that adds to a word. A late thread returns its seat and then
-rings at the door; a thread that is told that the line is closed rings for the next two as well. In the scenes threads wait for turns and for seats, are
-late, and shut the line.
+A thread asks, unless its node is busy, polls and sleeps. A thread that releases or shuts the line rings, and so does a thread that is told that the line is
+closed and so forwards it. A thread of an older program only polls, and sleeps nowhere. In the scenes threads are late, withdraw, return while they are
+busy, and shut the line. Threads of a lock that have a seat sleep and ring in the same way; what else a lock does, seats.py explores.
 
 The right protocol must lose no thread: no order may end with a sleeping thread and no other thread with a step to do (the end of its time does not
 count). Each protocol with one fault must lose a thread in some scene, or this program does not see what it is for; and each that lacks only what is not
@@ -28,9 +21,7 @@ needed must lose none. It ends with 1 at the first protocol for which this is no
 import sys
 from collections import namedtuple
 
-FREE, TAKEN, LEAVING = "free", "taken", "leaving"
-
-BOTH_FAULTS = {
+FAULTS = {
     "the sleeper does not count itself": "no count",
     "it counts itself at its bell alone": "no count in all",
     "it counts itself in all alone": "no count at its bell",
@@ -44,79 +35,45 @@ BOTH_FAULTS = {
     "the sleeper sleeps at another's bell": "wrong bell",
     "who lets go rings at its own place": "rings for itself",
     "who lets go rings for the one behind the next holder alone": "ahead alone",
+    "who is told that the line is closed rings no bell": "told without a ring",
+    "who releases rings no bell": "released without a ring",
 }
-BOTH_HARMLESS = {
+HARMLESS = {
     "the sleeper does not take itself off": "no subtraction",
     "bells are rung whether any sleeps or not": "rings always",
     "nobody is woken a turn ahead": "nobody ahead",
     "all places have one bell": "one bell",
 }
-FAULTS = BOTH_FAULTS | {
-    "a thread sleeps though a seat is about to be free": "sleeps at leaving",
-    "nobody says that a seat is about to be free": "no leaving",
-    "who leaves does not ring at the door": "no ring at the door",
-    "who is told that the line is closed rings at the door alone": "told, and rings at the door",
-}
-HARMLESS = BOTH_HARMLESS | {
-    "who is late rings no bell": "late without a ring",  # while its seat is busy, one before it in the queue will ring
-    "who gets a seat as it looks sleeps at the door": "sleeps at the door",  # and is woken whenever a thread leaves
-}
-NODE_FAULTS = BOTH_FAULTS | {
-    "who is told that the line is closed rings no bell": "told without a ring",
-    "who releases rings no bell": "released without a ring",
-}
-NODE_HARMLESS = BOTH_HARMLESS
-
-# The shared state: the requests in their order, each with its thread and, if it is withdrawn, its seat; and the threads' states. A node is its
-# thread's seat. The place of a seat has its number; the door is behind the last seat. Each place has its sleepers; `all` is the sleepers in all. Of a
-# bell's word only matters whether it is still what a sleeper read, so that is kept with the sleeper.
-World = namedtuple("World", "queue closed seats busy sleepers all threads")
-# The point of the thread; its seat; the place at which it is about to sleep, and whether that bell's word is still what it read; whether it met a
-# seat that is about to be free; the sleepers in all that it saw; the places for which it has to ring; a seat that it has freed, which the others do
-# not see yet.
-Thread = namedtuple("Thread", "at seat place same met sees rings late rounds limited", defaults=(None, None, False, False, 0, (), None, 1, False))
-# The number of threads, of which the first holds the line; the number of seats; the threads with a limited time; whether the first shuts; the threads
-# that enter twice.
-Scene = namedtuple("Scene", "name threads seats limited shuts twice", defaults=((), False, ()))
-
-SCENES = [
-    Scene("two wait for turns", 3, 3),
-    Scene("one of two is late", 3, 3, (1,)),
-    Scene("the other of two is late", 3, 3, (2,)),
-    Scene("two are told that the line is closed", 3, 3, (), True),
-    Scene("one is late, and the line is closed", 3, 3, (1,), True),
-    Scene("one wants the only seat twice", 2, 1, (), False, (0, 1)),
-    Scene("two want the only seat", 3, 1),
-    Scene("two want one seat, and one is late", 3, 2, (1,)),
-    Scene("two want one seat, and both are late", 3, 2, (1, 2)),
-    Scene("two want the only seat of a line that is closed", 3, 1, (), True),
-    Scene("two want one seat, and one is late and comes again", 3, 2, (1,), False, (1,)),
-]
-MORE = [Scene("three wait for turns", 4, 4), Scene("three want two seats, and one is late", 4, 2, (2,))]
-
+# The shared state: the requests in their order, each with its thread and, if it is withdrawn, its place; and the threads' states. A thread, its node and its
+# place have one number. Each place has its sleepers; `all` is the sleepers in all. Of a bell's word only matters whether it is still what a sleeper read,
+# so that is kept with the sleeper.
+World = namedtuple("World", "queue closed busy sleepers all threads")
+# The point of the thread; the place at which it is about to sleep, and whether that bell's word is still what it read; the sleepers in all that it saw; the
+# places for which it has to ring.
+Thread = namedtuple("Thread", "at place same sees rings rounds limited", defaults=(None, False, 0, (), 1, False))
 # The number of threads, each with a node, of which the first holds the line; the threads with a limited time, which withdraw at some time; whether
 # the first shuts; the threads that ask twice; the threads of an older program.
-NodeScene = namedtuple("NodeScene", "name threads limited shuts twice older", defaults=((), False, (), ()))
+Scene = namedtuple("Scene", "name threads limited shuts twice older", defaults=((), False, (), ()))
 
-NODE_SCENES = [
-    NodeScene("two wait", 3),
-    NodeScene("one of two is late", 3, (1,)),
-    NodeScene("the other of two is late", 3, (2,)),
-    NodeScene("both of two are late", 3, (1, 2)),
-    NodeScene("two are told that the line is closed", 3, (), True),
-    NodeScene("one is late, and the line is closed", 3, (1,), True),
-    NodeScene("the other is late, and the line is closed", 3, (2,), True),
-    NodeScene("one is late and comes again", 2, (1,), False, (1,)),
-    NodeScene("one of two is late and comes again", 3, (1,), False, (1,)),
-    NodeScene("the holder comes again, and one of two is late", 3, (2,), False, (0,)),
-    NodeScene("one looks on", 3, (), False, (), (1,)),
-    NodeScene("one looks on, and is told that the line is closed", 3, (), True, (), (1,)),
-    NodeScene("one looks on, and one is late, and the line is closed", 3, (2,), True, (), (1,)),
+SCENES = [
+    Scene("two wait", 3),
+    Scene("one of two is late", 3, (1,)),
+    Scene("the other of two is late", 3, (2,)),
+    Scene("both of two are late", 3, (1, 2)),
+    Scene("two are told that the line is closed", 3, (), True),
+    Scene("one is late, and the line is closed", 3, (1,), True),
+    Scene("the other is late, and the line is closed", 3, (2,), True),
+    Scene("one is late and comes again", 2, (1,), False, (1,)),
+    Scene("one of two is late and comes again", 3, (1,), False, (1,)),
+    Scene("the holder comes again, and one of two is late", 3, (2,), False, (0,)),
+    Scene("one looks on", 3, (), False, (), (1,)),
+    Scene("one looks on, and is told that the line is closed", 3, (), True, (), (1,)),
+    Scene("one looks on, and one is late, and the line is closed", 3, (2,), True, (), (1,)),
 ]
-MORE_NODES = [
-    NodeScene("three wait", 4),
-    NodeScene("three wait, and one is late", 4, (2,)),
-    NodeScene("three are told that the line is closed, and one looks on", 4, (1,), True, (), (2,)),
+MORE = [
+    Scene("three wait", 4),
+    Scene("three wait, and one is late", 4, (2,)),
+    Scene("three are told that the line is closed, and one looks on", 4, (1,), True, (), (2,)),
 ]
 
 
@@ -125,16 +82,9 @@ def put(values, at, value):
 
 
 def opened(scene):
-    threads = [Thread(("top",) if k else ("turn",), None if k else 0, rounds=1 + (k in scene.twice), limited=k in scene.limited) for k in range(scene.threads)]
-    seats = (TAKEN,) + (FREE,) * (scene.seats - 1)
-    none = (0,) * (scene.seats + 1)
-    return World(((0, None),), False, seats, (False,) * scene.seats, none, 0, tuple(threads))
-
-
-def opened_with_nodes(scene):
-    threads = [Thread(("ask",) if k else ("turn",), k, rounds=1 + (k in scene.twice), limited=k in scene.limited) for k in range(scene.threads)]
+    threads = [Thread(("ask",) if k else ("turn",), rounds=1 + (k in scene.twice), limited=k in scene.limited) for k in range(scene.threads)]
     none = (0,) * scene.threads
-    return World(((0, None),), False, (), (False,) * scene.threads, none, 0, tuple(threads))
+    return World(((0, None),), False, (False,) * scene.threads, none, 0, tuple(threads))
 
 
 def moved(world, k, at, **changes):
@@ -154,8 +104,6 @@ class Steps:
     def steps(self, world, k):
         """The worlds after one step of this thread."""
         it = world.threads[k]
-        if it.late is not None:
-            yield self.seen(world, k)
         yield from getattr(self, it.at[0])(world, k, it, *it.at[1:])
 
     def asleep(self, world, k, it):
@@ -164,33 +112,28 @@ class Steps:
     def done(self, world, k, it):
         return ()
 
-    def seen(self, world, k):
-        """Lets the others see all that the thread has stored."""
-        seat = world.threads[k].late
-        return world if seat is None else moved(world._replace(seats=put(world.seats, seat, FREE)), k, world.threads[k].at, late=None)
-
     # ---- The line ----
 
-    def passed_on(self, world, k, rings):
-        """Ends the thread's request, which is the first: the line is forwarded past the withdrawn requests, whose seats are busy no more. The thread
-        is told for which places to ring, and where besides."""
-        queue, busy, own = world.queue[1:], world.busy, world.threads[k].seat
+    def passed_on(self, world, k):
+        """Ends the thread's request, which is the first: the line is forwarded past the withdrawn requests, whose nodes are busy no more. The thread
+        is told for which places to ring."""
+        queue, busy = world.queue[1:], world.busy
         while queue and queue[0][1] is not None:
             busy = put(busy, queue[0][1], False)
             queue = queue[1:]
-        two = [world.threads[n].seat if gone is None else gone for n, gone in queue[:2]]
+        two = [n for n, _ in queue[:2]]
         if self.fault == "rings for itself":
-            two = [own]
+            two = [k]
         if self.fault == "ahead alone":
             two = two[1:]
         if self.fault == "nobody ahead":
             two = two[:1]
-        return moved(world._replace(queue=queue, busy=busy), k, world.threads[k].at, rings=tuple(two) + rings)
+        return moved(world._replace(queue=queue, busy=busy), k, world.threads[k].at, rings=tuple(two))
 
-    def withdrawn(self, world, k, it):
-        """Withdraws the thread's request: it stays in the queue, and its seat is busy until it is passed."""
-        queue = tuple((n, it.seat if n == k and gone is None else gone) for n, gone in world.queue)
-        return world._replace(queue=queue, busy=put(world.busy, it.seat, True))
+    def withdrawn(self, world, k):
+        """Withdraws the thread's request: it stays in the queue, and its node is busy until it is passed."""
+        queue = tuple((n, n if n == k and gone is None else gone) for n, gone in world.queue)
+        return world._replace(queue=queue, busy=put(world.busy, k, True))
 
     # ---- Sleeping ----
 
@@ -222,7 +165,7 @@ class Steps:
         return moved(world, k, {"look, count, read": ("add",), "count, look, read": ("read",)}.get(self.fault, ("sleep",)))
 
     def sleep(self, world, k, it):
-        yield moved(world, k, ("asleep",) if it.same else ("take_off_all", self.AGAIN), same=False)
+        yield moved(world, k, ("asleep",) if it.same else ("take_off_all", "look"), same=False)
 
     def gets_up(self, world, k, at):
         """Ends the sleep before it began; the thread goes on there."""
@@ -242,7 +185,7 @@ class Steps:
     def times_out(self, world):
         for k, it in enumerate(world.threads):
             if it.limited and it.at == ("asleep",):
-                yield moved(world, k, ("take_off_all", self.AGAIN))
+                yield moved(world, k, ("take_off_all", "look"))
 
     # ---- Ringing ----
 
@@ -265,111 +208,24 @@ class Steps:
         return moved(world, k, (then, "")) if then else moved(world, k, ("ring",), rings=it.rings[1:])
 
     def toll(self, world, k, it, then):
-        world, bell = self.seen(world, k), self.bell(it.rings[0])
+        bell = self.bell(it.rings[0])
         if self.fault != "no addition":
             world = world._replace(threads=tuple(t._replace(same=False) if t.place == bell else t for t in world.threads))
         yield self.then(world, k, it, then)
 
     def wake(self, world, k, it, then):
-        world, bell = self.seen(world, k), self.bell(it.rings[0])
+        bell = self.bell(it.rings[0])
         if self.fault != "no wake":
-            woken = (t._replace(at=("take_off_all", self.AGAIN)) if t.at == ("asleep",) and t.place == bell else t for t in world.threads)
+            woken = (t._replace(at=("take_off_all", "look")) if t.at == ("asleep",) and t.place == bell else t for t in world.threads)
             world = world._replace(threads=tuple(woken))
         yield self.then(world, k, it, then)
 
     def ended(self, world, k):
         rounds = world.threads[k].rounds - 1
-        return moved(world, k, self.BEGINS if rounds else ("done",), rounds=rounds, met=False, sees=0, rings=())
+        return moved(world, k, ("ask",) if rounds else ("done",), rounds=rounds, sees=0, rings=())
 
 
-class OfLock(Steps):
-    """The steps of a thread that uses a lock."""
-
-    BEGINS, AGAIN = ("top",), "top"
-
-    def door(self):
-        return self.scene.seats
-
-    def top(self, world, k, it):
-        yield moved(self.seen(world, k), k, ("look", "first"))
-        if it.limited:
-            yield from self.gives_up(self.seen(world, k), k, it)
-
-    def gives_up(self, world, k, it):
-        if it.seat is None:
-            yield moved(world, k, ("done",))
-        elif has_turn(world, k):
-            yield self.found(world, k, "first")
-        else:
-            rings = () if self.fault == "late without a ring" else (self.door(),)
-            yield moved(self.withdrawn(world, k, it), k, ("give",), rings=rings)
-
-    def found(self, world, k, which):
-        """The thread is at its turn: it has the line, or it is told that it is closed and has forwarded it."""
-        at = "turn"
-        if world.closed:
-            at, world = "give", self.passed_on(world, k, (self.door(),))
-            if self.fault == "told, and rings at the door":
-                world = moved(world, k, world.threads[k].at, rings=(self.door(),))
-        return self.gets_up(world, k, at) if which == "second" else moved(world, k, (at,))
-
-    def look(self, world, k, it, which):
-        if it.seat is None:
-            yield moved(world, k, ("scan", 0, which), met=False)
-        elif has_turn(world, k):
-            yield self.found(world, k, which)
-        else:
-            yield self.after_second_look(world, k) if which == "second" else self.lies_down(world, k, it.seat)
-
-    def scan(self, world, k, it, seat, which):
-        if seat == self.scene.seats:
-            awake = it.met and which == "second" and self.fault != "sleeps at leaving"
-            world = moved(world, k, it.at, met=False)
-            if awake:
-                yield self.gets_up(world, k, "top")
-            else:
-                yield self.after_second_look(world, k) if which == "second" else self.lies_down(world, k, self.door())
-        elif world.seats[seat] == FREE:
-            yield moved(world._replace(seats=put(world.seats, seat, TAKEN)), k, ("ask", seat, which))
-        else:
-            yield moved(world, k, ("scan", seat + 1, which), met=it.met or world.seats[seat] == LEAVING)
-
-    def ask(self, world, k, it, seat, which):
-        if world.busy[seat]:
-            yield moved(world, k, ("go_on", seat, which))
-            return
-        after = moved(world._replace(queue=world.queue + ((k, None),)), k, it.at, seat=seat, met=False)
-        if len(after.queue) == 1:
-            yield self.found(after, k, which)
-        elif which == "first":
-            yield self.lies_down(after, k, seat)
-        else:
-            yield self.after_second_look(after, k) if self.fault == "sleeps at the door" else self.gets_up(after, k, "top")
-
-    def go_on(self, world, k, it, seat, which):
-        yield moved(world._replace(seats=put(world.seats, seat, FREE)), k, ("scan", seat + 1, which))
-
-    def turn(self, world, k, it):
-        state = TAKEN if self.fault == "no leaving" else LEAVING
-        yield moved(world._replace(seats=put(world.seats, it.seat, state)), k, ("let_go",), sees=world.all if self.fault == "early look" else 0)
-
-    def let_go(self, world, k, it):
-        closes = self.scene.shuts and k == 0
-        door = () if self.fault == "no ring at the door" else (self.door(),)
-        yield moved(self.passed_on(world._replace(closed=world.closed or closes), k, door), k, ("gate",))
-
-    def goes(self, world, k):
-        """The thread has left: its seat is free, which the others see now or later."""
-        return moved(world, k, ("ring",), late=world.threads[k].seat, seat=None)
-
-    def give(self, world, k, it):
-        yield moved(world._replace(seats=put(world.seats, it.seat, FREE)), k, ("ring",), seat=None)
-
-
-class OfNodes(Steps):
-    """The steps of a thread that has a node."""
-
-    BEGINS, AGAIN = ("ask",), "look"
+    # ---- A thread with a node ----
 
     def ask(self, world, k, it):
         """Asks; a busy node asks again and again: it has a step to do when it is no longer busy, or when its time is over."""
@@ -383,7 +239,7 @@ class OfNodes(Steps):
         """The thread is at its turn: it has the line, or it is told that it is closed and has forwarded it."""
         at = "turn"
         if world.closed:
-            at, world = "told", self.passed_on(world, k, ())
+            at, world = "told", self.passed_on(world, k)
         return self.gets_up(world, k, at) if which == "second" else moved(world, k, (at,))
 
     def looks_on(self, world, k, it):
@@ -403,14 +259,14 @@ class OfNodes(Steps):
                 yield self.gives_up(world, k, it)
 
     def gives_up(self, world, k, it):
-        return self.ended(self.withdrawn(world, k, it), k)
+        return self.ended(self.withdrawn(world, k), k)
 
     def turn(self, world, k, it):
         yield moved(world, k, ("let_go",), sees=world.all if self.fault == "early look" else 0)
 
     def let_go(self, world, k, it):
         closes = self.scene.shuts and k == 0
-        after = self.passed_on(world._replace(closed=world.closed or closes), k, ())
+        after = self.passed_on(world._replace(closed=world.closed or closes), k)
         yield self.ended(after, k) if self.fault == "released without a ring" else moved(after, k, ("gate",))
 
     def told(self, world, k, it):
@@ -422,9 +278,7 @@ class OfNodes(Steps):
 
 def loses(scene, fault=None):
     """Returns a world in which a thread is lost, or None; and the number of worlds."""
-    of_lock = isinstance(scene, Scene)
-    protocol = OfLock(scene, fault) if of_lock else OfNodes(scene, fault)
-    start = opened(scene) if of_lock else opened_with_nodes(scene)
+    protocol, start = Steps(scene, fault), opened(scene)
     seen, todo = {start}, [start]
     while todo:
         world = todo.pop()
@@ -456,20 +310,14 @@ def must_lose(name, fault, scenes):
     sys.exit(f"{name}: nobody is lost")
 
 
-def try_all(what, scenes, more, harmless, faults):
-    must_lose_nobody(f"{what}, as it is", None, scenes + more)
-    for name, fault in harmless.items():
-        must_lose_nobody(f"{what}, {name}", fault, scenes)
-    for name, fault in faults.items():
-        must_lose(f"{what}, {name}", fault, scenes)
-
-
 def main():
     if sys.argv[1:] not in ([], ["--most"]):
         sys.exit(__doc__)
-    is_most = bool(sys.argv[1:])
-    try_all("lock", SCENES, MORE if is_most else [], HARMLESS, FAULTS)
-    try_all("nodes", NODE_SCENES, MORE_NODES if is_most else [], NODE_HARMLESS, NODE_FAULTS)
+    must_lose_nobody("as it is", None, SCENES + (MORE if sys.argv[1:] else []))
+    for name, fault in HARMLESS.items():
+        must_lose_nobody(name, fault, SCENES)
+    for name, fault in FAULTS.items():
+        must_lose(name, fault, SCENES)
 
 
 main()
