@@ -216,7 +216,7 @@ fn says() {
     assert_eq!(asks(1, false).unwrap(), 5);
     assert_eq!(asks(201, false).unwrap_err().to_string(), "a line has 1 to 200 nodes");
     assert_eq!(asks(1, true).unwrap_err().to_string(), "the line is closed");
-    assert_eq!(Stopped::Misuse.to_string(), "the node waits or holds already");
+    assert_eq!(Stopped::Misuse.to_string(), "the node waits or holds already, or the thread holds the lock");
     assert_eq!(qolb::open(Kind::List, 1, 2, Some(0), &Bytes([0; 64])).unwrap_err().to_string(), "a lease has at least one turn");
     let line = Line::new(Kind::Ring, Queued);
     assert_eq!(format!("{:?}", line.node), "Node { number: 2, label: 7, state: Queued }");

@@ -84,10 +84,13 @@ bool answers() {
     WANT(lock.holder() == static_cast<std::uint64_t>(gettid()));
     WANT(!lock.try_lock());
     auto since = std::chrono::steady_clock::now();
-    WANT(!lock.try_lock_for(20ms));
-    WANT(!lock.try_lock_until(std::chrono::steady_clock::now() + 20ms));
-    WANT(std::chrono::steady_clock::now() - since >= 40ms);
-    WANT(lock.enter_for(0ns) == QOLB_LATE);
+    bool late = false;
+    std::thread([&] {
+        late = !lock.try_lock_for(20ms) && !lock.try_lock_until(std::chrono::steady_clock::now() + 20ms) && lock.enter_for(0ns) == QOLB_LATE;
+    }).join();
+    WANT(late && std::chrono::steady_clock::now() - since >= 40ms);
+    WANT(lock.enter_for(0ns) == QOLB_MISUSE && lock.enter() == QOLB_MISUSE);
+    WANT(throws<qolb::Misuse>([&] { lock.lock(); }));
     lock.unlock();
     WANT(lock.try_lock());
     WANT(lock.shut() == QOLB_DONE);

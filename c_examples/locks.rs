@@ -152,7 +152,8 @@ fn raw_answers() {
     let raw = RawQolb::new(1);
     assert_eq!(raw.enter(), Answer::Granted);
     assert_eq!(raw.try_enter(), Answer::Busy);
-    assert_eq!(raw.enter_for(MS), Answer::Late);
+    assert_eq!(raw.enter_for(MS), Answer::Misuse);
+    thread::scope(|s| s.spawn(|| assert_eq!(raw.enter_for(MS), Answer::Late)).join().unwrap());
     assert_eq!(raw.leave(), Answer::Done);
     assert_eq!(raw.try_enter(), Answer::Granted);
     assert_eq!(raw.shut(), Answer::Done);

@@ -131,6 +131,18 @@ static int fit(size_t lines, size_t bytes) {
     return all < bytes;
 }
 
+/* The most heap that a lock takes by default, as qolb.h says. */
+enum { BY_DEFAULT = 3072 };
+
+static int is_small(void) {
+    qolb_lock lock = QOLB_LOCK_INIT_DEFAULT;
+    size_t before = taken;
+    if (qolb_lock_enter(&lock) != QOLB_GRANTED || qolb_lock_leave(&lock) != QOLB_DONE) return 0;
+    size_t takes = taken - before;
+    printf("lock by default   bytes %zu\n", takes);
+    return takes <= BY_DEFAULT && qolb_lock_close(&lock) == QOLB_DONE && taken == before;
+}
+
 int main(void) {
     static const char *const names[] = {"ring", "list", "ticket line"};
     static const uint64_t nodes[] = {1, 2, 8, 64, 200};
@@ -151,6 +163,7 @@ int main(void) {
             if (qolb_lock_close(&lock) != QOLB_DONE || taken != before) return 1;
         }
     }
+    if (!is_small()) return puts("a lock takes more by default"), 1;
     if (!all_are_told()) return puts("qolb_memory tells something else"), 1;
     if (given == 0 || !aligned) return puts("a block begins elsewhere"), 1;
     if (!fit(100000, 260000000)) return puts("many lines take too much"), 1;

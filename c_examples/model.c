@@ -344,10 +344,10 @@ static void lock_is_read_and_written(void) {
 static void lock_call(void) {
     switch (draw(12)) {
     case 0:
-        if (!locked.held) SAME(qolb_lock_enter(&locked.lock), 0, lock_enters(0));
+        SAME(qolb_lock_enter(&locked.lock), 0, lock_enters(QOLB_MISUSE));
         break;
     case 1: SAME(qolb_lock_try(&locked.lock), 0, lock_enters(QOLB_BUSY)); break;
-    case 2: SAME(qolb_lock_enter_within(&locked.lock, draw(2) * 300), 0, lock_enters(QOLB_LATE)); break;
+    case 2: SAME(qolb_lock_enter_within(&locked.lock, draw(2) * 300), 0, lock_enters(QOLB_MISUSE)); break;
     case 3:
     case 4: SAME(qolb_lock_leave(&locked.lock), 0, lock_leaves(0)); break;
     case 5:

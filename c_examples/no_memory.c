@@ -138,7 +138,7 @@ static int lock_refused_in_turn(uint32_t kind, unsigned way) {
         if (refused && (lock.own || taken != given_back)) return printf("lock, allocation %lu: %lu taken, %lu given back\n", n, taken, given_back), 1;
         if ((refused || way == 3) && qolb_lock_enter(&lock) != QOLB_GRANTED) return puts("lock: not opened later"), 1;
         unsigned long before = taken;
-        if (qolb_lock_enter_within(&lock, 0) != QOLB_LATE || qolb_cond_wait_within(&cond, &lock, 0) != QOLB_LATE) return puts("lock: not late"), 1;
+        if (qolb_lock_enter_within(&lock, 0) != QOLB_MISUSE || qolb_cond_wait_within(&cond, &lock, 0) != QOLB_LATE) return puts("lock: not late"), 1;
         if (qolb_lock_leave(&lock) != QOLB_DONE || taken != before) return puts("lock: calls took memory"), 1;
         if (qolb_lock_close(&lock) != QOLB_DONE || taken != given_back) return printf("lock: %lu taken, %lu given back\n", taken, given_back), 1;
         if (!refused) return n < 5 ? puts("lock: too few allocations"), 1 : 0;

@@ -4,7 +4,8 @@
  *
  * Each ordinary mutex that the program locks gets its own qolb_lock, and each condition variable by which it waits with one a qolb_cond. Recursive,
  * error-checking, robust and shared mutexes stay the C library's. A thread that is cancelled while it waits at a condition ends once it is signalled.
- * As with the C library, any thread may unlock such a mutex, and unlocking a free one changes nothing.
+ * As with the C library, any thread may unlock such a mutex, unlocking a free one changes nothing, and a thread that locks one that it holds waits until
+ * another unlocks it.
  *
  * QOLB_KIND=list makes them lists and QOLB_KIND=ring rings; else they are ticket lines.
  *
@@ -134,14 +135,14 @@ static uint64_t until(clockid_t clock, const struct timespec *end) {
 }
 
 static int lock_until(struct line *line, clockid_t clock, const struct timespec *end) {
-    return told(line, qolb_lock_enter_within(&line->lock, until(clock, end)));
+    return told(line, qolb_lock_enter_unasked_(&line->lock, until(clock, end)));
 }
 
 /* ---- Mutexes ---- */
 
 int pthread_mutex_lock(pthread_mutex_t *mutex) {
     struct line *line = line_of(mutex);
-    return line ? told(line, qolb_lock_enter(&line->lock)) : real_mutex_lock()(mutex);
+    return line ? told(line, qolb_lock_enter_unasked_(&line->lock, UINT64_MAX)) : real_mutex_lock()(mutex);
 }
 
 int pthread_mutex_trylock(pthread_mutex_t *mutex) {

@@ -1,9 +1,10 @@
 /* How a waiter rests between polls, with a node, for a lock and at a condition, by a clock that the program advances: how often it requests and
  * polls, how often it yields the processor, how long it sleeps, and when it is late; its answer if the line is granted, or closed, between the
  * last poll and the withdrawal; and which calls wake sleepers, and which sleepers. Linked with --wrap for clock_gettime, nanosleep, sched_yield,
- * syscall and for the proved calls that request, poll, withdraw and name the next holder. Prints only errors. */
+ * syscall and for the proved calls that request, poll, withdraw and name the next holder. One thread does what several would: so it enters a lock that it
+ * holds, by the call of preload.c. Prints only errors. */
 #define _GNU_SOURCE
-#include <qolb.h>
+#include <proved.h>
 #include <stdarg.h>
 #include <stdatomic.h>
 #include <stdio.h>
@@ -502,7 +503,7 @@ static void (*lets_go)(void);
 
 /* The first waits as long as it takes; the others are late, as their sleeps end while it sleeps. */
 static uint32_t acquires_as(unsigned k) { return k ? qolb_acquire_within(&nodes[k], 20 * MS) : qolb_acquire(&nodes[0]); }
-static uint32_t enters_as(unsigned k) { return k ? qolb_lock_enter_within(held, 20 * MS) : qolb_lock_enter(held); }
+static uint32_t enters_as(unsigned k) { return qolb_lock_enter_unasked_(held, k ? 20 * MS : NEVER); }
 
 /* While one sleeps the next waits and sleeps, too, and while the last does the line is released. */
 static void next_sleeps(void) {
@@ -635,7 +636,7 @@ static int wakes_whom_it_should(uint32_t kind) {
 static int late_for_lock(qolb_lock *lock, unsigned has_seat) {
     uint64_t since = now;
     begins(NULL);
-    WANT(qolb_lock_enter_within(lock, 20 * MS), QOLB_LATE);
+    WANT(qolb_lock_enter_unasked_(lock, 20 * MS), QOLB_LATE);
     WANT(now - since, 20 * MS);
     WANT(yields, YIELDS);
     WANT(sleeps, 1);
@@ -657,7 +658,7 @@ static int lock_at_the_end(uint32_t kind, int is_shut) {
     held = &lock;
     begins(is_shut ? shuts_lock : leaves);
     event.at_withdrawal = 1;
-    WANT(qolb_lock_enter_within(&lock, MS), is_shut ? QOLB_CLOSED : QOLB_GRANTED);
+    WANT(qolb_lock_enter_unasked_(&lock, MS), is_shut ? QOLB_CLOSED : QOLB_GRANTED);
     if (!is_shut) WANT(qolb_lock_leave(&lock), QOLB_DONE);
     WANT(qolb_lock_close(&lock), QOLB_DONE);
     return 0;
@@ -679,7 +680,7 @@ static int lock_rests(uint32_t kind) {
     held = &lock;
     begins(leaves);
     event.at_sleep = 2;
-    WANT(qolb_lock_enter(&lock), QOLB_GRANTED);
+    WANT(qolb_lock_enter_unasked_(&lock, NEVER), QOLB_GRANTED);
     WANT(clocks, 0);
     WANT(yields, 2 * YIELDS);
     WANT(sleeps, 2);
@@ -723,7 +724,7 @@ static int woken_for_nothing(uint32_t kind) {
         begins(time_passes);
         event.at_sleep = 1;
         WANT(way == 0   ? qolb_acquire_within(&n[1], 20 * MS)
-             : way == 1 ? qolb_lock_enter_within(&lock, 20 * MS)
+             : way == 1 ? qolb_lock_enter_unasked_(&lock, 20 * MS)
                         : qolb_cond_wait_within(&cond, &lock, 20 * MS),
              QOLB_LATE);
         if (has_what_is_left(since)) return 1;

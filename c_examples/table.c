@@ -41,7 +41,7 @@ static void *count_all(void *unused) {
 
 int main(void) {
     uint64_t sum = 0;
-    for (int k = 0; k < BUCKETS; k++) table[k].lock = (qolb_lock)QOLB_LOCK_INIT(THREADS);
+    for (int k = 0; k < BUCKETS; k++) table[k].lock = (qolb_lock)QOLB_LOCK_INIT_DEFAULT;
     for (int wave = 0; wave < WAVES; wave++) {
         pthread_t threads[THREADS];
         for (int k = 0; k < THREADS; k++)

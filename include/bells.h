@@ -51,6 +51,20 @@ HIDDEN void qolb_wake_at_(atomic_uint *word, int most);
  * once. The instruction takes 10 to 140 cycles, by the processor. */
 HIDDEN unsigned qolb_looks_(void);
 
+/* ---- Guards ---- */
+
+/* A mutex of three values: free, taken, taken with sleepers. */
+static inline void take_guard(atomic_uint *word) {
+    unsigned was = 0;
+    if (!atomic_compare_exchange_strong(word, &was, 1))
+        while (atomic_exchange(word, 2)) qolb_sleep_at_(word, 2, FOR_EVER);
+}
+
+/* The word need not exist any more when its sleeper is woken. */
+static inline void return_guard(atomic_uint *word) {
+    if (atomic_exchange(word, 0) == 2) qolb_wake_at_(word, 1);
+}
+
 /* ---- Bells ---- */
 
 /* A power of two, and more than the places of a line: 256, or in a list 201. */

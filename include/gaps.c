@@ -13,16 +13,19 @@ HIDDEN void *qolb_malloc_(size_t size);
 HIDDEN void *qolb_realloc_(void *block, size_t size);
 HIDDEN void qolb_free_(void *block);
 
-/* What stands before each block: what malloc gave, and the size asked for. */
-struct before {
-    void *given;
-    size_t size;
-};
+BY_THREAD struct room qolb_room_;
 
 static struct before *before(void *block) { return (struct before *)block - 1; }
 
 /* If nothing can be added to the size, the allocation fails. What malloc gives is a multiple of 16, so there is room for a `struct before`. */
 void *qolb_malloc_(size_t size) {
+    struct room *room = &qolb_room_;
+    if ((size == NODE_BYTES || size == LINE_BYTES) && (size_t)(room->end - room->at) >= ROOM_BYTES(size)) {
+        void *block = room->at;
+        room->at += ROOM_BYTES(size);
+        *before(block) = (struct before){NULL, size};
+        return block;
+    }
     char *given = size <= SIZE_MAX - 2 * GAP_BYTES ? malloc(KEPT_BYTES(size) + GAP_BYTES) : NULL;
     if (!given) return NULL;
     void *block = given + GAP_BYTES - (uintptr_t)given % GAP_BYTES;

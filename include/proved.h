@@ -1,4 +1,4 @@
-/* For the library's internal files, and preload.c: the proved calls by their names in the archive beside lock.c and calls.c (Makefile,
+/* For the library's internal files, and preload.c: the proved calls by their names in the archive beside calls.c and the lock (Makefile,
  * proved.syms). */
 #ifndef QOLB_PROVED_H
 #define QOLB_PROVED_H
@@ -42,9 +42,12 @@ uint64_t qolb_went_ahead_proved_(qolb_node *node);
  * A lent node is a handle whose lowest bit is set: without it, it is the address of a lock's hall. No node of the library has an odd address. */
 __attribute__((visibility("hidden"))) qolb_node *qolb_lent_(const qolb_node *node);
 
-/* Leaves the lock for its holder, by any thread. MISUSE if no thread holds it. For the mutexes of c_examples/preload.c, as those of the system may
- * be released by any thread. */
+/* For the mutexes of c_examples/preload.c, as those of the system may be released by any thread.
+ *
+ * Leaves the lock for its holder, by any thread. MISUSE if no thread holds it. */
 __attribute__((visibility("hidden"))) uint32_t qolb_lock_leave_for_another_(qolb_lock *lock);
+/* Enters as qolb_lock_enter_within does, but a thread that holds the lock waits until another leaves for it. */
+__attribute__((visibility("hidden"))) uint32_t qolb_lock_enter_unasked_(qolb_lock *lock, uint64_t nanoseconds);
 
 static inline int qolb_is_lent_(const qolb_node *node) { return (int)((uintptr_t)node->own & 1); }
 

@@ -33,7 +33,7 @@
  *
  * If threads come and go, take a lock instead of nodes. A lock is a line and its nodes in one object, which any thread may enter and leave:
  *
- *     static qolb_lock lock = QOLB_LOCK_INIT(64);          // at most 64 threads hold it or stand in its queue at one time
+ *     static qolb_lock lock = QOLB_LOCK_INIT_DEFAULT;      // for any number of threads, first come, first served
  *
  *     if (qolb_lock_enter(&lock) != QOLB_GRANTED) abort(); // waits; QOLB_NO_MEMORY at the first use, QOLB_CLOSED after a shut
  *     table[key % SIZE] = value;
@@ -44,19 +44,24 @@
  * pthread_cond_t is for a mutex. Times are lengths in nanoseconds from the call on, not points in time. A lock in a struct, as in a bucket of a
  * table, starts as the same value:
  *
- *     bucket->lock = (qolb_lock)QOLB_LOCK_INIT_OF(QOLB_LIST, 8); // in C++ qolb_lock QOLB_LOCK_INIT_OF(QOLB_LIST, 8)
+ *     bucket->lock = (qolb_lock)QOLB_LOCK_INIT_DEFAULT;    // in C++ qolb_lock QOLB_LOCK_INIT_DEFAULT
  *
- * From its first use until qolb_lock_close a lock keeps the memory of its line and its seats: with 8 seats 8.5 kilobytes of heap, 5.7 if it is a list
- * and 37 if it is a ring; with 64 seats 61, 37 and 61. For many locks, as one for each bucket of a table, take few seats:
- * QOLB_LOCK_INIT_OF(QOLB_LIST, 8). A lock that is never used takes nothing.
+ * From its first use until qolb_lock_close a lock keeps the memory of its line and its seats: by default at most 3 kilobytes of heap. A lock that is never
+ * used takes nothing. QOLB_LOCK_INIT and QOLB_LOCK_INIT_OF choose kind and seats: with 8 seats 7.1 kilobytes, 4.2 if it is a list and 36 if it is a ring;
+ * with 64 seats 51, 26 and 51.
  *
- * A lock has a seat for each of its line's nodes. A thread that enters takes a free seat and makes a request at once, so threads with a seat are
- * served first come, first served. A thread that finds no free seat sleeps until there is one, and a later thread may find it first: give a lock as
- * many seats as threads use it at a time. A thread that was late leaves its seat's node busy (BUSY, below): no other thread gets that seat until a
- * release has passed the node.
+ * A lock has a seat for each of its line's nodes. A thread that enters takes a free seat and makes a request at once. A thread that finds no free seat
+ * waits at the lock's door, and those there take the seats in the order in which they came: so a few seats serve any number of threads first come, first
+ * served. A thread keeps its place from when it has made its request, or has come to the door: no thread whose call begins later is served before it,
+ * unless it gives up. With a seat for each thread a waiter sleeps and wakes once for a turn, and at the door once more. A thread that was late leaves its
+ * seat's node busy (BUSY, below): no other thread gets that seat until a release has passed the node.
  *
- * Only the thread that entered may leave. A thread that enters a lock which it holds waits for itself. A thread that ends while it holds a lock
- * releases nothing, and all others wait; qolb_lock_holder returns its number, which on Linux is that of the system (gettid), as a debugger shows it.
+ * While no thread waits, a lock keeps its line for whoever enters next: entering and leaving are then one change of a word each, as of a mutex. Threads that
+ * wait at a condition do not count.
+ *
+ * Only the thread that entered may leave. A thread that enters a lock which it holds is told MISUSE, and holds it as before. A thread that ends while it
+ * holds a lock releases nothing, and all others wait; qolb_lock_holder returns its number, which on Linux is that of the system (gettid), as a debugger
+ * shows it.
  *
  * A static lock is opened at its first use, by the first thread that uses it. If there is no memory, each use is answered QOLB_NO_MEMORY and keeps
  * nothing, until there is some. Do not move or copy a lock or a condition once it is used.
@@ -106,11 +111,11 @@
  * - One call at a time for a handle. Different handles, also of one line, may be called by different threads at the same time.
  * - Hand a handle to another thread by a lock, a thread's start or join, or a sequentially consistent atomic.
  * - Use one copy of the library for a line or a lock: not the static one in the program and another one in what it opens at run time.
- * - Start a lock by QOLB_LOCK_INIT or QOLB_LOCK_INIT_OF, a condition by QOLB_COND_INIT. Close a lock only if no thread is about to call it.
+ * - Start a lock by QOLB_LOCK_INIT_DEFAULT, QOLB_LOCK_INIT or QOLB_LOCK_INIT_OF, a condition by QOLB_COND_INIT. Close a lock only if no thread is about
+ *   to call it.
  * - Do not move or copy a lock or a condition once it is used. Close a lock before its memory goes. The memory of a condition may go when no thread is
  *   in a call on it.
- * - Do not enter a lock that the thread holds: it waits for itself (qolb_lock_try: BUSY; qolb_lock_enter_within: LATE). Leave a lock before the thread
- *   ends.
+ * - Leave a lock before the thread ends.
  * - Call nothing from a signal handler, nor in the forked child of a process with threads (PROCESSES, below).
  * - The program's malloc, realloc and free are of one allocator, which aligns as C asks.
  *
@@ -136,7 +141,7 @@
  * answers CLOSED. Each waiter sleeps at a bell that is chosen by its line and its place in the queue. Some lines share bells, whatever their labels,
  * and then may wake each other's waiters without effect.
  *
- * Leaving a lock does the same, and wakes all threads that wait for a seat.
+ * Leaving a lock does the same, and wakes the first thread at its door, and the one behind it.
  *
  * No call wakes the thread of a busy node. That thread makes its request again 16 times, yields the processor in between, and then every 200 us.
  *
@@ -361,12 +366,13 @@ uint64_t qolb_label(qolb_node *node);
 /* The state after the node's last call: a `qolb_node_state`. */
 uint32_t qolb_state(qolb_node *node);
 
-/* A lock. As its initialiser makes it, it is unopened, and has 1 to 200 seats, the kind QOLB_DEFAULT or the named one, and 64 bytes of zeros. Only
- * these calls read or change its contents. */
+/* A lock. As its initialiser makes it, it is unopened, and has 64 bytes of zeros and 1 to 200 seats: by default the number and the kind that take at most
+ * 3 kilobytes, and else this number, with the kind QOLB_DEFAULT or this one. Only these calls read or change its contents. */
 typedef struct qolb_lock {
     void *own;
     uint32_t kind, seats;
 } qolb_lock;
+#define QOLB_LOCK_INIT_DEFAULT {QOLB_NULL_, QOLB_LIST, 4}
 #define QOLB_LOCK_INIT(seats) {QOLB_NULL_, QOLB_DEFAULT, (seats)}
 #define QOLB_LOCK_INIT_OF(kind, seats) {QOLB_NULL_, (kind), (seats)}
 
@@ -380,18 +386,19 @@ typedef struct qolb_cond {
  * DONE; else the first that applies of BAD_KIND, BAD_NODES (not 1 to 200 seats), NO_MEMORY, and OCCUPIED: it is open. */
 uint32_t qolb_lock_open(qolb_lock *lock, uint32_t kind, uint64_t label, uint64_t seats, const qolb_bytes *opening) QOLB_LOOK;
 
-/* Enters the lock, and waits as long as it takes: GRANTED, CLOSED. At the first use also NO_MEMORY, BAD_NODES (a lock of no seats), BAD_KIND. */
+/* Enters the lock, and waits as long as it takes: GRANTED, CLOSED; MISUSE, and nothing changed, if the calling thread holds it. At the first use also
+ * NO_MEMORY, BAD_NODES (a lock of no seats), BAD_KIND. */
 uint32_t qolb_lock_enter(qolb_lock *lock) QOLB_LOOK;
 
-/* Enters the lock if no thread has it: GRANTED, BUSY, CLOSED; at the first use also the other answers of qolb_lock_enter. */
+/* Enters the lock if no thread has it: GRANTED, BUSY (also if the calling thread holds it), CLOSED; at the first use also the other answers of
+ * qolb_lock_enter. */
 uint32_t qolb_lock_try(qolb_lock *lock) QOLB_LOOK;
 
-/* Enters the lock, and waits at most this many nanoseconds (UINT64_MAX: as long as it takes): GRANTED, LATE, CLOSED; at the first use also the
- * other answers of qolb_lock_enter. */
+/* Enters the lock, and waits at most this many nanoseconds (UINT64_MAX: as long as it takes): GRANTED, LATE, CLOSED; MISUSE at once, and nothing changed,
+ * if the calling thread holds it; at the first use also the other answers of qolb_lock_enter. */
 uint32_t qolb_lock_enter_within(qolb_lock *lock, uint64_t nanoseconds) QOLB_LOOK;
 
-/* Leaves the lock, which goes to the first thread in its queue; a thread without a seat is not in the queue yet. DONE; MISUSE if the calling
- * thread does not hold it. */
+/* Leaves the lock, which goes to the first thread in its queue. DONE; MISUSE if the calling thread does not hold it. */
 uint32_t qolb_lock_leave(qolb_lock *lock);
 
 /* Leaves the lock and closes it: all waiting threads, also at a condition, and all later ones are answered CLOSED. DONE; MISUSE if the calling
@@ -407,7 +414,8 @@ uint32_t qolb_lock_close(qolb_lock *lock);
  * qolb_number, qolb_label and qolb_state. For every other call, and for any other thread, it is MISUSE. NULL if the calling thread does not hold the lock. */
 qolb_node *qolb_lock_turn(qolb_lock *lock);
 
-/* A number of the thread that holds the lock; 0 if none does, and for the moment of a handoff. */
+/* A number of the thread that holds the lock; 0 if none does, and for the moment of a handoff. On Linux it is the system's, that the thread had when it
+ * first entered a lock: in a forked child, that of the parent's thread. */
 uint64_t qolb_lock_holder(const qolb_lock *lock);
 
 /* Leaves the lock, waits at the condition until a signal or a broadcast, and enters the lock again; no signal after the leave is missed. It ends

@@ -27,6 +27,7 @@
 #include <mutex>
 #include <new>
 #include <stdexcept>
+#include <system_error>
 #include <type_traits>
 #include <utility>
 #include <vector>
@@ -67,7 +68,19 @@ class Closed : public std::runtime_error {
 // There is no node, or it waits or holds already; or it does not hold the line that it is to read, write or release. Nothing changed.
 class Misuse : public std::logic_error {
   public:
-    Misuse() : std::logic_error("qolb: the lock or node does not allow the call") {}
+    Misuse() : Misuse("qolb: the lock or node does not allow the call") {}
+
+  protected:
+    explicit Misuse(const char *what) : std::logic_error(what) {}
+};
+
+// A thread enters a lock that it holds. It holds it as before.
+class Deadlock : public Misuse {
+  public:
+    Deadlock() : Misuse("qolb: the thread holds the lock") {}
+
+    // As of the exception of a std::unique_lock.
+    std::error_code code() const noexcept { return std::make_error_code(std::errc::resource_deadlock_would_occur); }
 };
 
 namespace detail {
@@ -271,13 +284,16 @@ template <class Change> Got Node::with(Change change) {
 // The thread that entered must leave. It may be destroyed if no thread holds it or waits for it; else its memory stays.
 class Lock {
   public:
-    // At most this many threads, 1 to 200, hold it or are in its queue at one time; more wait for a seat. A list takes the least memory.
-    explicit constexpr Lock(std::uint32_t seats = 64, qolb_kind kind = QOLB_DEFAULT) noexcept : lock_{nullptr, static_cast<std::uint32_t>(kind), seats} {}
+    // For any number of threads, in at most 3 kilobytes.
+    constexpr Lock() noexcept : lock_ QOLB_LOCK_INIT_DEFAULT {}
+    // With 1 to 200 seats, of this kind. A list takes the least memory.
+    explicit constexpr Lock(std::uint32_t seats, qolb_kind kind = QOLB_DEFAULT) noexcept : lock_{nullptr, static_cast<std::uint32_t>(kind), seats} {}
     Lock(const Lock &) = delete;
     Lock &operator=(const Lock &) = delete;
     ~Lock() { qolb_lock_close(&lock_); }
 
-    // As in qolb.h: granted; closed; late or busy; and at the first use no memory, or bad nodes if it does not have 1 to 200 seats.
+    // As in qolb.h: granted; closed; late or busy; misuse if the thread holds it; and at the first use no memory, or bad nodes if it does not have 1 to 200
+    // seats.
     QOLB_NODISCARD qolb_answer enter() { return answer(qolb_lock_enter(&lock_)); }
     QOLB_NODISCARD qolb_answer try_enter() { return answer(qolb_lock_try(&lock_)); }
     template <class Rep, class Period> QOLB_NODISCARD qolb_answer enter_for(const std::chrono::duration<Rep, Period> &time) {
@@ -287,7 +303,8 @@ class Lock {
     qolb_answer shut() { return answer(qolb_lock_shut(&lock_)); }
     std::uint64_t holder() const { return qolb_lock_holder(&lock_); }
 
-    // As a lock of the standard library: these throw Closed if the lock was shut, std::bad_alloc, and Misuse.
+    // As a lock of the standard library: these throw Closed if the lock was shut, std::bad_alloc, Deadlock if the thread holds it (try_lock returns false), and
+    // Misuse.
     void lock() { entered(enter()); }
     QOLB_NODISCARD bool try_lock() { return entered(try_enter()); }
     template <class Rep, class Period> QOLB_NODISCARD bool try_lock_for(const std::chrono::duration<Rep, Period> &time) {
@@ -310,6 +327,7 @@ class Lock {
         if (got == QOLB_CLOSED) QOLB_THROW(Closed());
         if (got == QOLB_NO_MEMORY) QOLB_THROW(std::bad_alloc());
         if (got == QOLB_GRANTED) return true;
+        if (got == QOLB_MISUSE) QOLB_THROW(Deadlock());
         if (got != QOLB_BUSY && got != QOLB_LATE) QOLB_THROW(Misuse());
         return false;
     }
@@ -367,17 +385,13 @@ template <class T> class Guarded {
     static_assert(sizeof(T) <= sizeof(qolb_bytes), "a line has 64 bytes");
 
   public:
-    // Throws std::bad_alloc, and Misuse if it does not have 1 to 200 seats.
-    explicit Guarded(const T &value = T(), std::uint32_t seats = 64, qolb_kind kind = QOLB_DEFAULT) {
-        qolb_bytes bytes{};
-        std::memcpy(bytes.byte, &value, sizeof value);
-        std::uint32_t got = qolb_lock_open(lock_.native_handle(), static_cast<std::uint32_t>(kind), 0, seats, &bytes);
-        if (got == QOLB_NO_MEMORY) QOLB_THROW(std::bad_alloc());
-        if (got != QOLB_DONE) QOLB_THROW(Misuse());
-    }
-
+    // For any number of threads, in at most 3 kilobytes. Throws std::bad_alloc.
+    explicit Guarded(const T &value = T()) : Guarded(value, qolb_lock QOLB_LOCK_INIT_DEFAULT) {}
+    // With 1 to 200 seats, of this kind. Throws std::bad_alloc, and Misuse if it does not have 1 to 200 seats.
+    Guarded(const T &value, std::uint32_t seats, qolb_kind kind = QOLB_DEFAULT)
+        : Guarded(value, qolb_lock QOLB_LOCK_INIT_OF(static_cast<std::uint32_t>(kind), seats)) {}
     // Enters, lets `change` change the value, writes it and leaves; returns the result of `change`. If `change` throws, nothing is written. Throws
-    // Closed if the line was shut.
+    // Closed if the line was shut, and Deadlock if the thread is in `change` of the same value.
     template <class Change> auto with(Change change) -> decltype(change(std::declval<T &>())) {
         std::lock_guard<Lock> held(lock_);
         Copy copy(qolb_lock_turn(lock_.native_handle()));
@@ -395,6 +409,15 @@ template <class T> class Guarded {
     bool shut() { return lock_.enter() == QOLB_GRANTED && lock_.shut() == QOLB_DONE; }
 
   private:
+    // Of the kind and the number of seats of an unopened lock.
+    Guarded(const T &value, const qolb_lock &of) {
+        qolb_bytes bytes{};
+        std::memcpy(bytes.byte, &value, sizeof value);
+        std::uint32_t got = qolb_lock_open(lock_.native_handle(), of.kind, 0, of.seats, &bytes);
+        if (got == QOLB_NO_MEMORY) QOLB_THROW(std::bad_alloc());
+        if (got != QOLB_DONE) QOLB_THROW(Misuse());
+    }
+
     // The value during a turn. T may have no default constructor, so the value is in bytes.
     class Copy {
       public:

@@ -118,7 +118,7 @@ impl std::error::Error for Answer {}
 pub enum Stopped {
     /// The line is closed.
     Closed,
-    /// The node waits or holds already. Nothing changed.
+    /// The node waits or holds already, or the thread holds the lock. Nothing changed.
     Misuse,
 }
 
@@ -126,7 +126,7 @@ impl fmt::Display for Stopped {
     fn fmt(&self, f: &mut fmt::Formatter<'_>) -> fmt::Result {
         f.write_str(match self {
             Stopped::Closed => "the line is closed",
-            Stopped::Misuse => "the node waits or holds already",
+            Stopped::Misuse => "the node waits or holds already, or the thread holds the lock",
         })
     }
 }
@@ -536,8 +536,11 @@ struct RawCond {
 #[repr(C)]
 struct LineBytes([MaybeUninit<u8>; 64]);
 
-/// The default number of threads that hold a lock or are in its queue at one time; more wait for a seat.
+/// A number of seats with which few locks have threads at their door. It was the default until a few seats served any number of threads in order.
 pub const SEATS: u32 = 64;
+
+/// The kind and the number of seats of a lock by default, as of `QOLB_LOCK_INIT_DEFAULT`.
+const BY_DEFAULT: (Kind, u32) = (Kind::List, 4);
 
 fn nanoseconds(time: Duration) -> u64 {
     u64::try_from(time.as_nanos()).unwrap_or(u64::MAX)
@@ -573,19 +576,24 @@ impl RawQolb {
         RawQolb(UnsafeCell::new(RawLock { own: null_mut(), kind: kind as u32, seats }))
     }
 
-    /// Enters, and waits as long as it takes: `Granted`, `Closed`; `NoMemory` at the first use.
+    /// A lock for any number of threads, first come, first served, in at most 3 kilobytes of heap.
+    pub const fn of_default() -> RawQolb {
+        RawQolb::of_kind(BY_DEFAULT.0, BY_DEFAULT.1)
+    }
+
+    /// Enters, and waits as long as it takes: `Granted`, `Closed`; `Misuse` if the calling thread holds it; `NoMemory` at the first use.
     #[must_use]
     pub fn enter(&self) -> Answer {
         self.took(unsafe { qolb_lock_enter(self.0.get()) })
     }
 
-    /// Enters if no thread has it: `Granted`, `Busy`, `Closed`; `NoMemory` at the first use.
+    /// Enters if no thread has it: `Granted`, `Busy` (also if the calling thread holds it), `Closed`; `NoMemory` at the first use.
     #[must_use]
     pub fn try_enter(&self) -> Answer {
         self.took(unsafe { qolb_lock_try(self.0.get()) })
     }
 
-    /// Enters, and waits at most `time`: `Granted`, `Late`, `Closed`; `NoMemory` at the first use.
+    /// Enters, and waits at most `time`: `Granted`, `Late`, `Closed`; `Misuse` at once if the calling thread holds it; `NoMemory` at the first use.
     #[must_use]
     pub fn enter_for(&self, time: Duration) -> Answer {
         self.took(unsafe { qolb_lock_enter_within(self.0.get(), nanoseconds(time)) })
@@ -653,6 +661,12 @@ mod tsan {
     pub fn release(_lock: *mut RawLock) {}
 }
 
+impl Default for RawQolb {
+    fn default() -> RawQolb {
+        RawQolb::of_default()
+    }
+}
+
 impl fmt::Debug for RawQolb {
     fn fmt(&self, f: &mut fmt::Formatter<'_>) -> fmt::Result {
         f.debug_struct("RawQolb").field("holder", &self.holder()).finish()
@@ -677,7 +691,8 @@ fn entered(answer: Answer) -> Result<bool, Stopped> {
 
 /// A mutex that is first come, first served.
 ///
-/// Nothing is poisoned: a panic while it is held releases it, with the writes until then. A thread that locks a mutex that it holds waits for itself.
+/// Nothing is poisoned: a panic while it is held releases it, with the writes until then. A thread that locks a mutex that it holds is told
+/// `Stopped::Misuse`, and holds it as before.
 pub struct Mutex<T: ?Sized> {
     raw: RawQolb,
     value: UnsafeCell<T>,
@@ -688,8 +703,9 @@ unsafe impl<T: ?Sized + Send> Send for Mutex<T> {}
 unsafe impl<T: ?Sized + Send> Sync for Mutex<T> {}
 
 impl<T> Mutex<T> {
+    /// For any number of threads, in at most 3 kilobytes of heap.
     pub const fn new(value: T) -> Mutex<T> {
-        Mutex::with_seats(value, SEATS)
+        Mutex { raw: RawQolb::of_default(), value: UnsafeCell::new(value) }
     }
 
     /// A mutex of the default kind with `seats` seats.
@@ -848,8 +864,9 @@ unsafe impl<T: Copy + Send + 'static> Sync for Lock<T> {}
 impl<T: Copy + Send + 'static> Lock<T> {
     const FITS: () = assert!(size_of::<T>() <= 64, "a line has 64 bytes");
 
+    /// For any number of threads, in at most 3 kilobytes of heap.
     pub fn new(value: T) -> Result<Lock<T>, Answer> {
-        Lock::with_seats(value, SEATS)
+        Lock::of_kind(value, BY_DEFAULT.0, BY_DEFAULT.1)
     }
 
     /// A lock of the default kind with `seats` seats, which has `value`.
@@ -959,7 +976,7 @@ impl<T: Copy + Send + 'static> Drop for LockGuard<'_, T> {
 
 #[cfg(feature = "lock_api")]
 mod api {
-    use super::{Answer, RawQolb, SEATS};
+    use super::{Answer, RawQolb};
     use lock_api::{GuardNoSend, RawMutex, RawMutexFair, RawMutexTimed};
     use std::time::{Duration, Instant};
 
@@ -973,7 +990,7 @@ mod api {
 
     // SAFETY: one thread at a time holds it.
     unsafe impl RawMutex for RawQolb {
-        const INIT: RawQolb = RawQolb::new(SEATS);
+        const INIT: RawQolb = RawQolb::of_default();
         type GuardMarker = GuardNoSend;
 
         fn lock(&self) {

@@ -1,8 +1,9 @@
 #!/usr/bin/env python3
-"""Explores runs of include/lock.c, calls.c and bells.c themselves, with two and three threads that use a lock or have a node each, on a model of the
-processor's memory (tools/seats).
+"""Explores runs of the C library's own files, of locks and of nodes (include/lock.c, gate.c, door.c, conditions.c, calls.c and bells.c), with two and three
+threads that use a lock or have a node each, on a model of the processor's memory (tools/seats).
 
-tools/seats.py [MOST]      runs of at most MOST turns of the schedule, 2: two minutes of a processor. 3 takes one minute more. It needs GCC
+tools/seats.py [MOST] [--scene BEGINNING ..] [--fault WORDS | --no-faults] [--jobs 2]
+    runs of at most MOST turns of the schedule, 2: some minutes of a processor. It needs GCC
 
 A turn of the schedule is one of these: another thread goes on although this one could; a thread's time ends; a plain store stays in its thread's
 buffer, unseen by the others, or is seen from there before it must be. All runs with at most MOST turns are made. Stores are seen as x86-64 has them: in
@@ -13,65 +14,90 @@ takes one step, or two; that it does so is proved elsewhere. No scene has reques
 that share a bell or a guard.
 
 In no run may a thread sleep without being woken, two threads have the lock or the line at once, two threads call a node or one call it out of its order,
-freed memory be touched, or an answer be wrong. Each library with one fault must fail in some run, or this program does not see what it is for. It ends
-with 1 at the first library for which this is not so.
+freed memory be touched, an answer be wrong, or a thread that waits be overtaken by one whose call began later. Each library with one fault must fail in
+some run, or this program does not see what it is for. It ends with 1 at the first library for which this is not so.
 """
 
+import argparse
+import concurrent.futures
 import pathlib
 import subprocess
 import sys
 import tempfile
 
 ROOT = pathlib.Path(__file__).resolve().parent.parent
-SOURCES = {name: (ROOT / "include" / name).read_text() for name in ("lock.c", "calls.c", "bells.c", "bells.h")}
+BUILT = ("lock.c", "gate.c", "door.c", "conditions.c", "calls.c", "bells.c")
+SOURCES = {name: (ROOT / "include" / name).read_text() for name in (*BUILT, "lock.h", "bells.h")}
 # How often a waiter polls decides nothing here, as the model's clock times no pause: once.
 COUNTED = "    unsigned looks = atomic_load_explicit(&counted, memory_order_relaxed);\n"
 assert COUNTED in SOURCES["bells.c"]
 SOURCES["bells.c"] = SOURCES["bells.c"].replace(COUNTED, "    unsigned looks = 1;\n")
 RENAMED = [f"-D{name}=model_{short}" for name, short in (("malloc", "malloc"), ("free", "free"), ("syscall", "syscall"), ("sched_yield", "yield"), ("clock_gettime", "clock"))]
+# In the sources: fewer looks, polls and turns before the same decisions; and what tells the scenes since when a thread waits that the lock knows, and until when.
+WAITS = "    struct limit limit = from_now(nanoseconds);\n    uint32_t got = QOLB_WAITING;\n    if (!me->seat) {\n"
+AT_DOOR = "    while (got == QOLB_WAITING && !me->seat) {\n"
+GIVES_UP = "            got = give_up(me->seat);\n"
+IS_LATE = "        if (left(limit) == 0) got = QOLB_LATE;\n"
+HOOKED = [
+    ("YIELDS = 16", "YIELDS = 1"),
+    ("CALM = 16", "CALM = 1"),
+    (WAITS, WAITS.replace("    if (!me->seat) {\n", "    if (me->seat) { void hook_waits(void); hook_waits(); }\n    if (!me->seat) {\n")),
+    (AT_DOOR, "    { void hook_waits(void); hook_waits(); }\n" + AT_DOOR),
+    (GIVES_UP, "            { void hook_ends(void); hook_ends(); }\n" + GIVES_UP),
+    (IS_LATE, IS_LATE.replace("got = QOLB_LATE;", "{ void hook_ends(void); got = QOLB_LATE, hook_ends(); }")),
+]
 
 LEAVING = "    atomic_store_explicit(&seat->state, LEAVING, memory_order_release);\n"
 FREED = "atomic_store_explicit(&seat->state, FREE, memory_order_release);\n"
-LEAVES = f"    if (atomic_load(&door->sleepers)) free_and_ring(door, seat);\n    else {FREED}"
-RINGS = f"    struct next next = next_of(&seat->node);\n    {FREED}    ring_for(next);\n    ring(&door->bell);\n"
-LOOK = "    unsigned word = atomic_load(&bell->word);\n    uint32_t got = look(me);\n"
+LEAVES = f"    if (atomic_load(&hall->sleepers)) ring_and_free(hall, seat);\n    else {FREED}"
+RINGS = "    ring_for(next_of(&seat->node));\n    qolb_free_seat_(hall, seat);\n"
+TOLD_CLOSED = "    if (got == QOLB_CLOSED) ring_for(next_of(&seat->node));\n    atomic_exchange(&seat->state, LEAVING);\n"
+LOOK = "    unsigned word = atomic_load(&bell->word);\n    uint32_t got = qolb_poll_proved_(&seat->node);\n"
 COUNT = "    atomic_fetch_add(&bell->sleepers, 1);\n"
-IN_ALL = "    atomic_fetch_add(&door->sleepers, 1);\n"
+IN_ALL = "    atomic_fetch_add(&hall->sleepers, 1);\n    unsigned word"
 ANYWHERE = "    atomic_fetch_add(&anywhere.sleepers, 1);\n"
 NODE_LOOK = "    unsigned word = atomic_load(&bell->word);\n    uint32_t got = qolb_poll_proved_(node);\n"
 NEXT = "    ring(next.holder);\n    ring(next.ahead);\n"
+STANDS = "    stand(cond, hall, &me);\n    atomic_fetch_add(&hall->guests, 1);\n    qolb_leave_hall_(hall, seat, qolb_deqolb_proved_);\n"
+SHUT = "        beside = it->beside;\n        tell(it, SHUT);\n"
 FAULTS = {
     "nobody says that a seat is about to be free": (LEAVING, ""),
-    "a thread sleeps though it met such a seat": ("(seat || !me->met)", "1"),
     "who leaves rings no bell": (LEAVES, f"    {FREED}"),
-    "who leaves does not ring at the door": (RINGS, RINGS.replace("    ring(&door->bell);\n", "")),
-    "who leaves rings at the door alone": (RINGS, RINGS.replace("    ring_for(next);\n", "")),
+    "who leaves rings no bell of the line": (RINGS, "    qolb_free_seat_(hall, seat);\n"),
+    "who leaves tells nobody at the door": (RINGS, f"    ring_for(next_of(&seat->node));\n    {FREED}"),
     "a seat is freed by a relaxed store where nobody sleeps": (LEAVES, LEAVES.replace("_release", "_relaxed")),
-    "a seat is freed by a relaxed store where somebody sleeps": (RINGS, RINGS.replace("_release", "_relaxed")),
-    "who leaves looks at the door after the seat is free": (LEAVES, f"    {FREED}    if (atomic_load(&hall->door->sleepers)) free_and_ring(door, seat);\n"),
-    "who leaves asks for whom to ring after the seat is free": (RINGS, f"    {FREED}    ring_for(next_of(&seat->node));\n    ring(&door->bell);\n"),
-    "who is told that it is closed frees its seat by a plain store": ("    atomic_exchange(&seat->state, FREE);\n", f"    {FREED}"),
-    "who is told that it is closed rings at the door alone": ("    if (passed_on) ring_for(next);\n", ""),
+    "who leaves looks for sleepers after the seat is free": (LEAVES, f"    {FREED}    if (atomic_load(&hall->sleepers)) ring_and_free(hall, seat);\n"),
+    "who leaves asks for whom to ring after the seat is free": (RINGS, "    qolb_free_seat_(hall, seat);\n    ring_for(next_of(&seat->node));\n"),
+    "who is told that it is closed rings no bell": (TOLD_CLOSED, TOLD_CLOSED.split("\n", 1)[1]),
+    "who gives up says by a plain store that the seat is about to be free": (TOLD_CLOSED, TOLD_CLOSED.replace("atomic_exchange(&seat->state, LEAVING);", "atomic_store_explicit(&seat->state, LEAVING, memory_order_release);")),
+    "who gives up does not say that the seat is about to be free": (TOLD_CLOSED, TOLD_CLOSED.split("\n")[0] + "\n"),
     "the sleeper does not count itself at its bell": (COUNT + IN_ALL, IN_ALL),
-    "the sleeper does not count itself in all": (COUNT + IN_ALL, COUNT),
+    "the sleeper does not count itself in all": (COUNT + IN_ALL, COUNT + "    unsigned word"),
     "the word is read after the second look": (LOOK, "".join(reversed(LOOK.splitlines(True)))),
-    "there is no second look": (LOOK, LOOK.replace("look(me)", "QOLB_WAITING")),
+    "there is no second look": (LOOK, LOOK.replace("qolb_poll_proved_(&seat->node)", "QOLB_WAITING")),
     "nothing is added to the word": ("    atomic_fetch_add(&bell->word, 1);\n", ""),
-    "one alone is woken": ("qolb_wake_at_(&bell->word, INT32_MAX)", "qolb_wake_at_(&bell->word, 1)"),
     "the one behind the next holder is rung for alone": (NEXT, NEXT.replace("    ring(next.holder);\n", "")),
     "who lets go rings at its own place": ("qolb_went_to_proved_(node)", "qolb_waits_at_proved_(node)"),
     "a seat is taken without a look at whether it is free": ("state != FREE || !atomic_compare_exchange_strong(&seat->state, &state, TAKEN)", "atomic_exchange(&seat->state, TAKEN) == LEAVING"),
     "the hall is found by a relaxed load": ("__atomic_load_n(&lock->own, __ATOMIC_ACQUIRE)", "__atomic_load_n(&lock->own, __ATOMIC_RELAXED)"),
-    "who is late keeps its seat": ("    } else if (me->seat) {\n", "    } else if (me->seat && got != QOLB_LATE) {\n"),
+    "who is late keeps its seat": ("    } else {\n        give_back(me->hall, me->seat, got);\n", "    } else if (got != QOLB_LATE) {\n        give_back(me->hall, me->seat, got);\n"),
+    "who is late keeps its request": ("    uint32_t got = qolb_withdraw_proved_(&seat->node);\n", "    uint32_t got = QOLB_WITHDRAWN;\n"),
     "a busy seat is asked no more": ("        atomic_store(&seat->state, FREE);\n    } else {", "    } else {"),
-    "a lock is closed while a seat is about to be free": ("if (state != LEAVING) {", "if (state != FREE) {"),
-    "who waits stands in the list after it has left": ("    stand(cond, hall, &me);\n    atomic_fetch_add(&hall->guests, 1);\n    leave_hall(hall, seat, qolb_deqolb_proved_);\n", "    atomic_fetch_add(&hall->guests, 1);\n    leave_hall(hall, seat, qolb_deqolb_proved_);\n    stand(cond, hall, &me);\n"),
+    "the holder may enter again": ("    if (is_in(hall) || own_seat(hall)) return QOLB_MISUSE;\n", ""),
+    "only who is in by the gate may not enter again": ("is_in(hall) || own_seat(hall)", "is_in(hall)"),
+    "a thread that holds by a seat is not counted": ("        qolb_own_.by_seat++;\n", ""),
+    "a lock is closed while a seat is about to be free": ("if (state != LEAVING) return k;", "if (state != FREE) return k;"),
+    "a lock is closed while it has guests": ("many < hall->seats || atomic_load(&hall->guests)", "many < hall->seats"),
+    "who does not close the lock tells nobody of its seats": ("    atomic_exchange(&hall->seat[0]->state, LEAVING);\n    qolb_free_seat_(hall, hall->seat[0]);\n", "    atomic_store(&hall->seat[0]->state, FREE);\n"),
+    "who closes the lock leaves the gate open": ("    if (gate & OPEN) qolb_take_back_(hall, gate);\n    unsigned many", "    unsigned many"),
+    "who waits stands in the list after it has left": (STANDS, "".join(STANDS.splitlines(True)[1:] + STANDS.splitlines(True)[:1])),
+    "who waits at a condition is no guest": (STANDS, STANDS.replace("    atomic_fetch_add(&hall->guests, 1);\n", ""), "    atomic_fetch_sub(&hall->guests, 1);\n    return got;\n}\n\nuint32_t qolb_cond_wait(", "    return got;\n}\n\nuint32_t qolb_cond_wait("),
     "who is told is not woken": ("    qolb_wake_at_(word, 1); /* the waiter may be gone */\n", ""),
-    "a condition's list has no guard": ("    if (!atomic_compare_exchange_strong(&guard->word, &was, 1))\n        while (atomic_exchange(&guard->word, 2)) qolb_sleep_at_(&guard->word, 2, FOR_EVER);\n", "    (void)was;\n"),
-    "a guard wakes nobody": (" == 2) qolb_wake_at_(&guard->word, 1);", " == 2) return;"),
+    "a condition's list has no guard": ("    take_guard(&guard->word);\n", ""),
+    "a guard wakes nobody": ("    if (atomic_exchange(word, 0) == 2) qolb_wake_at_(word, 1);\n", "    atomic_exchange(word, 0);\n"),
     "who is late stays in the condition's list": ("told != SIGNALLED && stand_no_more(cond, &me)", "0"),
     "who was told stays in the lock's list": ("        stand_no_more_in(&me);\n", ""),
-    "a shut reads behind one that it told": ("        beside = it->beside;\n        tell(it, SHUT);\n", "        tell(it, SHUT);\n        beside = it->beside;\n"),
+    "a shut reads behind one that it told": (SHUT, "".join(reversed(SHUT.splitlines(True)))),
     "a shut tells nobody": ("        tell(it, SHUT);\n", ""),
     "nodes: the sleeper does not count itself at its bell": (COUNT + ANYWHERE, ANYWHERE),
     "nodes: the sleeper does not count itself at any bell": (COUNT + ANYWHERE, COUNT),
@@ -85,6 +111,82 @@ FAULTS = {
     "nodes: who is late does not withdraw": ("uint32_t got = qolb_withdraw_proved_(node);", "uint32_t got = QOLB_WITHDRAWN;"),
 }
 
+# The gate.
+KEEPS = "    if (is_alone(hall, kept)) qolb_leave_gate_(hall, atomic_load(&hall->gate), qolb_deqolb_proved_);\n    else end_kept(hall, qolb_deqolb_proved_);\n"
+BEFORE_GATE = "    go_in_by(hall, kept);\n" + KEEPS
+ENDS_KEPT = "    atomic_store(&hall->gate, QUEUED_UP);\n    qolb_end_turn_(hall, hall->held_by, release);\n"
+GOES_IN = "    return gate & OPEN && atomic_compare_exchange_strong(&hall->gate, &gate, own_number() + (gate ^ OPEN));\n"
+GOES_IN_AT_ONCE = "        if (gate & OPEN && atomic_compare_exchange_strong(&hall->gate, &gate, me + (gate ^ OPEN))) return QOLB_GRANTED;\n"
+TAKES_BACK = "    if (atomic_compare_exchange_strong(&hall->gate, &gate, QUEUED_UP)) qolb_end_turn_(hall, hall->held_by, qolb_deqolb_proved_);\n"
+OPENS = "        if (atomic_compare_exchange_strong(&hall->gate, &gate, OPEN)) return;\n"
+LEAVES_AT_ONCE = "    if (atomic_load_explicit(&hall->gate, memory_order_relaxed) == gate && atomic_compare_exchange_strong(&hall->gate, &gate, OPEN)) return QOLB_DONE;\n"
+FAULTS |= {
+    "the gate is opened without a second look": (KEEPS, "    qolb_leave_gate_(hall, atomic_load(&hall->gate), qolb_deqolb_proved_);\n"),
+    "the gate is opened before the second look": (BEFORE_GATE, "    go_in_by(hall, kept);\n    atomic_store(&hall->gate, OPEN);\n    if (!is_alone(hall, kept)) qolb_take_back_(hall, OPEN);\n"),
+    "the gate is set by a plain store": ("    atomic_exchange(&hall->gate, own_number());\n", "    atomic_store_explicit(&hall->gate, own_number(), memory_order_release);\n"),
+    "who keeps its turn looks at the seats alone": ("    if (atomic_load(&hall->at_door)) return 0;\n    for", "    for"),
+    "who keeps its turn looks at the door alone": ("        if (hall->seat[k] != kept && atomic_load(&hall->seat[k]->state) != FREE) return 0;\n", "        (void)kept;\n"),
+    "who keeps its turn looks for seats that are taken alone": ("hall->seat[k] != kept && atomic_load(&hall->seat[k]->state) != FREE", "hall->seat[k] != kept && atomic_load(&hall->seat[k]->state) == LEAVING"),
+    "a call is not heard": ("release == qolb_deqolb_proved_ && !(gate & CALLED)", "release == qolb_deqolb_proved_"),
+    "a shut opens the gate": ("release == qolb_deqolb_proved_ && !(gate & CALLED)", "!(gate & CALLED)"),
+    "who takes a seat does not look at the gate": ("    marks_gate(me->hall);\n    uint32_t got = qolb_enqolb_proved_(&seat->node);\n", "    uint32_t got = qolb_enqolb_proved_(&seat->node);\n"),
+    "who takes a seat looks at the gate before that": ("    unsigned state = atomic_load(&seat->state);\n    if (state != FREE", "    marks_gate(me->hall);\n    unsigned state = atomic_load(&seat->state);\n    if (state != FREE", "    marks_gate(me->hall);\n    uint32_t got = qolb_enqolb_proved_(&seat->node);\n", "    uint32_t got = qolb_enqolb_proved_(&seat->node);\n"),
+    "who comes to the door does not look at the gate": ("    come(hall, &my);\n    marks_gate(hall);\n", "    come(hall, &my);\n"),
+    "two go in by one gate": (GOES_IN, "    if (gate & OPEN) atomic_store(&hall->gate, own_number() + (gate ^ OPEN));\n    return gate & OPEN;\n"),
+    "two go in by one gate at once": (GOES_IN_AT_ONCE, "        if (gate & OPEN) return atomic_store(&hall->gate, me + (gate ^ OPEN)), QOLB_GRANTED;\n"),
+    "an open gate is closed though a thread went in": (TAKES_BACK, "    atomic_store(&hall->gate, QUEUED_UP);\n    qolb_end_turn_(hall, hall->held_by, qolb_deqolb_proved_);\n"),
+    "an open gate is closed, and the line is kept": (TAKES_BACK, "    atomic_compare_exchange_strong(&hall->gate, &gate, QUEUED_UP);\n"),
+    "a thread that is in is called by no mark": ("        else atomic_compare_exchange_strong(&hall->gate, &gate, gate | CALLED);\n", "        else break;\n"),
+    "who is called opens the gate at once": (LEAVES_AT_ONCE, LEAVES_AT_ONCE.replace("== gate", "/ NUMBER == gate / NUMBER").replace("atomic_compare_exchange_strong(&hall->gate, &gate, OPEN)", "(atomic_store(&hall->gate, OPEN), 1)")),
+    "who leaves the gate opens it by a plain store": (OPENS, "        return atomic_store(&hall->gate, OPEN);\n"),
+    "the line is released before the gate is closed": (ENDS_KEPT, "    qolb_end_turn_(hall, hall->held_by, release);\n    atomic_store(&hall->gate, QUEUED_UP);\n"),
+    "the gate stays as it is when the kept turn ends": (ENDS_KEPT, "    qolb_end_turn_(hall, hall->held_by, release);\n"),
+    "who keeps its turn holds by its seat, too": ("    atomic_store_explicit(&kept->holder, 0, memory_order_release);\n    atomic_exchange(&hall->gate", "    atomic_exchange(&hall->gate"),
+    "the node of a kept turn is told after the gate is set": ("    hall->held_by = kept;\n    atomic_store_explicit(&kept->holder, 0, memory_order_release);\n    atomic_exchange(&hall->gate, own_number());\n", "    atomic_store_explicit(&kept->holder, 0, memory_order_release);\n    atomic_exchange(&hall->gate, own_number());\n    hall->held_by = kept;\n"),
+    "who leaves for another leaves for who is in by a seat alone": ("    if (in_of(gate)) {\n        qolb_leave_gate_(hall, gate, qolb_deqolb_proved_);\n        return QOLB_DONE;\n    }\n", ""),
+}
+
+# The door.
+FREES = "    int guarded = atomic_load(&hall->at_door) != 0;\n"
+GUARDED = "        guarded = hall->first != NULL;\n        if (!guarded) return_guard(&hall->guard);\n"
+FREE_THEN_TOLD = f"    {FREED}    if (!guarded) return;\n    woken = tell_first(hall);\n"
+FORGETS = "    atomic_exchange(&my->told, UNTOLD);\n    me->is_first = 1;\n    uint32_t got = qolb_take_seat_(me);\n"
+GOES = "    if (atomic_load(&hall->at_door) && (is_told(my) || has_free_seat(hall))) admit(hall);\n"
+COMES = "static void come(struct hall *hall, struct caller *my) {\n    take_guard(&hall->guard);\n"
+COUNTS = "    atomic_fetch_add(&hall->at_door, 1);\n    atomic_fetch_add(&hall->sleepers, 1);\n    come(hall, &my);\n"
+FAULTS |= {
+    "the first sleeps though it met a seat that is about to be free": ("    if (got == QOLB_WAITING && !me->seat && me->met) {\n", "    if (0) {\n"),
+    "a seat is freed by a relaxed store where somebody is at the door": (FREE_THEN_TOLD, FREE_THEN_TOLD.replace("_release", "_relaxed")),
+    "who frees a seat looks at the door after that": (FREES, f"    {FREED}{FREES}"),
+    "who frees a seat tells before that": (FREE_THEN_TOLD, f"    if (guarded) woken = tell_first(hall);\n    {FREED}    if (!guarded) return;\n"),
+    "who frees a seat returns the guard after that though nobody is there": (GUARDED, "        guarded = 1;\n"),
+    "who frees a seat takes no guard": ("    if (guarded) {\n        take_guard(&hall->guard);\n", "    if (guarded) {\n"),
+    "who frees a seat wakes nobody": ("    return_guard(&hall->guard);\n    wake(woken);\n}\n\n/* ---- Waiting", "    return_guard(&hall->guard);\n}\n\n/* ---- Waiting"),
+    "who frees a seat tells nobody, though it wakes": ("atomic_exchange(&first->told, TOLD) == ASLEEP_UNTOLD", "atomic_load(&first->told) == ASLEEP_UNTOLD"),
+    "who goes from the door wakes nobody": ("    return_guard(&hall->guard);\n    wake(woken);\n}\n\nvoid", "    return_guard(&hall->guard);\n}\n\nvoid"),
+    "a later thread takes a seat before those at the door": ("    if (!me->is_first && atomic_load(&hall->at_door)) return QOLB_WAITING;\n", ""),
+    "the last seat is asked though one is at the door": ("last < hall->seats && !atomic_load(&hall->at_door) ?", "last < hall->seats ?"),
+    "who tries takes a seat before those at the door": ("atomic_load(&hall->gate) != QUEUED_UP || atomic_load(&hall->at_door) || qolb_lock_holder(lock)", "atomic_load(&hall->gate) != QUEUED_UP || qolb_lock_holder(lock)"),
+    "who goes from the door tells nobody": (GOES, ""),
+    "who goes from the door tells of no seat": (GOES, GOES.replace("(is_told(my) || has_free_seat(hall))", "is_told(my)")),
+    "who goes from the door does not tell what it was told": (GOES, GOES.replace("(is_told(my) || has_free_seat(hall))", "has_free_seat(hall)")),
+    "who goes looks for free seats before it is out of the list": ("    take_guard(&hall->guard);\n    take_out(hall, my);\n", "    int tells = is_told(my) || has_free_seat(hall);\n    take_guard(&hall->guard);\n    take_out(hall, my);\n", GOES, GOES.replace("(is_told(my) || has_free_seat(hall))", "tells")),
+    "the first at the door waits to be told": ("    if (!hall->first) atomic_store_explicit(&my->told, TOLD, memory_order_relaxed);\n", ""),
+    "each at the door looks for itself": ("    if (!hall->first) atomic_store_explicit(&my->told, TOLD, memory_order_relaxed);\n", "    atomic_store_explicit(&my->told, TOLD, memory_order_relaxed);\n"),
+    "what was told at the door is forgotten after the look": (FORGETS, "    me->is_first = 1;\n    uint32_t got = qolb_take_seat_(me);\n    atomic_exchange(&my->told, UNTOLD);\n"),
+    "who comes to the door takes no guard": (COMES, COMES.split("\n")[0] + "\n"),
+    "who comes to the door counts itself behind the others": (COUNTS, "    come(hall, &my);\n    atomic_fetch_add(&hall->at_door, 1);\n    atomic_fetch_add(&hall->sleepers, 1);\n"),
+    "who is at the door does not count among those that sleep": (COUNTS, COUNTS.replace("    atomic_fetch_add(&hall->sleepers, 1);\n", ""), "    atomic_fetch_sub(&hall->sleepers, 1);\n    atomic_fetch_sub(&hall->at_door, 1);\n", "    atomic_fetch_sub(&hall->at_door, 1);\n"),
+    "who is at the door is no guest": ("        atomic_fetch_add(&me->hall->guests, 1);\n", "", "        atomic_fetch_sub(&me->hall->guests, 1);\n", ""),
+    "who comes to the door is put first": ("    me->before = hall->last;\n    me->next = NULL;\n    if (hall->last) hall->last->next = me;\n    else hall->first = me;\n    hall->last = me;\n", "    me->next = hall->first;\n    me->before = NULL;\n    if (hall->first) hall->first->before = me;\n    else hall->last = me;\n    hall->first = me;\n"),
+    "who is woken early at the door is told nothing else": ("    atomic_compare_exchange_strong(&my->told, &asleep, UNTOLD);\n}\n", "    atomic_store(&my->told, UNTOLD);\n}\n"),
+    "who sleeps at the door does not say so": ("    if (!time || !atomic_compare_exchange_strong(&my->told, &untold, ASLEEP_UNTOLD)) return;\n", "    if (!time || atomic_load(&my->told) != UNTOLD) return;\n    atomic_store(&my->told, ASLEEP_UNTOLD);\n"),
+    "who is late at the door stays in the list": ("    take_guard(&hall->guard);\n    take_out(hall, my);\n", "    take_guard(&hall->guard);\n    if (my->next || my->before) take_out(hall, my);\n    else hall->first = hall->last = NULL;\n    if (my->next) my->next->before = my;\n"),
+}
+
+# How the names of the scenes begin in which a fault of this beginning is looked for; the others in all.
+SCENES = {"nodes": ["nodes"]}
+
 
 def replaced(sources, old, new):
     """The sources with `new` in place of `old`, which must occur once in all of them."""
@@ -94,46 +196,80 @@ def replaced(sources, old, new):
     return {name: text.replace(old, new) for name, text in sources.items()}
 
 
+def with_fault(texts):
+    sources = SOURCES
+    for old, new in zip(texts[::2], texts[1::2], strict=True):
+        sources = replaced(sources, old, new)
+    return sources
+
+
 def built(folder, sources):
     """The explorer, built over this library."""
-    for name, text in replaced(sources, "YIELDS = 16", "YIELDS = 1").items():
+    for old, new in HOOKED:
+        sources = replaced(sources, old, new)
+    for name, text in sources.items():
         (folder / name).write_text(text)
     compiler = ["cc", "-std=c11", "-I", folder, "-I", ROOT / "include", "-I", ROOT / "tools/seats"]
-    told = ["-fsanitize=thread", "-U__SANITIZE_THREAD__", f'-DLOCK="{folder}/lock.c"', *RENAMED]
+    told = ["-fsanitize=thread", "-U__SANITIZE_THREAD__", *RENAMED]
     objects = []
-    for source in (ROOT / "tools/seats/scenes.c", folder / "calls.c", folder / "bells.c"):
+    for source in (ROOT / "tools/seats/scenes.c", *(folder / name for name in BUILT)):
         objects.append(folder / f"{source.stem}.o")
-        subprocess.run([*compiler, "-O1", *told, "-c", source, "-o", objects[-1]], check=True)
+        subprocess.run([*compiler, "-w", "-O1", *told, "-c", source, "-o", objects[-1]], check=True)
     subprocess.run([*compiler, "-O2", ROOT / "tools/seats/explorer.c", ROOT / "tools/seats/line.c", *objects, "-o", folder / "explorer"], check=True)
     return folder / "explorer"
 
 
-def run(explorer, most):
+def run(explorer, most, scene):
     """The output of the runs, and whether all of them passed."""
-    done = subprocess.run([explorer, str(most)], capture_output=True, text=True, check=False)
+    done = subprocess.run([explorer, str(most), scene], capture_output=True, text=True, check=False)
     return done.stdout.splitlines(), done.returncode == 0
 
 
-def must_fail(folder, fault, sources):
-    explorer = built(folder, sources)
-    for most in (1, 2, 3):
-        told, well = run(explorer, most)
-        if not well:
-            print(f"{fault}: {told[-1] if told else 'it ended by a signal'}", flush=True)
-            return
-    sys.exit(f"{fault}: all runs go well")
+def goes_well(most, scenes):
+    """Prints how many runs there are of the library as it is; False if one fails."""
+    runs = []
+    with tempfile.TemporaryDirectory() as name:
+        explorer = built(pathlib.Path(name), SOURCES)
+        for scene in scenes or [""]:
+            told, well = run(explorer, most, scene)
+            if not well:
+                print(f"as it is: {told[-1] if told else 'it ended by a signal'}", flush=True)
+                return False
+            runs += told
+    print(f"as it is: {sum(int(line.rsplit(' ', 2)[1]) for line in runs):,} runs of {len(runs)} scenes go well", flush=True)
+    return True
+
+
+def is_found(fault, most):
+    """Prints where a library with this fault fails; False if it does not."""
+    with tempfile.TemporaryDirectory() as name:
+        explorer = built(pathlib.Path(name), with_fault(FAULTS[fault]))
+        for turns in range(1, most + 1):
+            for scene in SCENES.get(fault.split(":")[0], [""]):
+                told, well = run(explorer, turns, scene)
+                if not well:
+                    print(f"{fault}: at {turns}, {told[-1] if told else 'it ended by a signal'}", flush=True)
+                    return True
+    print(f"{fault}: all runs go well", flush=True)
+    return False
 
 
 def main():
-    most = int(sys.argv[1]) if len(sys.argv) > 1 else 2
-    with tempfile.TemporaryDirectory() as name:
-        folder = pathlib.Path(name)
-        told, well = run(built(folder, SOURCES), most)
-        if not well:
-            sys.exit(f"as it is: {told[-1]}")
-        print(f"as it is: {sum(int(line.rsplit(' ', 2)[1]) for line in told):,} runs of {len(told)} scenes go well", flush=True)
-        for fault, (old, new) in FAULTS.items():
-            must_fail(folder, fault, replaced(SOURCES, old, new))
+    words = argparse.ArgumentParser()
+    words.add_argument("most", type=int, nargs="?", default=2)
+    words.add_argument("--scene", action="append", default=[])
+    words.add_argument("--fault", default="")
+    words.add_argument("--no-faults", action="store_true")
+    words.add_argument("--jobs", type=int, default=2)
+    asked = words.parse_args()
+    if not asked.fault and not goes_well(asked.most, asked.scene):
+        sys.exit(1)
+    faults = [fault for fault in FAULTS if asked.fault in fault and not asked.no_faults]
+    with concurrent.futures.ThreadPoolExecutor(asked.jobs) as pool:
+        found = list(pool.map(lambda fault: is_found(fault, asked.most), faults))
+    if faults:
+        print(f"{sum(found)} of {len(faults)} faults are found")
+    sys.exit(0 if all(found) else 1)
 
 
 main()

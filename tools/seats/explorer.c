@@ -21,7 +21,7 @@ struct late {
 
 static struct thread {
     ucontext_t context;
-    struct own own;
+    struct own_data own;
     enum { ENDED, RUNS, SLEEPS } state;
     uintptr_t word;
     int times_out, lates;
@@ -288,7 +288,7 @@ static void run(void) {
     threads[THREADS].clock.at[THREADS] = 1;
     set_up(scene);
     for (int k = 0; k < scene->threads; k++) {
-        threads[k].own = (struct own){0, 0}, threads[k].state = RUNS, threads[k].now = 0, threads[k].lates = 0;
+        threads[k].own = (struct own_data){0, 0, 0}, threads[k].state = RUNS, threads[k].now = 0, threads[k].lates = 0;
         threads[k].clock = threads[THREADS].clock, threads[k].clock.at[k] = 1;
         getcontext(&threads[k].context);
         threads[k].context.uc_stack.ss_sp = threads[k].stack, threads[k].context.uc_stack.ss_size = sizeof threads[k].stack;
@@ -302,11 +302,11 @@ static void run(void) {
     check_end(scene);
 }
 
-/* seats MOST [SCENE]: all scenes, or one, with runs of at most MOST turns of the schedule. */
+/* seats MOST [BEGINNING]: all scenes, or those whose names begin so, with runs of at most MOST turns of the schedule. */
 int main(int argc, char **argv) {
     most = argc > 1 ? atoi(argv[1]) : 2;
     for (scene = scenes; scene->name; scene++) {
-        if (argc > 2 && strcmp(argv[2], scene->name)) continue;
+        if (argc > 2 && strncmp(argv[2], scene->name, strlen(argv[2]))) continue;
         long before = runs;
         planned = 0;
         do run(); while (next_path());

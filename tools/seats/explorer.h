@@ -20,17 +20,17 @@ struct scene {
     int threads, opens;
 };
 
-/* The data of a thread in lock.c. */
-struct own {
-    uint64_t self;
-    unsigned last_seat;
+/* The data of a thread in the lock's files, which is in one place here. */
+struct own_data {
+    uint64_t number;
+    unsigned last_seat, by_seat;
 };
 
 /* In scenes.c: all scenes, and a last one without a name. */
 extern const struct scene scenes[];
 void set_up(const struct scene *scene);
 void check_end(const struct scene *scene);
-void change_thread(struct own *from, const struct own *to);
+void change_thread(struct own_data *from, const struct own_data *to);
 int is_own(uintptr_t at);
 
 /* In explorer.c: ends the program if it is not so. */
@@ -38,6 +38,7 @@ void must(int is_so, const char *what);
 #define MUST(it) must(it, #it)
 void __tsan_write_range(void *at, size_t size);
 void *model_malloc(size_t size);
+void model_free(void *block);
 
 /* For line.c: another thread may be next; an access, which must follow all that it races with; all stores of this thread are seen; what happened
  * before, as a call takes it over or hands it on. */

@@ -1,12 +1,41 @@
-/* The actions of threads with a lock, or with a node each, in the runs that explorer.c makes. The lock, include/lock.c or one that differs by a fault, is in here
- * too; it, calls.c and bells.c are built with -fsanitize=thread, by which the compiler reports each access to memory by a call, and explorer.c
- * answers those calls. */
-#include LOCK
+/* The actions of threads with a lock, or with a node each, in the runs that explorer.c makes. The library's files, or those that differ by a fault, are built
+ * with -fsanitize=thread, by which the compiler reports each access to memory by a call, and explorer.c answers those calls. */
+#include <lock.h>
+#include <sched.h>
 #include "explorer.h"
 
-static struct { qolb_lock lock; qolb_cond cond; struct { _Alignas(QOLB_NODE_ALIGN) qolb_node node; } of[THREADS]; int turns, inside, users, has; } it;
+static struct { qolb_lock lock; qolb_cond cond; struct { _Alignas(QOLB_NODE_ALIGN) qolb_node node; } of[THREADS]; int turns, inside, users, has; atomic_int over; } it;
+
+BY_THREAD struct room qolb_room_;
+
+/* Of each thread that waits in the queue, and whom the lock knows: since which time. And since when a thread is in its call, in which it may overtake none of
+ * those. The hooks are put into the library's files (../seats.py). */
+static struct { int in_call, waits; long began, since; } order[THREADS];
+static long time_of_order;
+#define UNSEEN __attribute__((no_sanitize("thread")))
+void hook_waits(void);
+void hook_ends(void);
+
+UNSEEN static int who(void) { return (int)(qolb_own_.number / NUMBER % ((uint64_t)1 << SYSTEM_BITS)) - 100; }
+UNSEEN static void begins_call(void) {
+    own_number();
+    order[who()].in_call = 1, order[who()].waits = 0, order[who()].began = ++time_of_order;
+}
+UNSEEN void hook_waits(void) {
+    int me = who();
+    if (order[me].in_call) order[me].waits = 1, order[me].since = ++time_of_order;
+}
+UNSEEN void hook_ends(void) { order[who()].waits = 0; }
+UNSEEN static void ends_call(void) { order[who()].in_call = order[who()].waits = 0; }
+UNSEEN static void enters_turn(void) {
+    int me = who();
+    for (int k = 0; k < THREADS; k++)
+        if (order[k].waits && order[me].in_call) must(order[me].began < order[k].since, "a thread that waits is overtaken");
+    ends_call();
+}
 
 static void turn(void) {
+    enters_turn();
     MUST(it.inside++ == 0);
     it.turns++;
     MUST(--it.inside == 0);
@@ -16,15 +45,36 @@ static void leave(void) { MUST(qolb_lock_leave(&it.lock) == QOLB_DONE); }
 
 static void enters(int self) {
     (void)self;
+    begins_call();
     MUST(qolb_lock_enter(&it.lock) == QOLB_GRANTED);
     turn();
     leave();
 }
 
+/* One enters four times, and the others once. */
+static void one_stays(int self) {
+    if (self == 0) enters(self), enters(self), enters(self);
+    enters(self);
+}
+
+static void enters_again(int self) {
+    MUST(qolb_cond_wait(&it.cond, &it.lock) == QOLB_MISUSE);
+    for (int k = 0; k < 2; k++) {
+        MUST(qolb_lock_enter(&it.lock) == QOLB_GRANTED);
+        MUST(qolb_lock_enter(&it.lock) == QOLB_MISUSE && qolb_lock_enter_within(&it.lock, MS) == QOLB_MISUSE && qolb_lock_try(&it.lock) == QOLB_BUSY);
+        turn();
+        leave();
+    }
+    MUST(qolb_lock_leave(&it.lock) == QOLB_MISUSE && qolb_cond_wait(&it.cond, &it.lock) == QOLB_MISUSE);
+    (void)self;
+}
+
 static void enters_twice(int self) { enters(self), enters(self); }
 
 static void is_late(int self) {
+    begins_call();
     uint32_t got = self ? qolb_lock_enter_within(&it.lock, MS) : qolb_lock_enter(&it.lock);
+    if (got != QOLB_GRANTED) ends_call();
     if (got == QOLB_LATE) return;
     MUST(got == QOLB_GRANTED);
     turn();
@@ -36,7 +86,9 @@ static void one_is_late(int self) { is_late(self == 1); }
 static void is_late_and_comes_again(int self) { is_late(self), enters(self); }
 
 static void tries(int self) {
+    begins_call();
     uint32_t got = self == 1 ? qolb_lock_try(&it.lock) : qolb_lock_enter(&it.lock);
+    if (got == QOLB_BUSY) ends_call();
     if (got == QOLB_BUSY) return;
     MUST(got == QOLB_GRANTED);
     turn();
@@ -53,11 +105,55 @@ static void shuts(int self) {
 
 static void last_frees(int self) {
     (void)self;
+    begins_call();
     MUST(qolb_lock_enter(&it.lock) == QOLB_GRANTED);
     turn();
     int last = --it.users == 0;
     leave();
     if (last) MUST(qolb_lock_close(&it.lock) == QOLB_DONE);
+}
+
+/* The line may be kept when the last of them frees it. */
+static void last_frees_after_more(int self) {
+    if (self == 0) enters(self), enters(self);
+    last_frees(self);
+}
+
+static int somebody_waits(void) {
+    struct hall *hall = hall_of(&it.lock);
+    unsigned many = atomic_load(&hall->guests);
+    for (unsigned k = 0; k < hall->seats; k++) many += atomic_load(&hall->seat[k]->state) == TAKEN;
+    return many > 1;
+}
+
+/* One closes the lock behind its turn, while another waits, is late, or leaves. */
+static void one_closes(int self) {
+    if (self) {
+        while (qolb_lock_holder(&it.lock) != 100) sched_yield();
+        is_late(self);
+        atomic_store(&it.over, 1);
+        return;
+    }
+    MUST(qolb_lock_enter(&it.lock) == QOLB_GRANTED);
+    while (!somebody_waits() && !atomic_fetch_add(&it.over, 0)) sched_yield(); /* by a step that lets its own stores be seen */
+    leave();
+    uint32_t got = qolb_lock_close(&it.lock);
+    MUST(got == QOLB_DONE || got == QOLB_MISUSE);
+}
+
+/* One enters while it holds the lock, and another leaves for it. */
+static void one_holds_twice(int self) {
+    if (self == 2) return enters(self);
+    if (self == 0) {
+        MUST(qolb_lock_enter_unasked_(&it.lock, UINT64_MAX) == QOLB_GRANTED);
+        MUST(qolb_lock_enter_unasked_(&it.lock, UINT64_MAX) == QOLB_GRANTED);
+        it.turns++;
+        leave();
+        MUST(qolb_lock_leave(&it.lock) == QOLB_MISUSE);
+        return;
+    }
+    while (qolb_lock_holder(&it.lock) != 100) sched_yield();
+    MUST(qolb_lock_leave_for_another_(&it.lock) == QOLB_DONE);
 }
 
 static void waits(int self) {
@@ -72,6 +168,44 @@ static void waits(int self) {
     if (self && it.has) it.has--;
     leave();
     if (self == 0) qolb_cond_signal(&it.cond), qolb_cond_signal(&it.cond);
+}
+
+/* One waits at the condition, and is signalled in the last turn of one that enters again and again: meanwhile the line may be kept. */
+static void waits_while_one_stays(int self) {
+    if (self == 0) {
+        MUST(qolb_lock_enter(&it.lock) == QOLB_GRANTED);
+        while (!it.has) MUST(qolb_cond_wait(&it.cond, &it.lock) == QOLB_GRANTED);
+        turn();
+        leave();
+        return;
+    }
+    enters(self), enters(self);
+    MUST(qolb_lock_enter(&it.lock) == QOLB_GRANTED);
+    it.has = 1;
+    turn();
+    MUST(qolb_cond_signal(&it.cond) == QOLB_DONE);
+    leave();
+}
+
+/* One closes the lock while another waits at its condition. */
+static void one_closes_beside_a_waiter(int self) {
+    int waits = 0;
+    if (self) {
+        MUST(qolb_lock_enter(&it.lock) == QOLB_GRANTED);
+        it.has = 1;
+        while (it.has == 1) MUST(qolb_cond_wait(&it.cond, &it.lock) == QOLB_GRANTED);
+        leave();
+        return;
+    }
+    while (!waits) {
+        MUST(qolb_lock_enter(&it.lock) == QOLB_GRANTED);
+        waits = it.has;
+        if (waits) it.has = 2;
+        leave();
+        if (!waits) sched_yield();
+    }
+    MUST(qolb_lock_close(&it.lock) == QOLB_MISUSE);
+    MUST(qolb_cond_signal(&it.cond) == QOLB_DONE);
 }
 
 /* The places where an entry of a returned waiter may have been. */
@@ -156,13 +290,34 @@ const struct scene scenes[] = {
     {"two want the only seat twice", enters_twice, QOLB_TICKET, 1, 2, BEFORE},
     {"two are late", is_late, QOLB_TICKET, 2, 3, BEFORE},
     {"three want the only seat, and one is late", one_is_late, QOLB_TICKET, 1, 3, BEFORE},
+    {"three want the only seat, and two are late", is_late, QOLB_TICKET, 1, 3, BEFORE},
     {"one is late and comes again", is_late_and_comes_again, QOLB_TICKET, 2, 2, BEFORE},
+    {"two are late and come again", is_late_and_comes_again, QOLB_TICKET, 2, 3, BEFORE},
     {"one tries", tries, QOLB_TICKET, 2, 3, BEFORE},
+    {"one tries, and there is one seat", tries, QOLB_TICKET, 1, 3, BEFORE},
     {"one shuts", shuts, QOLB_TICKET, 3, 3, BEFORE},
     {"one shuts, and there is one seat", shuts, QOLB_TICKET, 1, 3, BEFORE},
     {"the last frees", last_frees, QOLB_TICKET, 2, 3, BEFORE},
+    {"the last frees, and there is one seat", last_frees, QOLB_TICKET, 1, 3, BEFORE},
+    {"the last frees after more", last_frees_after_more, QOLB_TICKET, 2, 2, BEFORE},
+    {"the last frees after more, one seat", last_frees_after_more, QOLB_TICKET, 1, 3, BEFORE},
+    {"one closes", one_closes, QOLB_TICKET, 2, 2, BEFORE},
+    {"one closes, and there is one seat", one_closes, QOLB_TICKET, 1, 2, BEFORE},
     {"two wait at a condition, one not for ever", waits, QOLB_TICKET, 3, 3, BEFORE},
+    {"two wait at a condition, and there is one seat", waits, QOLB_TICKET, 1, 3, BEFORE},
+    {"one closes beside a waiter", one_closes_beside_a_waiter, QOLB_TICKET, 2, 2, BEFORE},
+    {"one closes beside a waiter, one seat", one_closes_beside_a_waiter, QOLB_TICKET, 1, 2, BEFORE},
     {"two wait at a condition until one shuts", waits_until_shut, QOLB_TICKET, 3, 3, BEFORE},
+    {"one waits at a condition while one stays", waits_while_one_stays, QOLB_TICKET, 2, 2, BEFORE},
+    {"one waits at a condition while one stays, one seat", waits_while_one_stays, QOLB_TICKET, 1, 2, BEFORE},
+    {"enters again", enters_again, QOLB_TICKET, 2, 2, BEFORE},
+    {"enters again, and there is one seat", enters_again, QOLB_TICKET, 1, 2, BEFORE},
+    {"holds twice", one_holds_twice, QOLB_TICKET, 2, 3, BEFORE},
+    {"holds twice, and there is one seat", one_holds_twice, QOLB_TICKET, 1, 3, BEFORE},
+    {"three want two seats twice", enters_twice, QOLB_TICKET, 2, 3, BEFORE},
+    {"three want two seats twice, and link", enters_twice, QOLB_LIST, 2, 3, BEFORE},
+    {"one stays", one_stays, QOLB_TICKET, 2, 3, BEFORE},
+    {"one stays, with one seat", one_stays, QOLB_TICKET, 1, 3, BEFORE},
     {"nodes: three acquire", acquires_once, QOLB_TICKET, 3, 3, WITH_NODES},
     {"nodes: three acquire, who link", acquires_once, QOLB_LIST, 3, 3, WITH_NODES},
     {"nodes: two acquire twice", acquires_twice, QOLB_TICKET, 2, 2, WITH_NODES},
@@ -180,10 +335,8 @@ const struct scene scenes[] = {
 void set_up(const struct scene *scene) {
     static const qolb_bytes zeros;
     qolb_node nodes[THREADS] = {{0}};
-    memset(qolb_bells_, 0, sizeof qolb_bells_), memset(doors, 0, sizeof doors);
-    memset(guards, 0, sizeof guards), memset(&it, 0, sizeof it);
-    opened_halls = 0;
-    self = 0, last_seat = 0;
+    memset(qolb_bells_, 0, sizeof qolb_bells_), memset(&it, 0, sizeof it), memset(order, 0, sizeof order);
+    qolb_own_ = (struct own){0, 0, 0}, time_of_order = 0;
     it.lock.kind = scene->kind, it.lock.seats = scene->seats, it.users = scene->threads;
     if (scene->opens == BEFORE) MUST(qolb_lock_open(&it.lock, scene->kind, 0, scene->seats, &zeros) == QOLB_DONE);
     if (scene->opens != WITH_NODES) return;
@@ -191,19 +344,25 @@ void set_up(const struct scene *scene) {
     for (int k = 0; k < scene->threads; k++) it.of[k].node = nodes[k];
 }
 
+static void check_hall(struct hall *hall) {
+    MUST(!hall->waits && !hall->first && !hall->last && !hall->at_door && !hall->guests && !hall->sleepers && !hall->guard);
+    for (unsigned k = 0; k < hall->seats; k++) MUST(hall->seat[k]->holder == 0 && (hall->gate == OPEN || hall->seat[k]->state == FREE));
+    MUST(hall->gate == QUEUED_UP || hall->gate == OPEN);
+}
+
 /* All threads have ended. */
 void check_end(const struct scene *scene) {
     MUST((scene->does != enters && scene->does != acquires_once) || it.turns == scene->threads);
     MUST((scene->does != enters_twice && scene->does != acquires_twice) || it.turns == 2 * scene->threads);
-    MUST(!it.lock.own || hall_of(&it.lock)->waits == NULL);
+    MUST(scene->does != one_stays || it.turns == 6);
+    if (it.lock.own) check_hall(it.lock.own);
     MUST(qolb_lock_holder(&it.lock) == 0 && it.inside == 0 && it.cond.own == NULL);
     MUST(qolb_lock_close(&it.lock) == QOLB_DONE && it.lock.own == NULL);
 }
 
-/* The data of each thread, which is in one place here. */
-int is_own(uintptr_t at) { return at == (uintptr_t)&self || at == (uintptr_t)&last_seat; }
+int is_own(uintptr_t at) { return at - (uintptr_t)&qolb_own_ < sizeof qolb_own_ || at - (uintptr_t)&qolb_room_ < sizeof qolb_room_; }
 
-__attribute__((no_sanitize("thread"))) void change_thread(struct own *from, const struct own *to) {
-    from->self = self, from->last_seat = last_seat;
-    self = to->self, last_seat = to->last_seat;
+UNSEEN void change_thread(struct own_data *from, const struct own_data *to) {
+    *from = (struct own_data){qolb_own_.number, qolb_own_.last_seat, qolb_own_.by_seat};
+    qolb_own_ = (struct own){to->number, to->last_seat, to->by_seat};
 }

@@ -1,0 +1,101 @@
+/* Who holds a lock, where the system gives a thread a number that another thread has had: after a fork the one thread of the child goes on with the number that
+ * it had in the parent, and once the parent has ended the system may give that to a new thread of the child. Here it gives each thread the same
+ * number: linked with --wrap for syscall. Prints only errors. */
+#define _GNU_SOURCE
+#include <pthread.h>
+#include <qolb.h>
+#include <stdarg.h>
+#include <stdio.h>
+#include <stdlib.h>
+#include <sys/syscall.h>
+#include <sys/wait.h>
+#include <unistd.h>
+
+enum { TURNS = 40, NUMBER = 7, MS = 1000000 };
+
+#define WANT(call, wanted)                                                                     \
+    do {                                                                                       \
+        unsigned long long got_ = (unsigned long long)(call);                                  \
+        if (got_ != (unsigned long long)(wanted)) {                                            \
+            printf("line %d: %s gave %llu\n", __LINE__, #call, got_);                          \
+            exit(1);                                                                           \
+        }                                                                                      \
+    } while (0)
+
+long __real_syscall(long number, ...);
+
+long __wrap_syscall(long number, ...) {
+    long word[6];
+    va_list rest;
+    if (number == SYS_gettid) return NUMBER;
+    va_start(rest, number);
+    for (int k = 0; k < 6; k++) word[k] = va_arg(rest, long);
+    va_end(rest);
+    return __real_syscall(number, word[0], word[1], word[2], word[3], word[4], word[5]);
+}
+
+static qolb_lock lock;
+static qolb_cond cond = QOLB_COND_INIT;
+
+/* Another thread holds the lock. */
+static void *holds_nothing(void *unused) {
+    WANT(qolb_lock_holder(&lock), NUMBER);
+    WANT(qolb_lock_turn(&lock) == NULL, 1);
+    WANT(qolb_lock_leave(&lock), QOLB_MISUSE);
+    WANT(qolb_lock_shut(&lock), QOLB_MISUSE);
+    WANT(qolb_cond_wait(&cond, &lock), QOLB_MISUSE);
+    WANT(qolb_lock_try(&lock), QOLB_BUSY);
+    WANT(qolb_lock_enter_within(&lock, MS), QOLB_LATE);
+    return unused;
+}
+
+static void *has_it(void *unused) {
+    WANT(qolb_lock_enter(&lock), QOLB_GRANTED);
+    WANT(qolb_lock_enter(&lock), QOLB_MISUSE);
+    WANT(qolb_lock_leave(&lock), QOLB_DONE);
+    return unused;
+}
+
+static void in_another_thread(void *(*work)(void *)) {
+    pthread_t id;
+    WANT(pthread_create(&id, NULL, work, NULL), 0);
+    WANT(pthread_join(id, NULL), 0);
+}
+
+/* For the thread that holds it. */
+static void is_held(void) {
+    in_another_thread(holds_nothing);
+    WANT(qolb_lock_enter(&lock), QOLB_MISUSE);
+    WANT(qolb_lock_turn(&lock) != NULL, 1);
+    WANT(qolb_lock_leave(&lock), QOLB_DONE);
+    in_another_thread(has_it);
+    WANT(qolb_lock_enter(&lock), QOLB_GRANTED);
+    WANT(qolb_lock_leave(&lock), QOLB_DONE);
+    WANT(qolb_lock_close(&lock), QOLB_DONE);
+}
+
+/* The lock is held at the fork, by a request or, after turns that nobody else wanted, because the line is kept. */
+static void forks(qolb_lock as, int turns) {
+    int ended;
+    lock = as;
+    for (int k = 0; k < turns; k++) {
+        WANT(qolb_lock_enter(&lock), QOLB_GRANTED);
+        WANT(qolb_lock_leave(&lock), QOLB_DONE);
+    }
+    WANT(qolb_lock_enter(&lock), QOLB_GRANTED);
+    pid_t child = fork();
+    WANT(child >= 0, 1);
+    is_held();
+    if (child == 0) exit(0);
+    WANT(waitpid(child, &ended, 0) == child && WIFEXITED(ended) && WEXITSTATUS(ended) == 0, 1);
+}
+
+int main(void) {
+    for (uint32_t kind = QOLB_RING; kind <= QOLB_TICKET; kind++) {
+        for (uint32_t seats = 1; seats <= 4; seats += 3) {
+            forks((qolb_lock)QOLB_LOCK_INIT_OF(kind, seats), 0);
+            forks((qolb_lock)QOLB_LOCK_INIT_OF(kind, seats), TURNS);
+        }
+    }
+    return 0;
+}

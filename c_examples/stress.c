@@ -1,0 +1,90 @@
+/* Two hundred threads at one lock for some time: each enters, waits at most some time, tries, and waits at a condition, in a random order. No addition may be
+ * lost, no two threads be in at once, and each thread has to go on.
+ *
+ *   build/stress SECONDS KIND SEATS [SEED]     a thread that has no turn in ten times as long ends the program
+ *
+ * Prints the turns of all, and the least and the most of one thread. */
+#define _GNU_SOURCE
+#include <qolb.h>
+
+#include "waiters.h"
+
+enum { THREADS = 200 };
+
+static qolb_lock lock;
+static qolb_cond cond = QOLB_COND_INIT;
+static atomic_int over;
+static long additions, inside, signals;
+
+struct worker {
+    _Alignas(QOLB_NODE_ALIGN) pthread_t id;
+    uint32_t seed;
+    long turns, late;
+};
+static struct worker workers[THREADS];
+
+static void turn(struct worker *me) {
+    uint64_t was;
+    MUST(inside++, 0);
+    additions++;
+    MUST(qolb_add_lane(qolb_lock_turn(&lock), 0, 1, &was), QOLB_DONE);
+    MUST(was + 1, additions);
+    MUST(--inside, 0);
+    me->turns++;
+}
+
+/* Whether it is in. */
+static int enters(struct worker *me, unsigned way) {
+    uint32_t got = way < 10 ? qolb_lock_enter(&lock) : way < 14 ? qolb_lock_enter_within(&lock, drawn(&me->seed) % (20 * MS)) : qolb_lock_try(&lock);
+    if (got == QOLB_GRANTED) return 1;
+    MUST(got, way < 14 ? QOLB_LATE : QOLB_BUSY);
+    me->late++;
+    return 0;
+}
+
+/* A turn more after a signal, or after some time without one. */
+static void waits(struct worker *me) {
+    uint32_t got = qolb_cond_wait_within(&cond, &lock, drawn(&me->seed) % MS);
+    MUST(got == QOLB_GRANTED || got == QOLB_LATE, 1);
+    turn(me);
+}
+
+static void *works(void *argument) {
+    struct worker *me = argument;
+    while (!atomic_load(&over)) {
+        unsigned way = drawn(&me->seed) % 16;
+        if (!enters(me, way)) continue;
+        turn(me);
+        if (way == 0) waits(me);
+        if (way == 1 && signals++ >= 0) qolb_cond_signal(&cond);
+        if (way == 2) MUST(qolb_lock_enter(&lock), QOLB_MISUSE);
+        MUST(qolb_lock_leave(&lock), QOLB_DONE);
+        if (way == 3) usleep(drawn(&me->seed) % 2000);
+    }
+    qolb_cond_broadcast(&cond);
+    return NULL;
+}
+
+int main(int argc, char **argv) {
+    if (argc < 4) return fputs("stress SECONDS KIND SEATS [SEED]\n", stderr), 2;
+    double last = atof(argv[1]);
+    lock = (qolb_lock)QOLB_LOCK_INIT_OF((uint32_t)atoi(argv[2]), (uint32_t)atoi(argv[3]));
+    alarm((unsigned)(10 * last) + 60);
+    for (int k = 0; k < THREADS; k++) {
+        workers[k].seed = (uint32_t)(k + 1) * 77773u + (argc > 4 ? (uint32_t)atoi(argv[4]) : 0);
+        MUST(pthread_create(&workers[k].id, NULL, works, &workers[k]), 0);
+    }
+    usleep((useconds_t)(last * 1e6));
+    atomic_store(&over, 1);
+    long turns = 0, least = -1, most = 0;
+    for (int k = 0; k < THREADS; k++) {
+        pthread_join(workers[k].id, NULL);
+        turns += workers[k].turns;
+        if (least < 0 || workers[k].turns < least) least = workers[k].turns;
+        if (workers[k].turns > most) most = workers[k].turns;
+    }
+    printf("kind %s seats %s: %ld turns, of one thread %ld to %ld\n", argv[2], argv[3], turns, least, most);
+    MUST(turns, additions);
+    MUST(qolb_lock_close(&lock), QOLB_DONE);
+    return least < 1;
+}

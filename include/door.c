@@ -1,0 +1,146 @@
+/* The door of a lock: a list of the threads that want a seat, in the order in which they came (lock.h). Tested, not proved.
+ *
+ * The entries are on the threads' stacks. Only the first looks for a seat: it is told, looks, makes its request, and only then leaves the list and tells the
+ * next. No later thread takes a seat while one is at the door. Who frees a seat first says that it is about to be free, and then looks whether one is there;
+ * who comes first counts itself, and then looks at the seats: a Dekker handshake. The first that meets a seat that is about to be free looks again.
+ *
+ * A thread that is at the door counts as a guest until it has a seat, so the hall stays. A leaver therefore frees its seat under the guard: as long as the list is
+ * not empty, and cannot change, the hall is there. */
+#define _GNU_SOURCE
+#include "lock.h"
+#include <sched.h>
+
+/* ---- The list, under its guard ---- */
+
+static void put_last(struct hall *hall, struct caller *me) {
+    me->before = hall->last;
+    me->next = NULL;
+    if (hall->last) hall->last->next = me;
+    else hall->first = me;
+    hall->last = me;
+}
+
+static void take_out(struct hall *hall, struct caller *me) {
+    if (me->next) me->next->before = me->before;
+    else hall->last = me->before;
+    if (me->before) me->before->next = me->next;
+    else hall->first = me->next;
+}
+
+/* ---- Telling ---- */
+
+/* Whom to wake once the guard is returned. They may be gone by then. */
+struct woken {
+    atomic_uint *first, *second;
+};
+
+/* Tells the first to look for a seat. The one behind it is woken, if it sleeps, and looks on for a while. Under the guard. */
+static struct woken tell_first(struct hall *hall) {
+    struct woken woken = {NULL, NULL};
+    struct caller *first = hall->first, *second = first ? first->next : NULL;
+    unsigned asleep = ASLEEP_UNTOLD;
+    if (first && atomic_exchange(&first->told, TOLD) == ASLEEP_UNTOLD) woken.first = &first->told;
+    if (second && atomic_compare_exchange_strong(&second->told, &asleep, UNTOLD)) woken.second = &second->told;
+    return woken;
+}
+
+static void wake(struct woken woken) {
+    if (woken.first) qolb_wake_at_(woken.first, 1);
+    if (woken.second) qolb_wake_at_(woken.second, 1);
+}
+
+static void admit(struct hall *hall) {
+    take_guard(&hall->guard);
+    struct woken woken = tell_first(hall);
+    return_guard(&hall->guard);
+    wake(woken);
+}
+
+void qolb_free_seat_(struct hall *hall, struct seat *seat) {
+    struct woken woken = {NULL, NULL};
+    int guarded = atomic_load(&hall->at_door) != 0;
+    if (guarded) {
+        take_guard(&hall->guard);
+        guarded = hall->first != NULL;
+        if (!guarded) return_guard(&hall->guard);
+    }
+    atomic_store_explicit(&seat->state, FREE, memory_order_release);
+    if (!guarded) return;
+    woken = tell_first(hall);
+    return_guard(&hall->guard);
+    wake(woken);
+}
+
+/* ---- Waiting ---- */
+
+static void pause_once(void) { __builtin_ia32_pause(); }
+
+static int is_told(const struct caller *my) { return atomic_load_explicit(&my->told, memory_order_relaxed) == TOLD; }
+
+/* Waits at the door until it is told, or for a while. */
+static void await_word(struct caller *my, const struct limit *limit) {
+    for (unsigned k = qolb_looks_(); k > 0; k--, pause_once())
+        if (is_told(my)) return;
+    for (int k = 0; k < YIELDS; k++) {
+        sched_yield();
+        if (is_told(my)) return;
+    }
+    uint64_t time = left(limit);
+    unsigned untold = UNTOLD, asleep = ASLEEP_UNTOLD;
+    if (!time || !atomic_compare_exchange_strong(&my->told, &untold, ASLEEP_UNTOLD)) return;
+    qolb_sleep_at_(&my->told, ASLEEP_UNTOLD, time);
+    atomic_compare_exchange_strong(&my->told, &asleep, UNTOLD);
+}
+
+static void come(struct hall *hall, struct caller *my) {
+    take_guard(&hall->guard);
+    if (!hall->first) atomic_store_explicit(&my->told, TOLD, memory_order_relaxed);
+    put_last(hall, my);
+    return_guard(&hall->guard);
+}
+
+static int has_free_seat(struct hall *hall) {
+    for (unsigned k = 0; k < hall->seats; k++)
+        if (atomic_load(&hall->seat[k]->state) != TAKEN) return 1;
+    return 0;
+}
+
+/* Who was told of a seat, and does not take it, or finds one more, tells the next. */
+static void go(struct hall *hall, struct caller *my) {
+    take_guard(&hall->guard);
+    take_out(hall, my);
+    return_guard(&hall->guard);
+    atomic_fetch_sub(&hall->sleepers, 1);
+    atomic_fetch_sub(&hall->at_door, 1);
+    if (atomic_load(&hall->at_door) && (is_told(my) || has_free_seat(hall))) admit(hall);
+}
+
+/* The first looks for a seat: as qolb_take_seat_. What it was told before is for this look. */
+static uint32_t look_as_first(struct asking *me, struct caller *my) {
+    atomic_exchange(&my->told, UNTOLD);
+    me->is_first = 1;
+    uint32_t got = qolb_take_seat_(me);
+    if (got == QOLB_WAITING && !me->seat && me->met) {
+        atomic_store(&my->told, TOLD);
+        sched_yield();
+    }
+    return got;
+}
+
+uint32_t qolb_wait_at_door_(struct asking *me, const struct limit *limit) {
+    struct hall *hall = me->hall;
+    struct caller my = {NULL, NULL, UNTOLD};
+    uint32_t got = QOLB_WAITING;
+    atomic_fetch_add(&hall->at_door, 1);
+    atomic_fetch_add(&hall->sleepers, 1);
+    come(hall, &my);
+    marks_gate(hall);
+    while (got == QOLB_WAITING && !me->seat) {
+        if (is_told(&my)) got = look_as_first(me, &my);
+        if (got != QOLB_WAITING || me->seat) break;
+        if (left(limit) == 0) got = QOLB_LATE;
+        else await_word(&my, limit);
+    }
+    go(hall, &my);
+    return got;
+}

@@ -1,0 +1,143 @@
+/* What a lock has, and what lock.c, gate.c, door.c and conditions.c call of each other (qolb.h, LOCKS). Four of the library's internal files. Tested, not
+ * proved; each step on the line is a proved call.
+ *
+ * A lock has a hall: a line, and for each of its nodes a seat. A thread that enters takes a free seat, makes a request with its node, and waits for its
+ * turn; it returns the seat when it leaves. A thread that finds no free seat waits at the door, in a list (door.c). While nobody waits, the line is kept, and
+ * a thread enters and leaves by the gate alone (gate.c). */
+#ifndef QOLB_LOCK_H
+#define QOLB_LOCK_H
+
+#include "bells.h"
+
+enum { MAX_SEATS = 200 };
+
+/* ---- Seats ---- */
+
+enum seat_state {
+    FREE,
+    TAKEN,  /* its node asks, waits, or holds the line */
+    LEAVING /* for a moment: it is about to be free */
+};
+
+/* It is in the block of its node, behind the node's data. */
+struct seat {
+    qolb_node node;
+    atomic_uint state;
+    unsigned calm;           /* the number of its turns in a row that were granted at once */
+    _Atomic uint64_t holder; /* the number of the thread that holds the line with its node, by a request of its own; else 0 */
+};
+
+_Static_assert(sizeof(struct seat) <= SEAT_BYTES, "a seat is in its node's block");
+
+/* ---- The door ---- */
+
+/* What a thread at the door was told: nothing, or to look for a seat. */
+enum { UNTOLD, TOLD, ASLEEP_UNTOLD };
+
+struct caller {
+    struct caller *next, *before; /* at the door; NULL behind the last, and before the first */
+    atomic_uint told;
+};
+
+/* ---- Halls ---- */
+
+struct hall {
+    /* While threads queue up, it is read and not written. */
+    _Alignas(QOLB_NODE_ALIGN) _Atomic uint64_t gate;
+    /* Written by the holder, when it keeps its turn, and when it waits at a condition. */
+    _Alignas(QOLB_NODE_ALIGN) struct seat *held_by;
+    struct waiter *waits;
+    atomic_uint sleepers; /* the number of threads that sleep at any bell of the line, or are at the door. A leaver that finds none rings no bell */
+    atomic_uint at_door;  /* the number of threads that are at the door, or about to be */
+    atomic_uint guests;   /* the number of threads that use the hall and have no seat */
+    atomic_uint guard;    /* of the door's list (take_guard) */
+    struct caller *first, *last;
+    /* Written once. */
+    _Alignas(QOLB_NODE_ALIGN) void *block; /* what malloc gave */
+    unsigned seats;
+    qolb_node lent;
+    struct seat *seat[];
+};
+
+static inline struct hall *hall_of(const qolb_lock *lock) { return __atomic_load_n(&lock->own, __ATOMIC_ACQUIRE); }
+
+/* ---- The gate ----
+ *
+ * QUEUED_UP: each thread makes a request of its own. Else the line is kept: the node of held_by holds it, in the turns of one thread after another, which
+ * are no turns of the line. OPEN: no thread is in. Else the number of the thread that is in. CALLED: the kept turn ends when that thread leaves. The upper 16
+ * bits and two of the lower four are 0. */
+enum { QUEUED_UP = 0, CALLED = 1, OPEN = 8, NUMBER = 16 };
+#define TURN ((uint64_t)1 << 48)
+
+/* The number of the thread that is in, or 0. */
+static inline uint64_t in_of(uint64_t gate) { return gate % TURN / NUMBER * NUMBER; }
+
+/* ---- Threads ----
+ *
+ * A thread's number: the system's, 22 bits of it, and above them 22 bits of a count of the threads of this process that have drawn one; times NUMBER, as it
+ * is in a gate. A thread keeps it over a fork. So a thread of the child that the system gives the parent's number has another one here. */
+enum { SYSTEM_BITS = 22 };
+
+struct own {
+    uint64_t number; /* 0 until it is drawn */
+    unsigned last_seat;
+    unsigned by_seat; /* at least the number of locks that it holds by a seat */
+};
+
+extern HIDDEN BY_THREAD struct own qolb_own_;
+
+HIDDEN uint64_t qolb_draw_number_(void);
+
+static inline uint64_t own_number(void) { return qolb_own_.number ? qolb_own_.number : qolb_draw_number_(); }
+
+/* ---- lock.c: entering and leaving ---- */
+
+struct asking {
+    struct hall *hall;
+    struct seat *seat; /* NULL while it has none */
+    int late;          /* it was not granted the lock at once */
+    int met;           /* while it looked for a seat it met one that is about to be free */
+    int is_first;      /* it is the first at the door */
+};
+
+/* Makes a request with a seat that is free and not busy: GRANTED, CLOSED or WAITING, for a turn or, without a seat, for a seat. GRANTED without a seat: it
+ * went in by the gate. */
+HIDDEN uint32_t qolb_take_seat_(struct asking *me);
+HIDDEN uint32_t qolb_enter_hall_(struct hall *hall, uint64_t nanoseconds);
+
+/* The seat by whose node the calling thread holds the line, also if it is in by the gate; NULL if it does not hold it. */
+HIDDEN struct seat *qolb_held_seat_(struct hall *hall);
+
+/* Leaves for the calling thread, which holds by this seat. */
+HIDDEN void qolb_leave_hall_(struct hall *hall, struct seat *seat, uint32_t (*release)(qolb_node *));
+
+/* Releases the line by this seat's node, or shuts it, frees the seat and rings. The hall may be gone afterwards. */
+HIDDEN void qolb_end_turn_(struct hall *hall, struct seat *seat, uint32_t (*release)(qolb_node *));
+
+/* ---- gate.c ---- */
+
+/* Ends a kept turn in which no thread is, if the gate is still so. */
+HIDDEN void qolb_take_back_(struct hall *hall, uint64_t gate);
+
+/* For a thread with a seat, or at the door: a kept turn ends, now or when the thread that is in leaves. */
+HIDDEN void qolb_call_out_(struct hall *hall);
+
+static inline void marks_gate(struct hall *hall) {
+    if (atomic_load(&hall->gate) != QUEUED_UP) qolb_call_out_(hall);
+}
+
+/* Leaves for the thread that is in. */
+HIDDEN void qolb_leave_gate_(struct hall *hall, uint64_t gate, uint32_t (*release)(qolb_node *));
+
+/* Leaves for a thread that holds by a seat, and keeps its turn for whoever enters next, if no thread waits. */
+HIDDEN void qolb_keep_turn_(struct hall *hall, struct seat *kept);
+
+/* ---- door.c ---- */
+
+/* Waits for a seat: the answer of its request, WAITING for a turn, LATE, or GRANTED without a seat, by the gate. */
+HIDDEN uint32_t qolb_wait_at_door_(struct asking *me, const struct limit *limit);
+
+/* Frees a seat that has been LEAVING since before a read-modify-write step of this thread, and tells the first at the door. The hall may be gone afterwards. */
+HIDDEN void qolb_free_seat_(struct hall *hall, struct seat *seat);
+
+#endif
