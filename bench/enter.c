@@ -1,12 +1,13 @@
 /* Times entering and leaving a lock that no other thread wants, by one thread: a qolb_lock beside a node of the same line (qolb_acquire and
- * qolb_deqolb), a pthread_mutex, and with -DMCS, which needs Debian's package libck-dev, Concurrency Kit's MCS lock.
+ * qolb_deqolb); a lock as it is by default, also while a thread waits at its condition; a pthread_mutex, and with -DMCS, which needs Debian's package
+ * libck-dev, Concurrency Kit's MCS lock. The program has a second thread. With an older library there is no default lock.
  *
  *   cc -std=c11 -O2 -pthread -Iinclude bench/enter.c crates/qolb_c/out/libqolb.a -o enter && ./enter [BATCHES]
  *
- * Prints nanoseconds a round: the least and the median of BATCHES batches (101), in which the ways take turns, and each lock's as a multiple of those of
- * its node. The least is the figure to take if the machine has other work. With a second argument, ./enter 1 "qolb_lock, ticket", it does
- * 10,000 rounds of that way alone, to be counted by valgrind --tool=callgrind --toggle-collect='rounds_of*'. */
-#define _POSIX_C_SOURCE 200809L
+ * Prints nanoseconds a round: the least and the median of BATCHES batches (101), in which the ways take turns, as multiples of the mutex's, too, and
+ * each lock's as a multiple of those of its node. The least is the figure to take if the machine has other work. With a second argument, ./enter 1 "qolb_lock,
+ * ticket", it does 10,000 rounds of that way alone, to be counted by valgrind --tool=callgrind --toggle-collect='rounds_of*'. */
+#define _DEFAULT_SOURCE
 #include <pthread.h>
 #include <qolb.h>
 #include <stdio.h>
@@ -23,7 +24,10 @@ static ck_spinlock_mcs_context_t context;
 enum { ROUNDS = 10000, MAX_BATCHES = 10001 };
 
 static _Alignas(QOLB_NODE_ALIGN) qolb_node nodes[3];
-static _Alignas(QOLB_NODE_ALIGN) qolb_lock locks[3];
+/* Of each kind, the default, and the default with a thread at its condition. */
+enum { DEFAULT = 3, WAITED = 4 };
+static _Alignas(QOLB_NODE_ALIGN) qolb_lock locks[5];
+static qolb_cond cond = QOLB_COND_INIT;
 static pthread_mutex_t mutex = PTHREAD_MUTEX_INITIALIZER;
 
 #define ROUNDS_OF(name, enters, leaves)                                                \
@@ -53,6 +57,10 @@ static const struct way {
     {"qolb_lock, ring", rounds_of_lock, QOLB_RING},
     {"node, list", rounds_of_node, QOLB_LIST},
     {"qolb_lock, list", rounds_of_lock, QOLB_LIST},
+#ifdef QOLB_LOCK_INIT_DEFAULT
+    {"default", rounds_of_lock, DEFAULT},
+    {"default, one waits", rounds_of_lock, WAITED},
+#endif
     {"pthread_mutex", rounds_of_mutex, 0},
 #ifdef MCS
     {"MCS", rounds_of_mcs, 0},
@@ -82,11 +90,18 @@ static void opens(void) {
         nodes[kind] = qolb_move(&all[0]);
         locks[kind] = (qolb_lock)QOLB_LOCK_INIT_OF(kind, 3);
     }
+#ifdef QOLB_LOCK_INIT_DEFAULT
+    locks[DEFAULT] = locks[WAITED] = (qolb_lock)QOLB_LOCK_INIT_DEFAULT;
+#endif
 }
 
 /* In a process of one thread the C library's mutex takes no locked instruction. */
 static void *sleeps(void *unused) {
+#ifdef QOLB_LOCK_INIT_DEFAULT
+    if (qolb_lock_enter(&locks[WAITED]) != QOLB_GRANTED || qolb_cond_wait(&cond, &locks[WAITED]) != QOLB_GRANTED) abort();
+#else
     pause();
+#endif
     return unused;
 }
 
@@ -103,8 +118,9 @@ int main(int argc, char **argv) {
     int batches = argc > 1 ? atoi(argv[1]) : 101;
     if (batches < 1 || batches > MAX_BATCHES) return 2;
     pthread_t other;
-    if (pthread_create(&other, NULL, sleeps, NULL) != 0) return 1;
     opens();
+    if (pthread_create(&other, NULL, sleeps, NULL) != 0) return 1;
+    usleep(100000);
     if (argc > 2) return of_one(argv[2]);
     for (int b = 0; b < batches; b++) {
         for (int k = 0; k < WAYS; k++) {
@@ -113,11 +129,15 @@ int main(int argc, char **argv) {
             took[k][b] = (now() - since) / ROUNDS;
         }
     }
+    const double *mutexes = NULL;
     for (int k = 0; k < WAYS; k++) {
         qsort(took[k], (size_t)batches, sizeof took[k][0], by_size);
-        printf("%-18s least %5.1f median %5.1f", ways[k].name, took[k][0], took[k][batches / 2]);
+        if (ways[k].rounds == rounds_of_mutex) mutexes = took[k];
+    }
+    for (int k = 0; k < WAYS; k++) {
         const double *it = took[k], *before = took[k - 1 + (k == 0)];
-        if (ways[k].rounds == rounds_of_lock) printf("   %.2f and %.2f of the node's", it[0] / before[0], it[batches / 2] / before[batches / 2]);
+        printf("%-18s least %5.1f median %5.1f   %.2f and %.2f of the mutex's", ways[k].name, it[0], it[batches / 2], it[0] / mutexes[0], it[batches / 2] / mutexes[batches / 2]);
+        if (ways[k].rounds == rounds_of_lock && ways[k].kind <= QOLB_TICKET) printf("   %.2f and %.2f of the node's", it[0] / before[0], it[batches / 2] / before[batches / 2]);
         puts("");
     }
     return 0;
