@@ -19,8 +19,8 @@ pub struct TableKey {
 
 /// The contents of a slot: the line's bytes, the last holder's mask, the turns left and the closed flag.
 ///
-/// `bytes` is the first field, so that they are copied from an aligned place. `padding` fills a slot to 128 bytes; it is never read or
-/// copied.
+/// `bytes` is the first field, so that they are copied from an aligned place. `padding` fills a slot to 128 bytes; only `again` copies
+/// it.
 #[derive(Drop)]
 pub struct Payload {
     pub bytes: Line64,
