@@ -300,7 +300,8 @@ uint32_t qolb_lock_enter_unasked_(qolb_lock *lock, uint64_t nanoseconds) {
     return got == QOLB_DONE ? qolb_enter_hall_(hall, nanoseconds) : got;
 }
 
-/* With the last seat only, so that threads that try again and again keep no other seat busy. If it is taken or busy, another thread has the lock. */
+/* With the last seat that is free, so that threads that try again and again keep mostly that one busy. If it is busy, another thread has the lock. A seat
+ * of a thread that is still in its last call says nothing. */
 uint32_t qolb_lock_try(qolb_lock *lock) {
     struct hall *hall;
     uint32_t got = hall_opened(lock, &hall);
@@ -308,7 +309,9 @@ uint32_t qolb_lock_try(qolb_lock *lock) {
     if (goes_in(hall)) return QOLB_GRANTED;
     if (atomic_load(&hall->gate) != QUEUED_UP || atomic_load(&hall->at_door) || qolb_lock_holder(lock)) return QOLB_BUSY;
     struct asking me = {hall, NULL, 0, 0, 0};
-    got = ask_at(&me, hall->seat[hall->seats - 1]);
+    unsigned k = hall->seats - 1;
+    while (k > 0 && atomic_load(&hall->seat[k]->state) != FREE) k--;
+    got = ask_at(&me, hall->seat[k]);
     got = settle(&me, got == QOLB_QUEUED ? give_up(me.seat) : got);
     return got == QOLB_LATE ? (uint32_t)QOLB_BUSY : got;
 }

@@ -3,7 +3,8 @@
 threads that use a lock or have a node each, on a model of the processor's memory (tools/seats).
 
 tools/seats.py [MOST] [--scene BEGINNING ..] [--fault WORDS | --no-faults] [--jobs 2]
-    runs of at most MOST turns of the schedule, 2: some minutes of a processor. It needs GCC
+    runs of at most MOST turns of the schedule, 2, of the library as it is; and of each library with a fault, as many as it takes: five minutes
+    of a processor. It needs GCC
 
 A turn of the schedule is one of these: another thread goes on although this one could; a thread's time ends; a plain store stays in its thread's
 buffer, unseen by the others, or is seen from there before it must be. All runs with at most MOST turns are made. Stores are seen as x86-64 has them: in
@@ -15,7 +16,7 @@ that share a bell or a guard.
 
 In no run may a thread sleep without being woken, two threads have the lock or the line at once, two threads call a node or one call it out of its order,
 freed memory be touched, an answer be wrong, or a thread that waits be overtaken by one whose call began later. Each library with one fault must fail in
-some run, or this program does not see what it is for. It ends with 1 at the first library for which this is not so.
+some run, or this program does not see what it is for; and after each change that is harmless none may fail. It ends with 1 if this is not so.
 """
 
 import argparse
@@ -24,6 +25,7 @@ import pathlib
 import subprocess
 import sys
 import tempfile
+import time
 
 ROOT = pathlib.Path(__file__).resolve().parent.parent
 BUILT = ("lock.c", "gate.c", "door.c", "conditions.c", "calls.c", "bells.c")
@@ -82,11 +84,12 @@ FAULTS = {
     "the hall is found by a relaxed load": ("__atomic_load_n(&lock->own, __ATOMIC_ACQUIRE)", "__atomic_load_n(&lock->own, __ATOMIC_RELAXED)"),
     "who is late keeps its seat": ("    } else {\n        give_back(me->hall, me->seat, got);\n", "    } else if (got != QOLB_LATE) {\n        give_back(me->hall, me->seat, got);\n"),
     "who is late keeps its request": ("    uint32_t got = qolb_withdraw_proved_(&seat->node);\n", "    uint32_t got = QOLB_WITHDRAWN;\n"),
+    "who tries asks for the last seat alone": ("    while (k > 0 && atomic_load(&hall->seat[k]->state) != FREE) k--;\n", ""),
     "a busy seat is asked no more": ("        atomic_store(&seat->state, FREE);\n    } else {", "    } else {"),
     "the holder may enter again": ("    if (is_in(hall) || own_seat(hall)) return QOLB_MISUSE;\n", ""),
     "only who is in by the gate may not enter again": ("is_in(hall) || own_seat(hall)", "is_in(hall)"),
     "a thread that holds by a seat is not counted": ("        qolb_own_.by_seat++;\n", ""),
-    "a lock is closed while a seat is about to be free": ("if (state != LEAVING) return k;", "if (state != FREE) return k;"),
+    "a lock is not closed while a seat is about to be free": ("if (state != LEAVING) return k;", "if (state != FREE) return k;"),
     "a lock is closed while it has guests": ("many < hall->seats || atomic_load(&hall->guests)", "many < hall->seats"),
     "who does not close the lock tells nobody of its seats": ("    atomic_exchange(&hall->seat[0]->state, LEAVING);\n    qolb_free_seat_(hall, hall->seat[0]);\n", "    atomic_store(&hall->seat[0]->state, FREE);\n"),
     "who closes the lock leaves the gate open": ("    if (gate & OPEN) qolb_take_back_(hall, gate);\n    unsigned many", "    unsigned many"),
@@ -142,7 +145,6 @@ FAULTS |= {
     "the line is released before the gate is closed": (ENDS_KEPT, "    qolb_end_turn_(hall, hall->held_by, release);\n    atomic_store(&hall->gate, QUEUED_UP);\n"),
     "the gate stays as it is when the kept turn ends": (ENDS_KEPT, "    qolb_end_turn_(hall, hall->held_by, release);\n"),
     "who keeps its turn holds by its seat, too": ("    atomic_store_explicit(&kept->holder, 0, memory_order_release);\n    atomic_exchange(&hall->gate", "    atomic_exchange(&hall->gate"),
-    "the node of a kept turn is told after the gate is set": ("    hall->held_by = kept;\n    atomic_store_explicit(&kept->holder, 0, memory_order_release);\n    atomic_exchange(&hall->gate, own_number());\n", "    atomic_store_explicit(&kept->holder, 0, memory_order_release);\n    atomic_exchange(&hall->gate, own_number());\n    hall->held_by = kept;\n"),
     "who leaves for another leaves for who is in by a seat alone": ("    if (in_of(gate)) {\n        qolb_leave_gate_(hall, gate, qolb_deqolb_proved_);\n        return QOLB_DONE;\n    }\n", ""),
 }
 
@@ -158,7 +160,6 @@ FAULTS |= {
     "the first sleeps though it met a seat that is about to be free": ("    if (got == QOLB_WAITING && !me->seat && me->met) {\n", "    if (0) {\n"),
     "a seat is freed by a relaxed store where somebody is at the door": (FREE_THEN_TOLD, FREE_THEN_TOLD.replace("_release", "_relaxed")),
     "who frees a seat looks at the door after that": (FREES, f"    {FREED}{FREES}"),
-    "who frees a seat tells before that": (FREE_THEN_TOLD, f"    if (guarded) woken = tell_first(hall);\n    {FREED}    if (!guarded) return;\n"),
     "who frees a seat returns the guard after that though nobody is there": (GUARDED, "        guarded = 1;\n"),
     "who frees a seat takes no guard": ("    if (guarded) {\n        take_guard(&hall->guard);\n", "    if (guarded) {\n"),
     "who frees a seat wakes nobody": ("    return_guard(&hall->guard);\n    wake(woken);\n}\n\n/* ---- Waiting", "    return_guard(&hall->guard);\n}\n\n/* ---- Waiting"),
@@ -168,8 +169,6 @@ FAULTS |= {
     "the last seat is asked though one is at the door": ("last < hall->seats && !atomic_load(&hall->at_door) ?", "last < hall->seats ?"),
     "who tries takes a seat before those at the door": ("atomic_load(&hall->gate) != QUEUED_UP || atomic_load(&hall->at_door) || qolb_lock_holder(lock)", "atomic_load(&hall->gate) != QUEUED_UP || qolb_lock_holder(lock)"),
     "who goes from the door tells nobody": (GOES, ""),
-    "who goes from the door tells of no seat": (GOES, GOES.replace("(is_told(my) || has_free_seat(hall))", "is_told(my)")),
-    "who goes from the door does not tell what it was told": (GOES, GOES.replace("(is_told(my) || has_free_seat(hall))", "has_free_seat(hall)")),
     "who goes looks for free seats before it is out of the list": ("    take_guard(&hall->guard);\n    take_out(hall, my);\n", "    int tells = is_told(my) || has_free_seat(hall);\n    take_guard(&hall->guard);\n    take_out(hall, my);\n", GOES, GOES.replace("(is_told(my) || has_free_seat(hall))", "tells")),
     "the first at the door waits to be told": ("    if (!hall->first) atomic_store_explicit(&my->told, TOLD, memory_order_relaxed);\n", ""),
     "each at the door looks for itself": ("    if (!hall->first) atomic_store_explicit(&my->told, TOLD, memory_order_relaxed);\n", "    atomic_store_explicit(&my->told, TOLD, memory_order_relaxed);\n"),
@@ -180,12 +179,44 @@ FAULTS |= {
     "who is at the door is no guest": ("        atomic_fetch_add(&me->hall->guests, 1);\n", "", "        atomic_fetch_sub(&me->hall->guests, 1);\n", ""),
     "who comes to the door is put first": ("    me->before = hall->last;\n    me->next = NULL;\n    if (hall->last) hall->last->next = me;\n    else hall->first = me;\n    hall->last = me;\n", "    me->next = hall->first;\n    me->before = NULL;\n    if (hall->first) hall->first->before = me;\n    else hall->last = me;\n    hall->first = me;\n"),
     "who is woken early at the door is told nothing else": ("    atomic_compare_exchange_strong(&my->told, &asleep, UNTOLD);\n}\n", "    atomic_store(&my->told, UNTOLD);\n}\n"),
-    "who sleeps at the door does not say so": ("    if (!time || !atomic_compare_exchange_strong(&my->told, &untold, ASLEEP_UNTOLD)) return;\n", "    if (!time || atomic_load(&my->told) != UNTOLD) return;\n    atomic_store(&my->told, ASLEEP_UNTOLD);\n"),
+    "who sleeps at the door says so by two steps": ("    if (!time || !atomic_compare_exchange_strong(&my->told, &untold, ASLEEP_UNTOLD)) return;\n", "    if (!time || atomic_load(&my->told) != UNTOLD) return;\n    atomic_store(&my->told, ASLEEP_UNTOLD);\n"),
     "who is late at the door stays in the list": ("    take_guard(&hall->guard);\n    take_out(hall, my);\n", "    take_guard(&hall->guard);\n    if (my->next || my->before) take_out(hall, my);\n    else hall->first = hall->last = NULL;\n    if (my->next) my->next->before = my;\n"),
 }
 
-# How the names of the scenes begin in which a fault of this beginning is looked for; the others in all.
-SCENES = {"nodes": ["nodes"]}
+# How the names of the scenes begin in which a fault is looked for that takes two turns of the schedule. The others take one, and are looked for in all.
+IN_TWO_TURNS = {
+    "who gives up says by a plain store that the seat is about to be free": "one shuts, and there is one seat",
+    "the word is read after the second look": "three enter",
+    "there is no second look": "three enter",
+    "nothing is added to the word": "three enter",
+    "who tries asks for the last seat alone": "the last tries",
+    "a lock is not closed while a seat is about to be free": "the last frees",
+    "nodes: the word is read after the second look": "nodes: three acquire",
+    "nodes: there is no second look": "nodes: three acquire",
+    "nodes: the second look comes before the count": "nodes: three acquire",
+    "nodes: who shuts the line rings no bell": "nodes: one shuts",
+    "nodes: who is late does not withdraw": "nodes: one is late and comes again",
+    "the gate is set by a plain store": "two want two seats twice, and link",
+    "who comes to the door does not look at the gate": "two of three yield, and there is one seat",
+    "an open gate is closed though a thread went in": "two of three yield",
+    "the line is released before the gate is closed": "two want the only seat twice",
+    "who frees a seat returns the guard after that though nobody is there": "the last frees, and each yields",
+    "who goes from the door tells nobody": "one is late beside one that yields",
+    "who goes looks for free seats before it is out of the list": "one is late beside one that yields",
+    "who sleeps at the door says so by two steps": "one is late beside one that yields",
+}
+
+# Changes after which no run may fail.
+HARMLESS = {
+    # The thread that is in opens the gate by a later step, and nobody else reads which node it is before that.
+    "the node of a kept turn is told after the gate is set": ("    hall->held_by = kept;\n    atomic_store_explicit(&kept->holder, 0, memory_order_release);\n    atomic_exchange(&hall->gate, own_number());\n", "    atomic_store_explicit(&kept->holder, 0, memory_order_release);\n    atomic_exchange(&hall->gate, own_number());\n    hall->held_by = kept;\n"),
+    # The first meets a seat that is about to be free, and looks again; and it leaves the list only under the guard.
+    "who frees a seat tells before that": (FREE_THEN_TOLD, f"    if (guarded) woken = tell_first(hall);\n    {FREED}    if (!guarded) return;\n"),
+    # Who goes with a seat tells the next when it frees that seat. Who goes without one has looked at all seats, and was told of those that were freed since.
+    "who goes from the door tells of no seat": (GOES, GOES.replace("(is_told(my) || has_free_seat(hall))", "is_told(my)")),
+    # Of what it was told, a seat is free, or its new thread tells the next when it leaves.
+    "who goes from the door does not tell what it was told": (GOES, GOES.replace("(is_told(my) || has_free_seat(hall))", "has_free_seat(hall)")),
+}
 
 
 def replaced(sources, old, new):
@@ -225,6 +256,10 @@ def run(explorer, most, scene):
     return done.stdout.splitlines(), done.returncode == 0
 
 
+def last_of(told):
+    return told[-1] if told else "it ended by a signal"
+
+
 def goes_well(most, scenes):
     """Prints how many runs there are of the library as it is; False if one fails."""
     runs = []
@@ -233,25 +268,29 @@ def goes_well(most, scenes):
         for scene in scenes or [""]:
             told, well = run(explorer, most, scene)
             if not well:
-                print(f"as it is: {told[-1] if told else 'it ended by a signal'}", flush=True)
+                print(f"as it is: {last_of(told)}", flush=True)
                 return False
             runs += told
     print(f"as it is: {sum(int(line.rsplit(' ', 2)[1]) for line in runs):,} runs of {len(runs)} scenes go well", flush=True)
     return True
 
 
-def is_found(fault, most):
+def is_found(fault):
     """Prints where a library with this fault fails; False if it does not."""
+    turns = 2 if fault in IN_TWO_TURNS else 1
+    scene = IN_TWO_TURNS.get(fault, "nodes" if fault.startswith("nodes") else "")
     with tempfile.TemporaryDirectory() as name:
-        explorer = built(pathlib.Path(name), with_fault(FAULTS[fault]))
-        for turns in range(1, most + 1):
-            for scene in SCENES.get(fault.split(":")[0], [""]):
-                told, well = run(explorer, turns, scene)
-                if not well:
-                    print(f"{fault}: at {turns}, {told[-1] if told else 'it ended by a signal'}", flush=True)
-                    return True
-    print(f"{fault}: all runs go well", flush=True)
-    return False
+        told, well = run(built(pathlib.Path(name), with_fault(FAULTS[fault])), turns, scene)
+    print(f"{fault}: all runs go well" if well else f"{fault}: at {turns}, {last_of(told)}", flush=True)
+    return not well
+
+
+def is_harmless(change):
+    """Prints whether all runs of at most one turn of the schedule go well after this change."""
+    with tempfile.TemporaryDirectory() as name:
+        told, well = run(built(pathlib.Path(name), with_fault(HARMLESS[change])), 1, "")
+    print(f"harmless: {change}: all runs go well" if well else f"harmless: {change}: {last_of(told)}", flush=True)
+    return well
 
 
 def main():
@@ -261,15 +300,18 @@ def main():
     words.add_argument("--fault", default="")
     words.add_argument("--no-faults", action="store_true")
     words.add_argument("--jobs", type=int, default=2)
-    asked = words.parse_args()
+    asked, since = words.parse_args(), time.monotonic()
     if not asked.fault and not goes_well(asked.most, asked.scene):
         sys.exit(1)
     faults = [fault for fault in FAULTS if asked.fault in fault and not asked.no_faults]
+    changes = [change for change in HARMLESS if asked.fault in change and not asked.no_faults]
     with concurrent.futures.ThreadPoolExecutor(asked.jobs) as pool:
-        found = list(pool.map(lambda fault: is_found(fault, asked.most), faults))
-    if faults:
-        print(f"{sum(found)} of {len(faults)} faults are found")
-    sys.exit(0 if all(found) else 1)
+        found = list(pool.map(is_found, faults))
+        harmless = list(pool.map(is_harmless, changes))
+    if faults or changes:
+        print(f"{sum(found)} of {len(faults)} faults are found, and {sum(harmless)} of {len(changes)} other changes are harmless")
+    print(f"{time.monotonic() - since:.0f} seconds")
+    sys.exit(0 if all(found) and all(harmless) else 1)
 
 
 main()

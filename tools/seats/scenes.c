@@ -34,22 +34,32 @@ UNSEEN static void enters_turn(void) {
     ends_call();
 }
 
-static void turn(void) {
+static void turn_with(int yields) {
     enters_turn();
     MUST(it.inside++ == 0);
     it.turns++;
+    while (yields-- > 0) sched_yield();
     MUST(--it.inside == 0);
 }
 
+static void turn(void) { turn_with(0); }
+
 static void leave(void) { MUST(qolb_lock_leave(&it.lock) == QOLB_DONE); }
+
+static void enters_with(int yields) {
+    begins_call();
+    MUST(qolb_lock_enter(&it.lock) == QOLB_GRANTED);
+    turn_with(yields);
+    leave();
+}
 
 static void enters(int self) {
     (void)self;
-    begins_call();
-    MUST(qolb_lock_enter(&it.lock) == QOLB_GRANTED);
-    turn();
-    leave();
+    enters_with(0);
 }
+
+/* Two let the others go on in their turns: one of them has a seat, and the other may go in by the gate. */
+static void two_yield(int self) { enters_with(self != 1); }
 
 /* One enters four times, and the others once. */
 static void one_stays(int self) {
@@ -83,6 +93,11 @@ static void is_late(int self) {
 
 static void one_is_late(int self) { is_late(self == 1); }
 
+/* One lets the others go on in its turn, and again. */
+static void two_late_beside_one_that_yields(int self) { self == 0 ? enters_with(3) : is_late(self); }
+
+static void one_late_beside_one_that_yields(int self) { self == 0 ? enters_with(3) : one_is_late(self); }
+
 static void is_late_and_comes_again(int self) { is_late(self), enters(self); }
 
 static void tries(int self) {
@@ -92,6 +107,19 @@ static void tries(int self) {
     if (got == QOLB_BUSY) return;
     MUST(got == QOLB_GRANTED);
     turn();
+    leave();
+}
+
+/* The last that had a turn tries behind it: nobody has the lock, though the others may still be in their last calls. */
+static void last_tries(int self) {
+    (void)self;
+    begins_call();
+    MUST(qolb_lock_enter(&it.lock) == QOLB_GRANTED);
+    turn();
+    int last = --it.users == 0;
+    leave();
+    if (!last) return;
+    MUST(qolb_lock_try(&it.lock) == QOLB_GRANTED);
     leave();
 }
 
@@ -108,6 +136,16 @@ static void last_frees(int self) {
     begins_call();
     MUST(qolb_lock_enter(&it.lock) == QOLB_GRANTED);
     turn();
+    int last = --it.users == 0;
+    leave();
+    if (last) MUST(qolb_lock_close(&it.lock) == QOLB_DONE);
+}
+
+static void last_frees_and_yields(int self) {
+    (void)self;
+    begins_call();
+    MUST(qolb_lock_enter(&it.lock) == QOLB_GRANTED);
+    turn_with(2);
     int last = --it.users == 0;
     leave();
     if (last) MUST(qolb_lock_close(&it.lock) == QOLB_DONE);
@@ -295,6 +333,8 @@ const struct scene scenes[] = {
     {"two are late and come again", is_late_and_comes_again, QOLB_TICKET, 2, 3, BEFORE},
     {"one tries", tries, QOLB_TICKET, 2, 3, BEFORE},
     {"one tries, and there is one seat", tries, QOLB_TICKET, 1, 3, BEFORE},
+    {"the last tries", last_tries, QOLB_TICKET, 2, 3, BEFORE},
+    {"the last tries, and there is one seat", last_tries, QOLB_TICKET, 1, 3, BEFORE},
     {"one shuts", shuts, QOLB_TICKET, 3, 3, BEFORE},
     {"one shuts, and there is one seat", shuts, QOLB_TICKET, 1, 3, BEFORE},
     {"the last frees", last_frees, QOLB_TICKET, 2, 3, BEFORE},
@@ -318,6 +358,11 @@ const struct scene scenes[] = {
     {"three want two seats twice, and link", enters_twice, QOLB_LIST, 2, 3, BEFORE},
     {"one stays", one_stays, QOLB_TICKET, 2, 3, BEFORE},
     {"one stays, with one seat", one_stays, QOLB_TICKET, 1, 3, BEFORE},
+    {"two of three yield", two_yield, QOLB_TICKET, 2, 3, BEFORE},
+    {"two of three yield, and there is one seat", two_yield, QOLB_TICKET, 1, 3, BEFORE},
+    {"two are late beside one that yields", two_late_beside_one_that_yields, QOLB_TICKET, 1, 3, BEFORE},
+    {"one is late beside one that yields", one_late_beside_one_that_yields, QOLB_TICKET, 1, 3, BEFORE},
+    {"the last frees, and each yields", last_frees_and_yields, QOLB_TICKET, 2, 3, BEFORE},
     {"nodes: three acquire", acquires_once, QOLB_TICKET, 3, 3, WITH_NODES},
     {"nodes: three acquire, who link", acquires_once, QOLB_LIST, 3, 3, WITH_NODES},
     {"nodes: two acquire twice", acquires_twice, QOLB_TICKET, 2, 2, WITH_NODES},
