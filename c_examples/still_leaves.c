@@ -1,0 +1,77 @@
+/* A thread that has left a lock, and is stopped in that call while it wakes the next holder: the lock is free for all others, by each call, and is closed only
+ * once that thread is out. Linked with --wrap for syscall. Prints only errors. */
+#define _GNU_SOURCE
+#include <qolb.h>
+#include <stdarg.h>
+#include <sys/syscall.h>
+
+#include "waiters.h"
+
+long __real_syscall(long number, ...);
+
+static __thread int first;
+static atomic_int holds, asks, is_stopped, may_go_on;
+static qolb_lock lock;
+
+/* The first thread draws the number of the last seat; and stops behind the first sleeper that it wakes. */
+long __wrap_syscall(long number, ...) {
+    long word[6];
+    va_list rest;
+    if (number == SYS_gettid) return first ? (long)lock.seats - 1 : gettid();
+    va_start(rest, number);
+    for (int k = 0; k < 6; k++) word[k] = va_arg(rest, long);
+    va_end(rest);
+    long got = __real_syscall(number, word[0], word[1], word[2], word[3], word[4], word[5]);
+    if (first && word[1] == 129 /* FUTEX_WAKE_PRIVATE */) {
+        atomic_store(&is_stopped, 1);
+        while (!atomic_load(&may_go_on)) usleep(1000);
+    }
+    return got;
+}
+
+static void *leaves_to_another(void *unused) {
+    first = 1;
+    MUST(qolb_lock_enter(&lock), QOLB_GRANTED);
+    atomic_store(&holds, 1);
+    until_asleep(&asks);
+    MUST(qolb_lock_leave(&lock), QOLB_DONE);
+    return unused;
+}
+
+static void *goes_on(void *unused) {
+    usleep(20000);
+    atomic_store(&may_go_on, 1);
+    return unused;
+}
+
+static void uses(void) {
+    about_to_wait(&asks);
+    MUST(qolb_lock_enter(&lock), QOLB_GRANTED);
+    while (!atomic_load(&is_stopped)) sched_yield();
+    MUST(qolb_lock_leave(&lock), QOLB_DONE);
+    MUST(qolb_lock_try(&lock), QOLB_GRANTED);
+    MUST(qolb_lock_leave(&lock), QOLB_DONE);
+    MUST(qolb_lock_enter_within(&lock, 0), QOLB_GRANTED);
+    MUST(qolb_lock_leave(&lock), QOLB_DONE);
+}
+
+static void is_free_meanwhile(uint32_t kind, uint32_t seats) {
+    pthread_t one, other;
+    lock = (qolb_lock)QOLB_LOCK_INIT_OF(kind, seats);
+    holds = asks = is_stopped = may_go_on = 0;
+    MUST(pthread_create(&one, NULL, leaves_to_another, NULL), 0);
+    while (!atomic_load(&holds)) sched_yield();
+    uses();
+    MUST(pthread_create(&other, NULL, goes_on, NULL), 0);
+    MUST(qolb_lock_close(&lock), QOLB_DONE);
+    MUST(atomic_load(&may_go_on), 1);
+    pthread_join(one, NULL);
+    pthread_join(other, NULL);
+}
+
+int main(void) {
+    alarm(600);
+    for (uint32_t kind = QOLB_RING; kind <= QOLB_TICKET; kind++)
+        for (uint32_t seats = 2; seats <= 4; seats++) is_free_meanwhile(kind, seats);
+    return 0;
+}
