@@ -91,6 +91,12 @@ bool answers() {
     WANT(late && std::chrono::steady_clock::now() - since >= 40ms);
     WANT(lock.enter_for(0ns) == QOLB_MISUSE && lock.enter() == QOLB_MISUSE);
     WANT(throws<qolb::Misuse>([&] { lock.lock(); }));
+    WANT(throws<qolb::Deadlock>([&] { lock.lock(); }) && throws<qolb::Deadlock>([&] { (void)lock.try_lock_for(1h); }));
+    try {
+        lock.lock();
+    } catch (const qolb::Deadlock &thrown) {
+        WANT(thrown.code() == std::errc::resource_deadlock_would_occur);
+    }
     lock.unlock();
     WANT(lock.try_lock());
     WANT(lock.shut() == QOLB_DONE);
@@ -232,6 +238,10 @@ bool guards() {
     WANT(!count.shut());
     WANT(throws<qolb::Closed>([&] { (void)count.load(); }));
     WANT(throws<qolb::Misuse>([] { qolb::guarded<int> none(0, 0); }));
+    qolb::guarded<int> own(1);
+    WANT(throws<qolb::Deadlock>([&] { own.with([&](int &value) { value += own.load(); }); }));
+    WANT(throws<qolb::Deadlock>([&] { own.with([&](int &) { return own.shut(); }); }));
+    WANT(own.load() == 1 && own.shut() && !own.shut());
     qolb::guarded<Whole> whole(Whole(9), 2, QOLB_LIST);
     WANT(whole.load().bytes[63] == 9);
     WANT(throws<qolb::Misuse>([] { qolb::guarded<int> none(0, 1, static_cast<qolb_kind>(3)); }));

@@ -37,6 +37,9 @@ fn mutex_answers() {
     assert_eq!(mutex.raw().leave(), Answer::Misuse);
     let held = mutex.lock().unwrap();
     assert!(mutex.raw().holder().is_some());
+    assert_eq!(mutex.lock().err(), Some(Stopped::Misuse));
+    assert_eq!(mutex.try_lock_for(MS).err(), Some(Stopped::Misuse));
+    assert!(mutex.try_lock().unwrap().is_none());
     thread::scope(|scope| {
         scope.spawn(|| {
             assert!(mutex.try_lock().unwrap().is_none());

@@ -405,8 +405,12 @@ template <class T> class Guarded {
         with([&value](T &it) { std::memcpy(&it, &value, sizeof value); });
     }
 
-    // Closes the line: later threads get Closed. Returns false if it was closed.
-    bool shut() { return lock_.enter() == QOLB_GRANTED && lock_.shut() == QOLB_DONE; }
+    // Closes the line: later threads get Closed. Returns false if it was closed. Throws Deadlock if the thread is in `change` of the same value.
+    bool shut() {
+        qolb_answer got = lock_.enter();
+        if (got == QOLB_MISUSE) QOLB_THROW(Deadlock());
+        return got == QOLB_GRANTED && lock_.shut() == QOLB_DONE;
+    }
 
   private:
     // Of the kind and the number of seats of an unopened lock.
