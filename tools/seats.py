@@ -29,12 +29,16 @@ import time
 
 ROOT = pathlib.Path(__file__).resolve().parent.parent
 BUILT = ("lock.c", "gate.c", "door.c", "conditions.c", "calls.c", "bells.c")
-SOURCES = {name: (ROOT / "include" / name).read_text() for name in (*BUILT, "lock.h", "bells.h")}
+HEADERS = ("lock.h", "bells.h")
+SOURCES = {name: (ROOT / "include" / name).read_text() for name in (*BUILT, *HEADERS)}
 # How often a waiter polls decides nothing here, as the model's clock times no pause: once.
 COUNTED = "    unsigned looks = atomic_load_explicit(&counted, memory_order_relaxed);\n"
 assert COUNTED in SOURCES["bells.c"]
 SOURCES["bells.c"] = SOURCES["bells.c"].replace(COUNTED, "    unsigned looks = 1;\n")
 RENAMED = [f"-D{name}=model_{short}" for name, short in (("malloc", "malloc"), ("free", "free"), ("syscall", "syscall"), ("sched_yield", "yield"), ("clock_gettime", "clock"))]
+# The files of tools/seats, with flags of their own: scenes are built as the library is.
+BY_MODEL = ["-w", "-O1", "-fsanitize=thread", "-U__SANITIZE_THREAD__", *RENAMED]
+OF_MODEL = {"scenes.c": BY_MODEL, "explorer.c": ["-O2"], "line.c": ["-O2"]}
 # In the sources: fewer looks, polls and turns before the same decisions; and what tells the scenes since when a thread waits that the lock knows, and until when.
 WAITS = "    struct limit limit = from_now(nanoseconds);\n    uint32_t got = QOLB_WAITING;\n    if (!me->seat) {\n"
 AT_DOOR = "    while (got == QOLB_WAITING && !me->seat) {\n"
@@ -234,19 +238,24 @@ def with_fault(texts):
     return sources
 
 
-def built(folder, sources):
-    """The explorer, built over this library."""
+def built(folder, sources, base):
+    """The explorer, built over this library. Objects of sources that are as in the folder `base` are those there."""
     for old, new in HOOKED:
         sources = replaced(sources, old, new)
-    for name, text in sources.items():
-        (folder / name).write_text(text)
-    compiler = ["cc", "-std=c11", "-I", folder, "-I", ROOT / "include", "-I", ROOT / "tools/seats"]
-    told = ["-fsanitize=thread", "-U__SANITIZE_THREAD__", *RENAMED]
+    changed = {name for name, text in sources.items() if not (base / name).exists() or (base / name).read_text() != text}
+    if not changed.isdisjoint(HEADERS):
+        changed = {*sources, *OF_MODEL}
+    for name in changed & set(sources):
+        (folder / name).write_text(sources[name])
     objects = []
-    for source in (ROOT / "tools/seats/scenes.c", *(folder / name for name in BUILT)):
-        objects.append(folder / f"{source.stem}.o")
-        subprocess.run([*compiler, "-w", "-O1", *told, "-c", source, "-o", objects[-1]], check=True)
-    subprocess.run([*compiler, "-O2", ROOT / "tools/seats/explorer.c", ROOT / "tools/seats/line.c", *objects, "-o", folder / "explorer"], check=True)
+    for name in (*BUILT, *OF_MODEL):
+        objects.append((folder if name in changed else base) / f"{name}.o")
+        if name in changed:
+            source = (folder if name in sources else ROOT / "tools/seats") / name
+            told = OF_MODEL.get(name, BY_MODEL)
+            seen = ["-I", folder, "-I", base, "-I", ROOT / "include", "-I", ROOT / "tools/seats"]
+            subprocess.run(["cc", "-std=c11", *seen, *told, "-c", source, "-o", objects[-1]], check=True)
+    subprocess.run(["cc", *objects, "-o", folder / "explorer"], check=True)
     return folder / "explorer"
 
 
@@ -260,35 +269,33 @@ def last_of(told):
     return told[-1] if told else "it ended by a signal"
 
 
-def goes_well(most, scenes):
+def goes_well(most, scenes, base):
     """Prints how many runs there are of the library as it is; False if one fails."""
     runs = []
-    with tempfile.TemporaryDirectory() as name:
-        explorer = built(pathlib.Path(name), SOURCES)
-        for scene in scenes or [""]:
-            told, well = run(explorer, most, scene)
-            if not well:
-                print(f"as it is: {last_of(told)}", flush=True)
-                return False
-            runs += told
+    for scene in scenes or [""]:
+        told, well = run(base / "explorer", most, scene)
+        if not well:
+            print(f"as it is: {last_of(told)}", flush=True)
+            return False
+        runs += told
     print(f"as it is: {sum(int(line.rsplit(' ', 2)[1]) for line in runs):,} runs of {len(runs)} scenes go well", flush=True)
     return True
 
 
-def is_found(fault):
+def is_found(fault, base):
     """Prints where a library with this fault fails; False if it does not."""
     turns = 2 if fault in IN_TWO_TURNS else 1
     scene = IN_TWO_TURNS.get(fault, "nodes" if fault.startswith("nodes") else "")
     with tempfile.TemporaryDirectory() as name:
-        told, well = run(built(pathlib.Path(name), with_fault(FAULTS[fault])), turns, scene)
+        told, well = run(built(pathlib.Path(name), with_fault(FAULTS[fault]), base), turns, scene)
     print(f"{fault}: all runs go well" if well else f"{fault}: at {turns}, {last_of(told)}", flush=True)
     return not well
 
 
-def is_harmless(change):
+def is_harmless(change, base):
     """Prints whether all runs of at most one turn of the schedule go well after this change."""
     with tempfile.TemporaryDirectory() as name:
-        told, well = run(built(pathlib.Path(name), with_fault(HARMLESS[change])), 1, "")
+        told, well = run(built(pathlib.Path(name), with_fault(HARMLESS[change]), base), 1, "")
     print(f"harmless: {change}: all runs go well" if well else f"harmless: {change}: {last_of(told)}", flush=True)
     return well
 
@@ -300,14 +307,22 @@ def main():
     words.add_argument("--fault", default="")
     words.add_argument("--no-faults", action="store_true")
     words.add_argument("--jobs", type=int, default=2)
-    asked, since = words.parse_args(), time.monotonic()
-    if not asked.fault and not goes_well(asked.most, asked.scene):
+    asked = words.parse_args()
+    with tempfile.TemporaryDirectory() as name:
+        base = pathlib.Path(name)
+        built(base, SOURCES, base)
+        explores(asked, base)
+
+
+def explores(asked, base):
+    since = time.monotonic()
+    if not asked.fault and not goes_well(asked.most, asked.scene, base):
         sys.exit(1)
     faults = [fault for fault in FAULTS if asked.fault in fault and not asked.no_faults]
     changes = [change for change in HARMLESS if asked.fault in change and not asked.no_faults]
     with concurrent.futures.ThreadPoolExecutor(asked.jobs) as pool:
-        found = list(pool.map(is_found, faults))
-        harmless = list(pool.map(is_harmless, changes))
+        found = list(pool.map(lambda fault: is_found(fault, base), faults))
+        harmless = list(pool.map(lambda change: is_harmless(change, base), changes))
     if faults or changes:
         print(f"{sum(found)} of {len(faults)} faults are found, and {sum(harmless)} of {len(changes)} other changes are harmless")
     print(f"{time.monotonic() - since:.0f} seconds")
