@@ -45,7 +45,7 @@ fn replayed(
 
 #[test]
 fn a_replay_takes_lines_of_its_kind(rt: HostRuntime) -> Result<(), Fail> {
-    let limit = MemoryLimit::begin(rt.alloc(), 1 << 22)?;
+    let limit = MemoryLimit::begin(rt.alloc(), 1 << 23)?;
     for (larger, room) in ROOMS.iter().enumerate() {
         for (place, kind) in BY_SIZE.iter().enumerate() {
             let found = replayed(rt.alloc(), &limit, *room, *kind)?;
