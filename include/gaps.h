@@ -45,8 +45,8 @@ _Static_assert(NODE_BYTES % GAP_BYTES + SEAT_BYTES + sizeof(uint32_t) + sizeof(s
 static inline void *behind(const qolb_node *node) { return (char *)node->own + NODE_BYTES; }
 
 /* The place of a number of each node that is drawn when its line is opened, the same for all nodes of the line (bell_at, in bells.h). Nothing in
- * the handle or in the proved part has room for it. It is in the node's last 4 bytes: if NODE_BYTES is wrong, it does no harm until
- * c_examples/memory.c reports that. */
-static inline uint32_t *first_bell_of(const qolb_node *node) { return (uint32_t *)((char *)node->own + KEPT_BYTES(NODE_BYTES)) - 1; }
+ * the handle or in the proved part has room for it. It is in the middle of the gap behind the node's data: if NODE_BYTES is
+ * wrong, it does no harm until c_examples/memory.c reports that. */
+static inline uint32_t *first_bell_of(const qolb_node *node) { return (uint32_t *)((char *)node->own + NODE_BYTES + GAP_BYTES / 2); }
 
 #endif
