@@ -55,8 +55,8 @@ static const struct way {
     {"qolb_lock, ticket", rounds_of_lock, QOLB_TICKET},
     {"node, ring", rounds_of_node, QOLB_RING},
     {"qolb_lock, ring", rounds_of_lock, QOLB_RING},
-    {"node, list", rounds_of_node, QOLB_LIST},
-    {"qolb_lock, list", rounds_of_lock, QOLB_LIST},
+    {"node, link line", rounds_of_node, QOLB_LIST}, /* the name that older headers have, too */
+    {"qolb_lock, link line", rounds_of_lock, QOLB_LIST},
 #ifdef QOLB_LOCK_INIT_DEFAULT
     {"default", rounds_of_lock, DEFAULT},
     {"default, one waits", rounds_of_lock, WAITED},

@@ -4,7 +4,7 @@
  *   ./lock NAME THREADS MICROSECONDS SECONDS       prints turns a second and the longest wait in microseconds
  *   ./lock NAME table LOCKS ROUNDS                 prints nanoseconds a round, and bytes of heap of each lock
  *
- * NAME is default, ticket or list with a number of seats (list:4), node:ticket or node:list, with a node for each thread, mutex, or with -DMCS, which needs
+ * NAME is default, ticket or link with a number of seats (link:4), node:ticket or node:link, with a node for each thread, mutex, or with -DMCS, which needs
  * Debian's package libck-dev, mcs. The holder keeps its processor busy for MICROSECONDS, and adds 1 to a number. With an older library there is no
  * default. bench/locks runs it. */
 #define _DEFAULT_SOURCE
@@ -101,12 +101,12 @@ static int take_lock(const char *name) {
     unsigned seats = 0;
     way = BY_LOCK;
     if (sscanf(name, "ticket:%u", &seats) == 1) return as = (qolb_lock)QOLB_LOCK_INIT_OF(QOLB_TICKET, seats), 1;
-    if (sscanf(name, "list:%u", &seats) == 1) return as = (qolb_lock)QOLB_LOCK_INIT_OF(QOLB_LIST, seats), 1;
+    if (sscanf(name, "link:%u", &seats) == 1) return as = (qolb_lock)QOLB_LOCK_INIT_OF(QOLB_LIST, seats), 1;
 #ifdef QOLB_LOCK_INIT_DEFAULT
     if (strcmp(name, "default") == 0) return as = (qolb_lock)QOLB_LOCK_INIT_DEFAULT, 1;
 #endif
-    as.kind = strcmp(name, "node:list") == 0 ? QOLB_LIST : QOLB_TICKET;
-    if (strcmp(name, "node:ticket") == 0 || strcmp(name, "node:list") == 0) return way = BY_NODE, 1;
+    as.kind = strcmp(name, "node:link") == 0 ? QOLB_LIST : QOLB_TICKET; /* QOLB_LIST: the name of QOLB_LINK that older headers have, too */
+    if (strcmp(name, "node:ticket") == 0 || strcmp(name, "node:link") == 0) return way = BY_NODE, 1;
     if (strcmp(name, "mutex") == 0) return way = BY_MUTEX, 1;
 #ifdef MCS
     if (strcmp(name, "mcs") == 0) return way = BY_MCS, 1;

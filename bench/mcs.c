@@ -2,7 +2,7 @@
 //
 //   clang -O3 -march=x86-64-v2 -pthread -o mcs bench/mcs.c && ./mcs THREADS ROUNDS
 //
-// A waiter pauses and yields as the waiters of the ring and the list do; the kit's own waiter would only pause. The holder adds to the lane in
+// A waiter pauses and yields as the waiters of the ring and the link line do; the kit's own waiter would only pause. The holder adds to the lane in
 // place: an MCS lock does not hand the line over, so nothing is copied.
 #include "line.h"
 

@@ -4,7 +4,7 @@
  *
  *   cc -std=c11 -O2 -pthread -Iinclude bench/table.c crates/qolb_c/out/libqolb.a -o table && ./table LOCK THREADS BUCKETS SECONDS
  *
- * LOCK is ticket, list or ring, a qolb_lock of that kind, or mutex, a pthread_mutex; with -DMCS, which needs Debian's package libck-dev, also MCS,
+ * LOCK is ticket, link or ring, a qolb_lock of that kind, or mutex, a pthread_mutex; with -DMCS, which needs Debian's package libck-dev, also MCS,
  * Concurrency Kit's, whose waiters poll 256 times and then yield between two polls. Before it ends it counts the entries, and compares
  * their number with the additions and removals that were done. bench/tables runs it with each. */
 #define _DEFAULT_SOURCE
@@ -154,7 +154,7 @@ static int take_lock(const char *name) {
         const char *name;
         int by;
         uint32_t kind;
-    } locks[] = {{"ticket", BY_QOLB, QOLB_TICKET}, {"list", BY_QOLB, QOLB_LIST}, {"ring", BY_QOLB, QOLB_RING}, {"mutex", BY_MUTEX, 0},
+    } locks[] = {{"ticket", BY_QOLB, QOLB_TICKET}, {"link", BY_QOLB, QOLB_LINK}, {"ring", BY_QOLB, QOLB_RING}, {"mutex", BY_MUTEX, 0},
 #ifdef MCS
                  {"MCS", BY_MCS, 0}
 #endif
@@ -191,7 +191,7 @@ static int tell(const char *lock, unsigned threads, double seconds) {
 int main(int argc, char **argv) {
     unsigned threads = argc == 5 ? (unsigned)atoi(argv[2]) : 0;
     if (threads < 1 || threads > MOST || atoi(argv[3]) < 1 || !take_lock(argv[1])) {
-        return fputs("table ticket|list|ring|mutex|MCS THREADS BUCKETS SECONDS\n", stderr), 2;
+        return fputs("table ticket|link|ring|mutex|MCS THREADS BUCKETS SECONDS\n", stderr), 2;
     }
     buckets = (unsigned)atoi(argv[3]);
     double seconds = atof(argv[4]);

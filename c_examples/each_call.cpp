@@ -160,14 +160,14 @@ const std::vector<Row> rows = {
     {"a move onto itself", [](Line &l) { qolb::Node &same = l.node; l.node = std::move(same); return static_cast<int>(DONE); }, {DONE, DONE, DONE, DONE, DONE, DONE, DONE, DONE}, STAYS},
 };
 
-// The further rows of a line of this kind: only a list has the first half of a request, and the state of a node that is not busy any more.
+// The further rows of a line of this kind: only a link line has the first half of a request, and the state of a node that is not busy any more.
 struct Of {
     Row prepend, clear;
 };
 
 int is_clear_then(Line &line) { return line.goes_on(), line.node.clear(); }
 
-const Of of_list = {
+const Of of_link = {
     {"prepend", [](Line &l) { return l.node.prepend(); }, {NO, GRANTED, NO, NO, NO, BUSY, BUSY, CLOSED}, {EMPTY, HOLDS, LINK, QUEUED, HOLDS, LEFT, ROLLED, SHUT}},
     {"clear, where the line has gone on", is_clear_then, {NO, DONE, NO, NO, NO, DONE, DONE, DONE}, {EMPTY, IDLE, LINK, QUEUED, HOLDS, IDLE, IDLE, SHUT}},
 };
@@ -177,7 +177,7 @@ const Of of_others = {
 };
 
 bool holds(const Row &row, qolb_kind kind, std::size_t k) {
-    if (kind != QOLB_LIST && (every_state[k] == LINK || every_state[k] == LEFT)) return true; // states of a list alone
+    if (kind != QOLB_LINK && (every_state[k] == LINK || every_state[k] == LEFT)) return true; // states of a link line alone
     Line line(kind, every_state[k]);
     if (line.node.state() != every_state[k]) return std::printf("kind %d: no node in the state %zu\n", kind, k), false;
     int told = row.call(line);
@@ -219,11 +219,11 @@ bool tells_memory() {
 int main() {
     alarm(300); // where a turn is lost, who waits for it does not end
     if (!tells_memory()) return std::puts("what a line keeps of memory"), 1;
-    for (qolb_kind kind : {QOLB_RING, QOLB_LIST, QOLB_TICKET}) {
+    for (qolb_kind kind : {QOLB_RING, QOLB_LINK, QOLB_TICKET}) {
         for (std::size_t k = 0; k < states; k++) {
             for (const Row &row : rows)
                 if (!holds(row, kind, k)) return 1;
-            const Of &more = kind == QOLB_LIST ? of_list : of_others;
+            const Of &more = kind == QOLB_LINK ? of_link : of_others;
             if (!holds(more.prepend, kind, k) || !holds(more.clear, kind, k)) return 1;
         }
         if (!rounds_up(kind)) return std::puts("a part of a nanosecond"), 1;

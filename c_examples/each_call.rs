@@ -13,7 +13,7 @@ use std::time::Duration;
 const LABEL: u64 = 7;
 const LEASE: u64 = 9;
 const SHORT: Duration = Duration::from_micros(50);
-/// The states of a node, in the order of the columns below. Only a list has `Linking` and `Left`.
+/// The states of a node, in the order of the columns below. Only a link line has `Linking` and `Left`.
 const STATES: [State; 7] = [State::Idle, State::Linking, State::Queued, State::Holding, State::Left, State::Rolled, State::Shut];
 
 /// A line of three nodes. `node` is the second, in the wanted state: if it waits or was withdrawn, the first holds the line, and if it has left, the
@@ -137,9 +137,9 @@ fn is_clear_then(line: &mut Line) -> String {
     told(line.node.clear())
 }
 
-/// Only a list has the first half of a request, and the state of a node that is not busy any more.
+/// Only a link line has the first half of a request, and the state of a node that is not busy any more.
 #[rustfmt::skip]
-const OF_LIST: [Row; 2] = [
+const OF_LINK: [Row; 2] = [
     ("prepend", prepends, ["Granted", NO, NO, NO, "Busy", "Busy", "Closed"], [Holding, Linking, Queued, Holding, Left, Rolled, Shut]),
     ("clear, where the line has gone on", is_clear_then, ["Done", NO, NO, NO, "Done", "Done", "Done"], [Idle, Linking, Queued, Holding, Idle, Idle, Shut]),
 ];
@@ -164,10 +164,10 @@ fn closes(kind: Kind, state: State) {
 
 fn each_call(kind: Kind) {
     for (column, state) in STATES.into_iter().enumerate() {
-        if kind != Kind::List && matches!(state, Linking | Left) {
+        if kind != Kind::Link && matches!(state, Linking | Left) {
             continue;
         }
-        let more = if kind == Kind::List { &OF_LIST } else { &OF_OTHERS };
+        let more = if kind == Kind::Link { &OF_LINK } else { &OF_OTHERS };
         for row in ROWS.iter().chain(more) {
             holds(kind, state, row, column);
         }
@@ -217,7 +217,7 @@ fn says() {
     assert_eq!(asks(201, false).unwrap_err().to_string(), "a line has 1 to 200 nodes");
     assert_eq!(asks(1, true).unwrap_err().to_string(), "the line is closed");
     assert_eq!(Stopped::Misuse.to_string(), "the node waits or holds already, or the thread holds the lock");
-    assert_eq!(qolb::open(Kind::List, 1, 2, Some(0), &Bytes([0; 64])).unwrap_err().to_string(), "a lease has at least one turn");
+    assert_eq!(qolb::open(Kind::Link, 1, 2, Some(0), &Bytes([0; 64])).unwrap_err().to_string(), "a lease has at least one turn");
     let line = Line::new(Kind::Ring, Queued);
     assert_eq!(format!("{:?}", line.node), "Node { number: 2, label: 7, state: Queued }");
     let mut held = Line::new(Kind::Ticket, Idle);
@@ -225,11 +225,12 @@ fn says() {
     assert_eq!(held.node.lock().unwrap().turns_left(), Some(LEASE - 1));
 }
 
-/// What a list of three nodes keeps: 256 bytes and 128 for each node, the line, three nodes, each a multiple of 128, and 128 more for each of
+/// What a link line of three nodes keeps: 256 bytes and 128 for each node, the line, three nodes, each a multiple of 128, and 128 more for each of
 /// six blocks.
 fn tells_memory() {
-    assert_eq!(qolb::memory(Kind::List, 3), Some(256 + 3 * 128 + 128 + 3 * 256 + 6 * 128));
-    assert_eq!((qolb::memory(Kind::List, 0), qolb::memory(Kind::List, 201)), (None, None));
+    assert_eq!(qolb::memory(Kind::Link, 3), Some(256 + 3 * 128 + 128 + 3 * 256 + 6 * 128));
+    assert!(matches!(Kind::Link, Kind::List)); // the former name
+    assert_eq!((qolb::memory(Kind::Link, 0), qolb::memory(Kind::Link, 201)), (None, None));
 }
 
 unsafe extern "C" {
@@ -265,7 +266,7 @@ fn main() {
     alarm(300); // where a turn is lost, who waits for it does not end
     says();
     tells_memory();
-    for kind in [Kind::Ring, Kind::List, Kind::Ticket] {
+    for kind in [Kind::Ring, Kind::Link, Kind::Ticket] {
         each_call(kind);
         is_cancelled(kind);
     }

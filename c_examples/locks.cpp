@@ -50,8 +50,8 @@ qolb::lock of_few_seats(3);
 long turns;
 
 bool counts() {
-    qolb::lock other(64, QOLB_LIST);
-    WANT(other.native_handle()->kind == QOLB_LIST && other.native_handle()->seats == 64);
+    qolb::lock other(64, QOLB_LINK);
+    WANT(other.native_handle()->kind == QOLB_LINK && other.native_handle()->seats == 64);
     for (int wave = 0; wave < 3; wave++) {
         together(threads, [&](int self) {
             for (int k = 0; k < rounds; k++) {
@@ -242,7 +242,7 @@ bool guards() {
     WANT(throws<qolb::Deadlock>([&] { own.with([&](int &value) { value += own.load(); }); }));
     WANT(throws<qolb::Deadlock>([&] { own.with([&](int &) { return own.shut(); }); }));
     WANT(own.load() == 1 && own.shut() && !own.shut());
-    qolb::guarded<Whole> whole(Whole(9), 2, QOLB_LIST);
+    qolb::guarded<Whole> whole(Whole(9), 2, QOLB_LINK);
     WANT(whole.load().bytes[63] == 9);
     WANT(throws<qolb::Misuse>([] { qolb::guarded<int> none(0, 1, static_cast<qolb_kind>(3)); }));
     return true;

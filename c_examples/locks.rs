@@ -12,7 +12,7 @@ const THREADS: u64 = 8;
 const ROUNDS: u64 = 1_000;
 const MS: Duration = Duration::from_millis(1);
 
-static WORDS: Mutex<Vec<u64>> = Mutex::of_kind(Vec::new(), Kind::List, 3);
+static WORDS: Mutex<Vec<u64>> = Mutex::of_kind(Vec::new(), Kind::Link, 3);
 
 fn mutex_guards() {
     for _wave in 0..2 {

@@ -144,7 +144,7 @@ static int is_small(void) {
 }
 
 int main(void) {
-    static const char *const names[] = {"ring", "list", "ticket line"};
+    static const char *const names[] = {"ring", "link line", "ticket line"};
     static const uint64_t nodes[] = {1, 2, 8, 64, 200};
     for (uint32_t kind = QOLB_RING; kind <= QOLB_TICKET; kind++) {
         for (size_t k = 0; k < sizeof nodes / sizeof nodes[0]; k++) {

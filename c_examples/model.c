@@ -3,7 +3,7 @@
  *   build/model [CALLS [SEED]]        300,000 calls, seed 1
  *
  * Prints only the first difference. The model is written from qolb.h: a queue of requests, of which the first that is not withdrawn has the turn.
- * The line is with the first request, at home if there is none, or in a list with the last request that ended, if the successor has not linked
+ * The line is with the first request, at home if there is none, or in a link line with the last request that ended, if the successor has not linked
  * yet. */
 #include <qolb.h>
 #include <stdio.h>
@@ -31,7 +31,7 @@ static struct line {
     struct node node[MOST + 1];
     struct request queue[MOST];
     unsigned waiting; /* requests in the queue */
-    unsigned lies_with; /* in a list: whose turn is over, while the first request is not linked */
+    unsigned lies_with; /* in a link line: whose turn is over, while the first request is not linked */
 } model;
 
 static qolb_node handle[MOST + 1];
@@ -100,7 +100,7 @@ static uint32_t comes(unsigned n) {
 static int has_turn(unsigned n) { return model.queue[0].node == n && model.lies_with == NOBODY; }
 
 static uint32_t asks(unsigned n, int in_halves) {
-    if (!may_ask(n) || (in_halves && model.kind != QOLB_LIST)) return QOLB_MISUSE;
+    if (!may_ask(n) || (in_halves && model.kind != QOLB_LINK)) return QOLB_MISUSE;
     if (model.node[n].busy) return QOLB_BUSY;
     int behind = model.waiting > 0;
     model.queue[model.waiting++] = (struct request){n, 0, behind && in_halves};
@@ -121,11 +121,11 @@ static uint32_t links(unsigned n) {
     return comes(n);
 }
 
-/* A list's node that is not busy is as one that has made no request. */
+/* A link line's node that is not busy is as one that has made no request. */
 static uint32_t clears(unsigned n) {
     if (!may_ask(n)) return QOLB_MISUSE;
     if (model.node[n].busy) return QOLB_BUSY;
-    if (model.kind == QOLB_LIST && model.node[n].state != QOLB_STATE_SHUT) model.node[n].state = QOLB_STATE_IDLE;
+    if (model.kind == QOLB_LINK && model.node[n].state != QOLB_STATE_SHUT) model.node[n].state = QOLB_STATE_IDLE;
     return QOLB_DONE;
 }
 

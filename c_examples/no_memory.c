@@ -77,7 +77,7 @@ static int calls_take_none(uint32_t kind) {
     if (qolb_memory(kind, 2) == 0) return puts("no memory is told"), 1;
     if (qolb_withdraw(two) != QOLB_WITHDRAWN || qolb_clear(two) != QOLB_BUSY || qolb_enqolb(two) != QOLB_BUSY) return puts("not busy"), 1;
     if (qolb_deqolb(one) != QOLB_DONE || qolb_clear(two) != QOLB_DONE || qolb_clear(one) != QOLB_DONE) return puts("not passed"), 1;
-    if (kind == QOLB_LIST) {
+    if (kind == QOLB_LINK) {
         if (qolb_prepend(two) != QOLB_GRANTED || qolb_prepend(one) != QOLB_LINKING || qolb_link(one) != QOLB_QUEUED) return puts("not linked"), 1;
     } else {
         if (qolb_enqolb(two) != QOLB_GRANTED || qolb_enqolb(one) != QOLB_QUEUED) return puts("not queued"), 1;
@@ -108,7 +108,7 @@ static int puts_the_same_back(uint32_t kind) {
     same = same && SAME(qolb_link_proved_(two)) && SAME(qolb_shut_proved_(one)) && SAME(qolb_poll_proved_(two)) && SAME(qolb_enqolb_proved_(one));
 #undef SAME
     if (!same) return puts("another node was put back"), 1;
-    if (kind != QOLB_LIST && qolb_shut(one) != QOLB_DONE) return puts("does not hold it"), 1;
+    if (kind != QOLB_LINK && qolb_shut(one) != QOLB_DONE) return puts("does not hold it"), 1;
     if (qolb_close(one) != QOLB_DONE || qolb_close(two) != QOLB_DONE) return puts("not closed"), 1;
     return 0;
 }
@@ -151,4 +151,4 @@ static int tried(uint32_t kind) {
     return refused_in_turn(kind) || calls_take_none(kind) || puts_the_same_back(kind);
 }
 
-int main(void) { return tried(QOLB_RING) || tried(QOLB_LIST) || tried(QOLB_TICKET); }
+int main(void) { return tried(QOLB_RING) || tried(QOLB_LINK) || tried(QOLB_TICKET); }

@@ -7,7 +7,7 @@
  * As with the C library, any thread may unlock such a mutex, unlocking a free one changes nothing, and a thread that locks one that it holds waits until
  * another unlocks it.
  *
- * QOLB_KIND=list makes them lists and QOLB_KIND=ring rings; else they are ticket lines.
+ * QOLB_KIND=link (or list) makes them link lines and QOLB_KIND=ring rings; else they are ticket lines.
  *
  * With QOLB_REPORT=FILE the program appends a line there at its end: the number of their kind, the number of mutexes that were lines, how often
  * one was granted, was late or was not free at once, and how often two threads were in one at the same time, which must be 0. */
@@ -74,7 +74,7 @@ static int entry(struct table *table, void *key) {
 }
 
 static uint32_t kind_named(const char *name) {
-    if (name && strcmp(name, "list") == 0) return QOLB_LIST;
+    if (name && (strcmp(name, "link") == 0 || strcmp(name, "list") == 0)) return QOLB_LINK;
     if (name && strcmp(name, "ring") == 0) return QOLB_RING;
     return QOLB_DEFAULT;
 }

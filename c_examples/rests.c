@@ -485,7 +485,7 @@ static int each_passes_on(uint32_t kind) {
     if (misuse_wakes_nobody(kind, qolb_deqolb) || misuse_wakes_nobody(kind, qolb_shut)) return 1;
     if (asks_a_closed_one(kind, qolb_enqolb) || asks_a_closed_one(kind, acquires) || asks_a_closed_one(kind, acquires_within)) return 1;
     if (is_told_late(kind, is_told_as_it_gives_up) || is_told_late(kind, is_told_after_being_busy)) return 1;
-    return kind == QOLB_LIST && (passes_on(kind, qolb_link, 1) || asks_a_closed_one(kind, qolb_prepend));
+    return kind == QOLB_LINK && (passes_on(kind, qolb_link, 1) || asks_a_closed_one(kind, qolb_prepend));
 }
 
 static qolb_lock *held;

@@ -1,6 +1,6 @@
 /* Times rounds from C, to be compared with those of bench: each thread requests the line, adds 1 to lane 0 and releases.
  *
- *   make -C c_examples build/rounds && c_examples/build/rounds THREADS ROUNDS [ticket|ring|list] [lanes|lines] [apart|dense]
+ *   make -C c_examples build/rounds && c_examples/build/rounds THREADS ROUNDS [ticket|ring|link] [lanes|lines] [apart|dense]
  *
  * Prints the lane sum, and nanoseconds a round over all threads. `lines` reads and writes whole lines instead of a lane. Handles are apart, or
  * with `dense` side by side as qolb_open writes them. */
@@ -59,7 +59,7 @@ int main(int argc, char **argv) {
     int threads = argc > 1 ? atoi(argv[1]) : 2;
     rounds = argc > 2 ? strtoull(argv[2], NULL, 10) : 1000;
     const char *named = argc > 3 ? argv[3] : "";
-    uint32_t kind = strcmp(named, "list") == 0 ? QOLB_LIST : strcmp(named, "ring") == 0 ? QOLB_RING : QOLB_DEFAULT;
+    uint32_t kind = strcmp(named, "link") == 0 ? QOLB_LINK : strcmp(named, "ring") == 0 ? QOLB_RING : QOLB_DEFAULT;
     by_lines = argc > 4 && strcmp(argv[4], "lines") == 0;
     int is_dense = argc > 5 && strcmp(argv[5], "dense") == 0;
     if (threads < 1 || threads > MOST) return 2;

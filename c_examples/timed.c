@@ -106,7 +106,7 @@ static void *shuts(void *argument) {
     return qolb_shut(argument) == QOLB_DONE ? NULL : "not shut";
 }
 
-/* A thread that is told that the line is closed sees what its last holder wrote, by the line alone: the thread is joined after that. In a list the
+/* A thread that is told that the line is closed sees what its last holder wrote, by the line alone: the thread is joined after that. In a link line the
  * answer may be that of the second half of the request. */
 static int told_sees(uint32_t kind, int in_halves) {
     qolb_bytes zeros = {{0}};
@@ -225,7 +225,7 @@ int main(void) {
         if (share(kind)) return 1;
 #ifndef UNGUARDED
     for (uint32_t kind = QOLB_RING; kind <= QOLB_TICKET; kind++)
-        if (answers(kind) || told_sees(kind, 0) || (kind == QOLB_LIST && told_sees(kind, 1))) return 1;
+        if (answers(kind) || told_sees(kind, 0) || (kind == QOLB_LINK && told_sees(kind, 1))) return 1;
     if (names()) return 1;
 #endif
     return 0;

@@ -81,10 +81,10 @@ static int refusals(void) {
     qolb_node nodes[3] = {{0}}, other = {0};
     WANT(qolb_open(3, 7, 0, 0, &zeros, nodes, 3), QOLB_BAD_KIND);
     WANT(qolb_open(QOLB_RING, 7, 0, 0, &zeros, nodes, 3), QOLB_BAD_NODES);
-    WANT(qolb_open(QOLB_LIST, 7, 201, QOLB_NO_LEASE, &zeros, nodes, 3), QOLB_BAD_NODES);
-    WANT(qolb_open(QOLB_LIST, 7, 4, 0, &zeros, nodes, 3), QOLB_BAD_LEASE);
+    WANT(qolb_open(QOLB_LINK, 7, 201, QOLB_NO_LEASE, &zeros, nodes, 3), QOLB_BAD_NODES);
+    WANT(qolb_open(QOLB_LINK, 7, 4, 0, &zeros, nodes, 3), QOLB_BAD_LEASE);
     WANT(qolb_open(QOLB_RING, 7, 4, 1, &zeros, nodes, 3), QOLB_TOO_FEW);
-    WANT(qolb_open(QOLB_LIST, 7, 1, 1, &zeros, &other, 1), QOLB_DONE);
+    WANT(qolb_open(QOLB_LINK, 7, 1, 1, &zeros, &other, 1), QOLB_DONE);
     void *own = other.own;
     nodes[2] = qolb_move(&other);
     WANT(other.own == NULL, 1);
@@ -205,13 +205,14 @@ static int halves(void) {
     qolb_bytes zeros = {{0}};
     qolb_node n[2] = {{0}}, other = {0};
     for (uint32_t kind = QOLB_RING; kind <= QOLB_TICKET; kind++) {
-        if (kind == QOLB_LIST) continue;
+        if (kind == QOLB_LINK) continue;
         WANT(qolb_open(kind, 7, 1, QOLB_NO_LEASE, &zeros, &other, 1), QOLB_DONE);
         WANT(qolb_prepend(&other), QOLB_MISUSE);
         WANT(qolb_link(&other), QOLB_MISUSE);
         WANT(qolb_close(&other), QOLB_DONE);
     }
-    WANT(qolb_open(QOLB_LIST, 7, 2, 2, &zeros, n, 2), QOLB_DONE);
+    WANT(QOLB_LIST, QOLB_LINK); /* the former name */
+    WANT(qolb_open(QOLB_LINK, 7, 2, 2, &zeros, n, 2), QOLB_DONE);
     WANT(qolb_prepend(&n[0]), QOLB_GRANTED);
     WANT(qolb_prepend(&n[1]), QOLB_LINKING);
     WANT(qolb_state(&n[1]), QOLB_STATE_LINKING);

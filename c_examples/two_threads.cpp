@@ -139,7 +139,7 @@ bool waiter_is_destroyed(qolb_kind kind) {
     auto opened = qolb::Node::open(kind, 1, 4, qolb_bytes{});
     auto &nodes = opened.second;
     if (nodes[0].acquire() != qolb::Got::granted || nodes[1].enqolb() != QOLB_QUEUED) return false;
-    if (kind == QOLB_LIST ? nodes[2].prepend() != QOLB_LINKING : nodes[2].enqolb() != QOLB_QUEUED) return false;
+    if (kind == QOLB_LINK ? nodes[2].prepend() != QOLB_LINKING : nodes[2].enqolb() != QOLB_QUEUED) return false;
     nodes[2] = qolb::Node();
     nodes[1] = qolb::Node();
     if (nodes[0].deqolb() != QOLB_DONE || nodes[3].try_acquire() != qolb::Got::granted) return false;
@@ -174,7 +174,7 @@ int main() {
     alarm(300); // where a turn is lost, who waits for it does not end
     auto [refused, none] = qolb::Node::open(QOLB_RING, 1, 201, qolb_bytes{});
     if (refused != QOLB_BAD_NODES || !none.empty()) return std::puts("201 nodes were opened"), 1;
-    for (qolb_kind kind : {QOLB_RING, QOLB_LIST, QOLB_TICKET}) {
+    for (qolb_kind kind : {QOLB_RING, QOLB_LINK, QOLB_TICKET}) {
         if (!run(kind)) return std::puts("a token that is moved"), 1;
         if (!work_throws(kind)) return std::puts("a holder whose work throws"), 1;
         if (!is_assigned(kind)) return std::puts("a holder that is assigned to"), 1;

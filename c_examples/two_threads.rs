@@ -127,7 +127,7 @@ fn waiter_is_dropped(kind: Kind) {
     let mut first = nodes.pop().unwrap();
     assert_eq!(first.acquire(), Answer::Granted);
     assert_eq!(second.enqolb(), Answer::Queued);
-    if kind == Kind::List {
+    if kind == Kind::Link {
         assert_eq!(third.prepend(), Answer::Linking);
     } else {
         assert_eq!(third.enqolb(), Answer::Queued);
@@ -149,8 +149,8 @@ unsafe extern "C" {
 fn main() {
     alarm(300); // where a turn is lost, who waits for it does not end
     assert_eq!(qolb::open(Kind::Ring, 1, 0, None, &Bytes([0; 64])).err(), Some(Answer::BadNodes));
-    assert_eq!(qolb::open(Kind::List, 1, 2, Some(0), &Bytes([0; 64])).err(), Some(Answer::BadLease));
-    let kinds = [Kind::Ring, Kind::List, Kind::Ticket];
+    assert_eq!(qolb::open(Kind::Link, 1, 2, Some(0), &Bytes([0; 64])).err(), Some(Answer::BadLease));
+    let kinds = [Kind::Ring, Kind::Link, Kind::Ticket];
     for kind in kinds {
         count(kind);
         races(kind);

@@ -174,7 +174,7 @@ static int each_call_wakes(uint32_t kind) {
     if (released_by(kind, qolb_deqolb, QOLB_NO_LEASE, QOLB_GRANTED) || released_by(kind, qolb_shut, QOLB_NO_LEASE, QOLB_CLOSED)) return 1;
     if (released_by(kind, qolb_deqolb, 1, QOLB_CLOSED)) return 1;
     if (passed_on_by(kind, qolb_poll, 0) || passed_on_by(kind, waits_once, 0) || passed_on_by(kind, qolb_withdraw, 0)) return 1;
-    return kind == QOLB_LIST && passed_on_by(kind, qolb_link, 1);
+    return kind == QOLB_LINK && passed_on_by(kind, qolb_link, 1);
 }
 
 /* ---- A timeout races with a grant ---- */
@@ -267,9 +267,9 @@ static void has_a_turn(struct worker *me, uint32_t draw) {
     me->had++;
 }
 
-/* Makes a request in two calls, of a list, and polls until it has its turn, without sleeping. */
+/* Makes a request in two calls, of a link line, and polls until it has its turn, without sleeping. */
 static uint32_t asks_and_looks(struct worker *me) {
-    uint32_t got = me->kind == QOLB_LIST ? qolb_prepend(&me->node) : qolb_enqolb(&me->node);
+    uint32_t got = me->kind == QOLB_LINK ? qolb_prepend(&me->node) : qolb_enqolb(&me->node);
     if (got == QOLB_LINKING) got = qolb_link(&me->node);
     while (got == QOLB_QUEUED || got == QOLB_WAITING) {
         sched_yield();

@@ -67,7 +67,7 @@ static inline void return_guard(atomic_uint *word) {
 
 /* ---- Bells ---- */
 
-/* A power of two, and more than the places of a line: 256, or in a list 201. */
+/* A power of two, and more than the places of a line: 256, or in a link line 201. */
 enum { BELLS = 1024 };
 /* The distance in words of two places of a line, in each kind. If it is wrong, places share bells. */
 enum { PLACE_WORDS = 16 };

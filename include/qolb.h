@@ -47,8 +47,8 @@
  *     bucket->lock = (qolb_lock)QOLB_LOCK_INIT_DEFAULT;    // in C++ qolb_lock QOLB_LOCK_INIT_DEFAULT
  *
  * From its first use until qolb_lock_close a lock keeps the memory of its line and its seats: by default at most 3 kilobytes of heap. A lock that is never
- * used takes nothing. QOLB_LOCK_INIT and QOLB_LOCK_INIT_OF choose kind and seats: with 8 seats 7.1 kilobytes, 4.2 if it is a list and 36 if it is a ring;
- * with 64 seats 51, 26 and 51.
+ * used takes nothing. QOLB_LOCK_INIT and QOLB_LOCK_INIT_OF choose kind and seats: with 8 seats 7.1 kilobytes, 4.2 if it is a link line and 36 if it is
+ * a ring; with 64 seats 51, 26 and 51.
  *
  * A lock has a seat for each of its line's nodes. A thread that enters takes a free seat and makes a request at once. A thread that finds no free seat
  * waits at the lock's door, and those there take the seats in the order in which they came: so a few seats serve any number of threads first come, first
@@ -89,8 +89,8 @@
  * A line is of one of three kinds, all under the same calls and promises:
  *
  * - QOLB_RING: a node takes a ticket and waits on a cell of its own. It takes at least 34 kilobytes, for any number of nodes.
- * - QOLB_LIST: a node links itself to its predecessor. Only this kind has requests in two calls, qolb_prepend and qolb_link, and a node that may be
- *   busy after its own release (BUSY, below).
+ * - QOLB_LINK: a link line, whose queue is a linked list: a node links itself to its predecessor. Only this kind has requests in two calls,
+ *   qolb_prepend and qolb_link, and a node that may be busy after its own release (BUSY, below). QOLB_LIST is its former name.
  * - QOLB_TICKET: a ticket line. It is a ring whose cells are granted by a number, and are never cleared. So a release that passes no withdrawn
  *   request takes one step on shared words, where a ring's takes two. Its answers are those of a ring. Take this one, by the name QOLB_DEFAULT,
  *   unless memory is short or you want requests in two calls.
@@ -100,7 +100,7 @@
  *
  *     nodes                 1         2         8        64       200
  *     ticket line       1,408     2,304     7,680    57,856   142,848
- *     list              1,280     1,792     4,864    33,536   103,168
+ *     link line         1,280     1,792     4,864    33,536   103,168
  *     ring             33,792    34,176    36,480    57,984   110,208
  *
  * WHAT YOU MUST KEEP
@@ -156,8 +156,8 @@
  * BUSY
  *
  * A withdrawn request stays in the queue until a release reaches it, and until then its node is busy. That release, of another node, passes it and
- * clears it. A node of a list may also be busy after its own release: if its successor has made a request and has not linked yet, until it has, which
- * is the last step of the successor's qolb_enqolb. So ask again later. A node can be busy as long as the nodes before the withdrawn request keep the
+ * clears it. A node of a link line may also be busy after its own release: if its successor has made a request and has not linked yet, until it has,
+ * which is the last step of the successor's qolb_enqolb. So ask again later. A node can be busy as long as the nodes before the withdrawn request keep the
  * line; if one never releases it, for ever. qolb_acquire and qolb_acquire_within ask again by themselves. qolb_clear tells if a node is busy, and
  * makes no request.
  *
@@ -254,10 +254,9 @@ typedef struct qolb_bytes {
     uint8_t byte[64];
 } qolb_bytes;
 
-/* The kinds of line: nodes wait on cells by tickets, in a list by links, or on numbered cells by tickets. Take QOLB_DEFAULT, a ticket line, unless
- * memory is short or you want requests in two calls: then take a list.
- * QOLB_DEFAULT, a ticket line, unless memory is short or you want the two halves of asking: then take a list. */
-enum qolb_kind { QOLB_RING = 0, QOLB_LIST = 1, QOLB_TICKET = 2, QOLB_DEFAULT = QOLB_TICKET };
+/* The kinds of line: nodes wait on cells by tickets, in a link line by links, or on numbered cells by tickets. Take QOLB_DEFAULT, a ticket line, unless
+ * memory is short or you want requests in two calls: then take a link line. QOLB_LIST is QOLB_LINK's former name. */
+enum qolb_kind { QOLB_RING = 0, QOLB_LINK = 1, QOLB_TICKET = 2, QOLB_LIST = QOLB_LINK, QOLB_DEFAULT = QOLB_TICKET };
 
 /* The answer of a call. */
 enum qolb_answer {
@@ -286,7 +285,7 @@ enum qolb_node_state {
     QOLB_STATE_LINKING = 2, /* it has made a request and must link it */
     QOLB_STATE_QUEUED = 3,  /* it waits */
     QOLB_STATE_HOLDING = 4, /* it holds the line */
-    QOLB_STATE_LEFT = 5,    /* its turn in a list is over, and its successor had not linked yet */
+    QOLB_STATE_LEFT = 5,    /* its turn in a link line is over, and its successor had not linked yet */
     QOLB_STATE_ROLLED = 6,  /* its request was withdrawn */
     QOLB_STATE_SHUT = 7     /* it knows that the line is closed */
 };
@@ -319,13 +318,13 @@ uint32_t qolb_acquire(qolb_node *node) QOLB_LOOK;
 uint32_t qolb_acquire_within(qolb_node *node, uint64_t nanoseconds) QOLB_LOOK;
 
 /* Polls whether the node is busy, and makes no request. If the node may ask: DONE, and it is not busy until it asks; or BUSY, until a call of
- * another node clears it. Else MISUSE. DONE leaves a list's node that was LEFT or ROLLED in the state IDLE, and every other node in its state. */
+ * another node clears it. Else MISUSE. DONE leaves a link line's node that was LEFT or ROLLED in the state IDLE, and every other node in its state. */
 uint32_t qolb_clear(qolb_node *node);
 
 /* Withdraws the request, unless it is at its turn. In the state QUEUED: WITHDRAWN, GRANTED, CLOSED. Else MISUSE. */
 uint32_t qolb_withdraw(qolb_node *node) QOLB_LOOK;
 
-/* The two halves of qolb_enqolb, only of a list: prepend takes the place in the queue, and link tells the predecessor its successor. Until then the
+/* The two halves of qolb_enqolb, only of a link line: prepend takes the place in the queue, and link tells the predecessor its successor. Until then the
  * line stays with the predecessor. On a line of another kind MISUSE.
  * prepend, if the node may ask: GRANTED, LINKING, CLOSED, BUSY. link, in the state LINKING: GRANTED, QUEUED, CLOSED. */
 uint32_t qolb_prepend(qolb_node *node) QOLB_LOOK;
@@ -372,7 +371,7 @@ typedef struct qolb_lock {
     void *own;
     uint32_t kind, seats;
 } qolb_lock;
-#define QOLB_LOCK_INIT_DEFAULT {QOLB_NULL_, QOLB_LIST, 4}
+#define QOLB_LOCK_INIT_DEFAULT {QOLB_NULL_, QOLB_LINK, 4}
 #define QOLB_LOCK_INIT(seats) {QOLB_NULL_, QOLB_DEFAULT, (seats)}
 #define QOLB_LOCK_INIT_OF(kind, seats) {QOLB_NULL_, (kind), (seats)}
 

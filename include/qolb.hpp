@@ -286,7 +286,7 @@ class Lock {
   public:
     // For any number of threads, in at most 3 kilobytes.
     constexpr Lock() noexcept : lock_ QOLB_LOCK_INIT_DEFAULT {}
-    // With 1 to 200 seats, of this kind. A list takes the least memory.
+    // With 1 to 200 seats, of this kind. A link line takes the least memory.
     explicit constexpr Lock(std::uint32_t seats, qolb_kind kind = QOLB_DEFAULT) noexcept : lock_{nullptr, static_cast<std::uint32_t>(kind), seats} {}
     Lock(const Lock &) = delete;
     Lock &operator=(const Lock &) = delete;

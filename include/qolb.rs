@@ -48,8 +48,8 @@ use std::time::Duration;
 pub enum Kind {
     /// An array queue: nodes take tickets and wait on cells.
     Ring = 0,
-    /// A list: each node links itself to its predecessor. Only this kind has the two calls `prepend` and `link`.
-    List = 1,
+    /// A link line: each node links itself to its predecessor. Only this kind has the two calls `prepend` and `link`.
+    Link = 1,
     /// Partitioned tickets: nodes wait on numbered cells. A release that passes no withdrawn request takes one step on shared words, where a ring's
     /// takes two.
     Ticket = 2,
@@ -57,6 +57,9 @@ pub enum Kind {
 
 impl Kind {
     pub const DEFAULT: Kind = Kind::Ticket;
+    /// The former name of `Kind::Link`.
+    #[allow(non_upper_case_globals)]
+    pub const List: Kind = Kind::Link;
 }
 
 impl Default for Kind {
@@ -540,7 +543,7 @@ struct LineBytes([MaybeUninit<u8>; 64]);
 pub const SEATS: u32 = 64;
 
 /// The kind and the number of seats of a lock by default, as of `QOLB_LOCK_INIT_DEFAULT`.
-const BY_DEFAULT: (Kind, u32) = (Kind::List, 4);
+const BY_DEFAULT: (Kind, u32) = (Kind::Link, 4);
 
 fn nanoseconds(time: Duration) -> u64 {
     u64::try_from(time.as_nanos()).unwrap_or(u64::MAX)
@@ -566,7 +569,7 @@ impl RawQolb {
         RawQolb::of_kind(Kind::DEFAULT, seats)
     }
 
-    /// A lock over a line of this kind: a list takes the least memory.
+    /// A lock over a line of this kind: a link line takes the least memory.
     ///
     /// # Panics
     ///

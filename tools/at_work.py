@@ -6,7 +6,7 @@
 A failed read must end with status 4, `read fault` and nothing on standard output; a failed write with 4 and `write fault`; a refused script
 or command line with its own status, whatever happens to standard output and error; no run by a signal. Arguments that are not UTF-8 are refused, and
 so is one command too many, which is explained.
-Scripts of 100,000 commands, events and jobs are answered whole, and so are pictures of 20 million letters, by a run of the list as
+Scripts of 100,000 commands, events and jobs are answered whole, and so are pictures of 20 million letters, by a run of the link line as
 definitions.py has it. The pictures of the pages are what the program draws. Waiting workers sleep if `--sleep` is given, and else not: counted by
 how often they give up their processor voluntarily. If no worker sleeps, a release wakes none: by the system calls that strace shows, if it is
 installed. The program prints its progress if `--progress` is given. Needs Linux.

@@ -202,7 +202,7 @@ def event(header, words):
 
 
 class Node:
-    """A node of the list: the fields of its entry, its point in its call, the entry or node that the point names, and its release."""
+    """A node of the link line: the fields of its entry, its point in its call, the entry or node that the point names, and its release."""
 
     def __init__(self):
         self.point, self.at, self.reason, self.passed = "Idle", None, None, []
@@ -214,7 +214,7 @@ class Node:
 
 
 class Core:
-    """The list of reversed links, one word step at a time."""
+    """The link line's reversed links, one word step at a time."""
 
     def __init__(self, nodes, lease):
         self.nodes = {n: Node() for n in range(1, nodes + 1)}

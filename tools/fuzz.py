@@ -4,7 +4,7 @@
     nice -n 19 tools/fuzz.py [--count 100000] [--seed 1] [--first 0] [--jobs 2] [--program PATH] [TASK..]
 
 TASK is replay, steps, board or bank; without one all four are run, each on that many scripts. Replay runs each script by the plain line, by
-rings, by lists and by ticket lines, board and bank by the last three in turn. Every run must end by itself, within ten minutes, with the status and
+rings, by link lines and by ticket lines, board and bank by the last three in turn. Every run must end by itself, within ten minutes, with the status and
 the exact bytes that definitions.py gives for the script; a run of workers, whose order is free, with a report that it allows. Script number n of a
 seed is the same in every run. The first script that is answered wrongly is printed, and ends the program.
 """

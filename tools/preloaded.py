@@ -1,7 +1,7 @@
 #!/usr/bin/env python3
 """Runs programs of other authors with their mutexes as lines, and compares their output with a run without lines.
 
-    tools/preloaded.py [MEGABYTES [KIND]]        inputs of this many megabytes, 64; lines of this kind: ticket, ring or list
+    tools/preloaded.py [MEGABYTES [KIND]]        inputs of this many megabytes, 64; lines of this kind: ticket, ring or link
 
 It needs the C library (make -C c_examples build/preload.so builds it) and Debian's packages pigz, pbzip2 and sysbench. Each program must end as it does
 alone, with the same output, after at least some grants, and with no two threads in one mutex at the same time. Seconds are those of one run each.

@@ -1,5 +1,5 @@
 #!/usr/bin/env python3
-"""Explores all cores of the list that events reach, with each number of nodes, and checks them against the laws of progress.
+"""Explores all cores of the link line that events reach, with each number of nodes, and checks them against the laws of progress.
 
 tools/ranks.py [NODES ..]     (1, 2 and 3 nodes if none is given; 3 take some 10 seconds)
 

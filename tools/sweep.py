@@ -134,7 +134,7 @@ def taken(program, library, words, script):
         return int(pipe.read())
 
 
-# With 200 nodes a list takes 26 KB of words, a ring 33 KB, a ticket line as much as a ring and 33 KB of slots.
+# With 200 nodes a link line takes 26 KB of words, a ring 33 KB, a ticket line as much as a ring and 33 KB of slots.
 BY_SIZE = ["link", "ring", "ticket"]
 APART = 10_000
 IDLE = {"board": b"board workers 200\n", "bank": b"bank workers 200 lines 1\n"}
@@ -147,7 +147,7 @@ def kinds_by_memory(program, library):
         if not all(more - less > APART for less, more in zip(took, took[1:])):
             sys.exit(f"wrong: {task} over {BY_SIZE}: {took} bytes")
         if abs(taken(program, library, [task], script) - took[0]) > APART:
-            sys.exit(f"wrong: {task} is not over lists where no kind is named")
+            sys.exit(f"wrong: {task} is not over link lines where no kind is named")
         print(f"{task}: " + ", ".join(f"{kind} {bytes:,} bytes" for kind, bytes in zip(BY_SIZE, took)), flush=True)
 
 

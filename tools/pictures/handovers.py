@@ -64,8 +64,8 @@ TICKET = Scene(
     4,
 )
 
-LIST = Scene(
-    "The list hands over: the successor has linked itself to the holder's entry",
+LINK = Scene(
+    "The link line hands over: the successor has linked itself to the holder's entry",
     {"home": "1", "entry 1": "0", "entry 2": "0", "slot": "0000"},
     [
         Step(RIGHT, "entry 2", "store 0", "0", "enqolb"),
@@ -137,7 +137,7 @@ def draw(scene):
     return picture
 
 
-SCENES = {"hand_over_ring": RING, "hand_over_list": LIST, "hand_over_ticket": TICKET, "late_link": LATE_LINK}
+SCENES = {"hand_over_ring": RING, "hand_over_link": LINK, "hand_over_ticket": TICKET, "late_link": LATE_LINK}
 
 
 def pictures():

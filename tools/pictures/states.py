@@ -24,13 +24,13 @@ def draw_states(picture):
     """The seven states."""
     picture.box(24, 70, 150, 250, "d", 8)
     picture.text(99, 60, "may ask", "strong")
-    for y, name, says in ((102, "Idle", "nothing is open"), (164, "Rolled", "withdrawn"), (226, "Left", "list: line left here"), (288, "Shut", "knows: closed")):
+    for y, name, says in ((102, "Idle", "nothing is open"), (164, "Rolled", "withdrawn"), (226, "Left", "link line: left here"), (288, "Shut", "knows: closed")):
         picture.box(34, y - TALL / 2, 130, TALL)
         picture.text(99, y - 1, name, "strong")
         picture.text(99, y + 13, says, "small")
     state(picture, 460, 164, "Queued", "its request waits", "c")
     state(picture, 800, 164, "Holding", "has the line", "a")
-    state(picture, 460, 344, "Linking", "list: not linked")
+    state(picture, 460, 344, "Linking", "link line: not linked")
 
 
 def draw_calls(picture):
@@ -59,7 +59,7 @@ def draw_calls(picture):
 NOTES = (
     "enqolb, answered Busy, changes nothing; answered Closed, it leads where poll does.",
     "At the last turn of a lease, deqolb leads where shut does.",
-    "prepend and link are the two halves of a list's enqolb, and may be answered Granted or Closed too.",
+    "prepend and link are the two halves of a link line's enqolb, and may be answered Granted or Closed too.",
 )
 
 

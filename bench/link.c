@@ -1,6 +1,6 @@
-// The list in plain C, for comparison with the proved list: the same words, the same steps and the same pauses.
+// The link line in plain C, for comparison with the proved one: the same words, the same steps and the same pauses.
 //
-//   clang -O3 -march=x86-64-v2 -pthread -o list bench/list.c && ./list THREADS ROUNDS
+//   clang -O3 -march=x86-64-v2 -pthread -o link bench/link.c && ./link THREADS ROUNDS
 //
 // No node withdraws, and the line is never closed.
 #include "line.h"
