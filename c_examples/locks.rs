@@ -3,9 +3,9 @@
 #[path = "../include/qolb.rs"]
 mod qolb;
 
-use qolb::{Answer, Condition, Kind, Lock, Mutex, RawQolb, Stopped};
+use qolb::{Answer, Bytes, Condition, Kind, Lock, Mutex, RawQolb, Stopped};
 use std::panic;
-use std::thread;
+use std::thread::{self, ScopedJoinHandle};
 use std::time::{Duration, Instant};
 
 const THREADS: u64 = 8;
@@ -165,6 +165,58 @@ fn raw_answers() {
     assert!(panic::catch_unwind(|| RawQolb::new(201)).is_err());
 }
 
+/// Times, and whether each is as long as it takes; else it is late at once.
+const TIMES: [(Duration, bool); 5] = [
+    (Duration::ZERO, false),
+    (Duration::from_nanos(1), false),
+    (Duration::from_nanos(u64::MAX), true),
+    (Duration::from_secs(u64::MAX), true),
+    (Duration::MAX, true),
+];
+
+/// Whether the waiter gets what is held. It is let go at the end, or soon, if it is waited for as long as it takes.
+fn gets<H>(held: H, waits: bool, waiter: ScopedJoinHandle<'_, bool>) -> bool {
+    if !waits {
+        let got = waiter.join().unwrap();
+        drop(held);
+        return got;
+    }
+    thread::sleep(2 * MS);
+    drop(held);
+    waiter.join().unwrap()
+}
+
+fn durations_never_overflow() {
+    for (time, waits) in TIMES {
+        let mut nodes = qolb::open(Kind::DEFAULT, 1, 2, None, &Bytes([0; 64])).unwrap();
+        let (mut second, mut first) = (nodes.pop().unwrap(), nodes.pop().unwrap());
+        let held = first.lock().unwrap();
+        let got = thread::scope(|s| gets(held, waits, s.spawn(|| second.try_lock_for(time).unwrap().is_some())));
+        assert_eq!(got, waits, "node, {time:?}");
+        let mutex = Mutex::new(());
+        let held = mutex.lock().unwrap();
+        let got = thread::scope(|s| gets(held, waits, s.spawn(|| mutex.try_lock_for(time).unwrap().is_some())));
+        assert_eq!(got, waits, "mutex, {time:?}");
+        let lock = Lock::new(0).unwrap();
+        let held = lock.lock().unwrap();
+        let got = thread::scope(|s| gets(held, waits, s.spawn(|| lock.try_lock_for(time).unwrap().is_some())));
+        assert_eq!(got, waits, "lock, {time:?}");
+        assert_eq!(is_signalled(time, waits), waits, "condition, {time:?}");
+    }
+}
+
+/// Whether a wait of this time at a condition ends by a signal, which another thread gives soon, or none.
+fn is_signalled(time: Duration, soon: bool) -> bool {
+    let (mutex, cond) = (Mutex::new(()), Condition::new());
+    let held = mutex.lock().unwrap();
+    thread::scope(|s| {
+        if soon {
+            s.spawn(|| mutex.lock().map(|_held| cond.notify_one()).unwrap());
+        }
+        cond.wait_for(held, time).unwrap().1
+    })
+}
+
 fn main() {
     panic::set_hook(Box::new(|told| {
         let said = told.payload_as_str().unwrap_or_default();
@@ -177,4 +229,5 @@ fn main() {
     conditions();
     line_has_a_value();
     raw_answers();
+    durations_never_overflow();
 }

@@ -85,13 +85,35 @@ class Deadlock : public Misuse {
 
 namespace detail {
 
-// Rounds up, to at most the largest number. By a floating-point number, which no period overflows and which has all 64 bits.
+// A time that has all 64 bits of any other, and that no other overflows, as the hours of the year 9999 overflow a 64-bit number of nanoseconds.
+using Nanoseconds = std::chrono::duration<long double, std::nano>;
+
+// Rounds up, to at most the largest number.
 template <class Rep, class Period> std::uint64_t nanoseconds(const std::chrono::duration<Rep, Period> &time) {
-    long double exact = std::chrono::duration<long double, std::nano>(time).count();
+    long double exact = Nanoseconds(time).count();
     if (!(exact > 0)) return 0;
     if (exact >= static_cast<long double>(UINT64_MAX)) return UINT64_MAX;
     auto count = static_cast<std::uint64_t>(exact);
     return static_cast<long double>(count) < exact ? count + 1 : count;
+}
+
+// The time from now until `end`; below zero if that is past.
+template <class Clock, class Duration> Nanoseconds left(const std::chrono::time_point<Clock, Duration> &end) {
+    return Nanoseconds(end.time_since_epoch()) - Nanoseconds(Clock::now().time_since_epoch());
+}
+
+// The end of a time that begins now.
+template <class Rep, class Period> auto end_of(const std::chrono::duration<Rep, Period> &time) {
+    return std::chrono::time_point<std::chrono::steady_clock, Nanoseconds>(std::chrono::steady_clock::now()) + Nanoseconds(time);
+}
+
+// Tries once more where the clock was set back meanwhile.
+template <class Lockable, class Clock, class Duration>
+bool try_lock_until(Lockable &lock, const std::chrono::time_point<Clock, Duration> &end) {
+    do {
+        if (lock.try_lock_for(left(end))) return true;
+    } while (left(end).count() > 0);
+    return false;
 }
 
 } // namespace detail
@@ -157,7 +179,7 @@ class Node {
         return locked(acquire_for(time));
     }
     template <class Clock, class Duration> QOLB_NODISCARD bool try_lock_until(const std::chrono::time_point<Clock, Duration> &end) {
-        return try_lock_for(end - Clock::now());
+        return detail::try_lock_until(*this, end);
     }
     void unlock() {
         if (deqolb() != QOLB_DONE) QOLB_THROW(Misuse());
@@ -311,7 +333,7 @@ class Lock {
         return entered(enter_for(time));
     }
     template <class Clock, class Duration> QOLB_NODISCARD bool try_lock_until(const std::chrono::time_point<Clock, Duration> &end) {
-        return try_lock_for(end - Clock::now());
+        return detail::try_lock_until(*this, end);
     }
     void unlock() {
         if (leave() != QOLB_DONE) QOLB_THROW(Misuse());
@@ -360,9 +382,9 @@ class Condition {
     // Returns the value of the predicate at the end.
     template <class Rep, class Period, class Predicate>
     bool wait_for(std::unique_lock<Lock> &held, const std::chrono::duration<Rep, Period> &time, Predicate is_so) {
-        auto end = std::chrono::steady_clock::now() + time;
+        auto end = detail::end_of(time);
         while (!is_so())
-            if (!wait_for(held, end - std::chrono::steady_clock::now())) return is_so();
+            if (!wait_for(held, detail::left(end))) return is_so();
         return true;
     }
 
