@@ -200,8 +200,9 @@
  *
  * PROCESSOR
  *
- * Linux on x86-64, with the instructions of x86-64-v2 (SSE4.1 among them), which processors have since 2009. On an older processor the first call
- * that needs one ends the program by SIGILL. A program that may run on one asks first: __builtin_cpu_supports("sse4.1"). */
+ * Linux on x86-64, with the instructions of x86-64-v2 (SSE4.2 and POPCNT among them), which processors have since 2009. On an older processor the first
+ * call that needs one ends the program by SIGILL. A program that may run on one asks first: __builtin_cpu_supports("sse4.2") &&
+ * __builtin_cpu_supports("popcnt"). */
 #ifndef QOLB_H
 #define QOLB_H
 
