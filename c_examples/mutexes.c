@@ -1,21 +1,11 @@
 /* The C library's mutexes and condition variables, as a program may use them. `make check` runs it as it is, and with every mutex a line
  * (preload.c): both must answer the same. Prints only errors. */
 #define _GNU_SOURCE
-#include <errno.h>
-#include <pthread.h>
+#include "mutexes.h"
+#include <limits.h>
 #include <sched.h>
-#include <stdio.h>
-#include <stdlib.h>
-#include <time.h>
-
-#define WANT(call, wanted)                                                     \
-    do {                                                                       \
-        int got_ = (call);                                                     \
-        if (got_ != (wanted)) {                                                \
-            printf("line %d: %s gave %d\n", __LINE__, #call, got_);            \
-            exit(1);                                                           \
-        }                                                                      \
-    } while (0)
+#include <sys/mman.h>
+#include <sys/wait.h>
 
 static pthread_mutex_t ordinary = PTHREAD_MUTEX_INITIALIZER, semaphore = PTHREAD_MUTEX_INITIALIZER;
 static pthread_mutex_t checking = PTHREAD_ERRORCHECK_MUTEX_INITIALIZER_NP, recursive = PTHREAD_RECURSIVE_MUTEX_INITIALIZER_NP;
@@ -28,12 +18,6 @@ static struct timespec in_10_ms(clockid_t clock) {
     end.tv_nsec += 10000000;
     if (end.tv_nsec >= 1000000000) end.tv_sec++, end.tv_nsec -= 1000000000;
     return end;
-}
-
-static void in_another_thread(void *(*work)(void *), pthread_mutex_t *mutex) {
-    pthread_t id;
-    WANT(pthread_create(&id, NULL, work, mutex), 0);
-    WANT(pthread_join(id, NULL), 0);
 }
 
 static void *finds_it_locked(void *mutex) {
@@ -130,11 +114,164 @@ static void of_conditions(pthread_mutex_t *mutex) {
     WANT(pthread_join(id, NULL), 0);
 }
 
+/* ---- Times ---- */
+
+static const struct timespec never = {LONG_MAX, 999999999}, long_ago = {-5, 0}, no_times[] = {{1, -1}, {1, 1000000000}, {LONG_MAX, LONG_MIN}};
+
+static void *finds_no_time(void *mutex) {
+    for (int k = 0; k < 3; k++) {
+        WANT(pthread_mutex_timedlock(mutex, &no_times[k]), EINVAL);
+        WANT(pthread_mutex_clocklock(mutex, CLOCK_MONOTONIC, &no_times[k]), EINVAL);
+    }
+    WANT(pthread_mutex_clocklock(mutex, CLOCK_PROCESS_CPUTIME_ID, &never), EINVAL);
+    WANT(pthread_mutex_timedlock(mutex, &long_ago), ETIMEDOUT);
+    return NULL;
+}
+
+static void *takes_at_last(void *mutex) {
+    WANT(pthread_mutex_timedlock(mutex, &never), 0);
+    WANT(pthread_mutex_unlock(mutex), 0);
+    WANT(pthread_mutex_clocklock(mutex, CLOCK_MONOTONIC, &never), 0);
+    WANT(pthread_mutex_unlock(mutex), 0);
+    return NULL;
+}
+
+/* A time that is none is an error, unless the mutex is free. The last second of all is not over. */
+static void of_times(void) {
+    pthread_t id;
+    WANT(pthread_mutex_timedlock(&ordinary, &no_times[0]), 0);
+    in_another_thread(finds_no_time, &ordinary);
+    for (int k = 0; k < 3; k++) {
+        WANT(pthread_cond_timedwait(&news, &ordinary, &no_times[k]), EINVAL);
+        WANT(pthread_cond_clockwait(&news, &ordinary, CLOCK_MONOTONIC, &no_times[k]), EINVAL);
+    }
+    WANT(pthread_cond_clockwait(&news, &ordinary, CLOCK_PROCESS_CPUTIME_ID, &never), EINVAL);
+    WANT(pthread_cond_timedwait(&news, &ordinary, &long_ago), ETIMEDOUT);
+    WANT(pthread_create(&id, NULL, takes_at_last, &ordinary), 0);
+    rest(20);
+    WANT(pthread_mutex_unlock(&ordinary), 0);
+    WANT(pthread_join(id, NULL), 0);
+    has_news = 0;
+    WANT(pthread_mutex_lock(&ordinary), 0);
+    WANT(pthread_create(&id, NULL, tells, &ordinary), 0);
+    while (!has_news) WANT(pthread_cond_timedwait(&news, &ordinary, &never), 0);
+    WANT(pthread_mutex_unlock(&ordinary), 0);
+    WANT(pthread_join(id, NULL), 0);
+}
+
+/* ---- Cancelling ---- */
+
+static void has_it_again(void *mutex) {
+    WANT(pthread_mutex_trylock(mutex), EBUSY);
+    WANT(pthread_mutex_unlock(mutex), 0);
+}
+
+static void *waits_until_cancelled(void *mutex) {
+    WANT(pthread_mutex_lock(mutex), 0);
+    pthread_cleanup_push(has_it_again, mutex);
+    __atomic_store_n(&rounds, 1, __ATOMIC_SEQ_CST);
+    for (;;) pthread_cond_wait(&news, mutex);
+    pthread_cleanup_pop(0);
+    return NULL;
+}
+
+/* A thread that is cancelled while it waits at a condition ends, and has the mutex before. */
+static void of_cancelling(int milliseconds) {
+    pthread_t id;
+    void *ended;
+    __atomic_store_n(&rounds, 0, __ATOMIC_SEQ_CST);
+    WANT(pthread_create(&id, NULL, waits_until_cancelled, &ordinary), 0);
+    while (!__atomic_load_n(&rounds, __ATOMIC_SEQ_CST)) sched_yield();
+    if (milliseconds) rest(milliseconds);
+    WANT(pthread_cancel(id), 0);
+    WANT(pthread_join(id, &ended), 0);
+    WANT(ended == PTHREAD_CANCELED, 1);
+    in_another_thread(takes, &ordinary);
+}
+
+/* ---- Destroying, and initialising again ---- */
+
+static void of_destroying(void) {
+    pthread_mutex_t mutex = PTHREAD_MUTEX_INITIALIZER;
+    pthread_cond_t condition = PTHREAD_COND_INITIALIZER;
+    struct timespec end = in_10_ms(CLOCK_REALTIME);
+    WANT(pthread_mutex_lock(&mutex), 0);
+    WANT(pthread_cond_timedwait(&condition, &mutex, &end), ETIMEDOUT);
+    WANT(pthread_mutex_destroy(&mutex), EBUSY);
+    in_another_thread(finds_it_locked, &mutex);
+    WANT(pthread_mutex_unlock(&mutex), 0);
+    WANT(pthread_cond_destroy(&condition), 0);
+    WANT(pthread_mutex_destroy(&mutex), 0);
+    WANT(pthread_mutex_lock(&mutex), EINVAL);
+    WANT(pthread_mutex_init(&mutex, NULL), 0);
+    in_another_thread(takes, &mutex);
+    WANT(pthread_mutex_destroy(&mutex), 0);
+}
+
+/* As the child of a fork does with a mutex that a thread of its parent holds: by the call, and by assignment. */
+static void of_initialising_again(void) {
+    static pthread_mutex_t mutex = PTHREAD_MUTEX_INITIALIZER;
+    for (int k = 0; k < 3; k++) {
+        WANT(pthread_mutex_lock(&mutex), 0);
+        WANT(pthread_mutex_init(&mutex, NULL), 0);
+        in_another_thread(takes, &mutex);
+        WANT(pthread_mutex_lock(&mutex), 0);
+        mutex = (pthread_mutex_t)PTHREAD_MUTEX_INITIALIZER;
+        in_another_thread(takes, &mutex);
+        WANT(pthread_mutex_destroy(&mutex), 0);
+        WANT(pthread_mutex_init(&mutex, NULL), 0);
+    }
+}
+
+/* ---- Mutexes of other kinds ---- */
+
+static void *ends_with_it(void *mutex) {
+    WANT(pthread_mutex_lock(mutex), 0);
+    return NULL;
+}
+
+static void of_a_robust_one(void) {
+    pthread_mutex_t mutex;
+    pthread_mutexattr_t kind;
+    WANT(pthread_mutexattr_init(&kind), 0);
+    WANT(pthread_mutexattr_setrobust(&kind, PTHREAD_MUTEX_ROBUST), 0);
+    WANT(pthread_mutex_init(&mutex, &kind), 0);
+    in_another_thread(ends_with_it, &mutex);
+    WANT(pthread_mutex_lock(&mutex), EOWNERDEAD);
+    WANT(pthread_mutex_consistent(&mutex), 0);
+    WANT(pthread_mutex_unlock(&mutex), 0);
+    WANT(pthread_mutex_destroy(&mutex), 0);
+}
+
+static void of_one_that_processes_share(void) {
+    pthread_mutexattr_t kind;
+    pthread_mutex_t *mutex = mmap(NULL, sizeof *mutex, PROT_READ | PROT_WRITE, MAP_SHARED | MAP_ANONYMOUS, -1, 0);
+    int ended;
+    WANT(mutex == MAP_FAILED, 0);
+    WANT(pthread_mutexattr_init(&kind), 0);
+    WANT(pthread_mutexattr_setpshared(&kind, PTHREAD_PROCESS_SHARED), 0);
+    WANT(pthread_mutex_init(mutex, &kind), 0);
+    pid_t child = fork();
+    if (child == 0) _exit(pthread_mutex_lock(mutex));
+    WANT(waitpid(child, &ended, 0) == child && ended == 0, 1);
+    WANT(pthread_mutex_trylock(mutex), EBUSY);
+    WANT(pthread_mutex_unlock(mutex), 0);
+    WANT(pthread_mutex_trylock(mutex), 0);
+}
+
 int main(void) {
+    alarm(60);
     of_an_ordinary_one();
     of_others();
     as_a_semaphore();
     of_conditions(&ordinary);
     of_conditions(&checking);
+    of_times();
+    of_cancelling(20);
+    for (int k = 0; k < 200; k++) of_cancelling(0);
+    of_destroying();
+    of_initialising_again();
+    of_a_robust_one();
+    of_one_that_processes_share();
     return 0;
 }

@@ -30,6 +30,10 @@ static struct guard *guard_of(const qolb_cond *cond) {
 
 static void unguard(struct guard *guard) { return_guard(&guard->word); }
 
+void qolb_free_guards_(void) {
+    for (int k = 0; k < GUARDS; k++) atomic_store(&guards[k].word, 0);
+}
+
 /* The condition's last waiter; written under its guard. */
 static struct waiter *last_of(const qolb_cond *cond) { return __atomic_load_n(&cond->own, __ATOMIC_SEQ_CST); }
 

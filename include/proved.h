@@ -48,6 +48,8 @@ __attribute__((visibility("hidden"))) qolb_node *qolb_lent_(const qolb_node *nod
 __attribute__((visibility("hidden"))) uint32_t qolb_lock_leave_for_another_(qolb_lock *lock);
 /* Enters as qolb_lock_enter_within does, but a thread that holds the lock waits until another leaves for it. */
 __attribute__((visibility("hidden"))) uint32_t qolb_lock_enter_unasked_(qolb_lock *lock, uint64_t nanoseconds);
+/* Frees the guards of conditions, in the child of a fork: threads of the parent that were in a call on a condition are not there. */
+__attribute__((visibility("hidden"))) void qolb_free_guards_(void);
 
 static inline int qolb_is_lent_(const qolb_node *node) { return (int)((uintptr_t)node->own & 1); }
 

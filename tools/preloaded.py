@@ -52,7 +52,7 @@ def compare(name, words, source, of_output, kind, folder):
     lined, with_lines, report = run(words, source, kind, folder)
     if not of_output(alone) or of_output(alone) != of_output(lined):
         sys.exit(f"{name}: the output differs")
-    found = re.fullmatch(r"kind \d mutexes (\d+) grants (\d+) late (\d+) not free (\d+) violations (\d+)\n", report)
+    found = re.fullmatch(r"kind \d mutexes (\d+) at once \d+ grants (\d+) late (\d+) not free (\d+) violations (\d+)\n", report)
     if not found:
         sys.exit(f"{name}: the report is {report!r}")
     mutexes, grants, late, not_free, violations = map(int, found.groups())

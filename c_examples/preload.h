@@ -1,0 +1,74 @@
+/* What preload.c and preload_memory.c have of each other: memory, tables by address, and the number of the process. */
+#ifndef QOLB_PRELOAD_H
+#define QOLB_PRELOAD_H
+
+#include "bells.h"
+
+/* ---- Processes ----
+ *
+ * A fork copies the locks, and not the threads that were in them. So the number of the process is in memory that the kernel clears in the child, with the
+ * guards and the free memory: there they are as at the start, whatever the parent's threads were doing. */
+enum { MUTEXES, CONDITIONS, TABLES, STRIPES = 32, UNIT = 16, CLASSES = 4096, MOST_BYTES = UNIT * (CLASSES - 1) };
+
+struct stripe {
+    _Alignas(APART) atomic_uint guard;
+};
+
+struct cleared {
+    _Alignas(4096) _Atomic uint64_t process;
+    atomic_uint drawing;
+    _Alignas(APART) atomic_uint guard; /* of what is below */
+    char *at, *end;                    /* free memory of the newest map */
+    size_t maps;
+    struct line *spare;                /* locks of mutexes that were destroyed */
+    void *given_back[CLASSES];         /* blocks, by size */
+    struct stripe stripe[TABLES][STRIPES];
+};
+
+extern HIDDEN struct cleared qolb_cleared_;
+
+/* The number of this process, not 0. No other that maps memory of this one has it. */
+HIDDEN uint64_t qolb_process_(void);
+
+/* Reads the environment; called once, before any lock is opened. */
+HIDDEN void qolb_begin_(void);
+
+/* ---- Tables ---- */
+
+/* A mutex's lock. It is never closed, and serves another mutex once its own is destroyed. So a thread that is still in a call on it does no harm. */
+struct line {
+    qolb_lock lock;
+    struct line *next;   /* of those that serve none */
+    atomic_int inside;   /* the number of threads in it, if they are counted */
+    atomic_int waiting;  /* the number of threads that left it to wait at a condition */
+};
+
+/* What is kept of an address. An entry stays in its tree, and may get another address once its own is removed. */
+struct entry {
+    const void *address; /* NULL if it has none */
+    struct entry *child[4];
+    uint64_t process; /* that in which the rest was written */
+    struct line *line;
+    qolb_cond cond;
+};
+
+/* Takes the guard under which entries of this address are found; return_guard() returns it. */
+HIDDEN atomic_uint *qolb_guard_table_(int table, const void *address);
+/* The address's entry, or NULL. */
+HIDDEN struct entry *qolb_find_(int table, const void *address);
+/* An entry for an address that has none; its process is 0. NULL if there is no memory. */
+HIDDEN struct entry *qolb_add_(int table, const void *address);
+/* Calls this with each entry that has an address. */
+HIDDEN void qolb_for_each_(int table, void (*call)(struct entry *));
+
+/* ---- Memory ---- */
+
+/* A block of this process's own maps, at a multiple of 16 bytes; NULL if there is none. */
+HIDDEN void *qolb_take_memory_(size_t size);
+HIDDEN void qolb_give_memory_(void *block, size_t size);
+
+/* A lock that served a mutex before, or NULL. */
+HIDDEN struct line *qolb_take_spare_(void);
+HIDDEN void qolb_give_spare_(struct line *line);
+
+#endif
