@@ -4,11 +4,12 @@ use Rattle.std.specs.Prelude.{Result, Ok, Err, IfOk}
 use Rattle.qolb_model.specs.declared.config.LineConfig.{LineConfig}
 use Rattle.qolb_model.specs.declared.view.View.{View}
 use Rattle.qolb_model.specs.Opening.{AreNew}
+use Rattle.line_kinds.specs.declared.Lines.{Lines}
 use Rattle.qolb_nodes.specs.declared.any_node.AnyNode.{AnyNode}
 use Rattle.qolb_nodes.specs.declared.handle.Handle.{Handle}
 use Rattle.qolb_nodes.specs.Calls.{view_of, kind_of, AreOfOneLine}
 use Rattle.qolb_nodes.specs.Nodes.{NodeOf}
-use Rattle.qolb_nodes.specs.Opens.{held_by, AreEmpty, AreOfLine, AreNewNodes, AreOpened}
+use Rattle.qolb_nodes.specs.Opens.{held_by, AreEmpty, AreOfLine, AreNewNodes, AreOpened, lines_at}
 use Rattle.qolb_nodes.proofs.Filling.{Boxes, values, held_values, node_at}
 
 pub if_ok_then : {A E : Type 0} {P Q : A → Type 0} (r : Result A E) → ((a : A) → P a → Q a) → IfOk r P → IfOk r Q
@@ -23,7 +24,7 @@ module _ {Line Port : Type 0} (view : Port → View) (make : NodeOf Line Port �
   views_are each [] = refl
   views_are each (p ∷ ports) = ap (λ (v : View). v ∷ map view_of (nodes_of ports)) (each (node_at line p)) ∙ ap (λ (vs : List View). view p ∷ vs) (views_are each ports)
 
-  kinds_are : (kind : ℕ) → ((n : NodeOf Line Port) → kind_of (make n) ≡ kind) → (ports : List Port) (k : ℕ) (d : AnyNode) → k < length (nodes_of ports) → kind_of (get_or (nodes_of ports) k d) ≡ kind
+  kinds_are : (kind : Lines) → ((n : NodeOf Line Port) → kind_of (make n) ≡ kind) → (ports : List Port) (k : ℕ) (d : AnyNode) → k < length (nodes_of ports) → kind_of (get_or (nodes_of ports) k d) ≡ kind
   kinds_are kind each [] k d low = absurd (omega arith)
   kinds_are kind each (p ∷ ports) zero d low = each (node_at line p)
   kinds_are kind each (p ∷ ports) (suc k) d low = kinds_are kind each ports k d (omega arith)
@@ -47,7 +48,7 @@ module _ {Line Port : Type 0} (view : Port → View) (make : NodeOf Line Port �
       subst (λ (n : AnyNode). AreOfOneLine n b) (sym x.1) (subst (λ (n : AnyNode). AreOfOneLine (make (node_at line x.0)) n) (sym y.1) (each x.0 y.0))
 
 -- the new nodes of one line, as nodes of any kind
-pub new_nodes_of : {Line Port : Type 0} (view : Port → View) (make : NodeOf Line Port → AnyNode) (kind label : ℕ) (config : LineConfig) (nodes : List (NodeOf Line Port)) (anys : List AnyNode)
+pub new_nodes_of : {Line Port : Type 0} (view : Port → View) (make : NodeOf Line Port → AnyNode) (kind : Lines) (label : ℕ) (config : LineConfig) (nodes : List (NodeOf Line Port)) (anys : List AnyNode)
     → ((n : NodeOf Line Port) → view_of (make n) ≡ view n.port) → ((n : NodeOf Line Port) → kind_of (make n) ≡ kind)
     → ((line : Line) (p q : Port) → AreOfOneLine (make (node_at line p)) (make (node_at line q)))
     → AreOfLine view label config nodes → anys ≡ map make nodes → AreNewNodes kind label config anys
@@ -67,10 +68,12 @@ held_are [] = refl
 held_are (b ∷ bs) = ap (λ (os : List (Option AnyNode)). Some b.value ∷ os) (held_are bs)
 
 -- the handles, once they are filled
-pub opened : (kind label : ℕ) (config : LineConfig) (old mid new : List Handle) (bs : Boxes)
-    → AreNewNodes kind label config (values bs) → AreEmpty config.nodes old → held_by mid ≡ held_by old
+pub opened : (kind label : ℕ) (lines : Lines) (config : LineConfig) (old mid new : List Handle) (bs : Boxes)
+    → lines_at kind ≡ Some lines → AreNewNodes lines label config (values bs) → AreEmpty config.nodes old → held_by mid ≡ held_by old
     → held_by new ≡ held_values bs ++ drop (length bs) (held_by mid) → AreOpened kind label config old new
-opened kind label config old mid new bs are empty same filled = record {
+opened kind label lines config old mid new bs of_number are empty same filled = record {
+  lines = lines;
+  of_number = of_number;
   nodes = values bs;
   are_new = are;
   were_empty = empty;

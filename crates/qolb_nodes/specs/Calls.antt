@@ -15,42 +15,34 @@ use Rattle.qolb_model.specs.Leases.{turns_left}
 use Rattle.qolb_model.specs.OneOwner.{turn_after}
 use Rattle.qolb_model.specs.PortStates.{may_ask}
 use Rattle.line_generic.specs.AtTurn.{Names, SeesTurn}
-use Rattle.line_cells.specs.BetweenCalls as array
-use Rattle.link_line.specs.BetweenCalls as list
+use Rattle.line_kinds.specs.declared.Lines.{Lines}
+use Rattle.line_kinds.specs.declared.Lines.TheVariants as lines
 use Rattle.qolb_nodes.specs.declared.answer.Answer.{Answer}
 use Rattle.qolb_nodes.specs.declared.answer.Answer.TheVariants as answer
 use Rattle.qolb_nodes.specs.declared.any_node.AnyNode.{AnyNode}
-use Rattle.qolb_nodes.specs.declared.any_node.AnyNode.TheVariants as kind
 use Rattle.qolb_nodes.specs.Answers.{enq_told, poll_told, out_told, prep_told, clear_told}
 use Rattle.qolb_nodes.specs.Nodes.{anything, IsOneCall, PollsWithin, turns_number, with_lane, with_added}
+use Rattle.qolb_nodes.specs.NodeInfo.{info_of}
 use Rattle.qolb_nodes.specs.Waits.{wait_word_of, wake_word_of, went_to_of}
 
 -- the view of the node's port
 abbrev pub view_of : AnyNode → View
-view_of (kind.Ring node) = node.port.view
-view_of (kind.List node) = node.port.view
-view_of (kind.Ticket node) = node.port.view
+view_of node = (info_of node).port.view
 
 -- the write of the node, if it holds the line
 abbrev pub turn_of : AnyNode → Write
-turn_of (kind.Ring node) = node.port.turn
-turn_of (kind.List node) = node.port.turn
-turn_of (kind.Ticket node) = node.port.turn
+turn_of node = (info_of node).port.turn
 
 -- the node's counters of word steps and polls
 abbrev pub counters_of : AnyNode → Counters
-counters_of (kind.Ring node) = node.port.counters
-counters_of (kind.List node) = node.port.counters
-counters_of (kind.Ticket node) = node.port.counters
+counters_of node = (info_of node).port.counters
 
 abbrev pub poll_count_of : AnyNode → ℕ
 poll_count_of node = (counters_of node).poll_count
 
 -- the most word steps that one call of the node's line takes
 abbrev pub max_steps_of : AnyNode → ℕ
-max_steps_of (kind.Ring node) = array.max_steps 3 node.line.table.shared.key.config.nodes + 3
-max_steps_of (kind.List node) = list.max_steps node.line.table.shared.key.config.nodes + 3
-max_steps_of (kind.Ticket node) = array.max_steps 2 node.line.table.shared.key.config.nodes + 3
+max_steps_of node = (info_of node).max_steps (info_of node).nodes + 3
 
 -- the node made one call of its line, which did not poll
 abbrev pub CallsOnce : AnyNode → AnyNode → Type 0
@@ -63,18 +55,13 @@ state_of node = (view_of node).state
 abbrev pub NamesNext : AnyNode → Type 0
 NamesNext node = Names (wake_word_of node (view_of node)) (went_to_of node)
 
--- two nodes are of one line
+-- two nodes are of one line: one is the other, but for its port
 abbrev pub AreOfOneLine : AnyNode → AnyNode → Type 0
-AreOfOneLine (kind.Ring a) (kind.Ring b) = b.line ≡ a.line
-AreOfOneLine (kind.List a) (kind.List b) = b.line ≡ a.line
-AreOfOneLine (kind.Ticket a) (kind.Ticket b) = b.line ≡ a.line
-AreOfOneLine _ _ = ⊥
+AreOfOneLine a b = (info_of a).with_port (info_of b).port ≡ b
 
--- C's number of the kind of a node's line
-abbrev pub kind_of : AnyNode → ℕ
-kind_of (kind.Ring node) = 0
-kind_of (kind.List node) = 1
-kind_of (kind.Ticket node) = 2
+-- the kind of a node's line
+abbrev pub kind_of : AnyNode → Lines
+kind_of node = (info_of node).kind
 
 -- A call that the node's state may forbid. If it is forbidden, it is misuse, and nothing changes; if it is allowed, the line's call is
 -- made, with this promise for its own answer. The node is of the same line.
@@ -103,10 +90,10 @@ Waits polls was now a =
 
 -- `prepend` and `link`, of a list: allowed if the node neither waits nor holds; and if it is linking. Neither polls.
 abbrev pub Prepends : AnyNode → AnyNode → Answer → Type 0
-Prepends was now a = IsCall ((kind_of was ≡ 1) × (may_ask (state_of was) ≡ true)) prep_told (λ made. line.Prepends anything (view_of was) (view_of now) (turn_of now) made × CallsOnce was now × (made ≡ prep.Closed → NamesNext now)) was now a
+Prepends was now a = IsCall ((kind_of was ≡ lines.Link) × (may_ask (state_of was) ≡ true)) prep_told (λ made. line.Prepends anything (view_of was) (view_of now) (turn_of now) made × CallsOnce was now × (made ≡ prep.Closed → NamesNext now)) was now a
 
 abbrev pub LinksUp : AnyNode → AnyNode → Answer → Type 0
-LinksUp was now a = IsCall ((kind_of was ≡ 1) × (state_of was ≡ Linking)) enq_told (λ made. line.LinksUp anything (view_of was) (view_of now) (turn_of now) made × CallsOnce was now × (made ≡ enq.Closed → NamesNext now)) was now a
+LinksUp was now a = IsCall ((kind_of was ≡ lines.Link) × (state_of was ≡ Linking)) enq_told (λ made. line.LinksUp anything (view_of was) (view_of now) (turn_of now) made × CallsOnce was now × (made ≡ enq.Closed → NamesNext now)) was now a
 
 -- `withdraw`: allowed if the node waits. It does not poll.
 abbrev pub Withdraws : AnyNode → AnyNode → Answer → Type 0
@@ -132,6 +119,10 @@ ReadsLane k out_was out_now was now a =
 abbrev pub WritesLane : ℕ → ℕ → AnyNode → AnyNode → Answer → Type 0
 WritesLane k value was now a =
     IsDone ((state_of was ≡ Holding) × (k < 8)) ((view_of now ≡ view_of was) × (turn_of now ≡ with_lane (turn_of was) k value)) was now a
+
+-- `write_lane` of a lane of the eight
+abbrev pub WritesLaneAt : ℕ → ℕ → AnyNode → AnyNode → Answer → Type 0
+WritesLaneAt k value was now a = IsDone (state_of was ≡ Holding) ((view_of now ≡ view_of was) × (turn_of now ≡ with_lane (turn_of was) k value)) was now a
 
 -- `add_lane`: if the node holds, `by` is added to a lane modulo 2^64, and what the lane had before is written to `out`; else `out` is unchanged
 abbrev pub AddsLane : ℕ → ℕ → ℕ → ℕ → AnyNode → AnyNode → Answer → Type 0

@@ -2,8 +2,9 @@ pub mod Answers
 pub mod Nodes
 pub mod Held
 pub mod Lent
-pub mod Waits
 pub mod NodeCalls
+pub mod NodeInfo
+pub mod Waits
 pub mod Calls
 pub mod HolderBytes
 pub mod Opens

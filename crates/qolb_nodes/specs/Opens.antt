@@ -1,5 +1,5 @@
 -- The results of opening a line for C, and the causes of a refusal. (Of this project.)
-use Rattle.std.specs.Prelude.{◌≡◌, ◌≢◌, ◌⊎◌, ℕ, ◌<◌, ◌≤◌, ◌==◌, if◌then◌else◌, List, ◌++◌, map, drop, length, slice_get, Option, Some, None}
+use Rattle.std.specs.Prelude.{◌≡◌, ◌≢◌, ◌⊎◌, ℕ, ◌<◌, ◌≤◌, ◌==◌, if◌then◌else◌, List, [], ◌∷◌, ◌++◌, map, drop, length, slice_get, Option, Some, None}
 use Rattle.std.specs.List.{All}
 use Rattle.qolb_model.specs.declared.answer.OpenError.{OpenError}
 use Rattle.qolb_model.specs.declared.answer.OpenError.TheVariants as error
@@ -7,12 +7,26 @@ use Rattle.qolb_model.specs.declared.config.LineConfig.{LineConfig}
 use Rattle.qolb_model.specs.declared.config.TheConstants.{MAX_NODES}
 use Rattle.qolb_model.specs.declared.view.View.{View}
 use Rattle.qolb_model.specs.Opening.{AreNew, AreNodes, MayOpen}
+use Rattle.line_kinds.specs.declared.Lines.{Lines}
+use Rattle.line_kinds.specs.declared.Lines.TheVariants as lines
 use Rattle.qolb_nodes.specs.declared.answer.Answer.{Answer}
 use Rattle.qolb_nodes.specs.declared.answer.Answer.TheVariants as answer
 use Rattle.qolb_nodes.specs.declared.any_node.AnyNode.{AnyNode}
 use Rattle.qolb_nodes.specs.declared.handle.Handle.{Handle}
 use Rattle.qolb_nodes.specs.Calls.{view_of, kind_of, AreOfOneLine}
 use Rattle.qolb_nodes.specs.Nodes.{NodeOf}
+
+-- the kinds of line, in the order of C's numbers
+abbrev pub c_kinds : List Lines
+c_kinds = lines.Ring ∷ lines.Link ∷ lines.Ticket ∷ []
+
+-- the kind of line of this number
+abbrev pub lines_at : ℕ → Option Lines
+lines_at kind = slice_get c_kinds kind
+
+-- a number of a kind of line
+abbrev pub IsKind : ℕ → Type 0
+IsKind kind = kind < length c_kinds
 
 -- new nodes of one line, one for each number from 1 to the number of nodes
 pub record AreOfLine {Line Port : Type 0} (view : Port → View) (label : ℕ) (config : LineConfig) (nodes : List (NodeOf Line Port)) : Type 0 where
@@ -22,7 +36,7 @@ pub record AreOfLine {Line Port : Type 0} (view : Port → View) (label : ℕ) (
   pub new : AreNew label config (map view ports)
 
 -- a new node for each number from 1 to the number of nodes, in this order, all of this kind and of one line
-pub record AreNewNodes (kind label : ℕ) (config : LineConfig) (nodes : List AnyNode) : Type 0 where
+pub record AreNewNodes (kind : Lines) (label : ℕ) (config : LineConfig) (nodes : List AnyNode) : Type 0 where
   pub new : AreNew label config (map view_of nodes)
   pub of_kind : All (λ node. kind_of node ≡ kind) nodes
   pub one_line : (i j : ℕ) (a b : AnyNode) → slice_get nodes i ≡ Some a → slice_get nodes j ≡ Some b → AreOfOneLine a b
@@ -40,14 +54,12 @@ HasNode many handles = (k : ℕ) × (k < many) × ((node : AnyNode) × (slice_ge
 
 -- a line is opened: the first handles, which were empty, have its new nodes, and the others are unchanged
 pub record AreOpened (kind label : ℕ) (config : LineConfig) (old new : List Handle) : Type 0 where
+  pub lines : Lines
+  pub of_number : lines_at kind ≡ Some lines
   pub nodes : List AnyNode
-  pub are_new : AreNewNodes kind label config nodes
+  pub are_new : AreNewNodes lines label config nodes
   pub were_empty : AreEmpty config.nodes old
   pub filled : held_by new ≡ map (λ (node : AnyNode). Some node) nodes ++ drop config.nodes (held_by old)
-
--- a number of a kind of line
-abbrev pub IsKind : ℕ → Type 0
-IsKind kind = kind ≤ 2
 
 -- the cause for which a line is not opened: the first that applies
 abbrev pub WhyRefused : (kind : ℕ) → LineConfig → List Handle → Answer → Type 0

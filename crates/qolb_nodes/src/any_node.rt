@@ -1,6 +1,6 @@
 //! A node of a line of any kind.
-ghost use Rattle.std.specs.Prelude.{◌≡◌, Some, MatchOption};
-ghost use Rattle.qolb_nodes.specs.Calls.{view_of, state_of, Enqolbs, Polls, Waits, Prepends, LinksUp, Withdraws, LooksIfClear, Reads, ReadsLane, Writes, WritesLane, AddsLane, Releases, TellsTurns, TellsWord};
+ghost use Rattle.std.specs.Prelude.{◌≡◌, ◌<◌, Some, MatchOption};
+ghost use Rattle.qolb_nodes.specs.Calls.{view_of, state_of, Enqolbs, Polls, Waits, Prepends, LinksUp, Withdraws, LooksIfClear, Reads, ReadsLane, Writes, WritesLane, WritesLaneAt, AddsLane, Releases, TellsTurns, TellsWord};
 ghost use Rattle.qolb_nodes.specs.HolderBytes.{Holds, HasBytes, HasLane, IsLane};
 ghost use Rattle.qolb_nodes.specs.Waits.{went_to_of};
 ghost use Rattle.qolb_nodes.specs.declared.any_node.AnyNode.{AnyNode};
@@ -162,7 +162,16 @@ impl AnyNode {
         if k >= LANES {
             return Answer::Misuse;
         }
-        of_any!(self, node => node.write_lane(k as usize, value))
+        self.write_lane_at(k as usize, value)
+    }
+
+    /// Writes lane `k` of the eight, for the holder.
+    #[inline(always)]
+    fn write_lane_at(&mut self, k: usize, value: u64) -> Answer
+        requires { k < 8 }
+        ensures { WritesLaneAt k value self.old self.new result }
+    {
+        of_any!(self, node => node.write_lane(k, value))
     }
 
     /// Adds `by` modulo 2^64 to lane `k`, for the holder. `was` gets what the lane had before.

@@ -1,7 +1,7 @@
 //! Opening a line for C.
 ghost use Rattle.std.specs.Prelude.{◌≡◌, ◌≢◌, ◌≤◌, ◌++◌, ℕ, true, false, length, map, drop, Some, None, IsTrue, IfOk, IfErr};
 ghost use Rattle.qolb_model.specs.Opening.{MayOpen, MayNotOpen};
-ghost use Rattle.qolb_nodes.specs.Opens.{AreOfLine, AreNewNodes, held_by, AreEmpty, HasNode, AreOpened, WhyRefused, refused_by, IsKind};
+ghost use Rattle.qolb_nodes.specs.Opens.{AreOfLine, AreNewNodes, held_by, AreEmpty, HasNode, AreOpened, WhyRefused, refused_by};
 ghost use Rattle.qolb_nodes.specs.Memory.{TellsMemory};
 
 use crate::answer::Answer;
@@ -9,19 +9,10 @@ use crate::any_node::{AnyNode, IntoAny};
 use crate::handle::Handle;
 use crate::kinds::{List, Ring, Ticket};
 use crate::node::Node;
-use line_kinds::Lines;
+use line_kinds::{ALL, Lines};
 use qolb_model::{Free, LineConfig, MAX_NODES, OpenError, OpenLine};
 use std::alloc::Global;
 use std::sync::Arc;
-
-/// C's number for a ring.
-const RING: u32 = 0;
-
-/// C's number for a list.
-const LIST: u32 = 1;
-
-/// C's number for a ticket line.
-const TICKET_WORD: u32 = 2;
 
 /// Opens a line of this kind, and puts its nodes into the first of the handles.
 pub fn open(alloc: Global, kind: u32, label: u64, config: LineConfig, out: &mut [Handle]) -> Answer
@@ -29,9 +20,9 @@ pub fn open(alloc: Global, kind: u32, label: u64, config: LineConfig, out: &mut 
     ensures unchanged { result ≢ Answer.Done → held_by out.new ≡ held_by out.old }
     ensures why { result ≢ Answer.Done → WhyRefused kind config out.old result }
 {
-    if kind != RING && kind != LIST && kind != TICKET_WORD {
+    let Some(&lines) = ALL.get(kind as usize) else {
         return Answer::BadKind;
-    }
+    };
     if let Err(error) = config.check() {
         return refusal(error);
     }
@@ -41,7 +32,7 @@ pub fn open(alloc: Global, kind: u32, label: u64, config: LineConfig, out: &mut 
     if !are_empty(out, config.nodes as usize) {
         return Answer::Occupied;
     }
-    match nodes_of_kind(alloc, kind, label, config) {
+    match nodes_of_kind(alloc, lines, label, config) {
         Ok(nodes) => {
             fill(out, nodes);
             Answer::Done
@@ -57,11 +48,9 @@ pub fn memory(kind: u32, nodes: u64) -> u64
     if nodes < 1 || nodes > MAX_NODES {
         return 0;
     }
-    match kind {
-        RING => Lines::Ring.bytes_for(nodes),
-        LIST => Lines::Link.bytes_for(nodes),
-        TICKET_WORD => Lines::Ticket.bytes_for(nodes),
-        _ => 0,
+    match ALL.get(kind as usize) {
+        Some(lines) => lines.bytes_for(nodes),
+        None => 0,
     }
 }
 
@@ -98,21 +87,18 @@ fn are_empty(handles: &mut [Handle], many: usize) -> bool
 /// Those of `OpenLine::open_with`.
 fn nodes_of_kind(
     alloc: Global,
-    kind: u32,
+    lines: Lines,
     label: u64,
     config: LineConfig,
 ) -> Result<Vec<Box<AnyNode>>, OpenError>
-    requires { IsKind kind }
     ensures nodes { IfOk result (λ boxes.
-        AreNewNodes kind label config (map (λ node. node.value) boxes.items)) }
+        AreNewNodes lines label config (map (λ node. node.value) boxes.items)) }
     ensures why { IfErr result (λ error. MayNotOpen config error) }
 {
-    if kind == RING {
-        boxed(alloc, new_nodes::<Ring>(alloc, label, config)?)
-    } else if kind == LIST {
-        boxed(alloc, new_nodes::<List>(alloc, label, config)?)
-    } else {
-        boxed(alloc, new_nodes::<Ticket>(alloc, label, config)?)
+    match lines {
+        Lines::Ring => boxed(alloc, new_nodes::<Ring>(alloc, label, config)?),
+        Lines::Link => boxed(alloc, new_nodes::<List>(alloc, label, config)?),
+        Lines::Ticket => boxed(alloc, new_nodes::<Ticket>(alloc, label, config)?),
     }
 }
 
