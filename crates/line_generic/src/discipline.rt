@@ -17,8 +17,8 @@ ghost use Rattle.line_generic.specs.declared.table.NodeGhost.{NodeGhost};
 ghost use Rattle.line_generic.specs.PortPhases.{PortPhases};
 ghost use Rattle.line_generic.specs.Answers.{Takes, Puts};
 
+use crate::sleepers::UnparkHandle;
 use crate::table::{LineSeat, LocalCopy, Payload, SharedTable};
-use crate::wake::UnparkHandle;
 use atomic_table::Closed;
 use qolb_model::{Keep, PortState};
 use std::alloc::{AllocError, Global};

@@ -8,8 +8,9 @@ ghost use Rattle.line_generic.specs.AtTurn.{SeesTurn};
 use crate::discipline::Discipline;
 use crate::line::Line;
 use crate::port::Port;
+use crate::sleepers::UnparkHandle;
 use crate::table::LineTable;
-use crate::wake::{UnparkHandle, WakePolicy};
+use crate::wake::WakePolicy;
 use qolb_model::Keep;
 
 /// A number that is no word of any line: no node waits there.
@@ -55,7 +56,7 @@ impl WakePolicy for SleepersElsewhere {
         note: &mut WentTo,
         unpark: UnparkHandle,
     ) {
-        let UnparkHandle { word, ahead } = unpark;
+        let (word, ahead) = unpark.words();
         *note = WentTo { word, ahead };
     }
 }

@@ -7,8 +7,9 @@ ghost use Rattle.qolb_model.specs.declared.config.TheConstants.{MAX_NODES};
 
 use crate::discipline::Discipline;
 use crate::port::Port;
+use crate::sleepers::Parking;
 use crate::table::{LineTable, SharedTable};
-use crate::wake::{Parking, WakePolicy};
+use crate::wake::WakePolicy;
 use line_lanes::set_lane;
 use qolb_model::{Keep, PortState};
 use std::marker::PhantomData;

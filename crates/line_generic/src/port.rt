@@ -2,8 +2,9 @@
 ghost use Rattle.std.specs.Prelude.{◌≡◌, ◌↔◌, IsTrue};
 
 use crate::discipline::DisciplineSpec;
+use crate::sleepers::Parking;
 use crate::table::{LineSeat, LocalCopy};
-use crate::wake::{Parking, WakePolicy};
+use crate::wake::WakePolicy;
 use qolb_model::{LinePort, PollCount, PortState};
 use std::marker::Model;
 
