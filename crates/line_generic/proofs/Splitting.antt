@@ -11,6 +11,8 @@ use Rattle.qolb_model.proofs.Seats.{each_from_more}
 use Rattle.line_generic.specs.declared.table.NodeGhost.{NodeGhost}
 use Rattle.line_generic.specs.declared.table.TableKey.{TableKey}
 use Rattle.line_generic.specs.declared.table.LocalCopy.{LocalCopy}
+use Rattle.line_generic.specs.declared.elsewhere.TheConstants.{NO_WORD}
+use Rattle.line_generic.specs.AtTurn.{Names}
 use Rattle.line_generic.specs.NodeGhosts.{LineSeat, initial_node, initial_nodes_from}
 use Rattle.line_generic.specs.PortPhases.{PortPhases}
 use Rattle.line_generic.specs.Steps.{single}
@@ -33,11 +35,11 @@ module _ {O : Type 0} (q : PortPhases O) (key : TableKey) (n : ℕ) (old first r
     node_is = ap (λ m. (single q.initial m.0).view.node) is;
   }
 
-pub one_more : {O : Type 0} (initial : O) (table_id : TableId) (key : TableKey) (n : ℕ) (ports : List PortModel) (first : LineSeat O) (y : LocalCopy) (poll_count token : ℕ) (went_to : Option ℕ) → poll_count ≡ 0 → AreSplit table_id key n ports → first.table_id ≡ table_id → first.me ≡ (initial_node initial key (n + 1) ∷ [], []) → AreSplit table_id key (n + 1) (ports ++ port_model initial first y 0 poll_count token went_to ∷ [])
-one_more initial table_id key n ports first y poll_count token went_to none d t is = record {
+pub one_more : {O : Type 0} (initial : O) (table_id : TableId) (key : TableKey) (n : ℕ) (ports : List PortModel) (first : LineSeat O) (y : LocalCopy) (poll_count token : ℕ) (went_to : Option ℕ) → poll_count ≡ 0 → Names NO_WORD went_to → AreSplit table_id key n ports → first.table_id ≡ table_id → first.me ≡ (initial_node initial key (n + 1) ∷ [], []) → AreSplit table_id key (n + 1) (ports ++ port_model initial first y 0 poll_count token went_to ∷ [])
+one_more initial table_id key n ports first y poll_count token went_to none blank d t is = record {
   many = length-append ports (port_model initial first y 0 poll_count token went_to ∷ []) ∙ ap (λ k. k + 1) d.many;
   each = λ k p at. ⊎_elim (λ z. d.each k p z.1)
-      (λ z. subst (λ (q : ℕ × PortModel). (q.1.table ≡ table_id) × (q.1.view ≡ new_view key.label key.config (q.0 + 1)) × IsUnused q.1) (λ i. (sym (z.0 ∙ d.many) i, sym z.1 i)) (t, ap (λ m. (single initial m.0).view) is, λ i. record { steps = 0; total_steps = (single initial (is i).0).steps; poll_count = none i }))
+      (λ z. subst (λ (q : ℕ × PortModel). (q.1.table ≡ table_id) × (q.1.view ≡ new_view key.label key.config (q.0 + 1)) × IsUnused q.1) (λ i. (sym (z.0 ∙ d.many) i, sym z.1 i)) (t, ap (λ m. (single initial m.0).view) is, record { counters = λ i. record { steps = 0; total_steps = (single initial (is i).0).steps; poll_count = none i }; note = blank }))
       (push_cases ports (port_model initial first y 0 poll_count token went_to) k p at);
 }
 

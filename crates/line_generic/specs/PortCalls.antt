@@ -15,7 +15,7 @@ use Rattle.qolb_model.specs.declared.answer.PortState.TheVariants as port_state
 use Rattle.qolb_model.specs.declared.config.LineConfig.{LineConfig}
 use Rattle.qolb_model.specs.declared.unfinished.FinishError.{FinishError}
 use Rattle.line_lanes.specs.declared.line.Line64.{Line64}
-use Rattle.qolb_model.specs.Calls.{Enqueues, Prepends, LinksUp, Polls, Withdraws, Releases}
+use Rattle.qolb_model.specs.Calls.{Enqueues, Prepends, LinksUp, Polls, Withdraws, LooksIfClear, Releases}
 use Rattle.qolb_model.specs.Counting as call
 use Rattle.qolb_model.specs.Finishing.{MayRefuse, IsFinished}
 use Rattle.qolb_model.specs.Kept.{MayRelease}
@@ -34,6 +34,13 @@ module _ {X O P : Type 0} (k : keep.Ghosts X) (t : LineTable O P) where
   -- the port was opened with the line of this table
   abbrev pub IsPortOf : PortModel → Type 0
   IsPortOf p = BelongsTo k.good k.allows t.key t.table_id p
+
+  -- after `meet`: the port is one of the line still, with its turn, its counters and its note
+  pub record HasMet (old new : PortModel) : Type 0 where
+    pub belongs : IsPortOf new
+    pub turn : new.turn ≡ old.turn
+    pub counters : new.counters ≡ old.counters
+    pub keeps_note : new.went_to ≡ old.went_to
 
   -- a port of the line that may ask
   pub record IsRestingPort (p : PortModel) : Type 0 where
@@ -81,6 +88,7 @@ module _ {X D O P : Type 0} (k : keep.Ghosts X) (d : spec.Ghosts D O) (t : LineT
     pub enqueues : Enqueues k.allows old.view new.view new.turn answer
     pub counts : CountsCall d.enqueue_steps d.release_steps (d.max_steps t.key.config.nodes) (call.asks answer) old new
     pub went_to : answer ≡ enq.Closed → Names (d.wake_word new.view) new.went_to
+    pub keeps_note : answer ≢ enq.Closed → new.went_to ≡ old.went_to
 
   -- after `poll`: the port has its answer, with the token of its request
   pub record HasPolled (old new : PortModel) (answer : Poll) : Type 0 where
@@ -89,6 +97,7 @@ module _ {X D O P : Type 0} (k : keep.Ghosts X) (d : spec.Ghosts D O) (t : LineT
     pub counts : CountsCall d.enqueue_steps d.release_steps (d.max_steps t.key.config.nodes) (call.polls answer) old new
     pub token : new.token ≡ old.token
     pub went_to : answer ≡ poll.Closed → Names (d.wake_word new.view) new.went_to
+    pub keeps_note : answer ≢ poll.Closed → new.went_to ≡ old.went_to
 
   -- after `withdraw`: the port has its answer, with the token of its request
   pub record HasWithdrawn (old new : PortModel) (answer : Out) : Type 0 where
@@ -97,6 +106,14 @@ module _ {X D O P : Type 0} (k : keep.Ghosts X) (d : spec.Ghosts D O) (t : LineT
     pub counts : CountsCall d.enqueue_steps d.release_steps (d.max_steps t.key.config.nodes) (call.withdraws answer) old new
     pub token : new.token ≡ old.token
     pub went_to : answer ≡ out.Closed → Names (d.wake_word new.view) new.went_to
+    pub keeps_note : answer ≢ out.Closed → new.went_to ≡ old.went_to
+
+  -- after `is_clear`: the port knows what it found, and keeps its note
+  pub record HasLookedIfClear (old new : PortModel) (clear : Bool) : Type 0 where
+    pub belongs : IsPortOf k t new
+    pub found : LooksIfClear k.allows old.view new.view clear
+    pub counts : CountsCall d.enqueue_steps d.release_steps (d.max_steps t.key.config.nodes) (call.looks_if_clear clear) old new
+    pub keeps_note : new.went_to ≡ old.went_to
 
   -- after `deqolb` or `shut`: the turn is over, and the next holder noted
   pub record HasEndedTurn (shut : Bool) (old new : PortModel) : Type 0 where
@@ -115,6 +132,7 @@ module _ {X D O P : Type 0} (k : keep.Ghosts X) (d : spec.Ghosts D O) (t : LineT
     pub steps : (answer ≡ prep.Granted) ⊎ (answer ≡ prep.Linking) → new.counters.steps ≡ prepend_steps old.view.state
     pub bound : new.counters.steps ≤ d.max_steps t.key.config.nodes + 2
     pub went_to : answer ≡ prep.Closed → Names (d.wake_word new.view) new.went_to
+    pub keeps_note : answer ≢ prep.Closed → new.went_to ≡ old.went_to
 
   -- after `link`: the port has its answer, and the steps are counted
   pub record HasLinkedRequest (old new : PortModel) (answer : Enq) : Type 0 where
@@ -125,3 +143,4 @@ module _ {X D O P : Type 0} (k : keep.Ghosts X) (d : spec.Ghosts D O) (t : LineT
     pub steps : answer ≢ enq.Closed → new.counters.steps ≡ 1
     pub bound : new.counters.steps ≤ d.max_steps t.key.config.nodes
     pub went_to : answer ≡ enq.Closed → Names (d.wake_word new.view) new.went_to
+    pub keeps_note : answer ≢ enq.Closed → new.went_to ≡ old.went_to

@@ -20,9 +20,11 @@ use Rattle.qolb_model.specs.Steps.{decrement}
 use Rattle.qolb_model.specs.Opening.{new_view, Opens}
 use Rattle.qolb_model.specs.AtTurn.{IsGranted}
 use Rattle.qolb_model.specs.Releasing.{IsTold}
+use Rattle.line_generic.specs.declared.elsewhere.TheConstants.{NO_WORD}
 use Rattle.line_generic.specs.declared.table.LocalCopy.{LocalCopy}
 use Rattle.line_generic.specs.declared.table.Payload.{Payload}
 use Rattle.line_generic.specs.declared.table.TableKey.{TableKey}
+use Rattle.line_generic.specs.AtTurn.{Names}
 use Rattle.line_generic.specs.NodeGhosts.{LineSeat, initial_nodes_from}
 use Rattle.line_generic.specs.PortPhases.{PortPhases}
 use Rattle.line_generic.specs.Steps.{IsOfOneNode, ghost_of, nodes_of, HasNoSlot, IsInState}
@@ -115,9 +117,10 @@ pub record IsSeated {O : Type 0} (good : List ℕ → Type 0) (allows : List ℕ
   pub table_is : s.table_id ≡ table_id
   pub sound : IsSound good allows key.label key.config (ghost_of initial s).view
 
--- the port has taken no step, and was not polled
-abbrev pub IsUnused : PortModel → Type 0
-IsUnused p = p.counters ≡ record { steps = 0; total_steps = 0; poll_count = 0 }
+-- the port has taken no step, was not polled, and notes no word
+pub record IsUnused (p : PortModel) : Type 0 where
+  pub counters : p.counters ≡ record { steps = 0; total_steps = 0; poll_count = 0 }
+  pub note : Names NO_WORD p.went_to
 
 -- these are the ports of the first n nodes, none of which has made a request
 pub record AreSplit (table_id : TableId) (key : TableKey) (n : ℕ) (ports : List PortModel) : Type 0 where
@@ -130,7 +133,7 @@ pub record HasSplit {O : Type 0} (initial : O) (table_id : TableId) (key : Table
   pub me : rest.me ≡ (initial_nodes_from initial key n (key.config.nodes - n), [])
   pub new_ports : AreSplit table_id key n ports
 
--- none of these ports has taken a step or was polled
+-- none of these ports has taken a step, was polled or notes a word
 abbrev pub AreUnused : List PortModel → Type 0
 AreUnused ports = All IsUnused ports
 

@@ -51,6 +51,7 @@ impl<K: Keep, Q: Discipline<K>, W: WakePolicy> Line<K, Q, W> {
             + Q.max_steps self.now.table.shared.key.config.nodes }
         ensures went_to { granted ≢ closed → result ≡ closed
             → Names (Q.wake_word (ghost_of Q.phases.initial seat.new).view) (W.went_to note.new) }
+        ensures keeps_note { result ≢ closed → note.new ≡ note.old }
     {
         let table = &self.table.shared;
         let cell_mask = self.width.cell_mask;

@@ -1,8 +1,9 @@
 //! The calls of `LineSync`, which all locks share.
 ghost use Rattle.std.specs.Prelude.{◌≡◌, ◌+◌, IfOk, IfErr, true, false};
+ghost use Rattle.qolb_model.specs.Calls.{MergesViews};
 ghost use Rattle.qolb_model.specs.OneOwner.{turn_after};
 ghost use Rattle.line_generic.specs.Ports.{call_steps};
-ghost use Rattle.line_generic.specs.PortCalls.{IsPortOf, IsRestingPort, IsWaitingPort, IsHoldingPort, AreOwnPorts, HasFinished, MayNotFinish, HasEnqueued, HasPolled, HasWithdrawn, HasEndedTurn};
+ghost use Rattle.line_generic.specs.PortCalls.{IsPortOf, IsRestingPort, IsWaitingPort, IsHoldingPort, AreOwnPorts, HasFinished, MayNotFinish, HasEnqueued, HasPolled, HasWithdrawn, HasLookedIfClear, HasEndedTurn, HasMet};
 
 use crate::discipline::{Discipline, Enqueued, Released};
 use crate::line::Line;
@@ -71,6 +72,7 @@ impl<K: Keep, Q: Discipline<K>, W: WakePolicy> LineSync<K> for Line<K, Q, W> {
         ensures turn { port.new.turn ≡ turn_after port.old.turn mask.0 bytes.now.bytes }
         ensures counters { port.new.counters ≡ port.old.counters }
         ensures table { port.new.table ≡ port.old.table }
+        ensures keeps_note { port.new.went_to ≡ port.old.went_to }
     {
         port.payload.bytes = merge(&port.payload.bytes, bytes, mask);
         port.payload.mask = port.payload.mask.with(&mask);
@@ -174,7 +176,11 @@ impl<K: Keep, Q: Discipline<K>, W: WakePolicy> LineSync<K> for Line<K, Q, W> {
         )
     }
 
-    fn is_clear(&self, port: &mut Port<Q, W>) -> bool {
+    fn is_clear(&self, port: &mut Port<Q, W>) -> bool
+        requires { IsRestingPort K.Keep self.now.table.shared port.old }
+        ensures { HasLookedIfClear K.Keep Q.DisciplineSpec self.now.table.shared port.old
+            port.new result }
+    {
         let table = &self.table.shared;
         let looked = Q::look_at_rest(table, &mut port.seat, port.node, port.state);
         port.state = looked.state;
@@ -199,7 +205,13 @@ impl<K: Keep, Q: Discipline<K>, W: WakePolicy> LineSync<K> for Line<K, Q, W> {
         self.release_with(port, true);
     }
 
-    fn meet(&self, a: &mut Port<Q, W>, b: &mut Port<Q, W>) {
+    fn meet(&self, a: &mut Port<Q, W>, b: &mut Port<Q, W>)
+        requires belongs_a { IsPortOf K.Keep self.now.table.shared a.old }
+        requires belongs_b { IsPortOf K.Keep self.now.table.shared b.old }
+        ensures first { HasMet K.Keep self.now.table.shared a.old a.new }
+        ensures second { HasMet K.Keep self.now.table.shared b.old b.new }
+        ensures tell { MergesViews K.allows a.old.view b.old.view a.new.view b.new.view }
+    {
         let table = &self.table.shared;
         if !b.holds() {
             meet_seats(table, &mut a.seat, &mut b.seat);

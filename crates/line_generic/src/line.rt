@@ -67,6 +67,7 @@ impl<K: Keep, Q: Discipline<K>, W: WakePolicy> Line<K, Q, W> {
             (with_lane_of port.old.turn.bytes.bytes k value) }
         ensures counters { port.new.counters ≡ port.old.counters }
         ensures table { port.new.table ≡ port.old.table }
+        ensures keeps_note { port.new.went_to ≡ port.old.went_to }
     {
         let mask = set_lane(&mut port.payload.bytes, k, value);
         port.payload.mask = port.payload.mask.with(&mask);

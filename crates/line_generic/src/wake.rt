@@ -5,6 +5,7 @@ ghost use Rattle.line_generic.specs.Steps.{IsInState};
 ghost use Rattle.line_generic.specs.AtTurn.{Names};
 
 use crate::discipline::Discipline;
+use crate::elsewhere::NO_WORD;
 use crate::line::Line;
 use crate::port::Port;
 use crate::sleepers::{Parking, Seen, UnparkHandle};
@@ -24,8 +25,9 @@ pub trait WakePolicy: Drop {
     /// The policy's state of a new line, without waiters.
     fn none() -> Self;
 
-    /// The note of a new port, without a release so far.
-    fn blank() -> Self::Note;
+    /// The note of a new port, without a release so far: no word.
+    fn blank() -> Self::Note
+        ensures { Names NO_WORD (went_to result) };
 
     /// Unparks the waiters on the granted word and on the word ahead, or notes both. What is no word of the table is ignored.
     fn wake<K: Keep, Q: Discipline<K>>(

@@ -19,5 +19,5 @@ loop-done-preserved g c = let s = c.split_seat-others.ensures in
       table = same_table c.replace-seat.ensures.after ∙ s.3 ∙ i.table;
       me = rest;
       new_ports = subst (AreSplit c.args.table.now.table_id c.args.key.now (c.loop-done.done + 1)) (sym c.in_ok-push.ensures.items)
-          (one_more g.Q.DisciplineSpec.phases.initial c.args.table.now.table_id c.args.key.now c.loop-done.done c.loop-done.ports.items c.replace-seat.result (record { bytes = c.zero.result; mask = c.none.result; turns_left = None; closed = false }) _ 0 _ c.none-in-loop-done.ensures i.new_ports (same_table c.replace-seat.ensures.value ∙ s.0 ∙ i.table) first);
+          (one_more g.Q.DisciplineSpec.phases.initial c.args.table.now.table_id c.args.key.now c.loop-done.done c.loop-done.ports.items c.replace-seat.result (record { bytes = c.zero.result; mask = c.none.result; turns_left = None; closed = false }) _ 0 _ c.none-in-loop-done.ensures c.blank.ensures i.new_ports (same_table c.replace-seat.ensures.value ∙ s.0 ∙ i.table) first);
     }

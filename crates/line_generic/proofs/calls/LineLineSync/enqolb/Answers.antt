@@ -19,6 +19,7 @@ returns-in-Busy g c = record {
       enqueues_busy (call_continues q.seat q.payload q.steps q.poll_count.count c.requires.belongs c.port.view_is c.ask-made.ensures.advances) (call_busy g.Q.DisciplineSpec.phases.initial q.seat q.payload q.steps q.poll_count.count c.port.view_is (c.ask-made.ensures.request.busy c.in-Busy.is));
   counts = search rules;
   went_to = search rules;
+  keeps_note = search rules;
 }
 
 pub returns-in-Queued : goal.returns-in-Queued
@@ -29,6 +30,7 @@ returns-in-Queued g c = record {
       (call_asks g.Q.DisciplineSpec.phases.initial q.seat q.payload q.steps q.poll_count.count c.port.view_is (c.ask-made.ensures.request.asks (behind_asked c.in-Queued.is))) (c.ask-made.ensures.request.joined (behind_asked c.in-Queued.is)) (c.ask-made.ensures.request.queued c.in-Queued.is).1.queued;
   counts = search rules;
   went_to = search rules;
+  keeps_note = search rules;
 }
 
 pub invariant_of-port-in-AtTurn : goal.invariant_of-port-in-AtTurn
@@ -43,4 +45,5 @@ returns-in-AtTurn g c = record {
       (joined_goes (ghost_of g.Q.DisciplineSpec.phases.initial c.ask-made.new.seat).view (ghost_of g.Q.DisciplineSpec.phases.initial c.accept.new.seat).view (c.ask-made.ensures.request.joined (came_asked c.in-AtTurn.is)) more c.accept.ensures.count) c.accept.ensures.at_turn;
   counts = search rules;
   went_to = c.accept.ensures.went_to (λ e. cc e);
+  keeps_note = search rules;
 }

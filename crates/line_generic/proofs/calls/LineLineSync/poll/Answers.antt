@@ -17,6 +17,7 @@ returns-then-not-look g c = record {
   counts = search rules;
   token = search rules;
   went_to = search rules;
+  keeps_note = search rules;
 }
 
 pub invariant_of-port-2 : goal.invariant_of-port-2
@@ -31,4 +32,5 @@ returns g c = record {
   counts = search rules;
   token = search rules;
   went_to = c.accept.ensures.went_to (λ e. cc e);
+  keeps_note = search rules;
 }

@@ -18,6 +18,7 @@ returns-then-not-link g c = record {
   steps = search rules;
   bound = search rules;
   went_to = search rules;
+  keeps_note = search rules;
 }
 
 pub invariant_of-port-2 : goal.invariant_of-port-2
@@ -34,4 +35,5 @@ returns g c = record {
   steps = search rules;
   bound = search rules;
   went_to = c.accept.ensures.went_to (λ e. cc e);
+  keeps_note = search rules;
 }

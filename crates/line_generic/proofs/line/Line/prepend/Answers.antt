@@ -23,6 +23,7 @@ returns-in-Busy g c = record {
   steps = search rules;
   bound = search rules;
   went_to = search rules;
+  keeps_note = search rules;
 }
 
 pub returns-in-Queued : goal.returns-in-Queued
@@ -37,6 +38,7 @@ returns-in-Queued g c = record {
   steps = search rules;
   bound = search rules;
   went_to = search rules;
+  keeps_note = search rules;
 }
 
 pub invariant_of-port-in-AtTurn : goal.invariant_of-port-in-AtTurn
@@ -55,4 +57,5 @@ returns-in-AtTurn g c = record {
   steps = search rules;
   bound = search rules;
   went_to = c.accept.ensures.went_to (λ e. cc e);
+  keeps_note = search rules;
 }
