@@ -1,8 +1,9 @@
-//! The words of a table: the ticket counter, a word for each node, and the cells. Polled words are
-//! apart, so that no two share a cache line.
-ghost use Rattle.std.specs.Prelude.{◌≡◌, ◌≢◌, ◌<◌, ◌≤◌, MatchBool};
+//! The words of a table: the ticket counter, a word for each node, and the cells. Any two are at
+//! least 64 bytes apart, so no two share a cache line of 64 bytes.
+ghost use Rattle.std.specs.Prelude.{◌≡◌, ◌≢◌, ℕ, ◌+◌, ◌<◌, ◌≤◌, MatchBool};
 ghost use Rattle.qolb_model.specs.declared.config.TheConstants.{MAX_NODES};
 ghost use Rattle.line_cells.specs.declared.layout.TheConstants.{CELLS};
+ghost use Rattle.line_generic.specs.declared.elsewhere.TheConstants.{NO_WORD};
 ghost use Rattle.line_cells.specs.Counting as counting;
 ghost use Rattle.line_cells.specs.Layout as layout;
 
@@ -89,3 +90,20 @@ pub fn is_freed(word: u64) -> bool
 {
     word != 0
 }
+
+/// Any two words of a table are at least 8 words apart; the ticket counter is where a node 0 would
+/// have its word. A law: the contract of a function that does nothing.
+pub fn words_are_apart()
+    ensures ticket { layout.ticket_at ≡ layout.node_at 0 }
+    ensures nodes { (m n : ℕ) → m < n → n ≤ MAX_NODES
+        → layout.node_at m + 8 ≤ layout.node_at n }
+    ensures cells { (c d : ℕ) → c < d → d < CELLS → layout.cell_at c + 8 ≤ layout.cell_at d }
+    ensures node_first { (n c : ℕ) → n ≤ c → c < CELLS → layout.node_at n + 8 ≤ layout.cell_at c }
+    ensures cell_first { (c n : ℕ) → c < n → n ≤ MAX_NODES
+        → layout.cell_at c + 8 ≤ layout.node_at n }
+{}
+
+/// `NO_WORD` is none of the words of a table. A law.
+pub fn no_word_is_none()
+    ensures { WORDS ≤ NO_WORD }
+{}

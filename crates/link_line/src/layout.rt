@@ -1,6 +1,7 @@
-//! The words of a list's table, and their contents. They are apart, so that no two share a cache line.
-ghost use Rattle.std.specs.Prelude.{◌≡◌, ◌≢◌, ◌≤◌};
+//! The words of a list's table, and their contents. Any two are at least 64 bytes apart, so no two share a cache line of 64 bytes.
+ghost use Rattle.std.specs.Prelude.{◌≡◌, ◌≢◌, ℕ, ◌+◌, ◌<◌, ◌≤◌};
 ghost use Rattle.qolb_model.specs.declared.config.TheConstants.{MAX_NODES};
+ghost use Rattle.line_generic.specs.declared.elsewhere.TheConstants.{NO_WORD};
 ghost use Rattle.link_line.specs.Layout as layout;
 
 /// The distance in words between the entries of two nodes.
@@ -86,3 +87,16 @@ pub(crate) fn link_of(word: u64) -> u64
 {
     word / LINK_UNIT
 }
+
+/// Any two words of a list are at least 8 words apart; the home word is where a node 0 would have its entry. A law: the contract of a
+/// function that does nothing.
+pub fn words_are_apart()
+    ensures home { layout.home_at ≡ layout.entry_at 0 }
+    ensures entries { (m n : ℕ) → m < n → n ≤ MAX_NODES
+        → layout.entry_at m + 8 ≤ layout.entry_at n }
+{}
+
+/// `NO_WORD` is none of a list's words. A law.
+pub fn no_word_is_none()
+    ensures { layout.word_count MAX_NODES ≤ NO_WORD }
+{}

@@ -26,6 +26,11 @@ use qolb_model::{Keep, MAX_NODES, PortState};
 /// The maximum number of requests that a release passes: those of all nodes but its own.
 const MAX_PASSED: usize = MAX_NODES as usize - 1;
 
+/// A release has room for the nodes of all requests that it may pass, and for no more. A law: the contract of a function that does nothing.
+pub fn passed_nodes_have_room()
+    ensures { MAX_PASSED + 1 ≡ MAX_NODES }
+{}
+
 /// The number of node numbers: an entry's link has 16 bits.
 const NODE_NUMBERS: u64 = 1 << 16;
 

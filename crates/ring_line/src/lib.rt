@@ -9,3 +9,4 @@ mod release;
 mod steps;
 
 pub use invariant::{Port, RingLine, RingQueue};
+pub use release::passed_nodes_have_room;
