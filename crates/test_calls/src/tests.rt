@@ -91,9 +91,15 @@ fn part_over<R: Wait + Abort, Q: Discipline<Free>>(
     try_part::<R, Line<Free, Q>>(rt, alloc, known, part)
 }
 
-/// Returns `Some(true)` if a line of this queue discipline, whose waiters sleep elsewhere, names the next.
-fn names_over<Q: Discipline<Free>>(alloc: Global) -> Option<bool> {
-    elsewhere::each_names_the_next::<elsewhere::Told<Q>>(alloc)
+/// The numbers of nodes of lines that tell to whom they went.
+static TOLD: [u64; 3] = [3, 6, 200];
+
+/// Lines of this queue discipline, whose waiters sleep elsewhere, name the next.
+fn names_over<R: Abort, Q: Discipline<Free>>(rt: &R, alloc: Global) {
+    for nodes in &TOLD {
+        let told = elsewhere::each_names_the_next::<elsewhere::Told<Q>>(alloc, *nodes);
+        expect_eq(rt, "the next", told, Some(true));
+    }
 }
 
 fn over_rings<R: Wait + Abort>(rt: &R, alloc: Global, part: Part) -> Result<(), Fail> {
@@ -143,24 +149,9 @@ fn a_ticket_line_answers_each_call(rt: HostRuntime) -> Result<(), Fail> {
 
 #[test]
 fn a_line_tells_to_whom_it_went(rt: HostRuntime) {
-    expect_eq(
-        &rt,
-        "a ring",
-        names_over::<RingQueue>(rt.alloc()),
-        Some(true),
-    );
-    expect_eq(
-        &rt,
-        "a list",
-        names_over::<LinkQueue>(rt.alloc()),
-        Some(true),
-    );
-    expect_eq(
-        &rt,
-        "a ticket line",
-        names_over::<TicketQueue>(rt.alloc()),
-        Some(true),
-    );
+    names_over::<_, RingQueue>(&rt, rt.alloc());
+    names_over::<_, LinkQueue>(&rt, rt.alloc());
+    names_over::<_, TicketQueue>(&rt, rt.alloc());
 }
 
 #[test]

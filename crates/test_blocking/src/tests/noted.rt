@@ -4,7 +4,7 @@ ghost use Rattle.qolb_model.specs.PortStates.{may_ask};
 
 use crate::tests::held::{Scene, all_see_hooked, expect, expect_at, open_two, wait_until};
 use example_line::timed::add_within;
-use line_blocking::{Got, ParkOnPoll, TimedAcquire, acquire_parking, acquire_timeout};
+use line_blocking::{Deadline, Got, ParkOnPoll, TimedAcquire, acquire_parking, acquire_timeout};
 use qolb_model::{Enq, Free, Keep, LineSync, OpenError, OpenLine, Out, ParkingLine, Poll};
 use std::alloc::Global;
 use std::io;
@@ -159,6 +159,24 @@ impl<R> Clock for Ticking<'_, R> {
     fn since_1970(&self) -> io::Result<Duration> {
         self.monotonic()
     }
+}
+
+/// A limit of 3 milliseconds by a clock that moves one at each reading: what is left at each, and then nothing. Without a clock nothing is
+/// left.
+#[test]
+fn less_is_left_of_a_limit_at_each_reading(rt: HostRuntime) {
+    let clock = Ticking::new(&rt, Some(1_000_000));
+    let limit = Deadline::begin(&clock, Duration::from_millis(3));
+    let left = [limit.left(&clock), limit.left(&clock), limit.left(&clock)];
+    let wanted = [
+        Some(Duration::from_millis(2)),
+        Some(Duration::from_millis(1)),
+        None,
+    ];
+    expect(&rt, "left", left, wanted);
+    let stopped = Ticking::new(&rt, None);
+    let limit = Deadline::begin(&stopped, Duration::from_millis(3));
+    expect(&rt, "no clock", limit.left(&stopped), None);
 }
 
 /// Opens a line of two nodes whose sleeps are noted. Returns it with both ports.

@@ -65,13 +65,23 @@ fn no_part_needs_no_thread(rt: HostRuntime) -> Result<(), Fail> {
     Ok(())
 }
 
-#[test]
-fn two_hundred_work_at_the_same_time(rt: HostRuntime) -> Result<(), Fail> {
+/// As many threads as there are parts are at work at the same time.
+fn work_at_the_same_time(rt: &HostRuntime, many: usize) -> Result<(), Fail> {
     let alloc = rt.alloc();
-    let parts = vec![in alloc; 200u64; 200]?;
-    let Some(back) = run_scoped(&rt, alloc, &Gathering, &AtomicU64::new(0), parts) else {
+    let parts = vec![in alloc; many as u64; many]?;
+    let Some(back) = run_scoped(rt, alloc, &Gathering, &AtomicU64::new(0), parts) else {
         return Err(Fail::from("refused"));
     };
-    expect(&rt, "all", back.len(), 200);
+    expect(rt, "all", back.len(), many);
     Ok(())
+}
+
+#[test]
+fn two_hundred_work_at_the_same_time(rt: HostRuntime) -> Result<(), Fail> {
+    work_at_the_same_time(&rt, 200)
+}
+
+#[test]
+fn three_hundred_work_at_the_same_time(rt: HostRuntime) -> Result<(), Fail> {
+    work_at_the_same_time(&rt, 300)
 }

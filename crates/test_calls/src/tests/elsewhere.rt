@@ -37,8 +37,11 @@ impl<Q: Discipline<Free>> Tells for Told<Q> {
     }
 }
 
-/// Opens a line of three nodes. Returns it with its ports.
-fn open_three<L: OpenLine<Free> + Drop>(alloc: Global) -> Option<(L, L::Port, L::Port, L::Port)>
+/// Opens a line of `nodes` nodes. Returns it with the ports of its last three.
+fn open_with_last_three<L: OpenLine<Free> + Drop>(
+    alloc: Global,
+    nodes: u64,
+) -> Option<(L, L::Port, L::Port, L::Port)>
 where
     L::Port: Drop,
     ensures one { IfSome result (λ r. L.belongs r.0 r.1 × IsTrue (may_ask (L.view r.1).state)) }
@@ -46,7 +49,7 @@ where
     ensures three { IfSome result (λ r. L.belongs r.0 r.3 × IsTrue (may_ask (L.view r.3).state)) }
 {
     let config = LineConfig {
-        nodes: 3,
+        nodes,
         opening: Line64::zero(),
         lease: None,
     };
@@ -58,14 +61,14 @@ where
     Some((line, one, two, three))
 }
 
-/// Node 1 holds, and nodes 2 and 3 queue. Node 1 releases, node 2 shuts the line, and node 3 is told that it is closed. Returns
-/// `Some(true)` if each names its successor's word, node 1 also the word of the waiter behind, and node 3 no word of theirs; before its
-/// first turn node 1 must name `NO_WORD`.
-pub(super) fn each_names_the_next<L: Tells + Drop>(alloc: Global) -> Option<bool>
+/// Of the last three nodes of a line of `nodes` nodes, one holds, and two and three queue. One releases, two shuts the line, and three is
+/// told that it is closed. Returns `Some(true)` if each names its successor's word, one also the word of the waiter behind, and three no
+/// word of theirs; before its first turn one must name `NO_WORD`.
+pub(super) fn each_names_the_next<L: Tells + Drop>(alloc: Global, nodes: u64) -> Option<bool>
 where
     L::Port: Drop,
 {
-    let (line, mut one, mut two, mut three) = open_three::<L>(alloc)?;
+    let (line, mut one, mut two, mut three) = open_with_last_three::<L>(alloc, nodes)?;
     let never = line.went_to(&one);
     let Enq::Granted = line.enqolb(&mut one) else {
         return None;
