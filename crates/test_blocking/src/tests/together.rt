@@ -2,9 +2,11 @@
 use crate::tests::held::{expect, wait_until};
 use line_blocking::scoped::{ScopedTask, run_scoped};
 use std::alloc::Global;
+use std::process::Abort;
 use std::sync::Wait;
 use std::sync::atomic::{AtomicU64, Ordering};
 use std::test::Fail;
+use std::thread::Threads;
 
 /// Each thread waits until as many threads have arrived as its part says.
 struct Gathering;
@@ -66,8 +68,11 @@ fn no_part_needs_no_thread(rt: HostRuntime) -> Result<(), Fail> {
 }
 
 /// As many threads as there are parts are at work at the same time.
-fn work_at_the_same_time(rt: &HostRuntime, many: usize) -> Result<(), Fail> {
-    let alloc = rt.alloc();
+fn work_at_the_same_time<R: Threads + Wait + Abort + Sync>(
+    rt: &R,
+    alloc: Global,
+    many: usize,
+) -> Result<(), Fail> {
     let parts = vec![in alloc; many as u64; many]?;
     let Some(back) = run_scoped(rt, alloc, &Gathering, &AtomicU64::new(0), parts) else {
         return Err(Fail::from("refused"));
@@ -78,10 +83,10 @@ fn work_at_the_same_time(rt: &HostRuntime, many: usize) -> Result<(), Fail> {
 
 #[test]
 fn two_hundred_work_at_the_same_time(rt: HostRuntime) -> Result<(), Fail> {
-    work_at_the_same_time(&rt, 200)
+    work_at_the_same_time(&rt, rt.alloc(), 200)
 }
 
 #[test]
 fn three_hundred_work_at_the_same_time(rt: HostRuntime) -> Result<(), Fail> {
-    work_at_the_same_time(&rt, 300)
+    work_at_the_same_time(&rt, rt.alloc(), 300)
 }
