@@ -8,4 +8,5 @@ pub mod Transferred
 pub mod Settlements
 pub mod Pairs
 pub mod Patient
+pub mod WithinCalls
 pub mod Replies

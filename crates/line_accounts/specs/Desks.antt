@@ -4,7 +4,7 @@ use Rattle.std.specs.List.{sum_by}
 use Rattle.qolb_model.specs.declared.answer.PortState.TheVariants.{Rolled}
 use Rattle.qolb_model.specs.declared.view.View.{View}
 use Rattle.qolb_model.specs.PortStates.{may_ask}
-use Rattle.qolb_model.specs.Counting.{Counters}
+use Rattle.qolb_model.specs.Counting.{Counters, IsWithinCalls}
 use Rattle.qolb_model.specs.Sums.{KnowsOwnPlaces}
 use Rattle.line_accounts.specs.Paid.{paid_by, drawn_by}
 
@@ -34,6 +34,10 @@ pub record IsDeskOver {Line Port : Type 0} (belongs : Line → Port → Type 0) 
 -- since `old` no port has polled more often than `patience`
 pub record ArePatient {Port : Type 0} (counters : Port → Counters) (patience : ℕ) (old new : List Port) : Type 0 where
   pub each : (i : ℕ) (before after : Port) → slice_get old i ≡ Some before → slice_get new i ≡ Some after → (counters after).poll_count ≤ (counters before).poll_count + patience
+
+-- since `old` each port was polled some times, and has taken no more word steps than these polls and three calls more may take
+pub record AreWithinCalls {Line Port : Type 0} (counters : Port → Counters) (max_steps : Line → ℕ) (lines : List Line) (old new : List Port) : Type 0 where
+  pub each : (i : ℕ) (line : Line) (before after : Port) → slice_get lines i ≡ Some line → slice_get old i ≡ Some before → slice_get new i ≡ Some after → IsWithinCalls (max_steps line) 3 (counters before) (counters after)
 
 -- since `old` the port has polled exactly `patience` times, and then its request was withdrawn
 pub record HasWaited {Port : Type 0} (counters : Port → Counters) (view : Port → View) (patience : ℕ) (old new : Port) : Type 0 where

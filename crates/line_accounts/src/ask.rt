@@ -1,5 +1,6 @@
 //! The bounded acquire of a port of a line of accounts.
 ghost use Rattle.std.specs.Prelude.{◌≡◌, ◌≤◌, ◌+◌, Err, IfOk, IfErr, IsTrue};
+ghost use Rattle.qolb_model.specs.Counting.{IsWithinCalls};
 ghost use Rattle.line_accounts.specs.Desks.{IsAtRest, HasWaited};
 ghost use Rattle.line_accounts.specs.Moves.{Holds, IsRefused};
 
@@ -24,6 +25,8 @@ pub fn ask<L: LineSync<AccountLaw>>(
         ≤ (L.counters port.old).poll_count + patience }
     ensures late { result ≡ Err Reply.Late
         → HasWaited L.counters L.view patience port.old port.new }
+    ensures steps { IsWithinCalls (L.max_steps line.now) 2 (L.counters port.old)
+        (L.counters port.new) }
 {
     match acquire_bounded(line, port, patience) {
         Acquired::Granted => Ok(()),

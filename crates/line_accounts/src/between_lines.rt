@@ -1,5 +1,6 @@
 //! Transfers over two lines. The lower line is asked for first, and both balances are checked before either is written.
 ghost use Rattle.std.specs.Prelude.{◌≡◌, ◌≢◌, ◌⊎◌, ◌<◌, ◌≤◌, ◌+◌, Err, IfOk, IfErr, length};
+ghost use Rattle.qolb_model.specs.Counting.{IsWithinCalls};
 ghost use Rattle.qolb_model.specs.AtTurn.{IsGranted};
 ghost use Rattle.qolb_model.specs.Views.{bytes_of};
 ghost use Rattle.line_accounts.specs.Desks.{IsAtRest, HasWaited};
@@ -39,6 +40,14 @@ fn ask_both<L: LineSync<AccountLaw>>(
     ensures late { result ≡ Err Reply.Late
         → HasWaited L.counters L.view patience first_port.old first_port.new
         ⊎ HasWaited L.counters L.view patience second_port.old second_port.new }
+    ensures steps_first { IfOk result (λ _. IsWithinCalls (L.max_steps first.now) 2
+        (L.counters first_port.old) (L.counters first_port.new)) }
+    ensures steps_second { IfOk result (λ _. IsWithinCalls (L.max_steps second.now) 2
+        (L.counters second_port.old) (L.counters second_port.new)) }
+    ensures gives_up_first { IsWithinCalls (L.max_steps first.now) 3 (L.counters first_port.old)
+        (L.counters first_port.new) }
+    ensures gives_up_second { IsWithinCalls (L.max_steps second.now) 3 (L.counters second_port.old)
+        (L.counters second_port.new) }
 {
     ask(first, first_port, patience)?;
     if let Err(reply) = ask(second, second_port, patience) {
@@ -75,6 +84,10 @@ fn carry<L: LineSync<AccountLaw>>(
     ensures polls_target { (L.counters target_port.new).poll_count
         ≡ (L.counters target_port.old).poll_count }
     ensures not_late { result ≢ Reply.Late }
+    ensures steps_source { IsWithinCalls (L.max_steps source.now) 1 (L.counters source_port.old)
+        (L.counters source_port.new) }
+    ensures steps_target { IsWithinCalls (L.max_steps target.now) 1 (L.counters target_port.old)
+        (L.counters target_port.new) }
 {
     let paying = held_line::<L>(source_port);
     let paid = held_line::<L>(target_port);
@@ -122,6 +135,10 @@ pub fn move_between<L: LineSync<AccountLaw>>(
     ensures late { result ≡ Reply.Late
         → HasWaited L.counters L.view patience low_port.old low_port.new
         ⊎ HasWaited L.counters L.view patience high_port.old high_port.new }
+    ensures steps_low { IsWithinCalls (L.max_steps low.now) 3 (L.counters low_port.old)
+        (L.counters low_port.new) }
+    ensures steps_high { IsWithinCalls (L.max_steps high.now) 3 (L.counters high_port.old)
+        (L.counters high_port.new) }
 {
     if let Err(reply) = ask_both(low, low_port, high, high_port, patience) {
         return reply;

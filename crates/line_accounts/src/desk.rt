@@ -1,6 +1,6 @@
 //! A desk: one node's ports of several lines.
 ghost use Rattle.std.specs.Prelude.{◌≡◌, ◌<◌, All, List, [], ◌∷◌, ◌++◌, length, slice_get, Some, MatchOption};
-ghost use Rattle.line_accounts.specs.Desks.{AreOver, IsDeskOver, ArePatient, HasOneWaited};
+ghost use Rattle.line_accounts.specs.Desks.{AreOver, IsDeskOver, ArePatient, AreWithinCalls, HasOneWaited};
 ghost use Rattle.line_accounts.specs.Calls.{Deposits, TakesOut, Transfers};
 
 use crate::answer::Reply;
@@ -95,6 +95,7 @@ pub fn deposit<L: LineSync<AccountLaw>>(
     ensures patient { ArePatient L.counters patience desk.old.ports desk.new.ports }
     ensures late { result ≡ Reply.Late
         → HasOneWaited L.counters L.view patience desk.old.ports desk.new.ports }
+    ensures steps { AreWithinCalls L.counters L.max_steps lines.now desk.old.ports desk.new.ports }
 {
     let Some((i, lane)) = place_of(account, lines.len()) else {
         return Reply::NoAccount;
@@ -123,6 +124,7 @@ pub fn take_out<L: LineSync<AccountLaw>>(
     ensures patient { ArePatient L.counters patience desk.old.ports desk.new.ports }
     ensures late { result ≡ Reply.Late
         → HasOneWaited L.counters L.view patience desk.old.ports desk.new.ports }
+    ensures steps { AreWithinCalls L.counters L.max_steps lines.now desk.old.ports desk.new.ports }
 {
     let Some((i, lane)) = place_of(account, lines.len()) else {
         return Reply::NoAccount;
@@ -155,6 +157,7 @@ pub fn transfer<L: LineSync<AccountLaw>>(
     ensures patient { ArePatient L.counters patience desk.old.ports desk.new.ports }
     ensures late { result ≡ Reply.Late
         → HasOneWaited L.counters L.view patience desk.old.ports desk.new.ports }
+    ensures steps { AreWithinCalls L.counters L.max_steps lines.now desk.old.ports desk.new.ports }
 {
     let Some((i, source)) = place_of(from, lines.len()) else {
         return Reply::NoAccount;

@@ -1,5 +1,6 @@
 //! The turns of a port at one line.
 ghost use Rattle.std.specs.Prelude.{◌≡◌, ◌≢◌, ◌<◌, ◌≤◌, ◌+◌, length};
+ghost use Rattle.qolb_model.specs.Counting.{IsWithinCalls};
 ghost use Rattle.qolb_model.specs.AtTurn.{IsGranted};
 ghost use Rattle.qolb_model.specs.Views.{bytes_of};
 ghost use Rattle.line_accounts.specs.Accounts.{StayBalances};
@@ -29,6 +30,8 @@ pub fn release_unchanged<L: LineSync<AccountLaw>>(line: &L, port: &mut L::Port)
     ensures belongs { L.belongs line.now port.new }
     ensures leaves { Leaves (L.view port.old) (L.view port.new) (bytes_of (L.view port.old)) }
     ensures poll_count { (L.counters port.new).poll_count ≡ (L.counters port.old).poll_count }
+    ensures steps { IsWithinCalls (L.max_steps line.now) 1 (L.counters port.old)
+        (L.counters port.new) }
 {
     line.deqolb(port);
 }
@@ -42,6 +45,8 @@ pub fn write_and_release<L: LineSync<AccountLaw>>(line: &L, port: &mut L::Port, 
     ensures belongs { L.belongs line.now port.new }
     ensures leaves { Leaves (L.view port.old) (L.view port.new) next.now.bytes }
     ensures poll_count { (L.counters port.new).poll_count ≡ (L.counters port.old).poll_count }
+    ensures steps { IsWithinCalls (L.max_steps line.now) 1 (L.counters port.old)
+        (L.counters port.new) }
 {
     L::write(port, Mask(u64::MAX), next);
     line.deqolb(port);
@@ -65,6 +70,8 @@ pub fn pay_in<L: LineSync<AccountLaw>>(
     ensures patient { (L.counters port.new).poll_count
         ≤ (L.counters port.old).poll_count + patience }
     ensures late { result ≡ Reply.Late → HasWaited L.counters L.view patience port.old port.new }
+    ensures steps { IsWithinCalls (L.max_steps line.now) 3 (L.counters port.old)
+        (L.counters port.new) }
 {
     if let Err(reply) = ask(line, port, patience) {
         return reply;
@@ -101,6 +108,8 @@ pub fn pay_out<L: LineSync<AccountLaw>>(
     ensures patient { (L.counters port.new).poll_count
         ≤ (L.counters port.old).poll_count + patience }
     ensures late { result ≡ Reply.Late → HasWaited L.counters L.view patience port.old port.new }
+    ensures steps { IsWithinCalls (L.max_steps line.now) 3 (L.counters port.old)
+        (L.counters port.new) }
 {
     if let Err(reply) = ask(line, port, patience) {
         return reply;
@@ -138,6 +147,8 @@ pub fn move_within<L: LineSync<AccountLaw>>(
     ensures patient { (L.counters port.new).poll_count
         ≤ (L.counters port.old).poll_count + patience }
     ensures late { result ≡ Reply.Late → HasWaited L.counters L.view patience port.old port.new }
+    ensures steps { IsWithinCalls (L.max_steps line.now) 3 (L.counters port.old)
+        (L.counters port.new) }
 {
     if let Err(reply) = ask(line, port, patience) {
         return reply;

@@ -1,6 +1,7 @@
 //! Putting a task on a board.
 ghost use Rattle.std.specs.Prelude.{◌≡◌, ◌≤◌, ◌+◌, ◌++◌, ◌∷◌, [], ℕ, List, length, true, false, IsTrue, MatchOption};
 ghost use Rattle.qolb_model.specs.PortStates.{may_ask};
+ghost use Rattle.qolb_model.specs.Counting.{IsWithinCalls};
 ghost use Rattle.qolb_model.specs.Sound.{Continues};
 ghost use Rattle.qolb_model.specs.AtTurn.{IsGranted};
 ghost use Rattle.line_board.specs.Board.{Stand};
@@ -16,7 +17,8 @@ use qolb_model::{Acquired, LineSync, acquire_bounded};
 
 /// Appends the task to the board in one turn. Does not allocate.
 ///
-/// Asks for the line once, polls at most `patience` times while the request waits, and then withdraws it.
+/// Asks for the line once, polls at most `patience` times while the request waits, and then withdraws it. Takes the word steps of its
+/// polls and of at most three calls more.
 pub fn put<L: LineSync<BoardLaw>>(line: &L, port: &mut L::Port, task: u64, patience: u64) -> Put
     requires belongs { L.belongs line.now port.old }
     requires state { IsTrue (may_ask (L.view port.old).state) }
@@ -26,6 +28,8 @@ pub fn put<L: LineSync<BoardLaw>>(line: &L, port: &mut L::Port, task: u64, patie
         ≤ (L.counters port.old).poll_count + patience }
     ensures late { result ≡ Put.Late → (L.counters port.new).poll_count
         ≡ (L.counters port.old).poll_count + patience }
+    ensures steps { IsWithinCalls (L.max_steps line.now) 3 (L.counters port.old)
+        (L.counters port.new) }
 {
     match acquire_bounded(line, port, patience) {
         Acquired::Granted => {
@@ -49,6 +53,8 @@ fn store<L: LineSync<BoardLaw>>(line: &L, port: &mut L::Port, task: u64) -> bool
     ensures continues { Continues Changes (L.view port.old) (L.view port.new) }
     ensures count { (L.view port.new).count ≡ (L.view port.old).count }
     ensures poll_count { (L.counters port.new).poll_count ≡ (L.counters port.old).poll_count }
+    ensures steps { IsWithinCalls (L.max_steps line.now) 1 (L.counters port.old)
+        (L.counters port.new) }
     ensures state { IsTrue (may_ask (L.view port.new).state) }
     ensures stored { result ≡ true → HasPut task (L.view port.new) }
     ensures full { result ≡ false → HasFound MAX_TASKS (L.view port.new) }

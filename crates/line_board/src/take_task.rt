@@ -1,6 +1,7 @@
 //! Taking a task from a board.
 ghost use Rattle.std.specs.Prelude.{◌≡◌, ◌≤◌, ◌+◌, ◌∷◌, [], ℕ, List, IsTrue, MatchOption};
 ghost use Rattle.qolb_model.specs.PortStates.{may_ask};
+ghost use Rattle.qolb_model.specs.Counting.{IsWithinCalls};
 ghost use Rattle.qolb_model.specs.Sound.{Continues};
 ghost use Rattle.qolb_model.specs.AtTurn.{IsGranted};
 ghost use Rattle.line_board.specs.Board.{Stand};
@@ -16,7 +17,8 @@ use qolb_model::{Acquired, LineSync, acquire_bounded};
 
 /// Removes the oldest task from the board in one turn. Does not allocate.
 ///
-/// Asks for the line once, polls at most `patience` times while the request waits, and then withdraws it.
+/// Asks for the line once, polls at most `patience` times while the request waits, and then withdraws it. Takes the word steps of its
+/// polls and of at most three calls more.
 pub fn take<L: LineSync<BoardLaw>>(line: &L, port: &mut L::Port, patience: u64) -> Take
     requires belongs { L.belongs line.now port.old }
     requires state { IsTrue (may_ask (L.view port.old).state) }
@@ -26,6 +28,8 @@ pub fn take<L: LineSync<BoardLaw>>(line: &L, port: &mut L::Port, patience: u64) 
         ≤ (L.counters port.old).poll_count + patience }
     ensures late { result ≡ Take.Late → (L.counters port.new).poll_count
         ≡ (L.counters port.old).poll_count + patience }
+    ensures steps { IsWithinCalls (L.max_steps line.now) 3 (L.counters port.old)
+        (L.counters port.new) }
 {
     match acquire_bounded(line, port, patience) {
         Acquired::Granted => match remove(line, port) {
@@ -46,6 +50,8 @@ fn remove<L: LineSync<BoardLaw>>(line: &L, port: &mut L::Port) -> Option<u64>
     ensures continues { Continues Changes (L.view port.old) (L.view port.new) }
     ensures count { (L.view port.new).count ≡ (L.view port.old).count }
     ensures poll_count { (L.counters port.new).poll_count ≡ (L.counters port.old).poll_count }
+    ensures steps { IsWithinCalls (L.max_steps line.now) 1 (L.counters port.old)
+        (L.counters port.new) }
     ensures state { IsTrue (may_ask (L.view port.new).state) }
     ensures taken { MatchOption result (HasFound 0 (L.view port.new)) (λ task.
         HasTaken task (L.view port.new)) }

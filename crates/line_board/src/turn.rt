@@ -3,6 +3,7 @@ ghost use Rattle.std.specs.Prelude.{◌≡◌, ℕ, List, length, false, IsTrue}
 ghost use Rattle.qolb_model.specs.PortStates.{may_ask};
 ghost use Rattle.qolb_model.specs.Kept.{MayRelease};
 ghost use Rattle.qolb_model.specs.Calls.{Releases};
+ghost use Rattle.qolb_model.specs.Counting.{IsWithinCalls};
 ghost use Rattle.qolb_model.specs.Sound.{Continues};
 ghost use Rattle.qolb_model.specs.AtTurn.{IsGranted};
 ghost use Rattle.qolb_model.specs.Views.{bytes_of};
@@ -24,6 +25,8 @@ pub(crate) fn replace<L: LineSync<BoardLaw>>(line: &L, port: &mut L::Port, new: 
     ensures continues { Continues Changes (L.view port.old) (L.view port.new) }
     ensures count { (L.view port.new).count ≡ (L.view port.old).count }
     ensures poll_count { (L.counters port.new).poll_count ≡ (L.counters port.old).poll_count }
+    ensures steps { IsWithinCalls (L.max_steps line.now) 1 (L.counters port.old)
+        (L.counters port.new) }
     ensures state { IsTrue (may_ask (L.view port.new).state) }
     ensures turn { (found left : List ℕ) → Stand (bytes_of (L.view port.old)) found
         → Stand new.bytes left → HadTurn found left (put_between found left)
@@ -43,6 +46,8 @@ pub(crate) fn keep<L: LineSync<BoardLaw>>(line: &L, port: &mut L::Port)
     ensures continues { Continues Changes (L.view port.old) (L.view port.new) }
     ensures count { (L.view port.new).count ≡ (L.view port.old).count }
     ensures poll_count { (L.counters port.new).poll_count ≡ (L.counters port.old).poll_count }
+    ensures steps { IsWithinCalls (L.max_steps line.now) 1 (L.counters port.old)
+        (L.counters port.new) }
     ensures state { IsTrue (may_ask (L.view port.new).state) }
     ensures found { (tasks : List ℕ) → Stand (bytes_of (L.view port.old)) tasks
         → HasFound (length tasks) (L.view port.new) }
@@ -57,6 +62,8 @@ fn release<L: LineSync<BoardLaw>>(line: &L, port: &mut L::Port)
     requires allowed { MayRelease Changes (L.view port.old) (L.turn port.old) }
     ensures belongs { L.belongs line.now port.new }
     ensures poll_count { (L.counters port.new).poll_count ≡ (L.counters port.old).poll_count }
+    ensures steps { IsWithinCalls (L.max_steps line.now) 1 (L.counters port.old)
+        (L.counters port.new) }
     ensures releases { Releases Changes false (L.view port.old) (L.view port.new)
         (L.turn port.old) }
 {

@@ -35,3 +35,4 @@ pub mod Once
 pub mod Sums
 pub mod OwnTurns
 pub mod Unshut
+pub mod WithinCalls

@@ -1,5 +1,5 @@
 -- The counters of a port's calls.
-use Rattle.std.specs.Prelude.{◌≡◌, ◌+◌, ◌≤◌, ℕ, Bool}
+use Rattle.std.specs.Prelude.{◌≡◌, ◌+◌, ◌*◌, ◌≤◌, ℕ, Bool}
 use Rattle.qolb_model.specs.declared.answer.Enq.{Enq}
 use Rattle.qolb_model.specs.declared.answer.Poll.{Poll}
 use Rattle.qolb_model.specs.declared.answer.Out.{Out}
@@ -34,3 +34,9 @@ pub record Counts (call_steps : Call → View → View → ℕ → Type 0) (max_
   pub bound : new.steps ≤ max_steps
   pub total_steps : new.total_steps ≡ old.total_steps + new.steps
   pub poll_count : new.poll_count ≡ polls_after call old.poll_count
+
+-- since `old` the port was polled some times, and has taken no more word steps than these polls and `others` calls more may take
+pub record IsWithinCalls (max_steps others : ℕ) (old new : Counters) : Type 0 where
+  pub polls : ℕ
+  pub poll_count : new.poll_count ≡ old.poll_count + polls
+  pub total_steps : new.total_steps ≤ old.total_steps + (polls + others) * max_steps

@@ -3,6 +3,7 @@ ghost use Rattle.std.specs.Prelude.{◌≡◌, ◌≤◌, ◌+◌, IsTrue};
 ghost use Rattle.qolb_model.specs.PortStates.{may_ask};
 ghost use Rattle.qolb_model.specs.Calls.{Withdraws};
 ghost use Rattle.qolb_model.specs.Acquiring.{AcquiresBounded};
+ghost use Rattle.qolb_model.specs.Counting.{IsWithinCalls};
 
 use crate::answer::{Enq, Out, Poll, PortState};
 use crate::keep::Keep;
@@ -22,6 +23,8 @@ pub enum Acquired {
 }
 
 /// Requests the line, polls at most `patience` times, and then withdraws the request if it still waits. Does not allocate.
+///
+/// Takes the word steps of its polls and of at most two calls more.
 pub fn acquire_bounded<K: Keep, L: LineSync<K>>(
     line: &L,
     port: &mut L::Port,
@@ -36,6 +39,8 @@ pub fn acquire_bounded<K: Keep, L: LineSync<K>>(
         ≤ (L.counters port.old).poll_count + patience }
     ensures late { result ≡ Acquired.Late → (L.counters port.new).poll_count
         ≡ (L.counters port.old).poll_count + patience }
+    ensures steps { IsWithinCalls (L.max_steps line.now) 2 (L.counters port.old)
+        (L.counters port.new) }
 {
     match line.enqolb(port) {
         Enq::Granted => Acquired::Granted,
@@ -60,6 +65,8 @@ fn wait_bounded<K: Keep, L: LineSync<K>>(line: &L, port: &mut L::Port, patience:
         ≤ (L.counters port.old).poll_count + patience }
     ensures late { result ≡ Out.Withdrawn → (L.counters port.new).poll_count
         ≡ (L.counters port.old).poll_count + patience }
+    ensures steps { IsWithinCalls (L.max_steps line.now) 1 (L.counters port.old)
+        (L.counters port.new) }
 {
     for _ in 0..patience {
         match line.poll(port) {

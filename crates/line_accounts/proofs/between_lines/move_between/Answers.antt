@@ -2,6 +2,7 @@ use Rattle.std.proofs.Common.{sym, subst}
 use Rattle.line_accounts.specs.Moves.{IsRefusedEither, MovesBetween}
 use Rattle.line_accounts.proofs.Visits.{balances_known}
 use Rattle.line_accounts.proofs.Crossing.{crossed}
+use Rattle.qolb_model.proofs.WithinCalls.{calls_then}
 use Rattle.line_accounts.proofs.between_lines.move_between.Goals as goal
 
 pub returns-then-up-clause-moves : goal.returns-then-up-clause-moves
@@ -21,3 +22,15 @@ returns-else-up-clause-moves g c =
     (balances_known _ _ _ (g.met.L.LineSync.sound c.args.high.now _ c.in_default.ensures.belongs_second))
     (balances_known _ _ _ (g.met.L.LineSync.sound c.args.low.now _ c.in_default.ensures.belongs_first))
     c.carry-else-up.result c.carry-else-up.ensures.carries)
+
+pub returns-then-up-clause-steps_low : goal.returns-then-up-clause-steps_low
+returns-then-up-clause-steps_low g c = calls_then _ 2 1 _ _ _ (c.in_default.ensures.steps_first) c.carry.ensures.steps_source
+
+pub returns-then-up-clause-steps_high : goal.returns-then-up-clause-steps_high
+returns-then-up-clause-steps_high g c = calls_then _ 2 1 _ _ _ (c.in_default.ensures.steps_second) c.carry.ensures.steps_target
+
+pub returns-else-up-clause-steps_low : goal.returns-else-up-clause-steps_low
+returns-else-up-clause-steps_low g c = calls_then _ 2 1 _ _ _ (c.in_default.ensures.steps_first) c.carry-else-up.ensures.steps_target
+
+pub returns-else-up-clause-steps_high : goal.returns-else-up-clause-steps_high
+returns-else-up-clause-steps_high g c = calls_then _ 2 1 _ _ _ (c.in_default.ensures.steps_second) c.carry-else-up.ensures.steps_source

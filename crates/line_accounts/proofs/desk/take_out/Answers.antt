@@ -1,10 +1,11 @@
 use Rattle.std.proofs.Common.{◌<◌, length, sym, subst, arith}
 use Rattle.std.proofs.Math.ListN.{set}
-use Rattle.line_accounts.specs.Desks.{DeskOf, IsDeskOver, ArePatient, HasOneWaited}
+use Rattle.line_accounts.specs.Desks.{DeskOf, IsDeskOver, ArePatient, AreWithinCalls, HasOneWaited}
 use Rattle.line_accounts.specs.Calls.{TakesOut}
 use Rattle.line_accounts.proofs.Accounted.{paid_out_port, desk_after, at_place, takes_out, takes_out_none}
 use Rattle.line_accounts.proofs.Replies.{no_account_not_late}
 use Rattle.line_accounts.proofs.Patient.{patient_one, waited_one}
+use Rattle.line_accounts.proofs.WithinCalls.{calls_one}
 use Rattle.line_accounts.proofs.desk.take_out.Goals as goal
 
 pub pay_out-requires-clause-at_rest : goal.pay_out-requires-clause-at_rest
@@ -58,3 +59,11 @@ returns-in_default-clause-takes_out g c = takes_out_none g.L.LineSync.view (leng
 
 pub returns-in_default-clause-late : goal.returns-in_default-clause-late
 returns-in_default-clause-late g c late = absurd (no_account_not_late late)
+
+pub returns-clause-steps : goal.returns-clause-steps
+returns-clause-steps g c =
+    let over = subst (λ (d : DeskOf g.row.L-Port.Denot). IsDeskOver g.L.LineSync.belongs g.L.LineSync.view c.args.lines.now d) (sym c.desk.view_is) c.requires.over in
+    let there : c.in-Some.i < length c.args.lines.now = omega (arith, c.in-Some.ensures.0, c.in-Some.ensures.1) in
+    let at = at_place g.L.LineSync.belongs g.L.LineSync.view c.args.lines.now _ c.in-Some.i c.index-lines-i.result c.index_mut.result.now over there c.index-lines-i.is c.index_mut.ensures.value in
+    subst (λ (d : DeskOf g.row.L-Port.Denot). AreWithinCalls g.L.LineSync.counters g.L.LineSync.max_steps c.args.lines.now d.ports (set c.desk.inside.ports.items c.in-Some.i c.pay_out.new.port)) c.desk.view_is
+    (calls_one g.L.LineSync.counters g.L.LineSync.max_steps c.args.lines.now c.desk.inside.ports.items c.in-Some.i c.index-lines-i.result c.index_mut.result.now c.pay_out.new.port at.0 at.1 c.pay_out.ensures.steps)

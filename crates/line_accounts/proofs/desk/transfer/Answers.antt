@@ -3,13 +3,14 @@ use Rattle.std.specs.Vec.{with_items}
 use Rattle.std.proofs.Math.ListN.{set}
 use Rattle.std.proofs.lemmas.Bool.Decides.{nat_tests}
 use Rattle.std.proofs.lemmas.Option.{slice_get_read, slice_get_within}
-use Rattle.line_accounts.specs.Desks.{DeskOf, IsDeskOver, ArePatient, HasOneWaited}
+use Rattle.line_accounts.specs.Desks.{DeskOf, IsDeskOver, ArePatient, AreWithinCalls, HasOneWaited}
 use Rattle.line_accounts.specs.Calls.{AreTwo, Transfers}
 use Rattle.line_accounts.proofs.Accounted.{at_place, moved_within_port, desk_after}
 use Rattle.line_accounts.proofs.Pairs.{both_set}
 use Rattle.line_accounts.proofs.Patient.{patient_one, waited_one, patient_two, waited_two}
 use Rattle.line_accounts.proofs.Transferred.{between_ports, crossed_desk, transfers_within, transfers_between, transfers_none}
 use Rattle.line_accounts.proofs.desk.transfer.Goals.{then-i-j-2, else-i-j-2}
+use Rattle.line_accounts.proofs.WithinCalls.{calls_one, calls_two}
 use Rattle.line_accounts.proofs.desk.transfer.Goals as goal
 
 pub move_within-requires-clause-at_rest : goal.move_within-requires-clause-at_rest
@@ -121,3 +122,42 @@ returns-clause-late g c late =
     subst (λ (d : DeskOf g.row.L-Port.Denot). HasOneWaited g.L.LineSync.counters g.L.LineSync.view c.args.patience d.ports ports.items) c.desk.view_is
     (subst (λ (l : List g.row.L-Port.Denot). HasOneWaited g.L.LineSync.counters g.L.LineSync.view c.args.patience c.desk.inside.ports.items l) (sym whole)
     (waited_two g.L.LineSync.counters c.args.patience c.desk.inside.ports.items low c.pair_of-first.result.0.now c.move_between.new.low_port at_low high c.pair_of-first.result.1.now c.move_between.new.high_port apart at_high g.L.LineSync.view (c.move_between.ensures.late late)))
+
+pub returns-then-i-j-clause-steps : goal.returns-then-i-j-clause-steps
+returns-then-i-j-clause-steps g c =
+    let over = subst (λ (d : DeskOf g.row.L-Port.Denot). IsDeskOver g.L.LineSync.belongs g.L.LineSync.view c.args.lines.now d) (sym c.desk.view_is) c.requires.over in
+    let there_i : c.in-Some.i < length c.args.lines.now = omega (arith, c.in-Some.ensures.0, c.in-Some.ensures.1) in
+    let at = at_place g.L.LineSync.belongs g.L.LineSync.view c.args.lines.now _ c.in-Some.i c.index-lines-i.result c.index_mut.result.now over there_i c.index-lines-i.is c.index_mut.ensures.value in
+    subst (λ (d : DeskOf g.row.L-Port.Denot). AreWithinCalls g.L.LineSync.counters g.L.LineSync.max_steps c.args.lines.now d.ports (set c.desk.inside.ports.items c.in-Some.i c.move_within.new.port)) c.desk.view_is
+    (calls_one g.L.LineSync.counters g.L.LineSync.max_steps c.args.lines.now c.desk.inside.ports.items c.in-Some.i c.index-lines-i.result c.index_mut.result.now c.move_within.new.port at.0 at.1 c.move_within.ensures.steps)
+
+pub move_between-requires-clause-belongs_low : goal.move_between-requires-clause-belongs_low
+move_between-requires-clause-belongs_low g c =
+    let over = subst (λ (d : DeskOf g.row.L-Port.Denot). IsDeskOver g.L.LineSync.belongs g.L.LineSync.view c.args.lines.now d) (sym c.desk.view_is) c.requires.over in
+    let (low, high) = c.if-i-j-2.low in
+    let at_low = sym (ap (λ l. slice_get l low) c.deref_mut.ensures.value) ∙ c.pair_of-first.ensures.first in
+    let line_low = slice_get_read c.args.lines.now (length c.desk.inside.ports.items) low c.index-lines-low.result over.over.count (slice_get_within _ _ _ at_low) c.index-lines-low.is in
+    over.over.each_belongs low c.index-lines-low.result c.pair_of-first.result.0.now line_low at_low
+
+pub move_between-requires-clause-belongs_high : goal.move_between-requires-clause-belongs_high
+move_between-requires-clause-belongs_high g c =
+    let over = subst (λ (d : DeskOf g.row.L-Port.Denot). IsDeskOver g.L.LineSync.belongs g.L.LineSync.view c.args.lines.now d) (sym c.desk.view_is) c.requires.over in
+    let (low, high) = c.if-i-j-2.low in
+    let at_high = sym (ap (λ l. slice_get l high) c.deref_mut.ensures.value) ∙ c.pair_of-first.ensures.second in
+    let line_high = slice_get_read c.args.lines.now (length c.desk.inside.ports.items) high c.index-lines-high.result over.over.count (slice_get_within _ _ _ at_high) c.index-lines-high.is in
+    over.over.each_belongs high c.index-lines-high.result c.pair_of-first.result.1.now line_high at_high
+
+pub returns-clause-steps : goal.returns-clause-steps
+returns-clause-steps g c =
+    let over = subst (λ (d : DeskOf g.row.L-Port.Denot). IsDeskOver g.L.LineSync.belongs g.L.LineSync.view c.args.lines.now d) (sym c.desk.view_is) c.requires.over in
+    let (low, high) = c.if-i-j-2.low in
+    let apart : low ≢ high = grind (arith, c.if-i-j-2.branch) in
+    let at_low = sym (ap (λ l. slice_get l low) c.deref_mut.ensures.value) ∙ c.pair_of-first.ensures.first in
+    let at_high = sym (ap (λ l. slice_get l high) c.deref_mut.ensures.value) ∙ c.pair_of-first.ensures.second in
+    let line_low = slice_get_read c.args.lines.now (length c.desk.inside.ports.items) low c.index-lines-low.result over.over.count (slice_get_within _ _ _ at_low) c.index-lines-low.is in
+    let line_high = slice_get_read c.args.lines.now (length c.desk.inside.ports.items) high c.index-lines-high.result over.over.count (slice_get_within _ _ _ at_high) c.index-lines-high.is in
+    let ports = with_items c.desk.inside.ports (slice_set (slice_set c.deref_mut.result.now low c.move_between.new.low_port) high c.move_between.new.high_port) in
+    let whole = both_set c.desk.inside.ports c.deref_mut.result.now low high c.move_between.new.low_port c.move_between.new.high_port c.deref_mut.ensures.value in
+    subst (λ (d : DeskOf g.row.L-Port.Denot). AreWithinCalls g.L.LineSync.counters g.L.LineSync.max_steps c.args.lines.now d.ports ports.items) c.desk.view_is
+    (subst (λ (l : List g.row.L-Port.Denot). AreWithinCalls g.L.LineSync.counters g.L.LineSync.max_steps c.args.lines.now c.desk.inside.ports.items l) (sym whole)
+    (calls_two g.L.LineSync.counters g.L.LineSync.max_steps c.args.lines.now c.desk.inside.ports.items low c.index-lines-low.result c.pair_of-first.result.0.now c.move_between.new.low_port line_low at_low high c.index-lines-high.result c.pair_of-first.result.1.now c.move_between.new.high_port apart line_high at_high c.move_between.ensures.steps_low c.move_between.ensures.steps_high))

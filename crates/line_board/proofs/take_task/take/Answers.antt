@@ -1,5 +1,6 @@
 use Rattle.std.proofs.Common.{◌≤◌, ◌+◌, ℕ, sym, subst}
 use Rattle.line_board.proofs.Answering.{taken, empty, take_late, take_closed, take_busy, task_not_late, empty_not_late}
+use Rattle.qolb_model.proofs.WithinCalls.{no_call, calls_then}
 use Rattle.line_board.proofs.take_task.take.Goals as goal
 
 pub returns-in-Some-clause-takes : goal.returns-in-Some-clause-takes
@@ -36,3 +37,18 @@ returns-in-Closed-clause-takes g c = take_closed (g.L.LineSync.view c.args.port.
 
 pub returns-in-Busy-clause-takes : goal.returns-in-Busy-clause-takes
 returns-in-Busy-clause-takes g c = take_busy (g.L.LineSync.view c.args.port.now) (g.L.LineSync.view c.acquire_bounded.new.port) (g.L.LineSync.turn c.acquire_bounded.new.port) c.in-Busy.ensures.acquires c.requires.state
+
+pub returns-in-Some-clause-steps : goal.returns-in-Some-clause-steps
+returns-in-Some-clause-steps g c = calls_then _ 2 1 _ _ _ c.in-Granted.ensures.steps c.in-Some.ensures.steps
+
+pub returns-in-None-clause-steps : goal.returns-in-None-clause-steps
+returns-in-None-clause-steps g c = calls_then _ 2 1 _ _ _ c.in-Granted.ensures.steps c.in-None.ensures.steps
+
+pub returns-in-Late-clause-steps : goal.returns-in-Late-clause-steps
+returns-in-Late-clause-steps g c = calls_then _ 2 1 _ _ _ c.in-Late.ensures.steps (no_call _ 1 _)
+
+pub returns-in-Closed-clause-steps : goal.returns-in-Closed-clause-steps
+returns-in-Closed-clause-steps g c = calls_then _ 2 1 _ _ _ c.in-Closed.ensures.steps (no_call _ 1 _)
+
+pub returns-in-Busy-clause-steps : goal.returns-in-Busy-clause-steps
+returns-in-Busy-clause-steps g c = calls_then _ 2 1 _ _ _ c.in-Busy.ensures.steps (no_call _ 1 _)

@@ -1,7 +1,7 @@
 use Rattle.std.proofs.Common.{◌≡◌, ap, sym, ◌∙◌, subst, refl, length, List, ℕ}
 use Rattle.line_lanes.specs.Mask.{changed_mask}
 use Rattle.qolb_model.specs.declared.view.View.{View}
-use Rattle.qolb_model.specs.Counting.{Counters}
+use Rattle.qolb_model.specs.Counting.{Counters, IsWithinCalls}
 use Rattle.qolb_model.specs.Sound.{Continues}
 use Rattle.qolb_model.proofs.OwnTurns.{quiet_after, may_ask-state_after}
 use Rattle.line_board.specs.Board.{Stand}
@@ -51,3 +51,7 @@ returns-clause-poll_count g c = c.release.ensures.poll_count ∙ ap (λ (counter
 
 pub returns-clause-state : goal.returns-clause-state
 returns-clause-state g c = quiet_after _ _ (g.L.LineSync.view c.release.new.port) (may_ask-state_after _) c.release.ensures.releases.ends_turn.releases
+
+pub returns-clause-steps : goal.returns-clause-steps
+returns-clause-steps g c =
+    subst (λ (counters : Counters). IsWithinCalls (g.L.LineSync.max_steps c.args.line.now) 1 counters (g.L.LineSync.counters c.release.new.port)) c.write.ensures.counters c.release.ensures.steps

@@ -1,6 +1,7 @@
 use Rattle.std.proofs.Common.{refl, ◌∙◌}
 use Rattle.qolb_model.proofs.Agreeing.{extends_trans}
 use Rattle.qolb_model.proofs.Acquiring.{granted_by_look, told_by_look, withdraws_later, granted_in_time, told_in_time, one_look_more, looks_allowed, all_looks}
+use Rattle.qolb_model.proofs.WithinCalls.{no_call, one_call, one_poll, calls_then}
 use Rattle.qolb_model.proofs.acquire.wait_bounded.Goals as goal
 
 pub returns-in-Granted-clause-withdraws : goal.returns-in-Granted-clause-withdraws
@@ -29,6 +30,7 @@ loop-preserved g c =
       state = (polls.waiting refl).state;
       extends = extends_trans _ _ _ c.loop.invariant.extends polls.continues.extends;
       poll_count = one_look_more _ _ _ c.loop.invariant.poll_count _ c.in-Waiting.ensures.counts.poll_count;
+      steps = let counts = c.in-Waiting.ensures.counts in calls_then _ 0 0 _ _ _ c.loop.invariant.steps (one_poll _ _ _ counts.total_steps counts.bound counts.poll_count);
       count = polls.count ∙ c.loop.invariant.count;
     }
 
@@ -38,3 +40,15 @@ returns-clause-withdraws g c = withdraws_later _ _ _ _ _ c.loop.invariant.extend
 
 pub returns-clause-late : goal.returns-clause-late
 returns-clause-late g c _ = (assumption) ∙ all_looks _ _ _ c.loop.invariant.poll_count _ c.loop-test.false c.loop.auto.counter-end
+
+pub returns-in-Granted-clause-steps : goal.returns-in-Granted-clause-steps
+returns-in-Granted-clause-steps g c = let counts = c.in-Granted.ensures.counts in
+    calls_then _ 0 1 _ _ _ (calls_then _ 0 0 _ _ _ c.loop.invariant.steps (one_poll _ _ _ counts.total_steps counts.bound counts.poll_count)) (no_call _ 1 _)
+
+pub returns-in-Closed-clause-steps : goal.returns-in-Closed-clause-steps
+returns-in-Closed-clause-steps g c = let counts = c.in-Closed.ensures.counts in
+    calls_then _ 0 1 _ _ _ (calls_then _ 0 0 _ _ _ c.loop.invariant.steps (one_poll _ _ _ counts.total_steps counts.bound counts.poll_count)) (no_call _ 1 _)
+
+pub returns-clause-steps : goal.returns-clause-steps
+returns-clause-steps g c = let counts = c.withdraw.ensures.counts in
+    calls_then _ 0 1 _ _ _ c.loop.invariant.steps (one_call _ _ _ counts.total_steps counts.bound counts.poll_count)
