@@ -108,7 +108,7 @@ lane_after bytes (Served write shut ∷ ends) =
 lane_after bytes (Gone ∷ ends) = lane_after bytes ends
 lane_after bytes (Told ∷ ends) = lane_after bytes ends
 
-sum-same : (n : ℕ) (views : List View) → sum_by (λ (v : View). n) views ≡ length views * n
+pub sum-same : (n : ℕ) (views : List View) → sum_by (λ (v : View). n) views ≡ length views * n
 sum-same n [] = omega arith
 sum-same n (v ∷ views) = let rest = sum-same n views in sum_by-cons (λ (w : View). n) v views ∙ (ap (λ m. n + m) rest ∙ one-more (length views))
   where

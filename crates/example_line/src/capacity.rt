@@ -1,11 +1,12 @@
 //! A law of the client's own: clerks sell seats from several threads, and no schedule sells more than `SEATS`.
-ghost use Rattle.std.specs.Prelude.{◌≡◌, ◌≤◌, IfSome, IsTrue, drop};
+ghost use Rattle.std.specs.Prelude.{◌≡◌, ◌*◌, ◌≤◌, IfSome, IsTrue, drop, min};
 ghost use Rattle.line_lanes.specs.Lane.{lane_of};
 ghost use Rattle.qolb_model.specs.PortStates.{may_ask};
 ghost use Rattle.qolb_model.specs.Views.{bytes_of};
 ghost use Rattle.qolb_model.specs.AtTurn.{IsGranted};
 ghost use Rattle.qolb_model.specs.Kept.{MayRelease};
-ghost use Rattle.example_line.specs.Seats.{IsWithin, StaysWithin, sold_after};
+ghost use Rattle.qolb_model.specs.Sums.{KnowsOwnPlaces};
+ghost use Rattle.example_line.specs.Seats.{IsWithin, StaysWithin, sold_after, Serves, HasServed};
 
 use line_blocking::scoped::{ScopedTask, run_scoped};
 use line_blocking::{Got, acquire};
@@ -51,7 +52,27 @@ fn sell_one<L: LineSync<SeatLimit>>(port: &mut L::Port)
     }
 }
 
-/// The task of a thread: a clerk that serves `customers` customers, each in a turn of the line.
+/// Serves `customers` customers, each in a turn of the line, unless the port is told that the line is closed.
+fn serve<R: Wait, L: LineSync<SeatLimit>>(rt: &R, line: &L, port: &mut L::Port, customers: u64)
+    requires belongs { L.belongs line.now port.old }
+    requires state { IsTrue (may_ask (L.view port.old).state) }
+    ensures belongs { L.belongs line.now port.new }
+    ensures state { IsTrue (may_ask (L.view port.new).state) }
+    ensures serves { KnowsOwnPlaces (L.view port.old)
+        → Serves customers (L.view port.old) (L.view port.new) }
+{
+    for _customer in 0..customers {
+        match acquire(rt, line, port) {
+            Got::Granted => {
+                sell_one::<L>(port);
+                line.deqolb(port);
+            }
+            Got::Closed => return,
+        }
+    }
+}
+
+/// The task of a thread: a clerk that serves `customers` customers.
 #[derive(Drop)]
 struct Clerk {
     customers: u64,
@@ -60,28 +81,23 @@ struct Clerk {
 impl<R: Wait, L: LineSync<SeatLimit>> ScopedTask<R, L, L::Port> for Clerk {
     type Output = L::Port;
 
-    ghost pre = { λ _ line _ port. L.belongs line port × IsTrue (may_ask (L.view port).state) };
+    ghost pre = { λ _ line _ port. L.belongs line port × IsTrue (may_ask (L.view port).state)
+        × ((L.view port).count ≡ 0) };
 
-    ghost post = { λ _ line _ port. L.belongs line port × IsTrue (may_ask (L.view port).state) };
+    ghost post = { λ clerk line _ port. L.belongs line port × IsTrue (may_ask (L.view port).state)
+        × HasServed clerk.customers (L.view port) };
 
     fn work(&self, rt: &R, line: &L, _place: usize, port: L::Port) -> L::Port {
         let mut port = port;
-        for _ in 0..self.customers {
-            match acquire(rt, line, &mut port) {
-                Got::Granted => {
-                    sell_one::<L>(&mut port);
-                    line.deqolb(&mut port);
-                }
-                Got::Closed => break,
-            }
-        }
+        serve(rt, line, &mut port, self.customers);
         port
     }
 }
 
 /// Sells seats with `clerks` threads, each to `customers` customers.
 ///
-/// Returns the number of seats sold, or `None` if the line, memory or a thread is refused.
+/// Returns the number of seats sold, or `None` if the line, memory or a thread is refused. A seat is sold to each customer, while there are
+/// seats.
 pub fn sell<R: Threads + Wait + Sync, L: OpenLine<SeatLimit> + Sync + Drop>(
     rt: &R,
     alloc: Global,
@@ -90,7 +106,8 @@ pub fn sell<R: Threads + Wait + Sync, L: OpenLine<SeatLimit> + Sync + Drop>(
 ) -> Option<u64>
 where
     L::Port: Send + Drop,
-    ensures { IfSome result (λ sold. sold ≤ SEATS) }
+    ensures limit { IfSome result (λ sold. sold ≤ SEATS) }
+    ensures least { IfSome result (λ sold. sold ≡ min SEATS (clerks * customers)) }
 {
     let config = LineConfig {
         nodes: clerks,
