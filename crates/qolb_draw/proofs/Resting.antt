@@ -5,9 +5,13 @@ use Rattle.std.proofs.lemmas.Bool.{cases_eq}
 use Rattle.std.proofs.lemmas.Bool.Decides.{nat_tests}
 use Rattle.std.proofs.lemmas.List.{length-map, length-drop, length-set, length-replicate, get_or-set_other}
 use Rattle.std.proofs.lemmas.List.FromFn.{fill_by_all}
+use Rattle.std.proofs.lemmas.Option.{same_Some}
 use Rattle.std.proofs.lemmas.Grind.{get_or-set_at}
 use Rattle.std.proofs.lemmas.List.Folds.{list_any-append}
 use Rattle.qolb_model.specs.declared.answer.PortState.TheVariants as port
+use Rattle.qolb_model.specs.declared.answer.PortState.{PortState}
+use Rattle.qolb_model.specs.declared.answer.Enq.TheVariants as enq
+use Rattle.qolb_model.specs.declared.answer.Poll.{Poll}
 use Rattle.qolb_model.specs.declared.answer.Poll.TheVariants as poll
 use Rattle.qolb_model.specs.declared.end.End.TheVariants.{Served, Told}
 use Rattle.qolb_model.specs.declared.request.Request.{Request}
@@ -18,13 +22,14 @@ use Rattle.qolb_model.specs.Leases.{closes}
 use Rattle.qolb_model.specs.PortStates.{may_ask}
 use Rattle.qolb_model.specs.Requests.{has, last_of}
 use Rattle.qolb_model.specs.Whole.{seen}
-use Rattle.qolb_model.specs.OneOwner.{OwnerState, state_of, is_open, is_rolled, is_first, after_ask, after_poll, after_moves, after_release, after_write, mark_last, poll_answer}
+use Rattle.qolb_model.specs.OneOwner.{OwnerState, state_of, is_open, is_rolled, is_first, after_ask, after_poll, after_moves, after_release, after_write, mark_last, poll_answer, as_enq, out_answer, after_out}
 use Rattle.qolb_model.specs.Plain.{PlainView, is_at, is_oldest, node_state, waiter_state, Agrees}
 use Rattle.qolb_model.proofs.Agreed.{node_state-state_of}
 use Rattle.qolb_model.proofs.Prefixes.{prefix_same, prefix_self}
 use Rattle.qolb_model.proofs.Leaving.{Leaves, leaves_so, leaves_through, leaves_ask, leaves_grant, leaves_mark, leaves_write, leaves_end}
 use Rattle.qolb_script.specs.declared.command.Command.{Command}
 use Rattle.qolb_script.specs.declared.command.Command.TheVariants as command
+use Rattle.qolb_script.specs.declared.reply_text.Said.TheVariants as said
 use Rattle.qolb_script.specs.Commands.{node_of}
 use Rattle.qolb_script.specs.Reply.{is_queued, is_holding, said_of, after_command}
 use Rattle.qolb_shapes.specs.declared.symbol.Symbol.{Symbol}
@@ -33,7 +38,7 @@ use Rattle.qolb_shapes.specs.declared.symbol.Change.{Change}
 use Rattle.qolb_shapes.specs.Marks.{is_node, is_handed_on, mark_of_state, mark_of, at_rest, at_turn, mark_by}
 use Rattle.qolb_draw.specs.Changes.{waiting_nodes}
 use Rattle.qolb_draw.specs.Following as following
-use Rattle.qolb_draw.specs.Following.{has_asked, has_ended, is_among, is_shut, differs, Follows, Rests, AreAtRest, ArePassed, AreLookedAt, IsKept}
+use Rattle.qolb_draw.specs.Following.{has_asked, has_stayed, state_ended, is_among, is_shut, differs, Follows, Rests, AreAtRest, ArePassed, AreLookedAt, IsKept}
 use Rattle.qolb_draw.specs.Grids.{column_by, column_out_of, IsMarkedAt}
 use Rattle.qolb_draw.proofs.Turns.{Grew, grew, asked_if, open_entry, waits_so, entries}
 
@@ -97,6 +102,53 @@ leaves_command s (command.Write n l mask bytes) = by (is_holding (state_of s n))
     by : (b : Bool) → is_holding (state_of s n) ≡ b → Leaves n s (cond b (after_write s mask.0 bytes.bytes) s)
     by true e = leaves_write n s mask.0 bytes.bytes (held_first s n e)
     by false e = leaves_so n s
+
+-- a node with such an answer is in the state in which it was
+enq_moves : (p : Poll) → has_stayed (said.Enq (as_enq p)) ≡ false
+enq_moves poll.Granted = refl
+enq_moves poll.Waiting = refl
+enq_moves poll.Closed = refl
+
+stays_so : (s : OwnerState) (c : Command) → has_stayed (said_of s c) ≡ true → state_of (after_command s c) (node_of c) ≡ state_of s (node_of c)
+stays_so s (command.Enq n l) h = by (may_ask (state_of s n)) (is_rolled s.queue n) h
+  where
+    by : (may rolled : Bool) → has_stayed (cond may (said.Enq (cond rolled enq.Busy (as_enq (poll_answer (after_ask s n) n)))) said.Misuse) ≡ true
+        → state_of (cond may (cond rolled s (after_poll (poll_answer (after_ask s n) n) (after_ask s n))) s) n ≡ state_of s n
+    by false rolled h = refl
+    by true true h = refl
+    by true false h = absurd (let no : false ≡ true = sym (enq_moves (poll_answer (after_ask s n) n)) ∙ h in cc no)
+stays_so s (command.Poll n l) h = by (is_queued (state_of s n)) (poll_answer s n) h
+  where
+    by : (b : Bool) (p : Poll) → has_stayed (cond b (said.Poll p) said.Misuse) ≡ true → state_of (cond b (after_poll p s) s) n ≡ state_of s n
+    by false p h = refl
+    by true poll.Granted h = absurd (let no : false ≡ true = h in cc no)
+    by true poll.Waiting h = refl
+    by true poll.Closed h = absurd (let no : false ≡ true = h in cc no)
+stays_so s (command.Show n l) h = by (is_holding (state_of s n))
+  where
+    by : (b : Bool) → state_of (cond b s s) n ≡ state_of s n
+    by true = refl
+    by false = refl
+stays_so s (command.Deq n l) h = by (is_holding (state_of s n)) h
+  where
+    by : (b : Bool) → has_stayed (cond b said.Released said.Misuse) ≡ true → state_of (cond b (after_release s false) s) n ≡ state_of s n
+    by true h = absurd (let no : false ≡ true = h in cc no)
+    by false h = refl
+stays_so s (command.Out n l) h = by (is_queued (state_of s n)) h
+  where
+    by : (b : Bool) → has_stayed (cond b (said.Out (out_answer s n)) said.Misuse) ≡ true → state_of (cond b (after_out s n) s) n ≡ state_of s n
+    by true h = absurd (let no : false ≡ true = h in cc no)
+    by false h = refl
+stays_so s (command.Shut n l) h = by (is_holding (state_of s n)) h
+  where
+    by : (b : Bool) → has_stayed (cond b said.Shut said.Misuse) ≡ true → state_of (cond b (after_release s true) s) n ≡ state_of s n
+    by true h = absurd (let no : false ≡ true = h in cc no)
+    by false h = refl
+stays_so s (command.Write n l mask bytes) h = by (is_holding (state_of s n))
+  where
+    by : (b : Bool) → state_of (cond b (after_write s mask.0 bytes.bytes) s) n ≡ state_of s n
+    by true = refl
+    by false = refl
 
 -- a node that waits as before, at a line that is closed or not as before, is in the same state if it may make the same calls
 same_open : (k h k' h' : Bool) → seen (cond k' port.Rolled (cond h' port.Holding port.Queued)) ≡ seen (cond k port.Rolled (cond h port.Holding port.Queued))
@@ -163,7 +215,7 @@ same_if false false h = refl
 
 -- what is kept of a line after a command
 pub command_rests : (old new : PlainView) (s : OwnerState) (c : Command) (waiting pushed after : List ℕ) (resting passed last : List Symbol) (was closed : Bool) → Follows old waiting s → Rests old resting was → Follows new after (after_command s c) → new.nodes ≡ old.nodes
-    → pushed ≡ waiting ++ cond (has_asked (said_of s c)) (node_of c ∷ []) [] → ArePassed new pushed after resting passed → (closed ≡ new.closed) ⊎ ((closed ≡ was) × (after ≡ pushed)) → AreLookedAt new (node_of c) (differs was closed) passed last → Rests new last closed
+    → pushed ≡ waiting ++ cond (has_asked (said_of s c)) (node_of c ∷ []) [] → ArePassed new pushed after resting passed → (closed ≡ new.closed) ⊎ ((closed ≡ was) × (after ≡ pushed)) → AreLookedAt new (node_of c) (has_stayed (said_of s c)) (differs was closed) passed last → Rests new last closed
 command_rests old new s c waiting pushed after resting passed last was closed f r g nodes push passes answer looks =
     let b : Bool = has_asked (said_of s c) in
     let t : OwnerState = after_command s c in
@@ -174,14 +226,21 @@ command_rests old new s c waiting pushed after resting passed last was closed f 
       | inl is ↦ sym is ∙ same ∙ r.closed_is
       | inr (so, none) ↦ closed_kept old new s t (node_of c) (asked_if b (node_of c) s) f.agrees g.agrees leaves (grew s c) (ap length (sym g.waiting_are ∙ none ∙ pushed_is) ∙ asked_long b (node_of c) s (waiting_nodes s))
     ] in
+    let same : (n : ℕ) → (n ≢ node_of c) ⊎ (has_stayed (said_of s c) ≡ true) → new.closed ≡ old.closed → is_among n (waiting_nodes t) ≡ is_among n (waiting_nodes s ++ cond b (node_of c ∷ []) []) → node_state new n ≡ node_state old n =
+    λ n which closes among. elim (cases_eq n (node_of c)) [
+      | inl here ↦ elim which [
+        | inl ne ↦ absurd (ne here)
+        | inr h ↦ ap (node_state new) here ∙ node_state-state_of new t g.agrees (node_of c) ∙ stays_so s c h ∙ sym (node_state-state_of old s f.agrees (node_of c)) ∙ ap (node_state old) (sym here)
+      ]
+      | inr ne ↦ state_kept old new s t (node_of c) n f.agrees g.agrees leaves ne closes (among ∙ among_more b n (node_of c) (waiting_nodes s) ne)
+    ] in
     record {
       size = size ∙ r.size ∙ ap (λ n. n + 1) (sym nodes);
       are = λ n lt. elim (looks.marks n (subst (λ k. n < k) looks.size lt)) [
         | inl is ↦ is
         | inr (left, ne, some) ↦ elim (passes.marks n (subst (λ k. n < k) size lt)) [
           | inl is ↦ left ∙ is
-          | inr (stays, among) ↦ left ∙ stays ∙ r.are n (subst (λ k. n < k) size lt) ∙ ap at_rest (sym (state_kept old new s t (node_of c) n f.agrees g.agrees leaves ne (kept (same_if was closed some))
-              (ap (is_among n) (sym g.waiting_are) ∙ among ∙ ap (is_among n) pushed_is ∙ among_more b n (node_of c) (waiting_nodes s) ne)))
+          | inr (stays, among) ↦ left ∙ stays ∙ r.are n (subst (λ k. n < k) size lt) ∙ ap at_rest (sym (same n ne (kept (same_if was closed some)) (ap (is_among n) (sym g.waiting_are) ∙ among ∙ ap (is_among n) pushed_is)))
         ]
       ];
       closed_is = elim answer [
@@ -212,32 +271,37 @@ is_shut_closed line n None e = by line.closed
     by false = refl
 is_shut_closed line n (Some w) e = absurd (let no : true ≡ false = sym (open_entry line n (Some w)) ∙ e in cc no)
 
-not_true : (b : Bool) → not b ≡ true → b ≡ false
-not_true true h = sym h
-not_true false h = refl
+ended_so : (line : PlainView) (n : ℕ) (state : PortState) → state_ended line (Some n) ≡ Some state → (following.is_open (node_state line n) ≡ false) × (state ≡ node_state line n)
+ended_so line n state h = by (following.is_open (node_state line n)) h
+  where
+    by : (b : Bool) → cond b None (Some (node_state line n)) ≡ Some state → (b ≡ false) × (state ≡ node_state line n)
+    by true h = absurd (let no : None ≡ Some state = h in cc no)
+    by false h = (refl, sym (same_Some (node_state line n) state h))
 
 pub none_passed : (line : PlainView) (waited : List ℕ) (old : List Symbol) → ArePassed line waited waited old old
 none_passed line waited old = record { size = refl; marks = λ n lt. inr (refl, refl) }
 
-pub one_passed : (line : PlainView) (waited waiting left : List ℕ) (x : ℕ) (old now new : List Symbol) → has_ended line (slice_get waiting 0) ≡ true → x ≡ get_or waiting 0 x → left ≡ remove waiting 0
-    → IsKept x (at_rest (node_state line x)) now new → ArePassed line waited waiting old now → ArePassed line waited left old new × (is_shut (node_state line x) ≡ line.closed) × (following.after_ended line left ≡ following.after_ended line waiting)
-one_passed line waited [] left x old now new ended is rest kept had = absurd (let no : false ≡ true = ended in cc no)
-one_passed line waited (y ∷ ys) left x old now new ended is rest kept had =
-    let gone : following.is_open (node_state line x) ≡ false = ap (λ k. following.is_open (node_state line k)) is ∙ not_true (following.is_open (node_state line y)) ended in
-    let gone_y : following.is_open (node_state line y) ≡ false = not_true (following.is_open (node_state line y)) ended in (
+pub one_passed : (line : PlainView) (waited waiting left : List ℕ) (x : ℕ) (state : PortState) (old now new : List Symbol) → state_ended line (slice_get waiting 0) ≡ Some state → x ≡ get_or waiting 0 x → left ≡ remove waiting 0
+    → IsKept x (at_rest state) now new → ArePassed line waited waiting old now → ArePassed line waited left old new × (is_shut state ≡ line.closed) × (following.after_ended line left ≡ following.after_ended line waiting)
+one_passed line waited [] left x state old now new ended is rest kept had = absurd (let no : None ≡ Some state = ended in cc no)
+one_passed line waited (y ∷ ys) left x state old now new ended is rest kept had =
+    let so = ended_so line y state ended in
+    let gone_y : following.is_open (node_state line y) ≡ false = so.0 in
+    let gone : following.is_open (node_state line x) ≡ false = ap (λ k. following.is_open (node_state line k)) is ∙ gone_y in
+    let its : state ≡ node_state line x = so.1 ∙ ap (node_state line) (sym is) in (
       record {
         size = kept.size ∙ had.size;
         marks = λ n lt. elim (cases_eq n x) [
-          | inl here ↦ inl (kept.marks n (subst (λ k. n < k) (sym had.size) lt) ∙ ap (λ b. cond b (at_rest (node_state line x)) (get_or now n symbol.Idle)) (let t : (n == x) ≡ true = grind (arith, nat_tests) in t) ∙ ap (λ k. at_rest (node_state line k)) (sym here))
+          | inl here ↦ inl (kept.marks n (subst (λ k. n < k) (sym had.size) lt) ∙ ap (λ b. cond b (at_rest state) (get_or now n symbol.Idle)) (let t : (n == x) ≡ true = grind (arith, nat_tests) in t) ∙ ap at_rest its ∙ ap (λ k. at_rest (node_state line k)) (sym here))
           | inr other ↦
-              let same : get_or new n symbol.Idle ≡ get_or now n symbol.Idle = kept.marks n (subst (λ k. n < k) (sym had.size) lt) ∙ ap (λ b. cond b (at_rest (node_state line x)) (get_or now n symbol.Idle)) (let t : (n == x) ≡ false = grind (arith, nat_tests) in t) in
+              let same : get_or new n symbol.Idle ≡ get_or now n symbol.Idle = kept.marks n (subst (λ k. n < k) (sym had.size) lt) ∙ ap (λ b. cond b (at_rest state) (get_or now n symbol.Idle)) (let t : (n == x) ≡ false = grind (arith, nat_tests) in t) in
               elim (had.marks n lt) [
                 | inl looked ↦ inl (same ∙ looked)
                 | inr (stays, among) ↦ inr (same ∙ stays, ap (is_among n) rest ∙ sym (ap (λ b. b || is_among n ys) (let t : (y == n) ≡ false = grind (arith, nat_tests) in t)) ∙ among)
               ]
         ];
       },
-      is_shut_closed line x (find (is_at x) line.waiting) gone,
+      ap is_shut its ∙ is_shut_closed line x (find (is_at x) line.waiting) gone,
       ap (following.after_ended line) rest ∙ sym (ap (λ b. cond b (y ∷ ys) (following.after_ended line ys)) gone_y),
     )
 

@@ -3,6 +3,7 @@ use Rattle.std.specs.Prelude.{◌≡◌, ◌≢◌, ◌<◌, ◌+◌, ◌==◌, 
 use Rattle.qolb_model.specs.declared.answer.PortState.{PortState}
 use Rattle.qolb_model.specs.declared.answer.PortState.TheVariants as port
 use Rattle.qolb_model.specs.declared.answer.Enq.TheVariants as enq
+use Rattle.qolb_model.specs.declared.answer.Poll.TheVariants as poll
 use Rattle.qolb_model.specs.Plain.{PlainView, node_state, Agrees}
 use Rattle.qolb_model.specs.OneOwner.{OwnerState}
 use Rattle.qolb_script.specs.declared.reply_text.Said.{Said}
@@ -20,6 +21,15 @@ has_asked (said.Enq enq.Queued) = true
 has_asked (said.Enq enq.Closed) = true
 has_asked what = false
 
+-- answers to a node that is in the state in which it was before its command
+abbrev pub has_stayed : Said → Bool
+has_stayed said.Misuse = true
+has_stayed said.Written = true
+has_stayed (said.Bytes line) = true
+has_stayed (said.Enq enq.Busy) = true
+has_stayed (said.Poll poll.Waiting) = true
+has_stayed what = false
+
 -- a node in this state has a request without an end
 abbrev pub is_open : PortState → Bool
 is_open port.Idle = false
@@ -35,10 +45,10 @@ abbrev pub after_ended : PlainView → List ℕ → List ℕ
 after_ended line [] = []
 after_ended line (n ∷ rest) = if is_open (node_state line n) then n ∷ rest else after_ended line rest
 
--- there is such a node, and it has no open request
-abbrev pub has_ended : PlainView → Option ℕ → Bool
-has_ended line None = false
-has_ended line (Some n) = not (is_open (node_state line n))
+-- the state of this node, if there is one, and it has no open request
+abbrev pub state_ended : PlainView → Option ℕ → Option PortState
+state_ended line None = None
+state_ended line (Some n) = if is_open (node_state line n) then None else Some (node_state line n)
 
 -- the line agrees with a state of one owner; `waiting` are its nodes with open requests
 pub record Follows (line : PlainView) (waiting : List ℕ) (s : OwnerState) : Type 0 where
@@ -66,11 +76,12 @@ pub record ArePassed (line : PlainView) (waited waiting : List ℕ) (old new : L
   pub marks : (n : ℕ) → n < length old → (slice_index_or new n symbol.Idle ≡ at_rest (node_state line n))
       ⊎ ((slice_index_or new n symbol.Idle ≡ slice_index_or old n symbol.Idle) × (is_among n waiting ≡ is_among n waited))
 
--- Each mark is as the line has it, or was left as it was: that of another node than this one, if not all were looked at.
-pub record AreLookedAt (line : PlainView) (node : ℕ) (all : Bool) (old new : List Symbol) : Type 0 where
+-- Each mark is as the line has it, or was left as it was: that of another node than this one, or of this one if its state has stayed, if
+-- not all were looked at.
+pub record AreLookedAt (line : PlainView) (node : ℕ) (stayed all : Bool) (old new : List Symbol) : Type 0 where
   pub size : length new ≡ length old
   pub marks : (n : ℕ) → n < length old → (slice_index_or new n symbol.Idle ≡ at_rest (node_state line n))
-      ⊎ ((slice_index_or new n symbol.Idle ≡ slice_index_or old n symbol.Idle) × (n ≢ node) × (all ≡ false))
+      ⊎ ((slice_index_or new n symbol.Idle ≡ slice_index_or old n symbol.Idle) × ((n ≢ node) ⊎ (stayed ≡ true)) × (all ≡ false))
 
 -- the mark of this node was set, if there is one
 pub record IsKept (node : ℕ) (mark : Symbol) (old new : List Symbol) : Type 0 where

@@ -84,7 +84,7 @@ fn timeline<A: Allocator + Copy>(alloc: A, schedule: &Schedule<A>) -> Result<Vec
         top += 60 + 40 * rows;
         width = wider(width, 128 + 32 * grid.numbers.len() as u64);
     }
-    let svg = svg::svg_of(alloc, width, top, svg::LEGEND, lines.as_slice())?;
+    let svg = svg::svg_of(alloc, width, top, svg::LEGEND, lines)?;
     Ok(svg)
 }
 

@@ -79,6 +79,7 @@ impl<A: Allocator + Copy> TracedLine<A> {
             &mut self.resting,
             &self.line,
             command.node(),
+            has_stayed(&said),
             differs(self.closed, closed),
         );
         self.closed = closed;
@@ -100,6 +101,20 @@ fn has_asked(said: &Said) -> bool
         Said::Enq(answer) => answer != Enq::Busy,
         _ => false,
     }
+}
+
+/// Returns `true` if a node with this answer is in the state in which it was before its command.
+fn has_stayed(said: &Said) -> bool
+    ensures { result ≡ spec.has_stayed said.now }
+{
+    matches!(
+        *said,
+        Said::Misuse
+            | Said::Written
+            | Said::Bytes(_)
+            | Said::Enq(Enq::Busy)
+            | Said::Poll(Poll::Waiting)
+    )
 }
 
 /// Returns `true` if this answer says that the line is closed.
@@ -129,22 +144,28 @@ fn pass<A: Allocator>(
         ⊎ ((result ≡ was_closed) × (waiting.new.items ≡ waiting.old.items)) }
 {
     let mut closed = was_closed;
-    while has_ended(waiting.first(), line) {
+    while let Some(state) = state_ended(waiting.first(), line) {
         let node = waiting.remove(0);
-        let state = line.state(node);
         keep(resting, node, state);
         closed = is_shut(state);
     }
     closed
 }
 
-/// Keeps the mark at rest of this node, which made a command, or of all nodes, if the line was closed by that.
-fn look<A: Allocator>(resting: &mut Vec<Symbol, A>, line: &PlainLine, node: u64, all: bool)
-    ensures { spec.AreLookedAt line.now node all resting.old.items resting.new.items }
+/// Keeps the mark at rest of this node, which made a command, unless its state has stayed. Keeps those of all nodes, if the line was closed
+/// by that.
+fn look<A: Allocator>(
+    resting: &mut Vec<Symbol, A>,
+    line: &PlainLine,
+    node: u64,
+    stayed: bool,
+    all: bool,
+)
+    ensures { spec.AreLookedAt line.now node stayed all resting.old.items resting.new.items }
 {
     if all {
         look_at_all(resting, line);
-    } else {
+    } else if !stayed {
         keep(resting, node, line.state(node));
     }
 }
@@ -169,14 +190,12 @@ fn keep<A: Allocator>(resting: &mut Vec<Symbol, A>, node: u64, state: PortState)
     }
 }
 
-/// Returns `true` if there is such a node, and it has no open request.
-fn has_ended(node: Option<&u64>, line: &PlainLine) -> bool
-    ensures { result ≡ spec.has_ended line.now (option_copied node.entry) }
+/// Returns the state of this node, if there is one, and it has no open request.
+fn state_ended(node: Option<&u64>, line: &PlainLine) -> Option<PortState>
+    ensures { result ≡ spec.state_ended line.now (option_copied node.entry) }
 {
-    match node {
-        Some(node) => !is_open(line.state(*node)),
-        None => false,
-    }
+    let state = line.state(*node?);
+    if is_open(state) { None } else { Some(state) }
 }
 
 /// Returns `true` if one of these holds, and not the other.

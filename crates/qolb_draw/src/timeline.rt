@@ -22,7 +22,13 @@ fn row_of(shown: &[u64], node: u64) -> u8
     requires { length shown.now ≤ MAX_NODES }
     ensures { result ≡ spec.row_of shown.now node }
 {
-    shown.iter().filter(|other| **other < node).count() as u8
+    let mut row = 0;
+    for other in shown {
+        if *other < node {
+            row += 1;
+        }
+    }
+    row
 }
 
 /// Appends the bar of a node in this state, if the state has one.
@@ -151,18 +157,17 @@ fn push_written<A: Allocator + Copy>(
     ensures { OnOk result (svg.new.items ≡ svg.old.items
         ++ texts (spec.bytes_of shown.now column event.now.command event.now.change.said)) }
 {
-    if let (
-        Command::Write {
-            node,
-            mask,
-            bytes,
-            ..
-        },
-        Said::Written,
-    ) = (event.command, event.change.said)
+    if let Command::Write {
+        node,
+        mask,
+        bytes,
+        ..
+    } = event.command
     {
-        let places = places(alloc, mask)?;
-        push_bytes(svg, row_of(shown, node), column, &bytes.bytes, &places)?;
+        if let Said::Written = event.change.said {
+            let places = places(alloc, mask)?;
+            push_bytes(svg, row_of(shown, node), column, &bytes.bytes, &places)?;
+        }
     }
     Ok(())
 }

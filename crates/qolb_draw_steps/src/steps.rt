@@ -93,7 +93,7 @@ fn timeline<A: Allocator + Copy>(alloc: A, steps: &Steps<A>) -> Result<Vec<u8, A
     shapes.extend_from_slice(b"</g>\n")?;
     let width = step_width(columns as u32);
     let height = step_height(steps.nodes());
-    let svg = svg_of(alloc, width, height, STEPS_LEGEND, shapes.as_slice())?;
+    let svg = svg_of(alloc, width, height, STEPS_LEGEND, shapes)?;
     Ok(svg)
 }
 

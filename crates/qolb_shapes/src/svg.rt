@@ -260,10 +260,10 @@ pub fn svg_of<A: Allocator>(
     width: u64,
     height: u64,
     legend: &[u8],
-    lines: &[u8],
+    mut lines: Vec<u8, A>,
 ) -> Result<Vec<u8, A>, AllocError>
-    ensures { IfOk result (λ svg. svg.items ≡ spec.svg_head width height ++ legend.now ++ lines.now
-        ++ TAIL.now) }
+    ensures { IfOk result (λ svg. svg.items ≡ spec.svg_head width height ++ legend.now
+        ++ lines.items ++ TAIL.now) }
 {
     let mut svg = Vec::new(alloc);
     push_field(
@@ -274,7 +274,7 @@ pub fn svg_of<A: Allocator>(
     push_field(&mut svg, b"' height='", height)?;
     svg.extend_from_slice(STYLE)?;
     svg.extend_from_slice(legend)?;
-    svg.extend_from_slice(lines)?;
+    svg.append(&mut lines)?;
     svg.extend_from_slice(TAIL)?;
     Ok(svg)
 }

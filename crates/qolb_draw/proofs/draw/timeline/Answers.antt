@@ -24,4 +24,4 @@ loop-number-preserved g c =
 pub returns : goal.returns
 returns g c =
     let end : c.loop-number.number ≡ c.args.schedule.now.lines = omega (arith, c.lines-number-end.ensures.lines) in
-    c.in_ok-svg.ensures ∙ ap (λ (ls : List ℕ). svg_head c.loop-number.width c.loop-number.top ++ LEGEND.now ++ ls ++ TAIL.now) c.as_slice.ensures.value ∙ whole c.args.schedule.now _ _ _ _ c.loop-number.invariant end
+    c.in_ok-svg.ensures ∙ whole c.args.schedule.now _ _ _ _ c.loop-number.invariant end

@@ -5,7 +5,7 @@ use Rattle.qolb_script.specs.Reply as reply
 use Rattle.qolb_script.specs.Reply.{said_of, after_command}
 use Rattle.qolb_draw.specs.declared.follow.TracedLine.{TracedLine}
 use Rattle.qolb_shapes.specs.declared.symbol.Symbol.{Symbol}
-use Rattle.qolb_draw.specs.Following.{has_asked, differs, Rests, AreLookedAt}
+use Rattle.qolb_draw.specs.Following.{has_asked, has_stayed, differs, Rests, AreLookedAt}
 use Rattle.qolb_draw.proofs.Resting.{command_rests}
 use Rattle.qolb_draw.proofs.Turns.{command_followed, asked_behind, none_behind, same_change}
 use Rattle.qolb_draw.proofs.follow.TracedLine.take.Goals as goal
@@ -52,9 +52,12 @@ returns-clause-rests g c s f r =
     ] in
     let had : Rests c.args.self.now.line c.if-has_asked.self.resting.items c.if-has_asked.self.closed =
     subst (λ (xs : List Symbol). Rests c.args.self.now.line xs c.if-has_asked.self.closed) (sym resting) (subst (λ (b : Bool). Rests c.args.self.now.line c.args.self.now.resting.items b) (sym closed) r) in
-    let looks : AreLookedAt c.if-has_asked.self.line (node_of c.args.command.now) (differs c.if-has_asked.self.closed c.pass-closed.result) c.pass-closed.new.resting.items c.look.new.resting.items =
-    subst (λ (n : ℕ). AreLookedAt c.if-has_asked.self.line n (differs c.if-has_asked.self.closed c.pass-closed.result) c.pass-closed.new.resting.items c.look.new.resting.items) c.node-2.ensures
-    (subst (λ (b : Bool). AreLookedAt c.if-has_asked.self.line c.node-2.result b c.pass-closed.new.resting.items c.look.new.resting.items) c.differs.ensures c.look.ensures) in
+    let stays : Bool = has_stayed (said_of s c.args.command.now) in
+    let looks : AreLookedAt c.if-has_asked.self.line (node_of c.args.command.now) stays (differs c.if-has_asked.self.closed c.pass-closed.result) c.pass-closed.new.resting.items c.look.new.resting.items =
+    subst (λ (n : ℕ). AreLookedAt c.if-has_asked.self.line n stays (differs c.if-has_asked.self.closed c.pass-closed.result) c.pass-closed.new.resting.items c.look.new.resting.items) c.node-2.ensures
+    (subst (λ (h : Bool). AreLookedAt c.if-has_asked.self.line c.node-2.result h (differs c.if-has_asked.self.closed c.pass-closed.result) c.pass-closed.new.resting.items c.look.new.resting.items)
+    (c.has_stayed.ensures ∙ ap has_stayed (c.answer-said.ensures.said s f.agrees))
+    (subst (λ (b : Bool). AreLookedAt c.if-has_asked.self.line c.node-2.result c.has_stayed.result b c.pass-closed.new.resting.items c.look.new.resting.items) c.differs.ensures c.look.ensures)) in
     command_rests c.args.self.now.line c.if-has_asked.self.line s c.args.command.now c.args.self.now.waiting.items c.if-has_asked.self.waiting.items c.pass-closed.new.waiting.items
     c.if-has_asked.self.resting.items c.pass-closed.new.resting.items c.look.new.resting.items c.if-has_asked.self.closed c.pass-closed.result f had (returns-clause-follows g c s f) nodes
     (elim c.if-has_asked.branch [
