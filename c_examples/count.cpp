@@ -1,7 +1,8 @@
-// Two threads count together over a line, in C++. Prints 2000.
+// Two threads count together over a line, in C++14 or later. Prints 2000.
 #include <iostream>
 #include <qolb.hpp>
 #include <thread>
+#include <vector>
 
 static void add(qolb::Node node) {
     for (int round = 0; round < 1000; round++) {
@@ -11,8 +12,9 @@ static void add(qolb::Node node) {
 }
 
 int main() {
-    auto [opened, nodes] = qolb::Node::open(QOLB_DEFAULT, 1, 3, qolb_bytes{});
-    if (opened != QOLB_DONE) return 1;
+    auto opened = qolb::Node::open(QOLB_DEFAULT, 1, 3, qolb_bytes{});
+    if (opened.first != QOLB_DONE) return 1;
+    std::vector<qolb::Node> &nodes = opened.second;
     std::thread first(add, std::move(nodes[0]));
     std::thread second(add, std::move(nodes[1]));
     first.join();

@@ -8,7 +8,7 @@ use std::error::Error;
 use std::os::unix::thread::JoinHandleExt;
 use std::sync::mpsc;
 use std::thread;
-use std::time::Duration;
+use std::time::{Duration, Instant};
 
 const LABEL: u64 = 7;
 const LEASE: u64 = 9;
@@ -95,7 +95,7 @@ const STAYS: [State; 7] = STATES;
 const NO: &str = "Misuse";
 
 #[rustfmt::skip]
-const ROWS: [Row; 27] = [
+const ROWS: [Row; 28] = [
     ("enqolb", |l| told(l.node.enqolb()), ["Granted", NO, NO, NO, "Busy", "Busy", "Closed"], [Holding, Linking, Queued, Holding, Left, Rolled, Shut]),
     ("clear", |l| told(l.node.clear()), ["Done", NO, NO, NO, "Busy", "Busy", "Done"], STAYS),
     ("poll", |l| told(l.node.poll()), [NO, NO, "Waiting", NO, NO, NO, NO], STAYS),
@@ -122,6 +122,7 @@ const ROWS: [Row; 27] = [
     ("lock", |l| l.meanwhile(|node| of_guard(node.lock().map(Some))), ["true", NO, NO, NO, "true", "true", "Closed"], [Idle, Linking, Queued, Holding, Idle, Idle, Shut]),
     ("try_lock", |l| of_guard(l.node.try_lock()), ["true", NO, NO, NO, "None", "None", "Closed"], [Idle, Linking, Queued, Holding, Left, Rolled, Shut]),
     ("try_lock_for", |l| of_guard(l.node.try_lock_for(SHORT)), ["true", NO, NO, NO, "None", "None", "Closed"], [Idle, Linking, Queued, Holding, Left, Rolled, Shut]),
+    ("try_lock_until", |l| of_guard(l.node.try_lock_until(Instant::now() + SHORT)), ["true", NO, NO, NO, "None", "None", "Closed"], [Idle, Linking, Queued, Holding, Left, Rolled, Shut]),
     ("a move", |l| { let Line { node, .. } = l; let boxed = Box::new(node); format!("{:?}", boxed.state()) }, ["Idle", "Linking", "Queued", "Holding", "Left", "Rolled", "Shut"], STAYS),
 ];
 

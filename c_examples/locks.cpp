@@ -14,6 +14,7 @@
 #include <mutex>
 #include <thread>
 #include <unistd.h>
+#include <utility>
 #include <vector>
 
 namespace {
@@ -139,7 +140,11 @@ bool condition_ends() {
     auto since = std::chrono::steady_clock::now();
     WANT(!cond.wait_for(held, 10ms));
     WANT(!cond.wait_for(held, 10ms, [] { return false; }));
-    WANT(std::chrono::steady_clock::now() - since >= 20ms);
+    WANT(cond.wait_for_status(held, 10ms) == std::cv_status::timeout);
+    WANT(cond.wait_until(held, std::chrono::steady_clock::now() + 10ms) == std::cv_status::timeout);
+    WANT(cond.wait_until(held, std::chrono::system_clock::now() + 10ms) == std::cv_status::timeout);
+    WANT(!cond.wait_until(held, std::chrono::steady_clock::now() + 10ms, [] { return false; }));
+    WANT(std::chrono::steady_clock::now() - since >= 59ms); // clocks that are set differ by some microseconds
     WANT(held.owns_lock());
     std::thread waits([&] {
         std::unique_lock<qolb::lock> mine(lock);
@@ -157,9 +162,8 @@ bool condition_ends() {
     return true;
 }
 
-// Each notified thread is woken, also within a limit. A limit ends a wait that is notified again and again, and begins once. At its end, without a
-// notification, the value of the predicate is returned.
-bool condition_tells() {
+// Whether this wait returns by a notification, which another thread makes while it waits.
+template <class Wait> bool is_notified(Wait wait) {
     qolb::lock lock;
     qolb::Condition cond;
     std::unique_lock<qolb::lock> held(lock);
@@ -167,9 +171,34 @@ bool condition_tells() {
         std::lock_guard<qolb::lock> turn(lock); // so the other waits
         cond.notify_one();
     });
-    bool told = cond.wait_for(held, 60s);
+    bool told = wait(cond, held);
     notifies.join();
-    WANT(told);
+    return told && held.owns_lock();
+}
+
+bool each_wait_is_notified() {
+    using held_lock = std::unique_lock<qolb::lock>;
+    using std::chrono::steady_clock;
+    using std::chrono::system_clock;
+    bool asked = false;
+    auto second_time = [&asked] { return std::exchange(asked, true); };
+    WANT(is_notified([](auto &cond, held_lock &held) { return cond.wait(held), true; }));
+    WANT(is_notified([&](auto &cond, held_lock &held) { return cond.wait(held, second_time), asked; }));
+    WANT(is_notified([](auto &cond, held_lock &held) { return cond.wait_for(held, 60s); }));
+    WANT(is_notified([](auto &cond, held_lock &held) { return cond.wait_for_status(held, 60s) == std::cv_status::no_timeout; }));
+    WANT(is_notified([](auto &cond, held_lock &held) { return cond.wait_until(held, steady_clock::now() + 60s) == std::cv_status::no_timeout; }));
+    WANT(is_notified([](auto &cond, held_lock &held) { return cond.wait_until(held, system_clock::now() + 60s) == std::cv_status::no_timeout; }));
+    asked = false;
+    WANT(is_notified([&](auto &cond, held_lock &held) { return cond.wait_until(held, system_clock::now() + 60s, second_time); }));
+    return true;
+}
+
+// A limit ends a wait that is notified again and again, and begins once. At its end, without a
+// notification, the value of the predicate is returned.
+bool condition_tells() {
+    qolb::lock lock;
+    qolb::Condition cond;
+    std::unique_lock<qolb::lock> held(lock);
     std::atomic<bool> over{false};
     std::thread repeats([&] {
         for (int k = 0; k < 800 && !over; k++) {
@@ -221,7 +250,8 @@ bool guards() {
 #ifndef UNGUARDED
     WANT(beside == threads * rounds);
 #endif
-    Count seen = count.load();
+    const qolb::guarded<Count> &shared = count;
+    Count seen = shared.load();
     WANT(seen.hits == 5 + threads * rounds);
     WANT(seen.sum == 0.5 + threads * rounds);
     WANT(seen.last >= 'b' && seen.last < 'b' + threads);
@@ -252,6 +282,6 @@ bool guards() {
 
 int main() {
     alarm(1200);
-    bool right = counts() && answers() && hands_over<qolb::Condition>() && hands_over<std::condition_variable_any>() && condition_ends() && condition_tells() && guards();
+    bool right = counts() && answers() && hands_over<qolb::Condition>() && hands_over<std::condition_variable_any>() && condition_ends() && each_wait_is_notified() && condition_tells() && guards();
     return right ? 0 : 1;
 }

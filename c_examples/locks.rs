@@ -3,8 +3,10 @@
 #[path = "../include/qolb.rs"]
 mod qolb;
 
-use qolb::{Answer, Bytes, Condition, Kind, Lock, Mutex, RawQolb, Stopped};
-use std::panic;
+use qolb::{Answer, Bytes, Condition, Kind, Lock, LockGuard, MappedMutexGuard, Mutex, MutexGuard, RawQolb, Stopped};
+use std::cell::Cell;
+use std::fmt;
+use std::panic::{self, RefUnwindSafe, UnwindSafe};
 use std::thread::{self, ScopedJoinHandle};
 use std::time::{Duration, Instant};
 
@@ -46,24 +48,122 @@ fn mutex_answers() {
             let since = Instant::now();
             assert!(mutex.try_lock_for(20 * MS).unwrap().is_none());
             assert!(since.elapsed() >= 20 * MS);
+            let end = Instant::now() + 20 * MS;
+            assert!(mutex.try_lock_until(end).unwrap().is_none() && Instant::now() >= end);
+            assert!(mutex.try_lock_until(since).unwrap().is_none());
             assert_eq!(mutex.raw().leave(), Answer::Misuse);
         });
     });
     drop(held);
     *mutex.try_lock().unwrap().unwrap() += 1;
-    *mutex.try_lock_for(MS).unwrap().unwrap() += 1;
-    let unwound = panic::catch_unwind(panic::AssertUnwindSafe(|| {
+    *mutex.try_lock_until(Instant::now() + 1000 * MS).unwrap().unwrap() += 1;
+    let unwound = panic::catch_unwind(|| {
         let mut held = mutex.lock().unwrap();
         *held += 1;
         panic!("in a turn");
-    }));
+    });
     assert!(unwound.is_err());
     assert_eq!(*mutex.lock().unwrap(), 8);
     mutex.lock().unwrap().shut();
     assert_eq!(mutex.lock().err(), Some(Stopped::Closed));
     assert_eq!(mutex.try_lock().err(), Some(Stopped::Closed));
     assert_eq!(mutex.try_lock_for(MS).err(), Some(Stopped::Closed));
+    assert_eq!(mutex.try_lock_until(Instant::now() + MS).err(), Some(Stopped::Closed));
+    assert_eq!(format!("{mutex:?}"), "Mutex { data: <closed> }");
     assert_eq!(mutex.into_inner(), 8);
+}
+
+fn prints(it: &impl fmt::Debug, text: &str) {
+    assert_eq!(format!("{it:?}"), text);
+}
+
+/// What a mutex, its guard and a condition have that those of the standard library have.
+fn are_as_others() {
+    assert_eq!(*Mutex::<u64>::default().lock().unwrap(), 0);
+    let mutex = Mutex::from((1u8, "two"));
+    prints(&mutex, "Mutex { data: (1, \"two\") }");
+    let mut held = mutex.lock().unwrap();
+    prints(&mutex, "Mutex { data: <locked> }");
+    prints(&held, "(1, \"two\")");
+    held.0 = 2;
+    drop(held);
+    prints(&mutex, "Mutex { data: (2, \"two\") }");
+    assert_eq!(Mutex::new(7).lock().unwrap().to_string(), "7");
+    let lock = Lock::<u32>::default();
+    prints(&lock, "Lock { data: 0 }");
+    let held = lock.try_lock_until(Instant::now() + 1000 * MS).unwrap().unwrap();
+    prints(&lock, "Lock { data: <locked> }");
+    assert_eq!((format!("{held:?}"), held.to_string()), ("0".to_string(), "0".to_string()));
+    held.shut();
+    prints(&lock, "Lock { data: <closed> }");
+    assert_eq!(lock.try_lock_until(Instant::now() + MS).err(), Some(Stopped::Closed));
+    prints(&Condition::new(), "Condition { .. }");
+    unwind_safe::<Mutex<Cell<u8>>>();
+    unwind_safe::<Lock<u8>>();
+    unwind_safe::<Condition>();
+}
+
+fn unwind_safe<T: UnwindSafe + RefUnwindSafe>() {}
+
+/// Of two impls of this for a type that is `Send`, no compiler takes one.
+trait Stays<Any> {
+    fn stays() {}
+}
+impl<T> Stays<()> for T {}
+impl<T: Send> Stays<u8> for T {}
+
+fn guards_of_parts() {
+    let mutex = Mutex::new((1, [2, 3]));
+    let part = MutexGuard::map(mutex.lock().unwrap(), |it| &mut it.1);
+    let mut last = MappedMutexGuard::map(part, |it| &mut it[1]);
+    assert_eq!((format!("{last:?}"), last.to_string()), ("3".to_string(), "3".to_string()));
+    *last += 1;
+    assert!(mutex.try_lock().unwrap().is_none());
+    drop(last);
+    assert_eq!(*mutex.lock().unwrap(), (1, [2, 4]));
+    let panics = panic::catch_unwind(|| MutexGuard::map(mutex.lock().unwrap(), |_| -> &mut u8 { panic!("in a turn") }).to_string());
+    assert!(panics.is_err() && mutex.try_lock().unwrap().is_some());
+    <MutexGuard<'_, u8> as Stays<_>>::stays();
+    <MappedMutexGuard<'_, u8> as Stays<_>>::stays();
+    <LockGuard<'_, u8> as Stays<_>>::stays();
+}
+
+/// A condition's waits by a predicate and with a time, as of `std::sync::Condvar`.
+fn waits_of_others() {
+    let (mutex, cond) = (Mutex::new(0), Condition::new());
+    thread::scope(|scope| {
+        let held = mutex.lock().unwrap();
+        scope.spawn(|| {
+            for _ in 0..4 {
+                *mutex.lock().unwrap() += 1; // so the other waits
+                cond.notify_one();
+                thread::sleep(MS);
+            }
+        });
+        let held = cond.wait_while(held, |it| *it < 2).unwrap();
+        assert!(*held >= 2);
+        let (held, told) = cond.wait_timeout_while(held, 60_000 * MS, |it| *it < 4).unwrap();
+        assert!(*held == 4 && !told.timed_out());
+    });
+    let (since, mut asked) = (Instant::now(), 0);
+    let (held, told) = cond.wait_timeout(mutex.lock().unwrap(), 10 * MS).unwrap();
+    assert!(told.timed_out() && since.elapsed() >= 10 * MS);
+    let (held, told) = cond.wait_timeout_while(held, 10 * MS, |_| true).unwrap();
+    assert!(told.timed_out() && since.elapsed() >= 20 * MS);
+    // The value has changed by the end of the time, without a signal.
+    let (held, told) = cond
+        .wait_timeout_while(held, 10 * MS, |_| {
+            asked += 1;
+            asked == 1
+        })
+        .unwrap();
+    assert!(!told.timed_out());
+    drop(held);
+    thread::scope(|scope| {
+        let held = mutex.lock().unwrap();
+        scope.spawn(|| mutex.lock().map(|_held| cond.notify_one()).unwrap());
+        assert!(!cond.wait_timeout(held, 60_000 * MS).unwrap().1.timed_out());
+    });
 }
 
 fn conditions() {
@@ -226,7 +326,10 @@ fn main() {
     }));
     mutex_guards();
     mutex_answers();
+    are_as_others();
+    guards_of_parts();
     conditions();
+    waits_of_others();
     line_has_a_value();
     raw_answers();
     durations_never_overflow();

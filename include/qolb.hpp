@@ -1,6 +1,8 @@
 // QOLB for C++14 and later: a node that moves and is never copied, and a guard. qolb.h has the answer of each call, and the rules for its caller.
 //
-//     auto [opened, nodes] = qolb::Node::open(QOLB_DEFAULT, 1, 2, qolb_bytes{});
+//     auto opened = qolb::Node::open(QOLB_DEFAULT, 1, 2, qolb_bytes{});
+//     if (opened.first != QOLB_DONE) return;
+//     std::vector<qolb::Node> &nodes = opened.second;
 //     {
 //         qolb::Guard turn(nodes[0]);                    // waits; throws qolb::Closed where the line is closed
 //         turn.set_lane(0, turn.lane(0) + 1);
@@ -21,6 +23,7 @@
 
 #include <array>
 #include <chrono>
+#include <condition_variable>
 #include <cstdint>
 #include <cstdlib>
 #include <cstring>
@@ -359,8 +362,11 @@ class Lock {
 
 using lock = Lock;
 
-// A condition of holders of a Lock. It has no spurious wakeups, and wakes the thread that has waited longest first. If the lock is shut meanwhile, a
-// wait throws Closed, and its unique_lock owns nothing.
+// A condition of holders of a Lock, as a std::condition_variable is of those of a std::mutex. It has no spurious wakeups, and wakes the thread that has
+// waited longest first. If the lock is shut meanwhile, a wait throws Closed, and its unique_lock owns nothing.
+//
+// It has no std::notify_all_at_thread_exit: at its thread's end nothing of the library runs. For waits with a lock of another type take a
+// std::condition_variable_any.
 class Condition {
   public:
     constexpr Condition() noexcept : cond_{nullptr} {}
@@ -375,16 +381,30 @@ class Condition {
         while (!is_so()) wait(held);
     }
 
-    // Returns whether there was a signal in time.
+    // Returns whether there was a signal in time. wait_for_status tells the same as the standard library's wait_for does.
     template <class Rep, class Period> bool wait_for(std::unique_lock<Lock> &held, const std::chrono::duration<Rep, Period> &time) {
         return told(held, qolb_cond_wait_within(&cond_, held.mutex()->native_handle(), detail::nanoseconds(time)));
+    }
+    template <class Rep, class Period> std::cv_status wait_for_status(std::unique_lock<Lock> &held, const std::chrono::duration<Rep, Period> &time) {
+        return wait_for(held, time) ? std::cv_status::no_timeout : std::cv_status::timeout;
     }
     // Returns the value of the predicate at the end.
     template <class Rep, class Period, class Predicate>
     bool wait_for(std::unique_lock<Lock> &held, const std::chrono::duration<Rep, Period> &time, Predicate is_so) {
-        auto end = detail::end_of(time);
+        return wait_until(held, detail::end_of(time), std::move(is_so));
+    }
+
+    // Without a timeout also where the clock is set back meanwhile, so that the deadline is not reached.
+    template <class Clock, class Duration>
+    std::cv_status wait_until(std::unique_lock<Lock> &held, const std::chrono::time_point<Clock, Duration> &end) {
+        bool in_time = wait_for(held, detail::left(end)) || detail::left(end).count() > 0;
+        return in_time ? std::cv_status::no_timeout : std::cv_status::timeout;
+    }
+    // Returns the value of the predicate at the end.
+    template <class Clock, class Duration, class Predicate>
+    bool wait_until(std::unique_lock<Lock> &held, const std::chrono::time_point<Clock, Duration> &end, Predicate is_so) {
         while (!is_so())
-            if (!wait_for(held, detail::left(end))) return is_so();
+            if (wait_until(held, end) == std::cv_status::timeout) return is_so();
         return true;
     }
 
@@ -420,8 +440,10 @@ template <class T> class Guarded {
         return copy.changed(change, std::is_void<decltype(change(std::declval<T &>()))>());
     }
 
-    QOLB_NODISCARD T load() {
-        return with([](T &value) { return value; });
+    // Enters, and returns the value as the last thread left it. Throws as `with` does.
+    QOLB_NODISCARD T load() const {
+        std::lock_guard<Lock> held(lock_);
+        return Copy(qolb_lock_turn(lock_.native_handle())).value();
     }
     void store(const T &value) {
         with([&value](T &it) { std::memcpy(&it, &value, sizeof value); });
@@ -453,6 +475,8 @@ template <class T> class Guarded {
             std::memcpy(place_, bytes.byte, sizeof(T));
         }
 
+        T &value() { return *reinterpret_cast<T *>(place_); }
+
         template <class Change> void changed(Change &change, std::true_type) {
             change(value());
             write();
@@ -464,8 +488,6 @@ template <class T> class Guarded {
         }
 
       private:
-        T &value() { return *reinterpret_cast<T *>(place_); }
-
         void write() {
             qolb_bytes bytes{};
             std::memcpy(bytes.byte, place_, sizeof(T));
@@ -476,7 +498,7 @@ template <class T> class Guarded {
         alignas(T) unsigned char place_[sizeof(T)];
     };
 
-    Lock lock_;
+    mutable Lock lock_; // it is entered to read the value, too
 };
 
 template <class T> using guarded = Guarded<T>;

@@ -13,8 +13,8 @@
 //! ```
 //!
 //! For threads that come and go, without a node for each: `Mutex` guards a value beside the line, `Lock` has a value of at most 64 bytes in the line.
-//! In a crate that takes this file as a module, and has the crate `lock_api` and a feature of that name, `lock_api::Mutex<RawQolb, T>` is a mutex as
-//! those of `parking_lot`.
+//! With the crate's feature `lock_api` (`qolb = { path = .., features = ["lock_api"] }`), `lock_api::Mutex<RawQolb, T>` is a mutex as those of
+//! `parking_lot`. So it is in a crate that takes this file as a module, and has the crate `lock_api` and a feature of that name.
 //!
 //! ```ignore
 //! static TABLE: Mutex<Table> = Mutex::new(Table::new());
@@ -39,8 +39,9 @@ use std::fmt;
 use std::marker::PhantomData;
 use std::mem::MaybeUninit;
 use std::ops::{Deref, DerefMut};
+use std::panic::{RefUnwindSafe, UnwindSafe};
 use std::ptr::{NonNull, null_mut};
-use std::time::Duration;
+use std::time::{Duration, Instant};
 
 /// The kind of a line. Take `Kind::DEFAULT`, a ticket line, unless memory is short.
 #[derive(Clone, Copy, Debug, PartialEq, Eq)]
@@ -403,6 +404,11 @@ impl Node {
             answer => Err(stopped(answer)),
         }
     }
+
+    /// Returns a guard if the line is granted by this time.
+    pub fn try_lock_until(&mut self, end: Instant) -> Result<Option<Guard<'_>>, Stopped> {
+        self.try_lock_for(from_now_to(end))
+    }
 }
 
 /// A turn of a node, which holds the line.
@@ -549,6 +555,11 @@ fn nanoseconds(time: Duration) -> u64 {
     u64::try_from(time.as_nanos()).unwrap_or(u64::MAX)
 }
 
+/// Zero if the end is past.
+fn from_now_to(end: Instant) -> Duration {
+    end.saturating_duration_since(Instant::now())
+}
+
 /// A lock that guards nothing by itself, as a `RawMutex` of `lock_api`: `Mutex` and `Lock` use it.
 ///
 /// It opens at its first use. The thread that entered must leave. If it is dropped while a thread holds it or waits for it, which a leaked guard may
@@ -687,9 +698,13 @@ fn entered(answer: Answer) -> Result<bool, Stopped> {
     match answer {
         Answer::Granted => Ok(true),
         Answer::Busy | Answer::Late => Ok(false),
-        Answer::NoMemory => std::alloc::handle_alloc_error(std::alloc::Layout::new::<[Handle; 200]>()),
+        Answer::NoMemory => no_memory(),
         answer => Err(stopped(answer)),
     }
+}
+
+fn no_memory() -> ! {
+    std::alloc::handle_alloc_error(std::alloc::Layout::new::<[Handle; 200]>())
 }
 
 /// A mutex that is first come, first served.
@@ -750,6 +765,11 @@ impl<T: ?Sized> Mutex<T> {
         entered(self.raw.enter_for(time)).map(|had| had.then(|| self.guard()))
     }
 
+    /// Returns a guard if it is granted by this time.
+    pub fn try_lock_until(&self, end: Instant) -> Result<Option<MutexGuard<'_, T>>, Stopped> {
+        self.try_lock_for(from_now_to(end))
+    }
+
     pub fn get_mut(&mut self) -> &mut T {
         self.value.get_mut()
     }
@@ -763,6 +783,39 @@ impl<T: ?Sized> Mutex<T> {
     }
 }
 
+impl<T: Default> Default for Mutex<T> {
+    fn default() -> Mutex<T> {
+        Mutex::new(T::default())
+    }
+}
+
+impl<T> From<T> for Mutex<T> {
+    fn from(value: T) -> Mutex<T> {
+        Mutex::new(value)
+    }
+}
+
+/// The value, if no thread has the mutex, which is locked meanwhile. It does not wait.
+impl<T: ?Sized + fmt::Debug> fmt::Debug for Mutex<T> {
+    fn fmt(&self, f: &mut fmt::Formatter<'_>) -> fmt::Result {
+        shown(f, "Mutex", self.try_lock())
+    }
+}
+
+/// A panic while it is held releases it, with the holder's writes until then (see above).
+impl<T: ?Sized> UnwindSafe for Mutex<T> {}
+impl<T: ?Sized> RefUnwindSafe for Mutex<T> {}
+
+fn shown<G: Deref<Target: fmt::Debug>>(f: &mut fmt::Formatter<'_>, name: &str, got: Result<Option<G>, Stopped>) -> fmt::Result {
+    let mut shown = f.debug_struct(name);
+    match got {
+        Ok(Some(held)) => shown.field("data", &&*held),
+        Ok(None) => shown.field("data", &format_args!("<locked>")),
+        Err(_) => shown.field("data", &format_args!("<closed>")),
+    };
+    shown.finish()
+}
+
 /// A turn of a mutex, which ends when it is dropped. It stays with its thread, which must leave.
 #[must_use]
 pub struct MutexGuard<'a, T: ?Sized> {
@@ -773,11 +826,31 @@ pub struct MutexGuard<'a, T: ?Sized> {
 // SAFETY: a shared guard gives only shared values.
 unsafe impl<T: ?Sized + Sync> Sync for MutexGuard<'_, T> {}
 
-impl<T: ?Sized> MutexGuard<'_, T> {
+impl<'a, T: ?Sized> MutexGuard<'a, T> {
     /// Leaves and closes the mutex: no later thread enters.
     pub fn shut(self) {
         // The drop that follows finds nothing to leave.
         self.mutex.raw.shut();
+    }
+
+    /// Returns a guard of a part of the value: `MutexGuard::map(guard, |it| &mut it.part)`. A condition can't wait with it.
+    pub fn map<U: ?Sized>(mut guard: Self, part: impl FnOnce(&mut T) -> &mut U) -> MappedMutexGuard<'a, U> {
+        let value = NonNull::from(part(&mut guard));
+        let raw = &guard.mutex.raw;
+        std::mem::forget(guard);
+        MappedMutexGuard { raw, value, borrows: PhantomData }
+    }
+}
+
+impl<T: ?Sized + fmt::Debug> fmt::Debug for MutexGuard<'_, T> {
+    fn fmt(&self, f: &mut fmt::Formatter<'_>) -> fmt::Result {
+        (**self).fmt(f)
+    }
+}
+
+impl<T: ?Sized + fmt::Display> fmt::Display for MutexGuard<'_, T> {
+    fn fmt(&self, f: &mut fmt::Formatter<'_>) -> fmt::Result {
+        (**self).fmt(f)
     }
 }
 
@@ -801,12 +874,85 @@ impl<T: ?Sized> Drop for MutexGuard<'_, T> {
     }
 }
 
+/// A turn of a mutex, for a part of its value (`MutexGuard::map`). It ends when it is dropped, and stays with its thread.
+#[must_use]
+pub struct MappedMutexGuard<'a, T: ?Sized> {
+    raw: &'a RawQolb,
+    value: NonNull<T>,
+    borrows: PhantomData<&'a mut T>,
+}
+
+// SAFETY: a shared guard gives only shared values.
+unsafe impl<T: ?Sized + Sync> Sync for MappedMutexGuard<'_, T> {}
+
+impl<'a, T: ?Sized> MappedMutexGuard<'a, T> {
+    /// Returns a guard of a part of this part.
+    pub fn map<U: ?Sized>(mut guard: Self, part: impl FnOnce(&mut T) -> &mut U) -> MappedMutexGuard<'a, U> {
+        let value = NonNull::from(part(&mut guard));
+        let raw = guard.raw;
+        std::mem::forget(guard);
+        MappedMutexGuard { raw, value, borrows: PhantomData }
+    }
+}
+
+// SAFETY of both: the guard's thread holds the lock, and nothing else refers to the part.
+impl<T: ?Sized> Deref for MappedMutexGuard<'_, T> {
+    type Target = T;
+    fn deref(&self) -> &T {
+        unsafe { self.value.as_ref() }
+    }
+}
+
+impl<T: ?Sized> DerefMut for MappedMutexGuard<'_, T> {
+    fn deref_mut(&mut self) -> &mut T {
+        unsafe { self.value.as_mut() }
+    }
+}
+
+impl<T: ?Sized> Drop for MappedMutexGuard<'_, T> {
+    fn drop(&mut self) {
+        self.raw.leave();
+    }
+}
+
+impl<T: ?Sized + fmt::Debug> fmt::Debug for MappedMutexGuard<'_, T> {
+    fn fmt(&self, f: &mut fmt::Formatter<'_>) -> fmt::Result {
+        (**self).fmt(f)
+    }
+}
+
+impl<T: ?Sized + fmt::Display> fmt::Display for MappedMutexGuard<'_, T> {
+    fn fmt(&self, f: &mut fmt::Formatter<'_>) -> fmt::Result {
+        (**self).fmt(f)
+    }
+}
+
+/// Whether a wait at a condition ended at its time, and not by a signal: as of `std::sync::Condvar`.
+#[derive(Clone, Copy, Debug, PartialEq, Eq)]
+pub struct WaitTimeoutResult(bool);
+
+impl WaitTimeoutResult {
+    #[must_use]
+    pub fn timed_out(&self) -> bool {
+        self.0
+    }
+}
+
 /// A condition of a `Mutex`. It has no spurious wakeups, and wakes the thread that has waited longest first.
 pub struct Condition(UnsafeCell<RawCond>);
 
 // SAFETY: as for `RawQolb`.
 unsafe impl Sync for Condition {}
 unsafe impl Send for Condition {}
+
+impl UnwindSafe for Condition {}
+impl RefUnwindSafe for Condition {}
+
+impl fmt::Debug for Condition {
+    fn fmt(&self, f: &mut fmt::Formatter<'_>) -> fmt::Result {
+        f.debug_struct("Condition").finish_non_exhaustive()
+    }
+}
 
 impl Default for Condition {
     fn default() -> Condition {
@@ -835,6 +981,36 @@ impl Condition {
     /// Waits for a signal at most `time`, and returns whether there was one.
     pub fn wait_for<'a, T: ?Sized>(&self, guard: MutexGuard<'a, T>, time: Duration) -> Result<(MutexGuard<'a, T>, bool), Stopped> {
         self.waited(guard, Some(time))
+    }
+
+    /// Waits as `wait_for`, and tells the same as `std::sync::Condvar` does.
+    pub fn wait_timeout<'a, T: ?Sized>(&self, guard: MutexGuard<'a, T>, time: Duration) -> Result<(MutexGuard<'a, T>, WaitTimeoutResult), Stopped> {
+        self.wait_for(guard, time).map(|(guard, told)| (guard, WaitTimeoutResult(!told)))
+    }
+
+    /// Waits until the value is not so.
+    pub fn wait_while<'a, T: ?Sized>(&self, mut guard: MutexGuard<'a, T>, mut is_so: impl FnMut(&mut T) -> bool) -> Result<MutexGuard<'a, T>, Stopped> {
+        while is_so(&mut guard) {
+            guard = self.wait(guard)?;
+        }
+        Ok(guard)
+    }
+
+    /// Waits at most `time` until the value is not so. It has timed out if the value is so at the end.
+    pub fn wait_timeout_while<'a, T: ?Sized>(
+        &self,
+        mut guard: MutexGuard<'a, T>,
+        time: Duration,
+        mut is_so: impl FnMut(&mut T) -> bool,
+    ) -> Result<(MutexGuard<'a, T>, WaitTimeoutResult), Stopped> {
+        let since = Instant::now();
+        while is_so(&mut guard) {
+            let Some(left) = time.checked_sub(since.elapsed()) else {
+                return Ok((guard, WaitTimeoutResult(true)));
+            };
+            guard = self.wait_for(guard, left)?.0;
+        }
+        Ok((guard, WaitTimeoutResult(false)))
     }
 
     fn waited<'a, T: ?Sized>(&self, guard: MutexGuard<'a, T>, time: Option<Duration>) -> Result<(MutexGuard<'a, T>, bool), Stopped> {
@@ -911,6 +1087,11 @@ impl<T: Copy + Send + 'static> Lock<T> {
         entered(self.raw.enter_for(time)).map(|had| had.then(|| self.guard()))
     }
 
+    /// Returns a guard if it is granted by this time.
+    pub fn try_lock_until(&self, end: Instant) -> Result<Option<LockGuard<'_, T>>, Stopped> {
+        self.try_lock_for(from_now_to(end))
+    }
+
     fn guard(&self) -> LockGuard<'_, T> {
         let () = Self::FITS;
         let mut bytes = LineBytes([MaybeUninit::uninit(); 64]);
@@ -923,6 +1104,23 @@ impl<T: Copy + Send + 'static> Lock<T> {
         LockGuard { lock: self, value, stays: PhantomData }
     }
 }
+
+/// Without memory the program ends, as for any failed allocation.
+impl<T: Copy + Send + Default + 'static> Default for Lock<T> {
+    fn default() -> Lock<T> {
+        Lock::new(T::default()).unwrap_or_else(|_no_memory| no_memory())
+    }
+}
+
+/// The value, if no thread has the lock, which is locked meanwhile. It does not wait.
+impl<T: Copy + Send + fmt::Debug + 'static> fmt::Debug for Lock<T> {
+    fn fmt(&self, f: &mut fmt::Formatter<'_>) -> fmt::Result {
+        shown(f, "Lock", self.try_lock())
+    }
+}
+
+impl<T: Copy + Send + 'static> UnwindSafe for Lock<T> {}
+impl<T: Copy + Send + 'static> RefUnwindSafe for Lock<T> {}
 
 fn bytes_of<T: Copy + Send + 'static>(value: T) -> LineBytes {
     let () = Lock::<T>::FITS;
@@ -954,6 +1152,18 @@ impl<T: Copy + Send + 'static> LockGuard<'_, T> {
         let bytes = bytes_of(self.value);
         // SAFETY: there is a turn if the thread holds the lock.
         unsafe { qolb_lock_turn(self.lock.raw.0.get()).map(|mut turn| qolb_write(turn.as_mut(), u64::MAX, (&raw const bytes).cast())) };
+    }
+}
+
+impl<T: Copy + Send + fmt::Debug + 'static> fmt::Debug for LockGuard<'_, T> {
+    fn fmt(&self, f: &mut fmt::Formatter<'_>) -> fmt::Result {
+        self.value.fmt(f)
+    }
+}
+
+impl<T: Copy + Send + fmt::Display + 'static> fmt::Display for LockGuard<'_, T> {
+    fn fmt(&self, f: &mut fmt::Formatter<'_>) -> fmt::Result {
+        self.value.fmt(f)
     }
 }
 
@@ -1026,7 +1236,7 @@ mod api {
             had(self.enter_for(timeout))
         }
         fn try_lock_until(&self, timeout: Instant) -> bool {
-            had(self.enter_for(timeout.saturating_duration_since(Instant::now())))
+            had(self.enter_for(super::from_now_to(timeout)))
         }
     }
 }

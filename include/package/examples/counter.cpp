@@ -5,8 +5,9 @@
 #include <vector>
 
 int main() {
-    auto [opened, nodes] = qolb::Node::open(QOLB_DEFAULT, 1, 4, qolb_bytes{});
-    if (opened != QOLB_DONE) return 1;
+    auto opened = qolb::Node::open(QOLB_DEFAULT, 1, 4, qolb_bytes{});
+    if (opened.first != QOLB_DONE) return 1;
+    std::vector<qolb::Node> &nodes = opened.second;
     std::vector<std::thread> threads;
     for (qolb::Node &node : nodes)
         threads.emplace_back([&node] {
