@@ -8,8 +8,8 @@
  * each lock's as a multiple of those of its node. The least is the figure to take if the machine has other work. With a second argument, ./enter 1 "qolb_lock,
  * ticket", it does 10,000 rounds of that way alone, to be counted by valgrind --tool=callgrind --toggle-collect='rounds_of*'. */
 #define _DEFAULT_SOURCE
+#include "kinds.h"
 #include <pthread.h>
-#include <qolb.h>
 #include <stdio.h>
 #include <stdlib.h>
 #include <string.h>
@@ -23,10 +23,10 @@ static ck_spinlock_mcs_context_t context;
 
 enum { ROUNDS = 10000, MAX_BATCHES = 10001 };
 
-static _Alignas(QOLB_NODE_ALIGN) qolb_node nodes[3];
+static _Alignas(QOLB_NODE_ALIGN) qolb_node nodes[QOLB_KINDS];
 /* Of each kind, the default, and the default with a thread at its condition. */
-enum { DEFAULT = 3, WAITED = 4 };
-static _Alignas(QOLB_NODE_ALIGN) qolb_lock locks[5];
+enum { DEFAULT = QOLB_KINDS, WAITED, LOCKS };
+static _Alignas(QOLB_NODE_ALIGN) qolb_lock locks[LOCKS];
 static qolb_cond cond = QOLB_COND_INIT;
 static pthread_mutex_t mutex = PTHREAD_MUTEX_INITIALIZER;
 
@@ -46,29 +46,39 @@ ROUNDS_OF(mutex, pthread_mutex_lock(&mutex) != 0, pthread_mutex_unlock(&mutex) !
 ROUNDS_OF(mcs, (ck_spinlock_mcs_lock(&mcs, &context), 0), (ck_spinlock_mcs_unlock(&mcs, &context), 0))
 #endif
 
-static const struct way {
-    const char *name;
+enum { MAX_WAYS = 2 * QOLB_KINDS + 4 };
+
+static struct way {
+    char name[32];
     void (*rounds)(uint32_t kind);
     uint32_t kind;
-} ways[] = {
-    {"node, ticket", rounds_of_node, QOLB_TICKET},
-    {"qolb_lock, ticket", rounds_of_lock, QOLB_TICKET},
-    {"node, ring", rounds_of_node, QOLB_RING},
-    {"qolb_lock, ring", rounds_of_lock, QOLB_RING},
-    {"node, link line", rounds_of_node, QOLB_LIST}, /* the name that older headers have, too */
-    {"qolb_lock, link line", rounds_of_lock, QOLB_LIST},
-#ifdef QOLB_LOCK_INIT_DEFAULT
-    {"default", rounds_of_lock, DEFAULT},
-    {"default, one waits", rounds_of_lock, WAITED},
-#endif
-    {"pthread_mutex", rounds_of_mutex, 0},
-#ifdef MCS
-    {"MCS", rounds_of_mcs, 0},
-#endif
-};
-enum { WAYS = sizeof ways / sizeof ways[0] };
+} ways[MAX_WAYS];
+static int count;
 
-static double took[WAYS][MAX_BATCHES];
+static double took[MAX_WAYS][MAX_BATCHES];
+
+static void add_way(void (*rounds)(uint32_t kind), uint32_t kind, const char *name, const char *of) {
+    struct way *it = &ways[count++];
+    snprintf(it->name, sizeof it->name, name, of);
+    it->rounds = rounds;
+    it->kind = kind;
+}
+
+/* The way of each node, and after it that of the lock of its kind. */
+static void add_ways(void) {
+    for (uint32_t kind = 0; kind < QOLB_KINDS; kind++) {
+        add_way(rounds_of_node, kind, "node, %s", qolb_kind_name(kind));
+        add_way(rounds_of_lock, kind, "qolb_lock, %s", qolb_kind_name(kind));
+    }
+#ifdef QOLB_LOCK_INIT_DEFAULT
+    add_way(rounds_of_lock, DEFAULT, "%s", "default");
+    add_way(rounds_of_lock, WAITED, "%s", "default, one waits");
+#endif
+    add_way(rounds_of_mutex, 0, "%s", "pthread_mutex");
+#ifdef MCS
+    add_way(rounds_of_mcs, 0, "%s", "MCS");
+#endif
+}
 
 static double now(void) {
     struct timespec time;
@@ -84,7 +94,7 @@ static int by_size(const void *one, const void *other) {
 /* One node of three of each kind, and a lock of three seats. */
 static void opens(void) {
     const qolb_bytes zeros = {{0}};
-    for (uint32_t kind = QOLB_RING; kind <= QOLB_TICKET; kind++) {
+    for (uint32_t kind = 0; kind < QOLB_KINDS; kind++) {
         qolb_node all[3] = {{0}};
         if (qolb_open(kind, kind, 3, QOLB_NO_LEASE, &zeros, all, 3) != QOLB_DONE) abort();
         nodes[kind] = qolb_move(&all[0]);
@@ -106,7 +116,7 @@ static void *sleeps(void *unused) {
 }
 
 static int of_one(const char *name) {
-    for (int k = 0; k < WAYS; k++) {
+    for (int k = 0; k < count; k++) {
         if (strcmp(ways[k].name, name) != 0) continue;
         ways[k].rounds(ways[k].kind);
         return 0;
@@ -118,26 +128,27 @@ int main(int argc, char **argv) {
     int batches = argc > 1 ? atoi(argv[1]) : 101;
     if (batches < 1 || batches > MAX_BATCHES) return 2;
     pthread_t other;
+    add_ways();
     opens();
     if (pthread_create(&other, NULL, sleeps, NULL) != 0) return 1;
     usleep(100000);
     if (argc > 2) return of_one(argv[2]);
     for (int b = 0; b < batches; b++) {
-        for (int k = 0; k < WAYS; k++) {
+        for (int k = 0; k < count; k++) {
             double since = now();
             ways[k].rounds(ways[k].kind);
             took[k][b] = (now() - since) / ROUNDS;
         }
     }
     const double *mutexes = NULL;
-    for (int k = 0; k < WAYS; k++) {
+    for (int k = 0; k < count; k++) {
         qsort(took[k], (size_t)batches, sizeof took[k][0], by_size);
         if (ways[k].rounds == rounds_of_mutex) mutexes = took[k];
     }
-    for (int k = 0; k < WAYS; k++) {
+    for (int k = 0; k < count; k++) {
         const double *it = took[k], *before = took[k - 1 + (k == 0)];
         printf("%-18s least %5.1f median %5.1f   %.2f and %.2f of the mutex's", ways[k].name, it[0], it[batches / 2], it[0] / mutexes[0], it[batches / 2] / mutexes[batches / 2]);
-        if (ways[k].rounds == rounds_of_lock && ways[k].kind <= QOLB_TICKET) printf("   %.2f and %.2f of the node's", it[0] / before[0], it[batches / 2] / before[batches / 2]);
+        if (ways[k].rounds == rounds_of_lock && ways[k].kind < QOLB_KINDS) printf("   %.2f and %.2f of the node's", it[0] / before[0], it[batches / 2] / before[batches / 2]);
         puts("");
     }
     return 0;

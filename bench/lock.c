@@ -4,13 +4,13 @@
  *   ./lock NAME THREADS MICROSECONDS SECONDS       prints turns a second and the longest wait in microseconds
  *   ./lock NAME table LOCKS ROUNDS                 prints nanoseconds a round, and bytes of heap of each lock
  *
- * NAME is default, ticket or link with a number of seats (link:4), node:ticket or node:link, with a node for each thread, mutex, or with -DMCS, which needs
+ * NAME is default, ring, link or ticket with a number of seats (link:4), node:ring, node:link or node:ticket, with a node for each thread, mutex, or with -DMCS, which needs
  * Debian's package libck-dev, mcs. The holder keeps its processor busy for MICROSECONDS, and adds 1 to a number. With an older library there is no
  * default. bench/locks runs it. */
 #define _DEFAULT_SOURCE
+#include "kinds.h"
 #include <malloc.h>
 #include <pthread.h>
-#include <qolb.h>
 #include <sched.h>
 #include <stdatomic.h>
 #include <stdio.h>
@@ -98,15 +98,17 @@ static void *works(void *argument) {
 
 /* Returns whether there is a lock of this name. */
 static int take_lock(const char *name) {
-    unsigned seats = 0;
     way = BY_LOCK;
-    if (sscanf(name, "ticket:%u", &seats) == 1) return as = (qolb_lock)QOLB_LOCK_INIT_OF(QOLB_TICKET, seats), 1;
-    if (sscanf(name, "link:%u", &seats) == 1) return as = (qolb_lock)QOLB_LOCK_INIT_OF(QOLB_LIST, seats), 1;
 #ifdef QOLB_LOCK_INIT_DEFAULT
     if (strcmp(name, "default") == 0) return as = (qolb_lock)QOLB_LOCK_INIT_DEFAULT, 1;
 #endif
-    as.kind = strcmp(name, "node:link") == 0 ? QOLB_LIST : QOLB_TICKET; /* QOLB_LIST: the name of QOLB_LINK that older headers have, too */
-    if (strcmp(name, "node:ticket") == 0 || strcmp(name, "node:link") == 0) return way = BY_NODE, 1;
+    for (uint32_t kind = 0; kind < QOLB_KINDS; kind++) {
+        const char *named = qolb_kind_name(kind);
+        size_t length = strlen(named);
+        if (strncmp(name, named, length) == 0 && name[length] == ':') return as = (qolb_lock)QOLB_LOCK_INIT_OF(kind, (uint32_t)atoi(name + length + 1)), 1;
+        as.kind = kind;
+        if (strncmp(name, "node:", 5) == 0 && strcmp(name + 5, named) == 0) return way = BY_NODE, 1;
+    }
     if (strcmp(name, "mutex") == 0) return way = BY_MUTEX, 1;
 #ifdef MCS
     if (strcmp(name, "mcs") == 0) return way = BY_MCS, 1;

@@ -150,22 +150,17 @@ static long entries(void) {
 
 /* Returns whether there is a lock of this name. */
 static int take_lock(const char *name) {
-    static const struct {
-        const char *name;
-        int by;
-        uint32_t kind;
-    } locks[] = {{"ticket", BY_QOLB, QOLB_TICKET}, {"link", BY_QOLB, QOLB_LINK}, {"ring", BY_QOLB, QOLB_RING}, {"mutex", BY_MUTEX, 0},
+    by = BY_QOLB;
+    for (kind = 0; kind < QOLB_KINDS; kind++)
+        if (strcmp(name, qolb_kind_name(kind)) == 0) return 1;
+    by = BY_MUTEX;
+    if (strcmp(name, "mutex") == 0) return 1;
+    by = BY_MCS;
 #ifdef MCS
-                 {"MCS", BY_MCS, 0}
-#endif
-    };
-    for (size_t k = 0; k < sizeof locks / sizeof locks[0]; k++) {
-        if (strcmp(name, locks[k].name) != 0) continue;
-        by = locks[k].by;
-        kind = locks[k].kind;
-        return 1;
-    }
+    return strcmp(name, "MCS") == 0;
+#else
     return 0;
+#endif
 }
 
 /* Prints the outcome after all threads have ended; returns whether the number of entries is right. */

@@ -126,7 +126,7 @@ static int all_use_one(uint32_t kind) {
 int main(void) {
     alarm(600); /* who is not woken does not end */
     find_all();
-    for (uint32_t kind = QOLB_RING; kind <= QOLB_TICKET; kind++) {
+    for (uint32_t kind = 0; kind < QOLB_KINDS; kind++) {
         for (int by = 0; by < OBJECTS; by++)
             for (int lets = 0; lets < OBJECTS; lets++)
                 for (int way = 0; way < 4; way++)

@@ -79,7 +79,7 @@ static int cancelled(uint32_t kind, int how, int busy) {
 
 int main(void) {
     alarm(300); /* where the line stays with a thread that is gone, who waits for it does not end */
-    for (uint32_t kind = QOLB_RING; kind <= QOLB_TICKET; kind++)
+    for (uint32_t kind = 0; kind < QOLB_KINDS; kind++)
         for (int how = FOR_EVER; how <= SHORT; how++)
             if (cancelled(kind, how, 0) || cancelled(kind, how, 1)) return 1;
     return 0;

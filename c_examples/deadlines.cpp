@@ -163,8 +163,10 @@ template <class Thing> bool follows_its_clock() {
 
 int main() {
     alarm(300);
-    for (qolb_kind kind : {QOLB_RING, QOLB_LINK, QOLB_TICKET})
+    for (std::uint32_t number = 0; number < QOLB_KINDS; number++) {
+        auto kind = static_cast<qolb_kind>(number);
         if (!all<Node>("node", kind) || !all<Lock>("lock", kind) || !all<Signal>("signal", kind) || !all<Predicate>("predicate", kind)) return 1;
+    }
     if (!follows_its_clock<Lock>() || !follows_its_clock<Predicate>()) return std::puts("a clock that is set back"), 1;
     return 0;
 }

@@ -219,7 +219,8 @@ bool tells_memory() {
 int main() {
     alarm(300); // where a turn is lost, who waits for it does not end
     if (!tells_memory()) return std::puts("what a line keeps of memory"), 1;
-    for (qolb_kind kind : {QOLB_RING, QOLB_LINK, QOLB_TICKET}) {
+    for (std::uint32_t number = 0; number < QOLB_KINDS; number++) {
+        auto kind = static_cast<qolb_kind>(number);
         for (std::size_t k = 0; k < states; k++) {
             for (const Row &row : rows)
                 if (!holds(row, kind, k)) return 1;

@@ -214,6 +214,9 @@ fn says() {
     }
     assert_eq!(Stopped::Closed.to_string(), "the line is closed");
     assert_eq!((Kind::DEFAULT, Kind::default()), (Kind::Ticket, Kind::Ticket));
+    assert_eq!(Kind::ALL.map(Kind::name), ["ring", "link", "ticket"]);
+    assert_eq!(Kind::Link.to_string(), "link");
+    assert!(matches!(Kind::Link, Kind::List)); // the former name
     assert_eq!(asks(1, false).unwrap(), 5);
     assert_eq!(asks(201, false).unwrap_err().to_string(), "a line has 1 to 200 nodes");
     assert_eq!(asks(1, true).unwrap_err().to_string(), "the line is closed");
@@ -230,7 +233,6 @@ fn says() {
 /// six blocks.
 fn tells_memory() {
     assert_eq!(qolb::memory(Kind::Link, 3), Some(256 + 3 * 128 + 128 + 3 * 256 + 6 * 128));
-    assert!(matches!(Kind::Link, Kind::List)); // the former name
     assert_eq!((qolb::memory(Kind::Link, 0), qolb::memory(Kind::Link, 201)), (None, None));
 }
 
@@ -267,7 +269,7 @@ fn main() {
     alarm(300); // where a turn is lost, who waits for it does not end
     says();
     tells_memory();
-    for kind in [Kind::Ring, Kind::Link, Kind::Ticket] {
+    for kind in Kind::ALL {
         each_call(kind);
         is_cancelled(kind);
     }

@@ -91,7 +91,7 @@ static int forks_a_lock(uint32_t kind) {
 
 int main(void) {
     alarm(300);
-    for (uint32_t kind = QOLB_RING; kind <= QOLB_TICKET; kind++)
+    for (uint32_t kind = 0; kind < QOLB_KINDS; kind++)
         if (forks(kind) || forks_a_lock(kind)) return 1;
     return 0;
 }

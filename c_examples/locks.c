@@ -721,7 +721,7 @@ int main(int argc, char **argv) {
     alarm(argc > 1 ? (unsigned)atoi(argv[1]) : 1200);
     if (of_a_closed_one() || cancelled(is_cancelled) || cancelled(is_cancelled_at_condition) || interrupted(0) || interrupted(UINT64_MAX)) return 1;
     if (waiters_take_no_processor() || makers_and_takers()) return 1;
-    for (uint32_t kind = QOLB_RING; kind <= QOLB_TICKET; kind++)
+    for (uint32_t kind = 0; kind < QOLB_KINDS; kind++)
         if (of_kind(kind)) return 1;
     return 0;
 }

@@ -6,6 +6,7 @@
 #include <qolb.h>
 #include <stdio.h>
 #include <stdlib.h>
+#include <string.h>
 
 /* For all allocated blocks: their usable bytes, and the requested ones; and the most that were requested at a time. Blocks are counted while `counts`. */
 static size_t taken, asked, most;
@@ -105,13 +106,13 @@ static int is_told(uint32_t kind, uint64_t nodes) {
 /* The same for few nodes and many; and 0 for a line that opening refuses. */
 static int all_are_told(void) {
     static const uint64_t nodes[] = {1, 2, 3, 8, 64, 200}, refused[] = {0, 201, UINT64_MAX};
-    for (uint32_t kind = QOLB_RING; kind <= QOLB_TICKET; kind++) {
+    for (uint32_t kind = 0; kind < QOLB_KINDS; kind++) {
         for (size_t k = 0; k < sizeof nodes / sizeof nodes[0]; k++)
             if (!is_told(kind, nodes[k])) return 0;
         for (size_t k = 0; k < sizeof refused / sizeof refused[0]; k++)
             if (qolb_memory(kind, refused[k]) != 0) return 0;
     }
-    return qolb_memory(QOLB_TICKET + 1, 2) == 0;
+    return qolb_memory(QOLB_KINDS, 2) == 0;
 }
 
 /* Returns whether so many lines take less than this many bytes, with what malloc has for each block. */
@@ -143,24 +144,66 @@ static int is_small(void) {
     return takes <= BY_DEFAULT && qolb_lock_close(&lock) == QOLB_DONE && taken == before;
 }
 
-int main(void) {
-    static const char *const names[] = {"ring", "link line", "ticket line"};
-    static const uint64_t nodes[] = {1, 2, 8, 64, 200};
-    for (uint32_t kind = QOLB_RING; kind <= QOLB_TICKET; kind++) {
-        for (size_t k = 0; k < sizeof nodes / sizeof nodes[0]; k++) {
-            qolb_bytes zeros = {{0}};
-            qolb_node node[200] = {{0}};
-            size_t before = taken;
-            if (qolb_open(kind, 1, nodes[k], QOLB_NO_LEASE, &zeros, node, 200) != QOLB_DONE) return 1;
-            printf("%-11s nodes %3d bytes %zu\n", names[kind], (int)nodes[k], taken - before);
-            if (!apart(node, nodes[k])) return puts("nodes lie too close to each other"), 1;
-            for (uint64_t n = 0; n < nodes[k]; n++)
-                if (qolb_close(&node[n]) != QOLB_DONE) return 1;
-            if (taken != before) return 1;
-            qolb_lock lock = QOLB_LOCK_INIT_OF(kind, (uint32_t)nodes[k]);
-            if (taken != before || qolb_lock_enter(&lock) != QOLB_GRANTED || qolb_lock_leave(&lock) != QOLB_DONE) return 1;
-            printf("%-11s seats %3d bytes %zu\n", names[kind], (int)nodes[k], taken - before);
-            if (qolb_lock_close(&lock) != QOLB_DONE || taken != before) return 1;
+/* What was taken of the heap: by malloc's count, and as it was asked for. */
+struct heap {
+    size_t usable, asked;
+};
+
+static struct heap since(struct heap before) { return (struct heap){taken - before.usable, asked - before.asked}; }
+
+/* Returns what an open line of this many nodes keeps. Nothing stays taken after it. */
+static struct heap of_line(uint32_t kind, uint64_t nodes) {
+    qolb_bytes zeros = {{0}};
+    qolb_node node[200] = {{0}};
+    const struct heap before = {taken, asked};
+    if (qolb_open(kind, 1, nodes, QOLB_NO_LEASE, &zeros, node, 200) != QOLB_DONE) abort();
+    struct heap keeps = since(before);
+    if (!apart(node, nodes)) puts("nodes lie too close to each other"), exit(1);
+    for (uint64_t n = 0; n < nodes; n++)
+        if (qolb_close(&node[n]) != QOLB_DONE) abort();
+    if (since(before).usable != 0) puts("a line leaves something"), exit(1);
+    return keeps;
+}
+
+/* The same of a lock of so many seats, which takes nothing before its first use. */
+static struct heap of_lock(uint32_t kind, uint64_t seats) {
+    const struct heap before = {taken, asked};
+    qolb_lock lock = QOLB_LOCK_INIT_OF(kind, (uint32_t)seats);
+    if (qolb_lock_enter(&lock) != QOLB_GRANTED || qolb_lock_leave(&lock) != QOLB_DONE) abort();
+    struct heap keeps = since(before);
+    if (qolb_lock_close(&lock) != QOLB_DONE) abort();
+    if (since(before).usable != 0) puts("a lock leaves something"), exit(1);
+    return keeps;
+}
+
+static void column(size_t bytes) {
+    char text[32];
+    snprintf(text, sizeof text, bytes < 1000 ? "%zu" : "%zu,%03zu", bytes < 1000 ? bytes : bytes / 1000, bytes % 1000);
+    printf("%10s", text);
+}
+
+static const uint64_t counts_of_nodes[] = {1, 2, 8, 64, 200};
+enum { COUNTS = sizeof counts_of_nodes / sizeof counts_of_nodes[0] };
+
+/* Prints a table of qolb.h, which tools/man.py writes there and compares. */
+static void table(const char *of, struct heap (*keeps)(uint32_t kind, uint64_t count)) {
+    printf("%-13s", of);
+    for (int k = 0; k < COUNTS; k++) column((size_t)counts_of_nodes[k]);
+    puts("");
+    for (uint32_t kind = 0; kind < QOLB_KINDS; kind++) {
+        printf("%-13s", qolb_kind_name(kind));
+        for (int k = 0; k < COUNTS; k++) column(keeps(kind, counts_of_nodes[k]).asked);
+        puts("");
+    }
+}
+
+int main(int argc, char **argv) {
+    if (argc > 1 && strcmp(argv[1], "table") == 0) return table("nodes", of_line), table("seats", of_lock), 0;
+    for (uint32_t kind = 0; kind < QOLB_KINDS; kind++) {
+        for (int k = 0; k < COUNTS; k++) {
+            int count = (int)counts_of_nodes[k];
+            printf("%-6s nodes %3d bytes %zu\n", qolb_kind_name(kind), count, of_line(kind, counts_of_nodes[k]).usable);
+            printf("%-6s seats %3d bytes %zu\n", qolb_kind_name(kind), count, of_lock(kind, counts_of_nodes[k]).usable);
         }
     }
     if (!is_small()) return puts("a lock takes more by default"), 1;

@@ -258,7 +258,7 @@ static void one_line(void) {
     qolb_bytes opening;
     for (int k = 0; k < 64; k++) opening.byte[k] = (uint8_t)draw(256);
     memset(&model, 0, sizeof model);
-    model.kind = (uint32_t)draw(QOLB_TICKET + 1);
+    model.kind = (uint32_t)draw(QOLB_KINDS);
     model.label = draw(UINT64_MAX);
     model.nodes = draw(10) ? 1 + draw(6) : 1 + draw(MOST);
     model.turns = draw(3) ? QOLB_NO_LEASE : 1 + draw(200);
@@ -314,7 +314,7 @@ static void lock_is_opened(void) {
     uint32_t kind = (uint32_t)draw(4);
     uint64_t seats = draw(8) ? draw(6) : draw(2) * 201, label = draw(9);
     for (int k = 0; k < 64; k++) opening.byte[k] = (uint8_t)draw(256);
-    uint32_t wanted = kind > QOLB_TICKET                ? QOLB_BAD_KIND
+    uint32_t wanted = kind >= QOLB_KINDS                ? QOLB_BAD_KIND
                       : seats == 0 || seats > MOST ? QOLB_BAD_NODES
                       : locked.open                     ? QOLB_OCCUPIED
                                                         : QOLB_DONE;
@@ -371,7 +371,7 @@ static void lock_call(void) {
 static void one_lock(void) {
     memset(&locked, 0, sizeof locked);
     locked.seats = draw(10) ? 1 + draw(6) : 1 + draw(MOST);
-    locked.lock = (qolb_lock){NULL, (uint32_t)draw(QOLB_TICKET + 1), (uint32_t)locked.seats};
+    locked.lock = (qolb_lock){NULL, (uint32_t)draw(QOLB_KINDS), (uint32_t)locked.seats};
     for (uint64_t end = done + 1 + draw(1000); done < end && done < calls;) lock_call();
     lock_leaves(0);
     qolb_lock_leave(&locked.lock);

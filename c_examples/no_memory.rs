@@ -51,7 +51,7 @@ fn enters(raw: &RawQolb) -> Option<Answer> {
 }
 
 fn main() {
-    for kind in [Kind::Ring, Kind::Link, Kind::Ticket] {
+    for kind in Kind::ALL {
         // The first allocation is for the handles, in Rust.
         assert!(refused(2, || qolb::open(kind, 1, 5, None, &Bytes([0; 64])).err()) >= 3);
         assert!(refused(1, || Lock::of_kind(7u64, kind, 5).err()) >= 4);

@@ -91,7 +91,7 @@ static void forks(qolb_lock as, int turns) {
 }
 
 int main(void) {
-    for (uint32_t kind = QOLB_RING; kind <= QOLB_TICKET; kind++) {
+    for (uint32_t kind = 0; kind < QOLB_KINDS; kind++) {
         for (uint32_t seats = 1; seats <= 4; seats += 3) {
             forks((qolb_lock)QOLB_LOCK_INIT_OF(kind, seats), 0);
             forks((qolb_lock)QOLB_LOCK_INIT_OF(kind, seats), TURNS);

@@ -60,11 +60,6 @@ static struct {
 
 static inline int counts(void) { return settings.report[0] != 0; }
 
-static const struct {
-    const char *name;
-    uint32_t kind, seats;
-} kinds[] = {{"link", QOLB_LINK, 4}, {"list", QOLB_LINK, 4}, {"ticket", QOLB_TICKET, 3}, {"ring", QOLB_RING, 4}};
-
 static void refuse(const char *name, const char *value, const char *wanted) {
     dprintf(STDERR_FILENO, "qolb: %s=%s is not %s\n", name, value, wanted);
     _exit(2);
@@ -75,13 +70,11 @@ static void choose_kind(const char *name) {
     settings.kind = usual.kind;
     settings.seats = usual.seats;
     if (!name) return;
-    for (size_t k = 0; k < sizeof kinds / sizeof *kinds; k++) {
-        if (strcmp(name, kinds[k].name) != 0) continue;
-        settings.kind = kinds[k].kind;
-        settings.seats = kinds[k].seats;
-        return;
-    }
-    refuse("QOLB_KIND", name, "ring, link or ticket");
+    if (strcmp(name, "list") == 0) name = qolb_kind_name(QOLB_LINK); /* its former name */
+    settings.kind = 0;
+    while (settings.kind < QOLB_KINDS && strcmp(name, qolb_kind_name(settings.kind)) != 0) settings.kind++;
+    if (settings.kind == QOLB_KINDS) refuse("QOLB_KIND", name, "ring, link or ticket");
+    settings.seats = settings.kind == QOLB_TICKET ? 3 : 4;
 }
 
 /* A copy, as a program may write its title over its environment. */

@@ -740,7 +740,7 @@ int main(void) {
     alarm(60); /* who never looks at the clock, or never rests, does not end */
     now = 5000000000;
     if (counts_looks()) return 1;
-    for (uint32_t kind = QOLB_RING; kind <= QOLB_TICKET; kind++)
+    for (uint32_t kind = 0; kind < QOLB_KINDS; kind++)
         if (rests(kind) || withdraws_late(kind, 0) || withdraws_late(kind, 1) || each_passes_on(kind) || wakes_whom_it_should(kind) ||
             lock_rests(kind) || lock_at_the_end(kind, 0) || lock_at_the_end(kind, 1) || woken_for_nothing(kind))
             return 1;

@@ -59,7 +59,9 @@ int main(int argc, char **argv) {
     int threads = argc > 1 ? atoi(argv[1]) : 2;
     rounds = argc > 2 ? strtoull(argv[2], NULL, 10) : 1000;
     const char *named = argc > 3 ? argv[3] : "";
-    uint32_t kind = strcmp(named, "link") == 0 ? QOLB_LINK : strcmp(named, "ring") == 0 ? QOLB_RING : QOLB_DEFAULT;
+    uint32_t kind = QOLB_DEFAULT;
+    for (uint32_t k = 0; k < QOLB_KINDS; k++)
+        if (strcmp(named, qolb_kind_name(k)) == 0) kind = k;
     by_lines = argc > 4 && strcmp(argv[4], "lines") == 0;
     int is_dense = argc > 5 && strcmp(argv[5], "dense") == 0;
     if (threads < 1 || threads > MOST) return 2;

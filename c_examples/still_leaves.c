@@ -71,7 +71,7 @@ static void is_free_meanwhile(uint32_t kind, uint32_t seats) {
 
 int main(void) {
     alarm(600);
-    for (uint32_t kind = QOLB_RING; kind <= QOLB_TICKET; kind++)
+    for (uint32_t kind = 0; kind < QOLB_KINDS; kind++)
         for (uint32_t seats = 2; seats <= 4; seats++) is_free_meanwhile(kind, seats);
     return 0;
 }

@@ -214,6 +214,10 @@ static int names(void) {
     NAMED(QOLB_OCCUPIED);
     NAMED(QOLB_LATE);
     WANT(strcmp(qolb_answer_name(16), "?"), 0);
+    WANT(strcmp(qolb_kind_name(QOLB_RING), "ring"), 0);
+    WANT(strcmp(qolb_kind_name(QOLB_LINK), "link"), 0);
+    WANT(strcmp(qolb_kind_name(QOLB_TICKET), "ticket"), 0);
+    WANT(strcmp(qolb_kind_name(QOLB_KINDS), "?"), 0);
     WANT(qolb_version(), QOLB_VERSION);
     return 0;
 }
@@ -221,10 +225,10 @@ static int names(void) {
 
 int main(void) {
     alarm(300); /* where a turn is lost, who waits for it does not end */
-    for (uint32_t kind = QOLB_RING; kind <= QOLB_TICKET; kind++)
+    for (uint32_t kind = 0; kind < QOLB_KINDS; kind++)
         if (share(kind)) return 1;
 #ifndef UNGUARDED
-    for (uint32_t kind = QOLB_RING; kind <= QOLB_TICKET; kind++)
+    for (uint32_t kind = 0; kind < QOLB_KINDS; kind++)
         if (answers(kind) || told_sees(kind, 0) || (kind == QOLB_LINK && told_sees(kind, 1))) return 1;
     if (names()) return 1;
 #endif

@@ -204,7 +204,7 @@ static int misuse(uint32_t kind) {
 static int halves(void) {
     qolb_bytes zeros = {{0}};
     qolb_node n[2] = {{0}}, other = {0};
-    for (uint32_t kind = QOLB_RING; kind <= QOLB_TICKET; kind++) {
+    for (uint32_t kind = 0; kind < QOLB_KINDS; kind++) {
         if (kind == QOLB_LINK) continue;
         WANT(qolb_open(kind, 7, 1, QOLB_NO_LEASE, &zeros, &other, 1), QOLB_DONE);
         WANT(qolb_prepend(&other), QOLB_MISUSE);
@@ -245,7 +245,7 @@ static int frees_after_shut(uint32_t kind) {
 
 int main(void) {
     alarm(300); /* where a turn is lost, who waits for it does not end */
-    for (uint32_t kind = QOLB_RING; kind <= QOLB_TICKET; kind++)
+    for (uint32_t kind = 0; kind < QOLB_KINDS; kind++)
         if (count(kind) || misuse(kind) || opens(kind) || frees_after_shut(kind)) return 1;
     return refusals() || empty_handle() || halves();
 }

@@ -174,7 +174,8 @@ int main() {
     alarm(300); // where a turn is lost, who waits for it does not end
     auto [refused, none] = qolb::Node::open(QOLB_RING, 1, 201, qolb_bytes{});
     if (refused != QOLB_BAD_NODES || !none.empty()) return std::puts("201 nodes were opened"), 1;
-    for (qolb_kind kind : {QOLB_RING, QOLB_LINK, QOLB_TICKET}) {
+    for (std::uint32_t number = 0; number < QOLB_KINDS; number++) {
+        auto kind = static_cast<qolb_kind>(number);
         if (!run(kind)) return std::puts("a token that is moved"), 1;
         if (!work_throws(kind)) return std::puts("a holder whose work throws"), 1;
         if (!is_assigned(kind)) return std::puts("a holder that is assigned to"), 1;

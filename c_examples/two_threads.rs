@@ -150,8 +150,7 @@ fn main() {
     alarm(300); // where a turn is lost, who waits for it does not end
     assert_eq!(qolb::open(Kind::Ring, 1, 0, None, &Bytes([0; 64])).err(), Some(Answer::BadNodes));
     assert_eq!(qolb::open(Kind::Link, 1, 2, Some(0), &Bytes([0; 64])).err(), Some(Answer::BadLease));
-    let kinds = [Kind::Ring, Kind::Link, Kind::Ticket];
-    for kind in kinds {
+    for kind in Kind::ALL {
         count(kind);
         races(kind);
     }
@@ -161,7 +160,7 @@ fn main() {
             eprintln!("{told}");
         }
     }));
-    for kind in kinds {
+    for kind in Kind::ALL {
         panics_while_holding(kind);
         guards(kind);
         waiter_is_dropped(kind);

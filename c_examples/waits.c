@@ -346,7 +346,7 @@ static int of_kind(uint32_t kind) {
 
 int main(int argc, char **argv) {
     alarm(argc > 1 ? (unsigned)atoi(argv[1]) : 1200);
-    for (uint32_t kind = QOLB_RING; kind <= QOLB_TICKET; kind++)
+    for (uint32_t kind = 0; kind < QOLB_KINDS; kind++)
         if (of_kind(kind)) return 1;
     return 0;
 }

@@ -108,7 +108,7 @@ fn both_use_one(kind: Kind) {
 
 fn main() {
     alarm(300); // who is not woken does not end
-    for kind in [Kind::Ring, Kind::Link, Kind::Ticket] {
+    for kind in Kind::ALL {
         for limited in [false, true] {
             c_is_woken(kind, limited, |mut node| assert_eq!(node.deqolb(), Answer::Done), GRANTED);
             c_is_woken(kind, limited, drop, GRANTED);

@@ -72,7 +72,7 @@ uint32_t qolb_lock_open(qolb_lock *lock, uint32_t kind, uint64_t label, uint64_t
     qolb_node nodes[MAX_SEATS] = {{0}};
     struct hall *hall = NULL;
     void *block = NULL;
-    if (seats > 0 && seats <= MAX_SEATS && kind <= QOLB_TICKET && !(block = room_for((unsigned)seats, &hall))) return QOLB_NO_MEMORY;
+    if (seats > 0 && seats <= MAX_SEATS && kind < QOLB_KINDS && !(block = room_for((unsigned)seats, &hall))) return QOLB_NO_MEMORY;
     uint32_t got = qolb_open(kind, label, seats, QOLB_NO_LEASE, opening, nodes, MAX_SEATS);
     qolb_room_ = (struct room){NULL, NULL};
     if (got != QOLB_DONE) {

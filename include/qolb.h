@@ -47,8 +47,7 @@
  *     bucket->lock = (qolb_lock)QOLB_LOCK_INIT_DEFAULT;    // in C++ qolb_lock QOLB_LOCK_INIT_DEFAULT
  *
  * From its first use until qolb_lock_close a lock keeps the memory of its line and its seats: by default at most 3 kilobytes of heap. A lock that is never
- * used takes nothing. QOLB_LOCK_INIT and QOLB_LOCK_INIT_OF choose kind and seats: with 8 seats 7.1 kilobytes, 4.2 if it is a link line and 36 if it is
- * a ring; with 64 seats 51, 26 and 51.
+ * used takes nothing. QOLB_LOCK_INIT and QOLB_LOCK_INIT_OF choose kind and seats; KINDS, below, has what they take.
  *
  * A lock has a seat for each of its line's nodes. A thread that enters takes a free seat and makes a request at once. A thread that finds no free seat
  * waits at the lock's door, and those there take the seats in the order in which they came: so a few seats serve any number of threads first come, first
@@ -99,9 +98,16 @@
  * each of its blocks, which are the number of nodes and 3:
  *
  *     nodes                 1         2         8        64       200
- *     ticket line       1,408     2,304     7,680    57,856   142,848
- *     link line         1,280     1,792     4,864    33,536   103,168
  *     ring             33,792    34,176    36,480    57,984   110,208
+ *     link              1,280     1,792     4,864    33,536   103,168
+ *     ticket            1,408     2,304     7,680    57,856   142,848
+ *
+ * And those that a qolb_lock keeps, with its line and its seats:
+ *
+ *     seats                 1         2         8        64       200
+ *     ring             34,048    34,304    35,840    50,688    86,528
+ *     link              1,536     1,920     4,224    26,240    79,488
+ *     ticket            1,664     2,432     7,040    50,560   119,168
  *
  * WHAT YOU MUST KEEP
  *
@@ -258,6 +264,9 @@ typedef struct qolb_bytes {
 /* The kinds of line: nodes wait on cells by tickets, in a link line by links, or on numbered cells by tickets. Take QOLB_DEFAULT, a ticket line, unless
  * memory is short or you want requests in two calls: then take a link line. QOLB_LIST is QOLB_LINK's former name. */
 enum qolb_kind { QOLB_RING = 0, QOLB_LINK = 1, QOLB_TICKET = 2, QOLB_LIST = QOLB_LINK, QOLB_DEFAULT = QOLB_TICKET };
+
+/* The number of kinds. Each number below it is a kind. */
+#define QOLB_KINDS 3
 
 /* The answer of a call. */
 enum qolb_answer {
@@ -542,6 +551,12 @@ static inline const char *qolb_answer_name(uint32_t answer) {
                                         "QOLB_CLOSED",    "QOLB_BUSY",      "QOLB_MISUSE",   "QOLB_NO_MEMORY", "QOLB_BAD_NODES", "QOLB_BAD_LEASE",
                                         "QOLB_BAD_KIND",  "QOLB_TOO_FEW",   "QOLB_OCCUPIED", "QOLB_LATE"};
     return answer < sizeof names / sizeof names[0] ? names[answer] : "?";
+}
+
+/* The name of a kind, as the program `qolb` takes it: "ring", "link", "ticket"; "?" for any other number. */
+static inline const char *qolb_kind_name(uint32_t kind) {
+    static const char *const names[QOLB_KINDS] = {"ring", "link", "ticket"};
+    return kind < QOLB_KINDS ? names[kind] : "?";
 }
 
 #ifdef __cplusplus

@@ -58,9 +58,26 @@ pub enum Kind {
 
 impl Kind {
     pub const DEFAULT: Kind = Kind::Ticket;
+    /// All kinds, each at the place of its number.
+    pub const ALL: [Kind; 3] = [Kind::Ring, Kind::Link, Kind::Ticket];
     /// The former name of `Kind::Link`.
     #[allow(non_upper_case_globals)]
     pub const List: Kind = Kind::Link;
+
+    /// Returns the kind's name, as the program `qolb` takes it.
+    pub const fn name(self) -> &'static str {
+        match self {
+            Kind::Ring => "ring",
+            Kind::Link => "link",
+            Kind::Ticket => "ticket",
+        }
+    }
+}
+
+impl fmt::Display for Kind {
+    fn fmt(&self, f: &mut fmt::Formatter<'_>) -> fmt::Result {
+        f.pad(self.name())
+    }
 }
 
 impl Default for Kind {

@@ -3,6 +3,8 @@
 
 tools/man.py [PROGRAM]      writes both; without a program, and none at crates/qolb/out/qolb, qolb(3) alone
 tools/man.py --check [PROGRAM]      compares them with the header and the program: writes nothing, and ends with 1 if one differs
+
+The header's tables of memory are those that c_examples/build/memory counts, once it is built (make -C c_examples manual): they are written and compared, too.
 """
 
 import pathlib
@@ -13,6 +15,7 @@ import sys
 ROOT = pathlib.Path(__file__).resolve().parent.parent
 HEADER = ROOT / "include/qolb.h"
 PAGES = ROOT / "docs/man"
+MEMORY = ROOT / "c_examples/build/memory"
 SUBCOMMANDS = ["replay", "draw", "steps", "board", "bank"]
 
 
@@ -143,6 +146,30 @@ def tagged(tag, text):
     return f".TP\n.B {escaped(tag)}\n{escaped(text) if text else ''}"
 
 
+def with_memory(text):
+    """The header with the tables of memory as the program counts them."""
+    counted = subprocess.run([MEMORY, "table"], capture_output=True, text=True, check=True).stdout
+    for table in re.findall(r"(?:nodes|seats) .*\n(?:(?!nodes|seats).*\n)+", counted):
+        rows = "".join(f" *     {line}\n" for line in table.splitlines())
+        text, found = re.subn(rf" \*     {table[:5]} .*\n(?: \*     .*\n)+", rows, text)
+        if found != 1:
+            sys.exit(f"man.py: include/qolb.h has {found} tables of memory by {table[:5]}")
+    return text
+
+
+def check_memory(is_check):
+    """Writes the header's tables of memory, or ends if they are others."""
+    if not MEMORY.exists():
+        print(f"man.py: {MEMORY} is not built: the tables of memory stay as they are", file=sys.stderr)
+        return
+    before = HEADER.read_text()
+    text = with_memory(before)
+    if not is_check:
+        HEADER.write_text(text)
+    elif text != before:
+        sys.exit("man.py: the tables of memory in include/qolb.h are not what c_examples/build/memory counts: run tools/man.py")
+
+
 def page_of_header():
     text = HEADER.read_text()
     head, rest = text.split("#ifndef QOLB_H", 1)
@@ -202,6 +229,7 @@ def main():
     is_check = words[:1] == ["--check"]
     named = words[1:] if is_check else words
     program = pathlib.Path(named[0]) if named else ROOT / "crates/qolb/out/qolb"
+    check_memory(is_check)
     pages = {"qolb.3": page_of_header()}
     if program.exists():
         pages["qolb.1"] = page_of_program(program)
