@@ -1,5 +1,5 @@
 //! The timeline of a line: its shapes, from the marks and events of its grid.
-ghost use Rattle.std.specs.Prelude.{◌≡◌, ◌++◌, ◌≤◌, ◌<◌, ◌*◌, length, flat_map, All, OnOk, IfOk};
+ghost use Rattle.std.specs.Prelude.{◌≡◌, ◌++◌, ◌≤◌, ◌<◌, ◌*◌, ◌==◌, if◌then◌else◌, length, flat_map, All, OnOk, IfOk};
 ghost use Rattle.std.specs.List.{range_with_len, slice_index_or};
 ghost use Rattle.qolb_model.specs.declared.config.TheConstants.{MAX_NODES};
 ghost use Rattle.qolb_script.specs.declared.schedule.TheConstants.{MAX_COMMANDS, MAX_LINES};
@@ -12,7 +12,7 @@ use crate::text::shown;
 use qolb_script::{Command, Said};
 use qolb_shapes::svg::{
     NAMED_EVERY, push_arrow, push_bar, push_bytes, push_call, push_lane, push_line_begin,
-    push_name, push_number,
+    push_name, push_name_end, push_number,
 };
 use qolb_shapes::{Event, Stand, places};
 use std::alloc::{AllocError, Allocator};
@@ -81,8 +81,16 @@ fn push_bars<A: Allocator>(
     Ok(())
 }
 
+/// Returns the first of two ends of a name for the first one, and else the other.
+fn end_of_name<'a>(first: &'a [u8], further: &'a [u8], count: usize) -> &'a [u8]
+    ensures { result.now ≡ (if count == 0 then first.now else further.now) }
+{
+    if count == 0 { first } else { further }
+}
+
 /// Appends the name of a node, repeated.
-fn push_names<A: Allocator>(
+fn push_names<A: Allocator + Copy>(
+    alloc: A,
     svg: &mut Vec<u8, A>,
     row: u8,
     columns: usize,
@@ -92,14 +100,20 @@ fn push_names<A: Allocator>(
     ensures { OnOk result (svg.new.items ≡ svg.old.items
         ++ texts (spec.names_of row columns node)) }
 {
+    let mut first = Vec::new(alloc);
+    push_name_end(&mut first, row, 0, node)?;
+    let mut further = Vec::new(alloc);
+    push_name_end(&mut further, row, 1, node)?;
     for count in 0..(columns + (NAMED_EVERY - 1)) / NAMED_EVERY {
-        push_name(svg, row, (NAMED_EVERY * count) as u32, node)?;
+        let end = end_of_name(&first, &further, count);
+        push_name(svg, (NAMED_EVERY * count) as u32, end)?;
     }
     Ok(())
 }
 
 /// Appends the row of a node.
-fn push_row<A: Allocator>(
+fn push_row<A: Allocator + Copy>(
+    alloc: A,
     svg: &mut Vec<u8, A>,
     grid: &Grid<A>,
     shown: &[u64],
@@ -118,7 +132,7 @@ fn push_row<A: Allocator>(
     let columns = grid.numbers.len();
     push_lane(svg, row, columns as u32)?;
     push_bars(svg, grid, row, node)?;
-    push_names(svg, row, columns, node)?;
+    push_names(alloc, svg, row, columns, node)?;
     Ok(())
 }
 
@@ -192,7 +206,8 @@ fn push_column<A: Allocator + Copy>(
 }
 
 /// Appends the rows of these nodes.
-fn push_rows<A: Allocator>(
+fn push_rows<A: Allocator + Copy>(
+    alloc: A,
     svg: &mut Vec<u8, A>,
     grid: &Grid<A>,
     shown: &[u64],
@@ -207,7 +222,7 @@ fn push_rows<A: Allocator>(
         (length grid.now.numbers.items) n)) shown.now) }
 {
     for node in shown {
-        push_row(svg, grid, shown, *node)?;
+        push_row(alloc, svg, grid, shown, *node)?;
     }
     Ok(())
 }
@@ -254,7 +269,7 @@ pub fn push_timeline<A: Allocator + Copy>(
 {
     let nodes = shown(alloc, grid)?;
     push_line_begin(svg, top, number)?;
-    push_rows(svg, grid, &nodes)?;
+    push_rows(alloc, svg, grid, &nodes)?;
     push_columns(alloc, svg, &grid.events, &nodes)?;
     svg.extend_from_slice(b"</g>\n")?;
     Ok(nodes.len() as u64)

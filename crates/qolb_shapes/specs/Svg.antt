@@ -90,9 +90,15 @@ bar_text row start end s node =
     codes "<rect class='" ++ class_of s ++ field (codes "' x='") (x_of start) ++ field (codes "' y='") (y_of row - 8)
     ++ field (codes "' width='") (32 * (end - start)) ++ field (codes "' height='16'><title>node ") node ++ words_of s ++ codes "</title></rect>\n"
 
+-- a name: its place from the left, and what is behind that
+abbrev pub name_begin : ℕ → List ℕ
+name_begin column = field (codes "<text class='name' x='") (x_of column - 88)
+
+abbrev pub name_end : ℕ → ℕ → ℕ → List ℕ
+name_end row column node = field (codes "' y='") (name_y row column) ++ field (codes "'>node ") node ++ codes "</text>\n"
+
 abbrev pub name_text : ℕ → ℕ → ℕ → List ℕ
-name_text row column node =
-    field (codes "<text class='name' x='") (x_of column - 88) ++ field (codes "' y='") (name_y row column) ++ field (codes "'>node ") node ++ codes "</text>\n"
+name_text row column node = name_begin column ++ name_end row column node
 
 abbrev pub number_text : ℕ → ℕ → List ℕ
 number_text column number = field (codes "<text class='small' x='") (x_of column) ++ field (codes "' y='36'>") number ++ codes "</text>\n"

@@ -145,19 +145,32 @@ pub fn push_bar<A: Allocator>(
     Ok(())
 }
 
-/// Appends the name of a node, in its row at a column.
-pub fn push_name<A: Allocator>(
+/// Appends what a node's name at a column has behind its place from the left. It is the same for all columns but the first.
+pub fn push_name_end<A: Allocator>(
     svg: &mut Vec<u8, A>,
     row: u8,
     column: u32,
     node: u64,
 ) -> Result<(), AllocError>
-    ensures { OnOk result (svg.new.items ≡ svg.old.items ++ spec.name_text row column node) }
+    ensures { OnOk result (svg.new.items ≡ svg.old.items ++ spec.name_end row column node) }
 {
-    push_field(svg, b"<text class='name' x='", x_of(column) - 88)?;
     push_field(svg, b"' y='", name_y(row, column))?;
     push_field(svg, b"'>node ", node)?;
     svg.extend_from_slice(b"</text>\n")?;
+    Ok(())
+}
+
+/// Appends the name of a node at a column, with this end.
+pub fn push_name<A: Allocator>(
+    svg: &mut Vec<u8, A>,
+    column: u32,
+    end: &[u8],
+) -> Result<(), AllocError>
+    ensures { OnOk result (svg.new.items ≡ svg.old.items
+        ++ (spec.name_begin column ++ end.now)) }
+{
+    push_field(svg, b"<text class='name' x='", x_of(column) - 88)?;
+    svg.extend_from_slice(end)?;
     Ok(())
 }
 
