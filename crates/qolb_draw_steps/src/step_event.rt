@@ -91,43 +91,46 @@ fn push_other_word<A: Allocator>(
     Ok(())
 }
 
-/// Appends the new entries that have changed.
+/// Appends the new entries that have changed, and keeps them in the place of those that were.
 fn push_other_words<A: Allocator>(
     svg: &mut Vec<u8, A>,
     column: u32,
-    were: &[Entry],
+    entries: &mut [Entry],
     core: &Core,
 ) -> Result<(), AllocError>
     requires nodes { core.now.nodes ≤ MAX_NODES }
-    requires size { length were.now ≡ core.now.nodes }
-    ensures { OnOk result (svg.new.items ≡ svg.old.items
-        ++ step_texts (spec.words_shapes column were.now core.now)) }
+    requires size { length entries.old ≡ core.now.nodes }
+    ensures svg { OnOk result (svg.new.items ≡ svg.old.items
+        ++ step_texts (spec.words_shapes column entries.old core.now)) }
+    ensures entries { OnOk result (entries.new ≡ spec.entries_of core.now) }
 {
     for before in 0..core.nodes() {
         let entry = core.entry(before + 1);
-        push_other_word(svg, column, before + 1, &were[before as usize], &entry)?;
+        push_other_word(svg, column, before + 1, &entries[before as usize], &entry)?;
+        entries[before as usize] = entry;
     }
     Ok(())
 }
 
-/// Appends the shapes of an event: made in this column at these words, it left this core, and `rest` follows it.
+/// Appends the shapes of an event: made in this column at these words, it left this core, and `rest` follows it. Keeps the words of that
+/// core.
 pub fn push_event_shapes<A: Allocator>(
     alloc: A,
     svg: &mut Vec<u8, A>,
     column: u32,
     event: &Event,
     told: Option<Told>,
-    words: &Words<A>,
+    words: &mut Words<A>,
     core: &Core,
     rest: &[Event],
 ) -> Result<(), AllocError>
     requires node { IsNode core.now (node_of event.now) }
     requires nodes { core.now.nodes ≤ MAX_NODES }
-    requires size { length words.now.entries.items ≡ core.now.nodes }
+    requires size { length words.old.entries.items ≡ core.now.nodes }
     requires column { column ≤ MAX_COMMANDS }
     requires rest { length rest.now ≤ MAX_COMMANDS }
-    ensures { OnOk result ((s : State) → words.now.home ≡ s.home
-        → words.now.entries.items ≡ spec.entries_of s
+    ensures svg { OnOk result ((s : State) → words.old.home ≡ s.home
+        → words.old.entries.items ≡ spec.entries_of s
         → let seen : Seen = record {
           event = event.now;
           told = told;
@@ -135,6 +138,8 @@ pub fn push_event_shapes<A: Allocator>(
           after = core.now;
         } in svg.new.items ≡ svg.old.items
         ++ step_texts (spec.event_shapes column seen rest.now)) }
+    ensures home { OnOk result (words.new.home ≡ core.now.home) }
+    ensures entries { OnOk result (words.new.entries.items ≡ spec.entries_of core.now) }
 {
     let node = event.node();
     let end = column + (until(node, rest) + 1);
@@ -142,7 +147,8 @@ pub fn push_event_shapes<A: Allocator>(
     push_at(svg, node, column, end, core.point(node))?;
     push_lies(svg, column, core.place())?;
     push_other_home(svg, column, words.home, core.home())?;
-    push_other_words(svg, column, &words.entries, core)?;
+    words.home = core.home();
+    push_other_words(svg, column, &mut words.entries, core)?;
     push_act(alloc, svg, column, event, told)?;
     Ok(())
 }

@@ -150,8 +150,16 @@ fn push_shapes<A: Allocator + Copy>(
         let event = events[column];
         let told = core.step(event).ok();
         let rest = &events[column + 1..];
-        push_event_shapes(alloc, svg, column as u32, &event, told, &words, &core, rest)?;
-        words = words_of(alloc, &core)?;
+        push_event_shapes(
+            alloc,
+            svg,
+            column as u32,
+            &event,
+            told,
+            &mut words,
+            &core,
+            rest,
+        )?;
     }
     Ok(())
 }

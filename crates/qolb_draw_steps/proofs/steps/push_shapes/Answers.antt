@@ -36,7 +36,7 @@ pub loop-column-preserved : goal.loop-column-preserved
 loop-column-preserved g c =
     shapes_on c.args.steps.now c.loop-column.column c.loop-column.core c.step.new.self _ _ _ _ c.args.svg.now.items c.loop-column.svg.items c.push_event_shapes.new.svg.items c.events-events.result.now _ (Reset 0) c.step.result c.ok-told.result
     c.loop-column.invariant c.events-events.ensures.events c.loop-column-test.true c.step.ensures.step c.step.ensures.refused c.step.ensures.unchanged c.ok-told.ensures.value
-    (rest_is c.events-events.result.now c.loop-column.column) c.in_ok-push_event_shapes.ensures c.in_ok-words-2.ensures.home c.in_ok-words-2.ensures.entries
+    (rest_is c.events-events.result.now c.loop-column.column) c.in_ok-push_event_shapes.ensures.svg c.in_ok-push_event_shapes.ensures.home c.in_ok-push_event_shapes.ensures.entries
 
 pub returns : goal.returns
 returns g c =
