@@ -53,6 +53,34 @@ static int of_a_closed_one(void) {
     return 0;
 }
 
+/* Bursts that there are not, for a lock that is opened by its first use and by the call; and the least and the longest. */
+static int of_bursts(void) {
+    static const uint32_t wrong[][2] = {{2, 1}, {200, 1}, {2, 65536}, {2, UINT32_MAX}, {1, 2}, {1, 1024}, {0, 2}, {201, 2}, {65536, 2}, {65538, 2}, {UINT32_MAX, 2}, {65538, 0}};
+    static const uint32_t right[][2] = {{2, 2}, {2, 65535}, {200, 2}, {200, 65535}, {1, 0}, {4, 0}};
+    qolb_bytes zeros = {{0}};
+    for (size_t k = 0; k < sizeof wrong / sizeof wrong[0]; k++) {
+        qolb_lock lock = QOLB_LOCK_INIT_BURSTS(QOLB_LINK, wrong[k][0], wrong[k][1]), odd = QOLB_LOCK_INIT_BURSTS(3, wrong[k][0], wrong[k][1]);
+        WANT(qolb_lock_enter(&lock), QOLB_BAD_NODES);
+        WANT(qolb_lock_try(&odd), QOLB_BAD_KIND);
+        WANT(qolb_lock_open(&lock, QOLB_TICKET, 1, QOLB_SEATS(wrong[k][0], wrong[k][1]), &zeros), QOLB_BAD_NODES);
+        WANT(qolb_lock_open(&lock, 3, 1, QOLB_SEATS(wrong[k][0], wrong[k][1]), &zeros), QOLB_BAD_KIND);
+        WANT(lock.own == NULL && odd.own == NULL, 1);
+    }
+    qolb_lock lock = QOLB_LOCK_INIT(2);
+    WANT(qolb_lock_open(&lock, QOLB_LINK, 1, ((uint64_t)1 << 32) + QOLB_SEATS(4, 1024), &zeros), QOLB_BAD_NODES);
+    WANT(qolb_lock_open(&lock, QOLB_LINK, 1, ((uint64_t)1 << 32) + 4, &zeros), QOLB_BAD_NODES);
+    for (size_t k = 0; k < sizeof right / sizeof right[0]; k++) {
+        qolb_lock other = QOLB_LOCK_INIT_BURSTS(QOLB_RING, right[k][0], right[k][1]);
+        WANT(qolb_lock_open(&lock, QOLB_LINK, 1, QOLB_SEATS(right[k][0], right[k][1]), &zeros), QOLB_DONE);
+        WANT(lock.kind == QOLB_LINK && lock.seats == QOLB_SEATS(right[k][0], right[k][1]), 1);
+        WANT(qolb_lock_close(&lock), QOLB_DONE);
+        WANT(qolb_lock_enter(&other), QOLB_GRANTED);
+        WANT(qolb_lock_leave(&other), QOLB_DONE);
+        WANT(qolb_lock_close(&other), QOLB_DONE);
+    }
+    return 0;
+}
+
 /* The answers to another thread, of a holder's lock and of the node that it was lent. */
 static void *of_another(void *argument) {
     struct helper *me = argument;
@@ -193,6 +221,8 @@ static struct {
     int order[MOST], served;
 } guarded;
 
+static uint32_t shared_turns; /* those before the first that waited */
+
 static void *notes_its_turn(void *argument) {
     struct helper *me = argument;
     about_to_wait(&me->number);
@@ -204,12 +234,12 @@ static void *notes_its_turn(void *argument) {
     return NULL;
 }
 
-/* Some threads were late before, so that their seats are busy; and a thread tried. Waiting threads take no processor. */
-static int in_order(uint32_t kind) {
+/* Some threads were late before, so that their seats are busy; and a thread tried. Waiting threads take no processor. With bursts those that wait keep their order,
+ * too. */
+static int in_order(uint32_t kind, uint32_t burst) {
     enum { THREADS = 8, LATE = 3 };
-    static qolb_lock lock = QOLB_LOCK_INIT(1 + LATE + LATE + THREADS); /* the holder, those that were late, and those that wait */
+    qolb_lock lock = QOLB_LOCK_INIT_BURSTS(kind, 1 + LATE + LATE + THREADS, burst); /* the holder, those that were late, and those that wait */
     struct helper late[LATE] = {{0}}, threads[THREADS] = {{0}};
-    lock.kind = kind;
     guarded.served = 0;
     WANT(qolb_lock_enter(&lock), QOLB_GRANTED);
     for (int k = 0; k < LATE; k++) {
@@ -240,12 +270,11 @@ static int in_order(uint32_t kind) {
 
 /* Far more threads than seats: they come one after another, the next when the last sleeps. Some give up in the middle. The line is kept before, or is not; and
  * a thread at the door may be late. */
-static int in_order_at_the_door(uint32_t kind, int is_kept) {
+static int in_order_at_the_door(uint32_t kind, int is_kept, uint32_t burst) {
     enum { THREADS = 200, TURNS = 40 };
-    static qolb_lock lock = QOLB_LOCK_INIT(2);
+    qolb_lock lock = QOLB_LOCK_INIT_BURSTS(kind, 2, burst);
     static struct helper threads[THREADS];
     struct helper late = {.lock = &lock, .nanoseconds = 1};
-    lock.kind = kind;
     guarded.served = 0;
     memset(threads, 0, sizeof threads);
     for (int k = 0; is_kept && k < TURNS; k++) {
@@ -268,6 +297,45 @@ static int in_order_at_the_door(uint32_t kind, int is_kept) {
     for (int k = 0; k < THREADS; k++) pthread_join(threads[k].id, NULL);
     for (int k = 0; k < THREADS; k++) WANT(guarded.order[k], k);
     WANT(qolb_lock_close(&lock), QOLB_DONE);
+    return 0;
+}
+
+/* While some threads wait, this one enters again and again. The k-th of them is overtaken at most k * (burst - 1) times; and by some turns, as it slept. */
+static int overtaken_within_the_bound(uint32_t kind, uint32_t seats, uint32_t burst) {
+    enum { THREADS = 3 };
+    qolb_lock lock = QOLB_LOCK_INIT_BURSTS(kind, seats, burst);
+    struct helper threads[THREADS] = {{0}};
+    guarded.served = 0;
+    WANT(qolb_lock_enter(&lock), QOLB_GRANTED);
+    for (int k = 0; k < THREADS; k++) {
+        threads[k].lock = &lock;
+        threads[k].self = k;
+        start(&threads[k], notes_its_turn);
+        until_asleep(&threads[k].number);
+    }
+    uint32_t turns = 0, before_first = 0;
+    for (int served = 0; served < THREADS; turns++) {
+        WANT(qolb_lock_leave(&lock), QOLB_DONE);
+        WANT(qolb_lock_enter(&lock), QOLB_GRANTED);
+        served = guarded.served;
+        if (served == 0) before_first++;
+        if (served < THREADS) WANT(turns + 1 <= (uint32_t)(served + 1) * (burst - 1), 1);
+    }
+    for (int k = 0; k < THREADS; k++) WANT(guarded.order[k], k);
+    WANT(qolb_lock_leave(&lock), QOLB_DONE);
+    for (int k = 0; k < THREADS; k++) pthread_join(threads[k].id, NULL);
+    WANT(qolb_lock_close(&lock), QOLB_DONE);
+    shared_turns += before_first;
+    return 0;
+}
+
+static int bursts(uint32_t kind) {
+    static const uint32_t of[][2] = {{2, 2}, {2, 3}, {4, 16}, {2, 64}, {4, 1024}, {3, 65535}};
+    shared_turns = 0;
+    for (int round = 0; round < 4; round++)
+        for (size_t k = 0; k < sizeof of / sizeof of[0]; k++)
+            if (overtaken_within_the_bound(kind, of[k][0], of[k][1])) return 1;
+    WANT(shared_turns > 0, 1);
     return 0;
 }
 
@@ -694,12 +762,12 @@ static void *lets_go(void *argument) {
     return NULL;
 }
 
-static int freed_by_the_last(uint32_t kind) {
+static int freed_by_the_last(uint32_t kind, uint32_t burst) {
     for (int round = 0; round < 200; round++) {
         struct owned *it = malloc(sizeof *it);
         pthread_t ids[2];
         if (!it) return 1;
-        *it = (struct owned){{NULL, kind, 2}, 2};
+        *it = (struct owned){QOLB_LOCK_INIT_BURSTS(kind, 2, burst), 2};
         for (int k = 0; k < 2; k++) MUST(pthread_create(&ids[k], NULL, lets_go, it), 0);
         for (int k = 0; k < 2; k++) pthread_join(ids[k], NULL);
     }
@@ -707,10 +775,13 @@ static int freed_by_the_last(uint32_t kind) {
 }
 
 static int of_kind(uint32_t kind) {
-    if (in_order_at_the_door(kind, 0) || in_order_at_the_door(kind, 1)) return 1;
-    if (of_the_holder(kind) || in_order(kind) || others_sleep_on(kind) || without_a_seat(kind)) return 1;
-    if (shut_tells_all(kind) || told_in_order(kind) || freed_by_the_last(kind)) return 1;
-    static const unsigned uses_of[][2] = {{2, 1}, {2, 2}, {8, 3}, {8, 20}, {32, 5}, {32, 32}, {200, 200}, {200, 16}};
+    for (int is_kept = 0; is_kept < 2; is_kept++)
+        if (in_order_at_the_door(kind, is_kept, 0) || in_order_at_the_door(kind, is_kept, 64)) return 1;
+    if (of_the_holder(kind) || in_order(kind, 0) || in_order(kind, 64) || others_sleep_on(kind) || without_a_seat(kind)) return 1;
+    if (shut_tells_all(kind) || told_in_order(kind) || freed_by_the_last(kind, 0) || freed_by_the_last(kind, 2) || bursts(kind)) return 1;
+    static const unsigned uses_of[][2] = {{2, 1},           {2, 2},                {8, 3},                {8, 20},                 {32, 5},                {32, 32},
+                                          {200, 200},       {200, 16},             {2, QOLB_SEATS(2, 2)}, {8, QOLB_SEATS(3, 2)},   {8, QOLB_SEATS(20, 3)}, {32, QOLB_SEATS(2, 64)},
+                                          {32, QOLB_SEATS(5, 1024)}, {200, QOLB_SEATS(4, 16)}, {200, QOLB_SEATS(200, 65535)}};
     for (size_t k = 0; k < sizeof uses_of / sizeof uses_of[0]; k++)
         for (int shut = 0; shut < 2; shut++)
             if (much_use(kind, uses_of[k][0], uses_of[k][1], shut)) return 1;
@@ -719,7 +790,7 @@ static int of_kind(uint32_t kind) {
 
 int main(int argc, char **argv) {
     alarm(argc > 1 ? (unsigned)atoi(argv[1]) : 1200);
-    if (of_a_closed_one() || cancelled(is_cancelled) || cancelled(is_cancelled_at_condition) || interrupted(0) || interrupted(UINT64_MAX)) return 1;
+    if (of_a_closed_one() || of_bursts() || cancelled(is_cancelled) || cancelled(is_cancelled_at_condition) || interrupted(0) || interrupted(UINT64_MAX)) return 1;
     if (waiters_take_no_processor() || makers_and_takers()) return 1;
     for (uint32_t kind = 0; kind < QOLB_KINDS; kind++)
         if (of_kind(kind)) return 1;

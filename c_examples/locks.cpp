@@ -10,8 +10,11 @@
 #include <condition_variable>
 #include <cstdint>
 #include <cstdio>
+#include <fstream>
 #include <functional>
+#include <limits>
 #include <mutex>
+#include <string>
 #include <thread>
 #include <unistd.h>
 #include <utility>
@@ -75,6 +78,64 @@ bool counts() {
     return true;
 }
 
+// Waits until the thread with this number, which it reports right before it waits, sleeps.
+void until_asleep(const std::atomic<int> &number) {
+    for (char state = 'R'; state != 'S'; std::this_thread::sleep_for(200us)) {
+        std::ifstream stat("/proc/self/task/" + std::to_string(number.load()) + "/stat");
+        if (number != 0) stat.ignore(std::numeric_limits<std::streamsize>::max(), ')') >> state;
+    }
+}
+
+// While one waits, this thread enters again and again: at most burst - 1 times.
+bool is_overtaken_within(std::uint32_t burst) {
+    qolb::lock lock(qolb::seats{2}, qolb::burst{burst});
+    std::atomic<int> number{0};
+    bool served = false;
+    std::uint32_t later = 0;
+    lock.lock();
+    std::thread waits([&] {
+        number = gettid();
+        std::lock_guard<qolb::lock> turn(lock);
+        served = true;
+    });
+    until_asleep(number);
+    lock.unlock();
+    for (lock.lock(); !served; lock.lock()) {
+        later++;
+        lock.unlock();
+    }
+    lock.unlock();
+    waits.join();
+    WANT(later < burst);
+    return true;
+}
+
+constexpr qolb::seats four{4};
+qolb::lock in_bursts(four, qolb::burst{64});
+
+bool bursts() {
+    const qolb_lock *raw = in_bursts.native_handle();
+    WANT(raw->kind == QOLB_LINK && raw->seats == QOLB_SEATS(4, 64));
+    for (std::uint32_t burst : {2u, 16u, 1024u, 65535u}) WANT(is_overtaken_within(burst));
+    long had = 0;
+    together(threads, [&](int) {
+        for (int k = 0; k < rounds; k++) {
+            std::lock_guard<qolb::lock> turn(in_bursts);
+            had++;
+        }
+    });
+    WANT(had == threads * rounds);
+    for (std::uint32_t burst : {1u, 65536u, 65540u}) WANT(throws<qolb::Misuse>([&] { qolb::lock(four, qolb::burst{burst}).lock(); }));
+    WANT(throws<qolb::Misuse>([&] { qolb::lock(qolb::seats{1}, qolb::burst{2}).lock(); }));
+    qolb::lock strict(qolb::seats{1}, qolb::burst{0}, QOLB_RING);
+    WANT(strict.try_lock() && strict.native_handle()->kind == QOLB_RING && strict.leave() == QOLB_DONE);
+    qolb::guarded<int> value(3, four, qolb::burst{2});
+    value.with([](int &it) { it++; });
+    WANT(value.load() == 4);
+    WANT(throws<qolb::Misuse>([] { qolb::guarded<int> none(0, four, qolb::burst{1}); }));
+    return true;
+}
+
 bool answers() {
     qolb::lock lock(2), none(0);
     WANT(lock.holder() == 0 && lock.native_handle()->kind == QOLB_TICKET);
@@ -135,7 +196,7 @@ template <class Cond> bool hands_over() {
 bool condition_ends() {
     qolb::lock lock;
     qolb::Condition cond;
-    bool closed = false;
+    bool waiting = false, closed = false;
     std::unique_lock<qolb::lock> held(lock);
     auto since = std::chrono::steady_clock::now();
     WANT(!cond.wait_for(held, 10ms));
@@ -148,13 +209,15 @@ bool condition_ends() {
     WANT(held.owns_lock());
     std::thread waits([&] {
         std::unique_lock<qolb::lock> mine(lock);
+        waiting = true;
         closed = throws<qolb::Closed>([&] {
             for (;;) cond.wait(mine);
         }) && !mine.owns_lock();
     });
-    held.unlock();
-    std::this_thread::sleep_for(20ms);
-    held.lock();
+    for (; !waiting; held.lock()) {
+        held.unlock();
+        std::this_thread::sleep_for(1ms);
+    }
     WANT(lock.shut() == QOLB_DONE);
     held.release();
     waits.join();
@@ -282,6 +345,6 @@ bool guards() {
 
 int main() {
     alarm(1200);
-    bool right = counts() && answers() && hands_over<qolb::Condition>() && hands_over<std::condition_variable_any>() && condition_ends() && each_wait_is_notified() && condition_tells() && guards();
+    bool right = counts() && bursts() && answers() && hands_over<qolb::Condition>() && hands_over<std::condition_variable_any>() && condition_ends() && each_wait_is_notified() && condition_tells() && guards();
     return right ? 0 : 1;
 }

@@ -7,6 +7,7 @@ use qolb::{Answer, Bytes, Condition, Kind, Lock, LockGuard, MappedMutexGuard, Mu
 use std::cell::Cell;
 use std::fmt;
 use std::panic::{self, RefUnwindSafe, UnwindSafe};
+use std::sync::mpsc;
 use std::thread::{self, ScopedJoinHandle};
 use std::time::{Duration, Instant};
 
@@ -317,10 +318,65 @@ fn is_signalled(time: Duration, soon: bool) -> bool {
     })
 }
 
+static IN_BURSTS: Mutex<u64> = Mutex::with_burst(0, 4, 64);
+
+/// Waits until the thread with this folder in /proc sleeps.
+fn until_asleep(folder: &std::path::Path) {
+    let stat = std::path::Path::new("/proc").join(folder).join("stat");
+    while !std::fs::read_to_string(&stat).unwrap().contains(") S ") {
+        thread::sleep(MS / 5);
+    }
+}
+
+/// While one waits, this thread locks again and again: at most `burst - 1` times.
+fn is_overtaken_within(burst: u32) {
+    let mutex = Mutex::with_burst(false, 2, burst);
+    let (tells, told) = mpsc::channel();
+    let mut later = 0;
+    thread::scope(|scope| {
+        let held = mutex.lock().unwrap();
+        scope.spawn(|| {
+            tells.send(std::fs::read_link("/proc/thread-self").unwrap()).unwrap();
+            *mutex.lock().unwrap() = true;
+        });
+        until_asleep(&told.recv().unwrap());
+        drop(held);
+        while !*mutex.lock().unwrap() {
+            later += 1;
+        }
+    });
+    assert!(later < burst, "{later} turns in a burst of {burst}");
+}
+
+fn bursts() {
+    for burst in [2, 16, 1024, 65535] {
+        is_overtaken_within(burst);
+    }
+    thread::scope(|scope| {
+        for _ in 0..THREADS {
+            scope.spawn(|| (0..ROUNDS).for_each(|_| *IN_BURSTS.lock().unwrap() += 1));
+        }
+    });
+    assert_eq!(*IN_BURSTS.lock().unwrap(), THREADS * ROUNDS);
+    let lock = Lock::with_burst(7u64, 4, 64).unwrap();
+    *lock.lock().unwrap() += 1;
+    assert_eq!(*lock.lock().unwrap(), 8);
+    let raw = RawQolb::of_kind_with_burst(Kind::Ring, 2, 2);
+    assert_eq!(raw.enter(), Answer::Granted);
+    assert_eq!(raw.leave(), Answer::Done);
+    let strict = RawQolb::with_burst(1, 0);
+    assert_eq!(strict.enter(), Answer::Granted);
+    assert_eq!(strict.leave(), Answer::Done);
+    for (seats, burst) in [(0, 2), (201, 2), (2, 1), (2, 65536), (1, 2)] {
+        assert!(panic::catch_unwind(|| RawQolb::with_burst(seats, burst)).is_err());
+    }
+}
+
 fn main() {
     panic::set_hook(Box::new(|told| {
         let said = told.payload_as_str().unwrap_or_default();
-        if said != "in a turn" && said != "a lock has 1 to 200 seats" {
+        let refused = ["a lock has 1 to 200 seats", "a burst has 2 to 65,535 turns", "a lock with bursts has 2 seats or more"];
+        if said != "in a turn" && !refused.contains(&said) {
             println!("{told}");
         }
     }));
@@ -333,4 +389,5 @@ fn main() {
     line_has_a_value();
     raw_answers();
     durations_never_overflow();
+    bursts();
 }

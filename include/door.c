@@ -49,7 +49,7 @@ static void wake(struct woken woken) {
     if (woken.second) qolb_wake_at_(woken.second, 1);
 }
 
-static void admit(struct hall *hall) {
+void qolb_admit_(struct hall *hall) {
     take_guard(&hall->guard);
     struct woken woken = tell_first(hall);
     return_guard(&hall->guard);
@@ -112,7 +112,7 @@ static void go(struct hall *hall, struct caller *my) {
     return_guard(&hall->guard);
     atomic_fetch_sub(&hall->sleepers, 1);
     atomic_fetch_sub(&hall->at_door, 1);
-    if (atomic_load(&hall->at_door) && (is_told(my) || has_free_seat(hall))) admit(hall);
+    if (atomic_load(&hall->at_door) && (is_told(my) || has_free_seat(hall))) qolb_admit_(hall);
 }
 
 /* The first looks for a seat: as qolb_take_seat_. What it was told before is for this look. */

@@ -51,16 +51,27 @@ static void make_seat(struct seat *seat, qolb_node *node) {
     seat->calm = 0;
     atomic_init(&seat->state, FREE);
     atomic_init(&seat->holder, 0);
+    atomic_init(&seat->bell, NULL);
+    atomic_init(&seat->order, 0);
 }
 
-static void make(struct hall *hall, void *block, qolb_node *nodes, unsigned seats) {
+/* The number of turns in a row that are granted at once by a seat, before a strict lock's line is kept. */
+enum { CALM = 16 };
+
+static void make(struct hall *hall, void *block, qolb_node *nodes, unsigned seats, unsigned burst) {
     hall->block = block;
     hall->seats = seats;
+    hall->burst = burst;
+    hall->calm = burst ? 0 : CALM;
     hall->lent.own = (void *)((uintptr_t)hall | 1);
     hall->held_by = NULL;
     hall->waits = NULL;
     hall->first = hall->last = NULL;
     atomic_init(&hall->gate, QUEUED_UP);
+    atomic_init(&hall->since, 0);
+    atomic_init(&hall->watcher, NULL);
+    atomic_init(&hall->keepers, 0);
+    atomic_init(&hall->orders, 0);
     atomic_init(&hall->sleepers, 0);
     atomic_init(&hall->at_door, 0);
     atomic_init(&hall->guests, 0);
@@ -68,18 +79,25 @@ static void make(struct hall *hall, void *block, qolb_node *nodes, unsigned seat
     for (unsigned k = 0; k < seats; k++) make_seat(hall->seat[k] = behind(&nodes[k]), &nodes[k]);
 }
 
+/* The number of seats, of a lock's `seats`; 0 if there are no such seats, or no such bursts of them. */
+static unsigned many_of(uint64_t seats) {
+    uint64_t many = seats % BURST, burst = seats / BURST;
+    return many > MAX_SEATS || burst >= BURST || burst == 1 || (burst && many == 1) ? 0 : (unsigned)many;
+}
+
 uint32_t qolb_lock_open(qolb_lock *lock, uint32_t kind, uint64_t label, uint64_t seats, const qolb_bytes *opening) {
     qolb_node nodes[MAX_SEATS] = {{0}};
+    unsigned many = many_of(seats);
     struct hall *hall = NULL;
     void *block = NULL;
-    if (seats > 0 && seats <= MAX_SEATS && kind < QOLB_KINDS && !(block = room_for((unsigned)seats, &hall))) return QOLB_NO_MEMORY;
-    uint32_t got = qolb_open(kind, label, seats, QOLB_NO_LEASE, opening, nodes, MAX_SEATS);
+    if (many > 0 && kind < QOLB_KINDS && !(block = room_for(many, &hall))) return QOLB_NO_MEMORY;
+    uint32_t got = qolb_open(kind, label, many, QOLB_NO_LEASE, opening, nodes, MAX_SEATS);
     qolb_room_ = (struct room){NULL, NULL};
     if (got != QOLB_DONE) {
         free(block);
         return got;
     }
-    make(hall, block, nodes, (unsigned)seats);
+    make(hall, block, nodes, many, (unsigned)(seats / BURST));
     void *none = NULL;
     if (!__atomic_compare_exchange_n(&lock->own, &none, hall, 0, __ATOMIC_SEQ_CST, __ATOMIC_SEQ_CST)) {
         free_hall(hall);
@@ -151,13 +169,23 @@ static inline int goes_in(struct hall *hall) {
 static void give_back(struct hall *hall, struct seat *seat, uint32_t got) {
     if (got == QOLB_CLOSED) ring_for(next_of(&seat->node));
     atomic_exchange(&seat->state, LEAVING);
+    if (atomic_load(&hall->watcher) == seat) qolb_call_out_(hall);
     qolb_free_seat_(hall, seat);
+}
+
+/* A seat whose node was found busy. Nobody is told: while a seat is busy there is a thread before it in the queue, which will do so. With bursts the end of the kept
+ * turn clears the node; and this thread may have been named the watcher. */
+__attribute__((noinline)) static void return_busy(struct hall *hall, struct seat *seat) {
+    if (hall->burst) {
+        atomic_exchange(&seat->state, LEAVING);
+        qolb_call_out_(hall);
+    }
+    atomic_store(&seat->state, FREE);
 }
 
 /* The code that runs in each call of a lock whose threads all have seats is inline.
  *
- * Makes a request with this seat's node: GRANTED, QUEUED or CLOSED, with the seat taken; else BUSY. A seat that is found busy is returned, and nobody is
- * told: while a seat is busy there is a thread before it in the queue, which will do so. */
+ * Makes a request with this seat's node: GRANTED, QUEUED or CLOSED, with the seat taken; else BUSY. */
 static inline uint32_t ask_at(struct asking *me, struct seat *seat) {
     unsigned state = atomic_load(&seat->state);
     if (state != FREE || !atomic_compare_exchange_strong(&seat->state, &state, TAKEN)) {
@@ -166,18 +194,15 @@ static inline uint32_t ask_at(struct asking *me, struct seat *seat) {
     }
     marks_gate(me->hall);
     uint32_t got = qolb_enqolb_proved_(&seat->node);
-    if (got == QOLB_BUSY) {
-        atomic_store(&seat->state, FREE);
-    } else {
-        me->seat = seat;
-    }
+    if (got == QOLB_BUSY) return_busy(me->hall, seat);
+    else me->seat = seat;
     return got;
 }
 
-/* Begins with the thread's last seat. */
+/* Begins with the thread's last seat. With bursts a thread at the door goes in by no gate: others may wait before it. */
 uint32_t qolb_take_seat_(struct asking *me) {
     struct hall *hall = me->hall;
-    if (goes_in(hall)) return QOLB_GRANTED;
+    if (!(me->is_first && hall->burst) && goes_in(hall)) return QOLB_GRANTED;
     me->met = 0;
     if (!me->is_first && atomic_load(&hall->at_door)) return QOLB_WAITING;
     marks_gate(hall);
@@ -191,22 +216,40 @@ uint32_t qolb_take_seat_(struct asking *me) {
     return QOLB_WAITING;
 }
 
-static uint32_t look_a_while(struct seat *seat) {
-    uint32_t got = qolb_wait_proved_(&seat->node, qolb_looks_());
+/* How often a watcher looks at the gate before it yields. */
+enum { WATCHES = 8 };
+
+/* With bursts. A watcher polls on, and looks sooner at a gate that it saw open. */
+static uint32_t poll_and_watch(struct asking *me) {
+    uint32_t got = QOLB_WAITING;
+    int watches = 1;
+    for (int k = 0; watches && k < WATCHES; k++) {
+        got = qolb_wait_proved_(&me->seat->node, me->seen & OPEN ? qolb_looks_() / 4 : qolb_looks_());
+        watches = got == QOLB_WAITING && qolb_watch_(me);
+    }
+    return got;
+}
+
+static uint32_t look_a_while(struct asking *me) {
+    int bursts = me->hall->burst != 0;
+    uint32_t got = bursts ? poll_and_watch(me) : qolb_wait_proved_(&me->seat->node, qolb_looks_());
     for (int k = 0; got == QOLB_WAITING && k < YIELDS; k++) {
         sched_yield();
-        got = qolb_poll_proved_(&seat->node);
+        got = qolb_poll_proved_(&me->seat->node);
+        if (got == QOLB_WAITING && bursts) qolb_watch_(me);
     }
     return got;
 }
 
 static uint32_t sleep_at_bell(struct hall *hall, struct seat *seat, const struct limit *limit) {
     struct bell *bell = bell_at(&seat->node, qolb_waits_at_proved_(&seat->node));
+    if (hall->burst) atomic_store(&seat->bell, bell);
     atomic_fetch_add(&bell->sleepers, 1);
     atomic_fetch_add(&hall->sleepers, 1);
     unsigned word = atomic_load(&bell->word);
     uint32_t got = qolb_poll_proved_(&seat->node);
-    uint64_t time = got == QOLB_WAITING ? left(limit) : 0;
+    int sleeps = got == QOLB_WAITING && (!hall->burst || qolb_may_sleep_(hall, seat));
+    uint64_t time = sleeps ? left(limit) : 0;
     if (time) qolb_sleep_at_(&bell->word, word, time);
     atomic_fetch_sub(&hall->sleepers, 1);
     atomic_fetch_sub(&bell->sleepers, 1);
@@ -227,11 +270,12 @@ static uint32_t await(struct asking *me, uint64_t nanoseconds) {
         got = qolb_wait_at_door_(me, &limit);
         atomic_fetch_sub(&me->hall->guests, 1);
     }
+    if (me->seat && me->hall->burst) atomic_store_explicit(&me->seat->order, atomic_fetch_add(&me->hall->orders, 1), memory_order_relaxed);
     while (got == QOLB_WAITING) {
         if (left(&limit) == 0) {
             got = give_up(me->seat);
         } else {
-            got = look_a_while(me->seat);
+            got = look_a_while(me);
             if (got == QOLB_WAITING) got = sleep_at_bell(me->hall, me->seat, &limit);
         }
     }
@@ -263,7 +307,7 @@ __attribute__((noinline)) static uint32_t enter_later(struct asking me, uint32_t
 
 /* The first seat is the thread's last one, which mostly works. */
 static uint32_t enter_by_seat(struct hall *hall, uint64_t nanoseconds) {
-    struct asking me = {hall, NULL, 0, 0, 0};
+    struct asking me = {hall, NULL, 0, 0, 0, QUEUED_UP};
     unsigned last = (own_number(), qolb_own_.last_seat);
     uint32_t got = last < hall->seats && !atomic_load(&hall->at_door) ? ask_at(&me, hall->seat[last]) : (uint32_t)QOLB_BUSY;
     return got == QOLB_GRANTED ? settle(&me, got) : enter_later(me, got, nanoseconds);
@@ -308,7 +352,7 @@ uint32_t qolb_lock_try(qolb_lock *lock) {
     if (got != QOLB_DONE) return got;
     if (goes_in(hall)) return QOLB_GRANTED;
     if (atomic_load(&hall->gate) != QUEUED_UP || atomic_load(&hall->at_door) || qolb_lock_holder(lock)) return QOLB_BUSY;
-    struct asking me = {hall, NULL, 0, 0, 0};
+    struct asking me = {hall, NULL, 0, 0, 0, QUEUED_UP};
     unsigned k = hall->seats - 1;
     while (k > 0 && atomic_load(&hall->seat[k]->state) != FREE) k--;
     got = ask_at(&me, hall->seat[k]);
@@ -335,12 +379,9 @@ void qolb_end_turn_(struct hall *hall, struct seat *seat, uint32_t (*release)(qo
     else atomic_store_explicit(&seat->state, FREE, memory_order_release);
 }
 
-/* The number of turns in a row that are granted at once by a seat, before the line is kept. */
-enum { CALM = 16 };
-
 /* By a request of its own. */
 static void leave_by_seat(struct hall *hall, struct seat *seat, uint32_t (*release)(qolb_node *)) {
-    if (seat->calm >= CALM && release == qolb_deqolb_proved_) qolb_keep_turn_(hall, seat);
+    if (seat->calm >= hall->calm && release == qolb_deqolb_proved_) qolb_keep_turn_(hall, seat);
     else qolb_end_turn_(hall, seat, release);
 }
 
@@ -355,6 +396,11 @@ void qolb_leave_hall_(struct hall *hall, struct seat *seat, uint32_t (*release)(
 }
 
 __attribute__((noinline)) static uint32_t leave_slowly(struct hall *hall) {
+    uint64_t gate = atomic_load(&hall->gate);
+    if (in_of(gate) == qolb_own_.number) {
+        qolb_leave_gate_(hall, gate, qolb_deqolb_proved_);
+        return QOLB_DONE;
+    }
     struct seat *seat = qolb_held_seat_(hall);
     if (!seat) return QOLB_MISUSE;
     qolb_leave_hall_(hall, seat, qolb_deqolb_proved_);
@@ -389,11 +435,13 @@ uint32_t qolb_lock_leave_for_another_(qolb_lock *lock) {
 
 /* ---- Closing ---- */
 
-/* Returns the seats that were taken to close the lock. The last of them is about to be free for a moment, as its hall may be gone then. */
+/* Returns the seats that were taken to close the lock. The last of them is about to be free for a moment, as its hall may be gone then. With bursts one of them may
+ * have been named the watcher's. */
 static void return_taken(struct hall *hall, unsigned many) {
     if (many == 0) return;
     for (unsigned k = 1; k < many; k++) atomic_store(&hall->seat[k]->state, FREE);
     atomic_exchange(&hall->seat[0]->state, LEAVING);
+    if (hall->burst) qolb_call_out_(hall);
     qolb_free_seat_(hall, hall->seat[0]);
 }
 
@@ -420,6 +468,7 @@ uint32_t qolb_lock_close(qolb_lock *lock) {
         return_taken(hall, many);
         return QOLB_MISUSE;
     }
+    while (atomic_load(&hall->keepers)) sched_yield();
     __atomic_store_n(&lock->own, NULL, __ATOMIC_SEQ_CST);
     free_hall(hall);
     return QOLB_DONE;

@@ -9,7 +9,8 @@
 
 #include "bells.h"
 
-enum { MAX_SEATS = 200 };
+/* A lock's `seats` have the number of its seats, and BURST times the turns of its bursts (gate.c); 0 turns: it has none. */
+enum { MAX_SEATS = 200, BURST = 65536 };
 
 /* ---- Seats ---- */
 
@@ -25,6 +26,9 @@ struct seat {
     atomic_uint state;
     unsigned calm;           /* the number of its turns in a row that were granted at once */
     _Atomic uint64_t holder; /* the number of the thread that holds the line with its node, by a request of its own; else 0 */
+    /* With bursts. */
+    _Atomic(struct bell *) bell; /* where its thread sleeps, once it does */
+    atomic_uint order;           /* the number of its request, about as the requests came */
 };
 
 _Static_assert(sizeof(struct seat) <= SEAT_BYTES, "a seat is in its node's block");
@@ -44,6 +48,7 @@ struct caller {
 struct hall {
     /* While threads queue up, it is read and not written. */
     _Alignas(QOLB_NODE_ALIGN) _Atomic uint64_t gate;
+    _Atomic uint64_t since; /* with bursts, when the kept turn began */
     /* Written by the holder, when it keeps its turn, and when it waits at a condition. */
     _Alignas(QOLB_NODE_ALIGN) struct seat *held_by;
     struct waiter *waits;
@@ -52,9 +57,15 @@ struct hall {
     atomic_uint guests;   /* the number of threads that use the hall and have no seat */
     atomic_uint guard;    /* of the door's list (take_guard) */
     struct caller *first, *last;
+    /* With bursts. */
+    _Atomic(struct seat *) watcher; /* the seat whose thread sees to it that the kept turn ends */
+    atomic_uint keepers;            /* the number of threads that look at the hall though they have opened its gate: it stays so long */
+    atomic_uint orders;             /* the number of requests */
     /* Written once. */
     _Alignas(QOLB_NODE_ALIGN) void *block; /* what malloc gave */
     unsigned seats;
+    unsigned calm;  /* the number of turns in a row that are granted at once by a seat, before the line is kept */
+    unsigned burst; /* the most turns of a kept turn, from when a thread waits; 0: the lock is strict */
     qolb_node lent;
     struct seat *seat[];
 };
@@ -64,9 +75,10 @@ static inline struct hall *hall_of(const qolb_lock *lock) { return __atomic_load
 /* ---- The gate ----
  *
  * QUEUED_UP: each thread makes a request of its own. Else the line is kept: the node of held_by holds it, in the turns of one thread after another, which
- * are no turns of the line. OPEN: no thread is in. Else the number of the thread that is in. CALLED: the kept turn ends when that thread leaves. The upper 16
- * bits and two of the lower four are 0. */
-enum { QUEUED_UP = 0, CALLED = 1, OPEN = 8, NUMBER = 16 };
+ * are no turns of the line. OPEN: no thread is in. Else the number of the thread that is in. CALLED: the kept turn ends when that thread leaves. With bursts
+ * also WAITED: a thread waits, and the turns that end are counted in the upper 16 bits; and ASLEEP: the watcher may sleep, and wants to be woken when the gate
+ * is opened. */
+enum { QUEUED_UP = 0, CALLED = 1, WAITED = 2, ASLEEP = 4, OPEN = 8, NUMBER = 16 };
 #define TURN ((uint64_t)1 << 48)
 
 /* The number of the thread that is in, or 0. */
@@ -98,6 +110,7 @@ struct asking {
     int late;          /* it was not granted the lock at once */
     int met;           /* while it looked for a seat it met one that is about to be free */
     int is_first;      /* it is the first at the door */
+    uint64_t seen;     /* with bursts, the gate as it saw it last while it waited */
 };
 
 /* Makes a request with a seat that is free and not busy: GRANTED, CLOSED or WAITING, for a turn or, without a seat, for a seat. GRANTED without a seat: it
@@ -122,20 +135,36 @@ HIDDEN void qolb_take_back_(struct hall *hall, uint64_t gate);
 /* For a thread with a seat, or at the door: a kept turn ends, now or when the thread that is in leaves. */
 HIDDEN void qolb_call_out_(struct hall *hall);
 
+/* For a thread with a seat, or at the door: a kept turn ends, or with bursts its turns are counted. */
+HIDDEN void qolb_mark_gate_(struct hall *hall);
+
 static inline void marks_gate(struct hall *hall) {
-    if (atomic_load(&hall->gate) != QUEUED_UP) qolb_call_out_(hall);
+    if (atomic_load(&hall->gate) != QUEUED_UP) qolb_mark_gate_(hall);
 }
 
 /* Leaves for the thread that is in. */
 HIDDEN void qolb_leave_gate_(struct hall *hall, uint64_t gate, uint32_t (*release)(qolb_node *));
 
-/* Leaves for a thread that holds by a seat, and keeps its turn for whoever enters next, if no thread waits. */
+/* Leaves for a thread that holds by a seat, and keeps its turn for whoever enters next, if no thread waits, or if there are bursts. */
 HIDDEN void qolb_keep_turn_(struct hall *hall, struct seat *kept);
+
+/* With bursts, for a thread whose request waits: the watcher ends a kept turn that nobody uses, or that has lasted long enough. Returns whether this thread is the
+ * watcher. */
+HIDDEN int qolb_watch_(struct asking *me);
+
+/* With bursts, for a thread whose request waits, and that has counted itself at its seat's bell: whether it may sleep. */
+HIDDEN int qolb_may_sleep_(struct hall *hall, struct seat *seat);
+
+/* Whether somebody waits who has no thread, and so could not watch the gate. With bursts, no turn is kept then. */
+static inline int waits_without_thread(struct hall *hall) { return (void)hall, 0; }
 
 /* ---- door.c ---- */
 
 /* Waits for a seat: the answer of its request, WAITING for a turn, LATE, or GRANTED without a seat, by the gate. */
 HIDDEN uint32_t qolb_wait_at_door_(struct asking *me, const struct limit *limit);
+
+/* Tells the first at the door, if there is one, to look for a seat. */
+HIDDEN void qolb_admit_(struct hall *hall);
 
 /* Frees a seat that has been LEAVING since before a read-modify-write step of this thread, and tells the first at the door. The hall may be gone afterwards. */
 HIDDEN void qolb_free_seat_(struct hall *hall, struct seat *seat);

@@ -58,6 +58,21 @@
  * While no thread waits, a lock keeps its line for whoever enters next: entering and leaving are then one change of a word each, as of a mutex. Threads that
  * wait at a condition do not count.
  *
+ * Such a lock is strict: each turn is handed to the thread that has waited longest, which takes time. If threads enter again and again, a mutex has many times as
+ * many turns, as it lets its last holder in again; but it bounds no wait. A lock with bursts is between the two:
+ *
+ *     static qolb_lock lock = QOLB_LOCK_INIT_BURSTS(QOLB_LINK, 4, 1024);   // 4 seats, bursts of at most 1024 turns
+ *
+ * Its holder leaves it open, though threads wait, for whoever enters next: that is one burst. Those that wait keep their order. While a thread waits, and p threads
+ * wait before it, at most
+ *
+ *     (p + 1) * (burst - 1)
+ *
+ * turns of calls that began later come before its own, whether it is awake or asleep. A call that began later is one to enter, to try, or the end of a wait at a
+ * condition. That is the hard limit, from 2 to 65,535 turns. Mostly fewer come: one of the threads that wait watches. While it runs it ends the burst after the
+ * sixteenth part of that limit, once 1 ms has passed since the burst began, and as soon as it finds the lock open and unused. A strict lock has a burst of 0.
+ * There must be 2 seats or more.
+ *
  * Only the thread that entered may leave. A thread that enters a lock which it holds is told MISUSE, and holds it as before. A thread that ends while it
  * holds a lock releases nothing, and all others wait; qolb_lock_holder returns its number, which on Linux is that of the system (gettid), as a debugger
  * shows it.
@@ -147,7 +162,7 @@
  * answers CLOSED. Each waiter sleeps at a bell that is chosen by its line and its place in the queue. Some lines share bells, whatever their labels,
  * and then may wake each other's waiters without effect.
  *
- * Leaving a lock does the same, and wakes the first thread at its door, and the one behind it.
+ * Leaving a lock does the same, and wakes the first thread at its door, and the one behind it. In a burst it wakes only the thread that watches.
  *
  * No call wakes the thread of a busy node. That thread makes its request again 16 times, yields the processor in between, and then every 200 us.
  *
@@ -280,7 +295,7 @@ enum qolb_answer {
     QOLB_BUSY = 7,       /* its last request is not cleared yet: ask again later. Of qolb_try and qolb_lock_try also: another has it */
     QOLB_MISUSE = 8,     /* the handle or its node does not allow the call; nothing changed */
     QOLB_NO_MEMORY = 9,  /* only of an opening, as the next five; nothing changed. A lock's first use opens it */
-    QOLB_BAD_NODES = 10, /* not 1 to 200 nodes */
+    QOLB_BAD_NODES = 10, /* not 1 to 200 nodes; of a lock also: no such burst */
     QOLB_BAD_LEASE = 11, /* a lease of 0 turns */
     QOLB_BAD_KIND = 12,  /* no such kind */
     QOLB_TOO_FEW = 13,   /* fewer handles than nodes */
@@ -376,7 +391,8 @@ uint64_t qolb_label(qolb_node *node);
 uint32_t qolb_state(qolb_node *node);
 
 /* A lock. As its initialiser makes it, it is unopened, and has 64 bytes of zeros and 1 to 200 seats: by default the number and the kind that take at most
- * 3 kilobytes, and else this number, with the kind QOLB_DEFAULT or this one. Only these calls read or change its contents. */
+ * 3 kilobytes, and else this number, with the kind QOLB_DEFAULT or this one. It is strict, or has bursts of at most this many turns (LOCKS). Only these calls
+ * read or change its contents. */
 typedef struct qolb_lock {
     void *own;
     uint32_t kind, seats;
@@ -384,6 +400,12 @@ typedef struct qolb_lock {
 #define QOLB_LOCK_INIT_DEFAULT {QOLB_NULL_, QOLB_LINK, 4}
 #define QOLB_LOCK_INIT(seats) {QOLB_NULL_, QOLB_DEFAULT, (seats)}
 #define QOLB_LOCK_INIT_OF(kind, seats) {QOLB_NULL_, (kind), (seats)}
+#define QOLB_LOCK_INIT_BURSTS(kind, seats, burst) {QOLB_NULL_, (kind), QOLB_SEATS(seats, burst)}
+
+/* The number of seats for qolb_lock_open, of a lock with bursts of at most `burst` turns; 0: it is strict. An older library answers BAD_NODES. It may evaluate its
+ * arguments twice. */
+#define QOLB_SEATS(seats, burst) QOLB_AS_(uint32_t, QOLB_HALF_(seats, 65535) + 65536 * QOLB_HALF_(burst, 1))
+#define QOLB_HALF_(number, if_more) (QOLB_AS_(uint64_t, number) > 65535 ? QOLB_AS_(uint64_t, if_more) : QOLB_AS_(uint64_t, number))
 
 /* A condition: holders of a lock leave the lock and wait here until another thread signals. It may serve several locks. It needs no freeing. */
 typedef struct qolb_cond {
@@ -391,12 +413,13 @@ typedef struct qolb_cond {
 } qolb_cond;
 #define QOLB_COND_INIT {QOLB_NULL_}
 
-/* Opens an unopened lock with this kind, label, number of seats and these bytes; without this call the first use opens it.
- * DONE; else the first that applies of BAD_KIND, BAD_NODES (not 1 to 200 seats), NO_MEMORY, and OCCUPIED: it is open. */
+/* Opens an unopened lock with this kind, label, number of seats (or QOLB_SEATS) and these bytes; without this call the first use opens it.
+ * DONE; else the first that applies of BAD_KIND, BAD_NODES (not 1 to 200 seats, a burst of 1 or of more than 65,535 turns, or a burst with 1 seat), NO_MEMORY, and
+ * OCCUPIED: it is open. */
 uint32_t qolb_lock_open(qolb_lock *lock, uint32_t kind, uint64_t label, uint64_t seats, const qolb_bytes *opening) QOLB_LOOK;
 
 /* Enters the lock, and waits as long as it takes: GRANTED, CLOSED; MISUSE, and nothing changed, if the calling thread holds it. At the first use also
- * NO_MEMORY, BAD_NODES (a lock of no seats), BAD_KIND. */
+ * NO_MEMORY, BAD_NODES (a lock of no such seats or burst), BAD_KIND. */
 uint32_t qolb_lock_enter(qolb_lock *lock) QOLB_LOOK;
 
 /* Enters the lock if no thread has it: GRANTED, BUSY (also if the calling thread holds it), CLOSED; at the first use also the other answers of

@@ -302,6 +302,14 @@ template <class Change> Got Node::with(Change change) {
     return got;
 }
 
+// The number of seats, and the most turns of a burst, of a lock with bursts (qolb.h, LOCKS).
+struct seats {
+    std::uint32_t number;
+};
+struct burst {
+    std::uint32_t turns;
+};
+
 // A lock that any thread may enter, without a node for each (qolb.h, LOCKS). It opens at its first use, so a static one needs no constructor at run
 // time.
 //
@@ -313,6 +321,9 @@ class Lock {
     constexpr Lock() noexcept : lock_ QOLB_LOCK_INIT_DEFAULT {}
     // With 1 to 200 seats, of this kind. A link line takes the least memory.
     explicit constexpr Lock(std::uint32_t seats, qolb_kind kind = QOLB_DEFAULT) noexcept : lock_{nullptr, static_cast<std::uint32_t>(kind), seats} {}
+    // With 2 to 200 seats, and bursts of 2 to 65,535 turns: qolb::lock(qolb::seats{4}, qolb::burst{1024}).
+    constexpr Lock(qolb::seats many, qolb::burst most, qolb_kind kind = QOLB_LINK) noexcept
+        : lock_ QOLB_LOCK_INIT_BURSTS(static_cast<std::uint32_t>(kind), many.number, most.turns) {}
     Lock(const Lock &) = delete;
     Lock &operator=(const Lock &) = delete;
     ~Lock() { qolb_lock_close(&lock_); }
@@ -432,6 +443,10 @@ template <class T> class Guarded {
     // With 1 to 200 seats, of this kind. Throws std::bad_alloc, and Misuse if it does not have 1 to 200 seats.
     Guarded(const T &value, std::uint32_t seats, qolb_kind kind = QOLB_DEFAULT)
         : Guarded(value, qolb_lock QOLB_LOCK_INIT_OF(static_cast<std::uint32_t>(kind), seats)) {}
+    // With 2 to 200 seats, and bursts of 2 to 65,535 turns. Throws as the one before.
+    Guarded(const T &value, qolb::seats many, qolb::burst most, qolb_kind kind = QOLB_LINK)
+        : Guarded(value, qolb_lock QOLB_LOCK_INIT_BURSTS(static_cast<std::uint32_t>(kind), many.number, most.turns)) {}
+
     // Enters, lets `change` change the value, writes it and leaves; returns the result of `change`. If `change` throws, nothing is written. Throws
     // Closed if the line was shut, and Deadlock if the thread is in `change` of the same value.
     template <class Change> auto with(Change change) -> decltype(change(std::declval<T &>())) {

@@ -607,6 +607,29 @@ impl RawQolb {
         RawQolb(UnsafeCell::new(RawLock { own: null_mut(), kind: kind as u32, seats }))
     }
 
+    /// A lock with bursts, for threads that enter again and again: of the kind of the default lock, with `seats` seats.
+    ///
+    /// With `p` threads before it, a waiter is overtaken by at most `(p + 1) * (burst - 1)` turns of later calls. A burst of 0 is strict order.
+    ///
+    /// # Panics
+    ///
+    /// If `seats` is not 1 to 200, `burst` is 1 or above 65,535, or there is a burst and one seat.
+    pub const fn with_burst(seats: u32, burst: u32) -> RawQolb {
+        RawQolb::of_kind_with_burst(BY_DEFAULT.0, seats, burst)
+    }
+
+    /// A lock with bursts over a line of this kind, as of [`with_burst`](Self::with_burst).
+    ///
+    /// # Panics
+    ///
+    /// As [`with_burst`](Self::with_burst).
+    pub const fn of_kind_with_burst(kind: Kind, seats: u32, burst: u32) -> RawQolb {
+        assert!(seats >= 1 && seats <= 200, "a lock has 1 to 200 seats");
+        assert!(burst != 1 && burst <= u16::MAX as u32, "a burst has 2 to 65,535 turns");
+        assert!(burst == 0 || seats > 1, "a lock with bursts has 2 seats or more");
+        RawQolb(UnsafeCell::new(RawLock { own: null_mut(), kind: kind as u32, seats: seats + (burst << 16) }))
+    }
+
     /// A lock for any number of threads, first come, first served, in at most 3 kilobytes of heap.
     pub const fn of_default() -> RawQolb {
         RawQolb::of_kind(BY_DEFAULT.0, BY_DEFAULT.1)
@@ -759,6 +782,15 @@ impl<T> Mutex<T> {
     /// If `seats` is not 1 to 200.
     pub const fn of_kind(value: T, kind: Kind, seats: u32) -> Mutex<T> {
         Mutex { raw: RawQolb::of_kind(kind, seats), value: UnsafeCell::new(value) }
+    }
+
+    /// A mutex with bursts, for threads that lock it again and again (`RawQolb::with_burst`).
+    ///
+    /// # Panics
+    ///
+    /// If `seats` is not 1 to 200, `burst` is 1 or above 65,535, or there is a burst and one seat.
+    pub const fn with_burst(value: T, seats: u32, burst: u32) -> Mutex<T> {
+        Mutex { raw: RawQolb::with_burst(seats, burst), value: UnsafeCell::new(value) }
     }
 
     pub fn into_inner(self) -> T {
@@ -1080,11 +1112,24 @@ impl<T: Copy + Send + 'static> Lock<T> {
     ///
     /// If `seats` is not 1 to 200.
     pub fn of_kind(value: T, kind: Kind, seats: u32) -> Result<Lock<T>, Answer> {
-        let lock = Lock { raw: RawQolb::of_kind(kind, seats), value: PhantomData };
+        Lock::over(RawQolb::of_kind(kind, seats), value)
+    }
+
+    /// A lock with bursts, for threads that lock it again and again (`RawQolb::with_burst`), which has `value`.
+    ///
+    /// # Panics
+    ///
+    /// If `seats` is not 1 to 200, `burst` is 1 or above 65,535, or there is a burst and one seat.
+    pub fn with_burst(value: T, seats: u32, burst: u32) -> Result<Lock<T>, Answer> {
+        Lock::over(RawQolb::with_burst(seats, burst), value)
+    }
+
+    fn over(mut raw: RawQolb, value: T) -> Result<Lock<T>, Answer> {
         let opening = bytes_of(value);
+        let RawLock { kind, seats, .. } = *raw.0.get_mut();
         // SAFETY: no other thread has the lock yet, and the bytes are valid for the call.
-        match told(unsafe { qolb_lock_open(lock.raw.0.get(), kind as u32, 0, seats.into(), &opening) }) {
-            Answer::Done => Ok(lock),
+        match told(unsafe { qolb_lock_open(raw.0.get(), kind, 0, seats.into(), &opening) }) {
+            Answer::Done => Ok(Lock { raw, value: PhantomData }),
             refused => Err(refused),
         }
     }

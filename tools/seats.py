@@ -47,6 +47,8 @@ IS_LATE = "        if (left(limit) == 0) got = QOLB_LATE;\n"
 HOOKED = [
     ("YIELDS = 16", "YIELDS = 1"),
     ("CALM = 16", "CALM = 1"),
+    ("WATCHES = 8", "WATCHES = 1"),
+    ("WATCHED_PART = 16", "WATCHED_PART = 2"),
     (WAITS, WAITS.replace("    if (!me->seat) {\n", "    if (me->seat) { void hook_waits(void); hook_waits(); }\n    if (!me->seat) {\n")),
     (AT_DOOR, "    { void hook_waits(void); hook_waits(); }\n" + AT_DOOR),
     (GIVES_UP, "            { void hook_ends(void); hook_ends(); }\n" + GIVES_UP),
@@ -64,6 +66,7 @@ IN_ALL = "    atomic_fetch_add(&hall->sleepers, 1);\n    unsigned word"
 ANYWHERE = "    atomic_fetch_add(&anywhere.sleepers, 1);\n"
 NODE_LOOK = "    unsigned word = atomic_load(&bell->word);\n    uint32_t got = qolb_poll_proved_(node);\n"
 NEXT = "    ring(next.holder);\n    ring(next.ahead);\n"
+RETURNS_BUSY = "    if (hall->burst) {\n        atomic_exchange(&seat->state, LEAVING);\n        qolb_call_out_(hall);\n    }\n    atomic_store(&seat->state, FREE);\n"
 STANDS = "    stand(cond, hall, &me);\n    atomic_fetch_add(&hall->guests, 1);\n    qolb_leave_hall_(hall, seat, qolb_deqolb_proved_);\n"
 SHUT = "        beside = it->beside;\n        tell(it, SHUT);\n"
 FAULTS = {
@@ -89,13 +92,13 @@ FAULTS = {
     "who is late keeps its seat": ("    } else {\n        give_back(me->hall, me->seat, got);\n", "    } else if (got != QOLB_LATE) {\n        give_back(me->hall, me->seat, got);\n"),
     "who is late keeps its request": ("    uint32_t got = qolb_withdraw_proved_(&seat->node);\n", "    uint32_t got = QOLB_WITHDRAWN;\n"),
     "who tries asks for the last seat alone": ("    while (k > 0 && atomic_load(&hall->seat[k]->state) != FREE) k--;\n", ""),
-    "a busy seat is asked no more": ("        atomic_store(&seat->state, FREE);\n    } else {", "    } else {"),
+    "a busy seat is asked no more": (RETURNS_BUSY, RETURNS_BUSY.replace("    atomic_store(&seat->state, FREE);\n", "")),
     "the holder may enter again": ("    if (is_in(hall) || own_seat(hall)) return QOLB_MISUSE;\n", ""),
     "only who is in by the gate may not enter again": ("is_in(hall) || own_seat(hall)", "is_in(hall)"),
     "a thread that holds by a seat is not counted": ("        qolb_own_.by_seat++;\n", ""),
     "a lock is not closed while a seat is about to be free": ("if (state != LEAVING) return k;", "if (state != FREE) return k;"),
     "a lock is closed while it has guests": ("many < hall->seats || atomic_load(&hall->guests)", "many < hall->seats"),
-    "who does not close the lock tells nobody of its seats": ("    atomic_exchange(&hall->seat[0]->state, LEAVING);\n    qolb_free_seat_(hall, hall->seat[0]);\n", "    atomic_store(&hall->seat[0]->state, FREE);\n"),
+    "who does not close the lock tells nobody of its seats": ("    qolb_free_seat_(hall, hall->seat[0]);\n", "    atomic_store(&hall->seat[0]->state, FREE);\n"),
     "who closes the lock leaves the gate open": ("    if (gate & OPEN) qolb_take_back_(hall, gate);\n    unsigned many", "    unsigned many"),
     "who waits stands in the list after it has left": (STANDS, "".join(STANDS.splitlines(True)[1:] + STANDS.splitlines(True)[:1])),
     "who waits at a condition is no guest": (STANDS, STANDS.replace("    atomic_fetch_add(&hall->guests, 1);\n", ""), "    atomic_fetch_sub(&hall->guests, 1);\n    return got;\n}\n\nuint32_t qolb_cond_wait(", "    return got;\n}\n\nuint32_t qolb_cond_wait("),
@@ -125,7 +128,8 @@ ENDS_KEPT = "    atomic_store(&hall->gate, QUEUED_UP);\n    qolb_end_turn_(hall,
 GOES_IN = "    return gate & OPEN && atomic_compare_exchange_strong(&hall->gate, &gate, own_number() + (gate ^ OPEN));\n"
 GOES_IN_AT_ONCE = "        if (gate & OPEN && atomic_compare_exchange_strong(&hall->gate, &gate, me + (gate ^ OPEN))) return QOLB_GRANTED;\n"
 TAKES_BACK = "    if (atomic_compare_exchange_strong(&hall->gate, &gate, QUEUED_UP)) qolb_end_turn_(hall, hall->held_by, qolb_deqolb_proved_);\n"
-OPENS = "        if (atomic_compare_exchange_strong(&hall->gate, &gate, OPEN)) return;\n"
+OPENS = "    if (!(*gate & ASLEEP)) return atomic_compare_exchange_strong(&hall->gate, gate, open);\n"
+ENDS_SO = "release == qolb_deqolb_proved_ && !(gate & CALLED) && !is_last(hall, gate)"
 LEAVES_AT_ONCE = "    if (atomic_load_explicit(&hall->gate, memory_order_relaxed) == gate && atomic_compare_exchange_strong(&hall->gate, &gate, OPEN)) return QOLB_DONE;\n"
 FAULTS |= {
     "the gate is opened without a second look": (KEEPS, "    qolb_leave_gate_(hall, atomic_load(&hall->gate), qolb_deqolb_proved_);\n"),
@@ -134,8 +138,8 @@ FAULTS |= {
     "who keeps its turn looks at the seats alone": ("    if (atomic_load(&hall->at_door)) return 0;\n    for", "    for"),
     "who keeps its turn looks at the door alone": ("        if (hall->seat[k] != kept && atomic_load(&hall->seat[k]->state) != FREE) return 0;\n", "        (void)kept;\n"),
     "who keeps its turn looks for seats that are taken alone": ("hall->seat[k] != kept && atomic_load(&hall->seat[k]->state) != FREE", "hall->seat[k] != kept && atomic_load(&hall->seat[k]->state) == LEAVING"),
-    "a call is not heard": ("release == qolb_deqolb_proved_ && !(gate & CALLED)", "release == qolb_deqolb_proved_"),
-    "a shut opens the gate": ("release == qolb_deqolb_proved_ && !(gate & CALLED)", "!(gate & CALLED)"),
+    "a call is not heard": (ENDS_SO, ENDS_SO.replace(" && !(gate & CALLED)", "")),
+    "a shut opens the gate": (ENDS_SO, ENDS_SO.replace("release == qolb_deqolb_proved_ && ", "")),
     "who takes a seat does not look at the gate": ("    marks_gate(me->hall);\n    uint32_t got = qolb_enqolb_proved_(&seat->node);\n", "    uint32_t got = qolb_enqolb_proved_(&seat->node);\n"),
     "who takes a seat looks at the gate before that": ("    unsigned state = atomic_load(&seat->state);\n    if (state != FREE", "    marks_gate(me->hall);\n    unsigned state = atomic_load(&seat->state);\n    if (state != FREE", "    marks_gate(me->hall);\n    uint32_t got = qolb_enqolb_proved_(&seat->node);\n", "    uint32_t got = qolb_enqolb_proved_(&seat->node);\n"),
     "who comes to the door does not look at the gate": ("    come(hall, &my);\n    marks_gate(hall);\n", "    come(hall, &my);\n"),
@@ -145,7 +149,7 @@ FAULTS |= {
     "an open gate is closed, and the line is kept": (TAKES_BACK, "    atomic_compare_exchange_strong(&hall->gate, &gate, QUEUED_UP);\n"),
     "a thread that is in is called by no mark": ("        else atomic_compare_exchange_strong(&hall->gate, &gate, gate | CALLED);\n", "        else break;\n"),
     "who is called opens the gate at once": (LEAVES_AT_ONCE, LEAVES_AT_ONCE.replace("== gate", "/ NUMBER == gate / NUMBER").replace("atomic_compare_exchange_strong(&hall->gate, &gate, OPEN)", "(atomic_store(&hall->gate, OPEN), 1)")),
-    "who leaves the gate opens it by a plain store": (OPENS, "        return atomic_store(&hall->gate, OPEN);\n"),
+    "who leaves the gate opens it by a plain store": (OPENS, "    if (!(*gate & ASLEEP)) return atomic_store(&hall->gate, open), 1;\n"),
     "the line is released before the gate is closed": (ENDS_KEPT, "    qolb_end_turn_(hall, hall->held_by, release);\n    atomic_store(&hall->gate, QUEUED_UP);\n"),
     "the gate stays as it is when the kept turn ends": (ENDS_KEPT, "    qolb_end_turn_(hall, hall->held_by, release);\n"),
     "who keeps its turn holds by its seat, too": ("    atomic_store_explicit(&kept->holder, 0, memory_order_release);\n    atomic_exchange(&hall->gate", "    atomic_exchange(&hall->gate"),
@@ -157,7 +161,7 @@ FREES = "    int guarded = atomic_load(&hall->at_door) != 0;\n"
 GUARDED = "        guarded = hall->first != NULL;\n        if (!guarded) return_guard(&hall->guard);\n"
 FREE_THEN_TOLD = f"    {FREED}    if (!guarded) return;\n    woken = tell_first(hall);\n"
 FORGETS = "    atomic_exchange(&my->told, UNTOLD);\n    me->is_first = 1;\n    uint32_t got = qolb_take_seat_(me);\n"
-GOES = "    if (atomic_load(&hall->at_door) && (is_told(my) || has_free_seat(hall))) admit(hall);\n"
+GOES = "    if (atomic_load(&hall->at_door) && (is_told(my) || has_free_seat(hall))) qolb_admit_(hall);\n"
 COMES = "static void come(struct hall *hall, struct caller *my) {\n    take_guard(&hall->guard);\n"
 COUNTS = "    atomic_fetch_add(&hall->at_door, 1);\n    atomic_fetch_add(&hall->sleepers, 1);\n    come(hall, &my);\n"
 FAULTS |= {
@@ -185,6 +189,49 @@ FAULTS |= {
     "who is woken early at the door is told nothing else": ("    atomic_compare_exchange_strong(&my->told, &asleep, UNTOLD);\n}\n", "    atomic_store(&my->told, UNTOLD);\n}\n"),
     "who sleeps at the door says so by two steps": ("    if (!time || !atomic_compare_exchange_strong(&my->told, &untold, ASLEEP_UNTOLD)) return;\n", "    if (!time || atomic_load(&my->told) != UNTOLD) return;\n    atomic_store(&my->told, ASLEEP_UNTOLD);\n"),
     "who is late at the door stays in the list": ("    take_guard(&hall->guard);\n    take_out(hall, my);\n", "    take_guard(&hall->guard);\n    if (my->next || my->before) take_out(hall, my);\n    else hall->first = hall->last = NULL;\n    if (my->next) my->next->before = my;\n"),
+}
+
+# Bursts.
+NAMES = "    atomic_store(&hall->watcher, watcher);\n"
+LOOKS_AGAIN = "    if (atomic_load(&watcher->state) != TAKEN) return 0;\n"
+BEGINS = "    go_in_by(hall, kept);\n    struct seat *watcher = oldest(hall, kept);\n"
+AT_THE_DOOR = "        atomic_fetch_or(&hall->gate, WAITED);\n        qolb_admit_(hall);\n"
+WAKES = "    atomic_fetch_add(&hall->keepers, 1);\n    int opened = atomic_compare_exchange_strong(&hall->gate, gate, open);\n    if (opened) wake_watcher(hall);\n    atomic_fetch_sub(&hall->keepers, 1);\n"
+KEEPERS = "    while (atomic_load(&hall->keepers)) sched_yield();\n"
+SLEEPS = "    if (hall->burst) atomic_store(&seat->bell, bell);\n"
+MAY_SLEEP = "    int sleeps = got == QOLB_WAITING && (!hall->burst || qolb_may_sleep_(hall, seat));\n"
+SAYS_SO = "    return atomic_compare_exchange_strong(&hall->gate, &gate, is_long(hall, gate) ? asleep | CALLED : asleep);\n"
+FAULTS |= {
+    "bursts: one is a turn too long": ("gate / TURN + 1 >= hall->burst", "gate / TURN + 1 > hall->burst"),
+    "bursts: turns are not counted": ("*gate & WAITED ? *gate / TURN * TURN + TURN + WAITED + OPEN : OPEN", "*gate & WAITED ? WAITED + OPEN : OPEN"),
+    "bursts: who opens the gate forgets that a thread waits": ("*gate & WAITED ? *gate / TURN * TURN + TURN + WAITED + OPEN : OPEN", "OPEN"),
+    "bursts: who goes in forgets the turns": (GOES_IN, GOES_IN.replace("(gate ^ OPEN)", "(gate ^ OPEN) % TURN"), GOES_IN_AT_ONCE, GOES_IN_AT_ONCE.replace("(gate ^ OPEN)", "(gate ^ OPEN) % TURN")),
+    "bursts: at an open gate no turn is counted": ("(gate | WAITED) + (gate & OPEN ? TURN : 0)", "gate | WAITED"),
+    "bursts: who waits has no turns counted": ("    if (hall->burst) count_turns(hall);\n    else qolb_call_out_(hall);\n", "    if (!hall->burst) qolb_call_out_(hall);\n"),
+    "bursts: a thread at the door goes in by the gate": ("    if (!(me->is_first && hall->burst) && goes_in(hall)) return QOLB_GRANTED;\n", "    if (goes_in(hall)) return QOLB_GRANTED;\n"),
+    "bursts: one begins before the gate is set": ("    go_in_by(hall, kept);\n    struct seat *watcher = oldest(hall, kept);\n", "    struct seat *watcher = oldest(hall, kept);\n    go_in_by(hall, kept);\n"),
+    "bursts: no watcher is named": (NAMES, ""),
+    "bursts: the last watcher stays so": ("    atomic_store(&hall->watcher, NULL);\n", ""),
+    "bursts: the named watcher is not looked at again": (LOOKS_AGAIN, ""),
+    "bursts: the named watcher is looked at before": (NAMES + LOOKS_AGAIN, LOOKS_AGAIN + NAMES),
+    "bursts: the named watcher is not thought to sleep": ("fetch_or(&hall->gate, WAITED | ASLEEP)", "fetch_or(&hall->gate, WAITED)"),
+    "bursts: one begins, and no turn is counted": ("fetch_or(&hall->gate, WAITED | ASLEEP)", "fetch_or(&hall->gate, ASLEEP)"),
+    "bursts: one begins without a word to the door": (AT_THE_DOOR, "        atomic_fetch_or(&hall->gate, WAITED);\n"),
+    "bursts: one begins without a look at the door": (AT_THE_DOOR, "        qolb_admit_(hall);\n"),
+    "bursts: who opens the gate wakes nobody": ("    if (opened) wake_watcher(hall);\n", ""),
+    "bursts: who opens the gate wakes only where the watcher said so": ("    if (bell) ring(bell);\n", "    if (bell && atomic_load(&hall->gate) & ASLEEP) ring(bell);\n"),
+    "bursts: the watcher's bell is read before the gate is opened": (WAKES, WAKES.replace("    int opened", "    struct seat *was = atomic_load(&hall->watcher);\n    struct bell *its = was ? atomic_load(&was->bell) : NULL;\n    int opened").replace("wake_watcher(hall)", "{ if (its) ring(its); }")),
+    "bursts: the watcher tells its bell after it has looked at the gate": (SLEEPS, "", MAY_SLEEP, MAY_SLEEP + SLEEPS),
+    "bursts: the watcher does not say that it sleeps": (SAYS_SO, "    return (void)asleep, 1;\n"),
+    "bursts: the watcher sleeps though it could not say so": (SAYS_SO, SAYS_SO.replace("    return ", "    ") + "    return 1;\n"),
+    "bursts: the watcher sleeps though the gate is open": ("    if (gate & OPEN) return qolb_take_back_(hall, gate), 0;\n", ""),
+    "bursts: who waits first is no watcher": (" || (!watcher && atomic_compare_exchange_strong(&hall->watcher, &watcher, seat))", ""),
+    "bursts: who returns the watcher's seat calls nobody": ("    if (atomic_load(&hall->watcher) == seat) qolb_call_out_(hall);\n", ""),
+    "bursts: a busy seat ends none": (RETURNS_BUSY, RETURNS_BUSY.replace("        qolb_call_out_(hall);\n", "")),
+    "bursts: a busy seat looks taken while it ends one": (RETURNS_BUSY, RETURNS_BUSY.replace("        atomic_exchange(&seat->state, LEAVING);\n", "")),
+    "bursts: who does not close the lock ends none": ("    if (hall->burst) qolb_call_out_(hall);\n    qolb_free_seat_(hall, hall->seat[0]);\n", "    qolb_free_seat_(hall, hall->seat[0]);\n"),
+    "bursts: a lock is closed while a thread looks at it that has opened the gate": (KEEPERS, ""),
+    "bursts: who opens the gate counts itself after that": (WAKES, "    int opened = atomic_compare_exchange_strong(&hall->gate, gate, open);\n    atomic_fetch_add(&hall->keepers, 1);\n" + "".join(WAKES.splitlines(True)[2:])),
 }
 
 # How the names of the scenes begin in which a fault is looked for that takes two turns of the schedule. The others take one, and are looked for in all.
@@ -285,7 +332,7 @@ def goes_well(most, scenes, base):
 def is_found(fault, base):
     """Prints where a library with this fault fails; False if it does not."""
     turns = 2 if fault in IN_TWO_TURNS else 1
-    scene = IN_TWO_TURNS.get(fault, "nodes" if fault.startswith("nodes") else "")
+    scene = IN_TWO_TURNS.get(fault, next((kind for kind in ("nodes", "bursts") if fault.startswith(kind)), ""))
     with tempfile.TemporaryDirectory() as name:
         told, well = run(built(pathlib.Path(name), with_fault(FAULTS[fault]), base), turns, scene)
     print(f"{fault}: all runs go well" if well else f"{fault}: at {turns}, {last_of(told)}", flush=True)

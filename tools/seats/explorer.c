@@ -27,7 +27,7 @@ static struct thread {
     int times_out, lates;
     uint64_t now;
     struct clock clock;
-    struct late late[16]; /* oldest first */
+    struct late late[32]; /* oldest first */
     char stack[1 << 16];
 } threads[THREADS + 1];
 
@@ -177,14 +177,15 @@ static void store(volatile void *where, unsigned size, uint64_t value, int order
         show_all();
         put(&made);
     } else {
-        MUST(me()->lates < 16);
+        MUST(me()->lates < 32);
         me()->late[me()->lates++] = made;
         if (me()->lates == 1 && choose(2, 1) == 0) show_all();
     }
 }
 
 /* A read-modify-write step, which lets no load pass a store before it. */
-static uint64_t change(volatile void *where, unsigned size, uint64_t add, int sets, uint64_t value, const uint64_t *only) {
+enum change { ADDS, SETS, MARKS };
+static uint64_t change(volatile void *where, unsigned size, enum change how, uint64_t value, const uint64_t *only) {
     uintptr_t at = (uintptr_t)where;
     step(0);
     show_all();
@@ -194,18 +195,19 @@ static uint64_t change(volatile void *where, unsigned size, uint64_t add, int se
     acquires(told);
     if (only && was != *only) return was;
     releases(told);
-    put(&(struct late){at, size, sets ? value : was + add, *told, 1});
+    put(&(struct late){at, size, how == SETS ? value : how == MARKS ? was | value : was + value, *told, 1});
     return was;
 }
 
 #define OF_SIZE(bits, bytes)                                                                                                                       \
     uint##bits##_t __tsan_atomic##bits##_load(const volatile void *p, int o) { return (uint##bits##_t)load(p, bytes, o); }                         \
     void __tsan_atomic##bits##_store(volatile void *p, uint##bits##_t v, int o) { store(p, bytes, v, o); }                                         \
-    uint##bits##_t __tsan_atomic##bits##_exchange(volatile void *p, uint##bits##_t v, int o) { return (void)o, (uint##bits##_t)change(p, bytes, 0, 1, v, NULL); } \
-    uint##bits##_t __tsan_atomic##bits##_fetch_add(volatile void *p, uint##bits##_t v, int o) { return (void)o, (uint##bits##_t)change(p, bytes, v, 0, 0, NULL); } \
-    uint##bits##_t __tsan_atomic##bits##_fetch_sub(volatile void *p, uint##bits##_t v, int o) { return (void)o, (uint##bits##_t)change(p, bytes, -(uint64_t)v, 0, 0, NULL); } \
+    uint##bits##_t __tsan_atomic##bits##_exchange(volatile void *p, uint##bits##_t v, int o) { return (void)o, (uint##bits##_t)change(p, bytes, SETS, v, NULL); } \
+    uint##bits##_t __tsan_atomic##bits##_fetch_add(volatile void *p, uint##bits##_t v, int o) { return (void)o, (uint##bits##_t)change(p, bytes, ADDS, v, NULL); } \
+    uint##bits##_t __tsan_atomic##bits##_fetch_sub(volatile void *p, uint##bits##_t v, int o) { return (void)o, (uint##bits##_t)change(p, bytes, ADDS, -(uint64_t)v, NULL); } \
+    uint##bits##_t __tsan_atomic##bits##_fetch_or(volatile void *p, uint##bits##_t v, int o) { return (void)o, (uint##bits##_t)change(p, bytes, MARKS, v, NULL); } \
     int __tsan_atomic##bits##_compare_exchange_strong(volatile void *p, uint##bits##_t *was, uint##bits##_t v, int o, int failed) {                \
-        uint64_t only = *was, found = change(p, bytes, 0, 1, v, &only);                                                                            \
+        uint64_t only = *was, found = change(p, bytes, SETS, v, &only);                                                                            \
         return (void)o, (void)failed, *was = (uint##bits##_t)found, found == only;                                                                 \
     }                                                                                                                                              \
     void __tsan_read##bytes(void *p) { touch(p, bytes, PLAIN_READ); }                                                                              \

@@ -10,14 +10,15 @@ struct clock {
     unsigned at[THREADS + 1];
 };
 
-/* What these threads do at the same time, each by its number, over a lock of this kind with these seats, which is opened at its first use or before; or
- * with a node each of a line of this kind. */
+/* What these threads do at the same time, each by its number, over a lock of this kind with these seats and bursts, which is opened at its first use or before;
+ * or with a node each of a line of this kind. */
 enum { AT_FIRST_USE, BEFORE, WITH_NODES };
 struct scene {
     const char *name;
     void (*does)(int self);
     uint32_t kind, seats;
     int threads, opens;
+    unsigned burst;
 };
 
 /* The data of a thread in the lock's files, which is in one place here. */

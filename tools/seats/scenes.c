@@ -8,9 +8,9 @@ static struct { qolb_lock lock; qolb_cond cond; struct { _Alignas(QOLB_NODE_ALIG
 
 BY_THREAD struct room qolb_room_;
 
-/* Of each thread that waits in the queue, and whom the lock knows: since which time. And since when a thread is in its call, in which it may overtake none of
- * those. The hooks are put into the library's files (../seats.py). */
-static struct { int in_call, waits; long began, since; } order[THREADS];
+/* Of each thread that waits in the queue, and whom the lock knows: since which time; how many turns it has seen of threads whose calls began later, and how many
+ * threads go that were in their calls then. And since when a thread is in its call. The hooks are put into the library's files (../seats.py). */
+static struct { int in_call, waits, passed, gone; long began, since; } order[THREADS];
 static long time_of_order;
 #define UNSEEN __attribute__((no_sanitize("thread")))
 void hook_waits(void);
@@ -23,14 +23,23 @@ UNSEEN static void begins_call(void) {
 }
 UNSEEN void hook_waits(void) {
     int me = who();
-    if (order[me].in_call) order[me].waits = 1, order[me].since = ++time_of_order;
+    if (order[me].in_call) order[me].waits = 1, order[me].since = ++time_of_order, order[me].passed = order[me].gone = 0;
 }
 UNSEEN void hook_ends(void) { order[who()].waits = 0; }
-UNSEEN static void ends_call(void) { order[who()].in_call = order[who()].waits = 0; }
-UNSEEN static void enters_turn(void) {
+UNSEEN static void ends_call(void) {
     int me = who();
-    for (int k = 0; k < THREADS; k++)
-        if (order[k].waits && order[me].in_call) must(order[me].began < order[k].since, "a thread that waits is overtaken");
+    for (int k = 0; k < THREADS; k++) order[k].gone += order[me].in_call && order[me].began < order[k].since;
+    order[me].in_call = order[me].waits = 0;
+}
+
+/* A burst of B turns has at most B - 1 turns of later calls, which did not wait. One ends when a thread goes that was there before. */
+UNSEEN static void enters_turn(void) {
+    int me = who(), burst = (int)(it.lock.seats / BURST), later = burst ? burst - 1 : 0;
+    for (int k = 0; k < THREADS; k++) {
+        if (!order[k].waits || !order[me].in_call || order[me].began < order[k].since) continue;
+        must(++order[k].passed <= (order[k].gone + 1) * later, "a thread that waits is overtaken too often");
+        must(!order[me].waits, "a thread that waits is overtaken by one behind it");
+    }
     ends_call();
 }
 
@@ -80,6 +89,14 @@ static void enters_again(int self) {
 }
 
 static void enters_twice(int self) { enters(self), enters(self); }
+
+static void enters_thrice(int self) { enters_twice(self), enters(self); }
+
+/* One enters six times, and the others once. */
+static void one_stays_long(int self) {
+    if (self == 0) enters_twice(self), enters_thrice(self);
+    enters(self);
+}
 
 static void is_late(int self) {
     begins_call();
@@ -320,60 +337,81 @@ static void one_shuts(int self) { shuts_line(self, qolb_acquire(&it.of[self].nod
 static void one_shuts_and_one_looks_on(int self) { shuts_line(self, self == 1 ? looks_on(1) : qolb_acquire(&it.of[self].node)); }
 
 const struct scene scenes[] = {
-    {"each enters, at the first use", enters, QOLB_TICKET, 3, 2, AT_FIRST_USE},
-    {"three enter", enters, QOLB_TICKET, 3, 3, BEFORE},
-    {"three enter, who link", enters, QOLB_LINK, 2, 3, BEFORE},
-    {"three want the only seat", enters, QOLB_TICKET, 1, 3, BEFORE},
-    {"two want two seats twice, and link", enters_twice, QOLB_LINK, 2, 2, BEFORE},
-    {"two want the only seat twice", enters_twice, QOLB_TICKET, 1, 2, BEFORE},
-    {"two are late", is_late, QOLB_TICKET, 2, 3, BEFORE},
-    {"three want the only seat, and one is late", one_is_late, QOLB_TICKET, 1, 3, BEFORE},
-    {"three want the only seat, and two are late", is_late, QOLB_TICKET, 1, 3, BEFORE},
-    {"one is late and comes again", is_late_and_comes_again, QOLB_TICKET, 2, 2, BEFORE},
-    {"two are late and come again", is_late_and_comes_again, QOLB_TICKET, 2, 3, BEFORE},
-    {"one tries", tries, QOLB_TICKET, 2, 3, BEFORE},
-    {"one tries, and there is one seat", tries, QOLB_TICKET, 1, 3, BEFORE},
-    {"the last tries", last_tries, QOLB_TICKET, 2, 3, BEFORE},
-    {"the last tries, and there is one seat", last_tries, QOLB_TICKET, 1, 3, BEFORE},
-    {"one shuts", shuts, QOLB_TICKET, 3, 3, BEFORE},
-    {"one shuts, and there is one seat", shuts, QOLB_TICKET, 1, 3, BEFORE},
-    {"the last frees", last_frees, QOLB_TICKET, 2, 3, BEFORE},
-    {"the last frees, and there is one seat", last_frees, QOLB_TICKET, 1, 3, BEFORE},
-    {"the last frees after more", last_frees_after_more, QOLB_TICKET, 2, 2, BEFORE},
-    {"the last frees after more, one seat", last_frees_after_more, QOLB_TICKET, 1, 3, BEFORE},
-    {"one closes", one_closes, QOLB_TICKET, 2, 2, BEFORE},
-    {"one closes, and there is one seat", one_closes, QOLB_TICKET, 1, 2, BEFORE},
-    {"two wait at a condition, one not for ever", waits, QOLB_TICKET, 3, 3, BEFORE},
-    {"two wait at a condition, and there is one seat", waits, QOLB_TICKET, 1, 3, BEFORE},
-    {"one closes beside a waiter", one_closes_beside_a_waiter, QOLB_TICKET, 2, 2, BEFORE},
-    {"one closes beside a waiter, one seat", one_closes_beside_a_waiter, QOLB_TICKET, 1, 2, BEFORE},
-    {"two wait at a condition until one shuts", waits_until_shut, QOLB_TICKET, 3, 3, BEFORE},
-    {"one waits at a condition while one stays", waits_while_one_stays, QOLB_TICKET, 2, 2, BEFORE},
-    {"one waits at a condition while one stays, one seat", waits_while_one_stays, QOLB_TICKET, 1, 2, BEFORE},
-    {"enters again", enters_again, QOLB_TICKET, 2, 2, BEFORE},
-    {"enters again, and there is one seat", enters_again, QOLB_TICKET, 1, 2, BEFORE},
-    {"holds twice", one_holds_twice, QOLB_TICKET, 2, 3, BEFORE},
-    {"holds twice, and there is one seat", one_holds_twice, QOLB_TICKET, 1, 3, BEFORE},
-    {"three want two seats twice", enters_twice, QOLB_TICKET, 2, 3, BEFORE},
-    {"three want two seats twice, and link", enters_twice, QOLB_LINK, 2, 3, BEFORE},
-    {"one stays", one_stays, QOLB_TICKET, 2, 3, BEFORE},
-    {"one stays, with one seat", one_stays, QOLB_TICKET, 1, 3, BEFORE},
-    {"two of three yield", two_yield, QOLB_TICKET, 2, 3, BEFORE},
-    {"two of three yield, and there is one seat", two_yield, QOLB_TICKET, 1, 3, BEFORE},
-    {"two are late beside one that yields", two_late_beside_one_that_yields, QOLB_TICKET, 1, 3, BEFORE},
-    {"one is late beside one that yields", one_late_beside_one_that_yields, QOLB_TICKET, 1, 3, BEFORE},
-    {"the last frees, and each yields", last_frees_and_yields, QOLB_TICKET, 2, 3, BEFORE},
-    {"nodes: three acquire", acquires_once, QOLB_TICKET, 3, 3, WITH_NODES},
-    {"nodes: three acquire, who link", acquires_once, QOLB_LINK, 3, 3, WITH_NODES},
-    {"nodes: two acquire twice", acquires_twice, QOLB_TICKET, 2, 2, WITH_NODES},
-    {"nodes: two acquire twice, and link", acquires_twice, QOLB_LINK, 2, 2, WITH_NODES},
-    {"nodes: two are late", acquires_in_time, QOLB_TICKET, 3, 3, WITH_NODES},
-    {"nodes: one is late and comes again", acquires_in_time_and_again, QOLB_TICKET, 2, 2, WITH_NODES},
-    {"nodes: one looks on", one_looks_on, QOLB_TICKET, 3, 3, WITH_NODES},
-    {"nodes: one withdraws", one_withdraws, QOLB_TICKET, 3, 3, WITH_NODES},
-    {"nodes: one shuts", one_shuts, QOLB_TICKET, 3, 3, WITH_NODES},
-    {"nodes: one shuts, and one looks on", one_shuts_and_one_looks_on, QOLB_TICKET, 3, 3, WITH_NODES},
-    {NULL, NULL, 0, 0, 0, 0},
+    {"each enters, at the first use", enters, QOLB_TICKET, 3, 2, AT_FIRST_USE, 0},
+    {"three enter", enters, QOLB_TICKET, 3, 3, BEFORE, 0},
+    {"three enter, who link", enters, QOLB_LINK, 2, 3, BEFORE, 0},
+    {"three want the only seat", enters, QOLB_TICKET, 1, 3, BEFORE, 0},
+    {"two want two seats twice, and link", enters_twice, QOLB_LINK, 2, 2, BEFORE, 0},
+    {"two want the only seat twice", enters_twice, QOLB_TICKET, 1, 2, BEFORE, 0},
+    {"two are late", is_late, QOLB_TICKET, 2, 3, BEFORE, 0},
+    {"three want the only seat, and one is late", one_is_late, QOLB_TICKET, 1, 3, BEFORE, 0},
+    {"three want the only seat, and two are late", is_late, QOLB_TICKET, 1, 3, BEFORE, 0},
+    {"one is late and comes again", is_late_and_comes_again, QOLB_TICKET, 2, 2, BEFORE, 0},
+    {"two are late and come again", is_late_and_comes_again, QOLB_TICKET, 2, 3, BEFORE, 0},
+    {"one tries", tries, QOLB_TICKET, 2, 3, BEFORE, 0},
+    {"one tries, and there is one seat", tries, QOLB_TICKET, 1, 3, BEFORE, 0},
+    {"the last tries", last_tries, QOLB_TICKET, 2, 3, BEFORE, 0},
+    {"the last tries, and there is one seat", last_tries, QOLB_TICKET, 1, 3, BEFORE, 0},
+    {"one shuts", shuts, QOLB_TICKET, 3, 3, BEFORE, 0},
+    {"one shuts, and there is one seat", shuts, QOLB_TICKET, 1, 3, BEFORE, 0},
+    {"the last frees", last_frees, QOLB_TICKET, 2, 3, BEFORE, 0},
+    {"the last frees, and there is one seat", last_frees, QOLB_TICKET, 1, 3, BEFORE, 0},
+    {"the last frees after more", last_frees_after_more, QOLB_TICKET, 2, 2, BEFORE, 0},
+    {"the last frees after more, one seat", last_frees_after_more, QOLB_TICKET, 1, 3, BEFORE, 0},
+    {"one closes", one_closes, QOLB_TICKET, 2, 2, BEFORE, 0},
+    {"one closes, and there is one seat", one_closes, QOLB_TICKET, 1, 2, BEFORE, 0},
+    {"two wait at a condition, one not for ever", waits, QOLB_TICKET, 3, 3, BEFORE, 0},
+    {"two wait at a condition, and there is one seat", waits, QOLB_TICKET, 1, 3, BEFORE, 0},
+    {"one closes beside a waiter", one_closes_beside_a_waiter, QOLB_TICKET, 2, 2, BEFORE, 0},
+    {"one closes beside a waiter, one seat", one_closes_beside_a_waiter, QOLB_TICKET, 1, 2, BEFORE, 0},
+    {"two wait at a condition until one shuts", waits_until_shut, QOLB_TICKET, 3, 3, BEFORE, 0},
+    {"one waits at a condition while one stays", waits_while_one_stays, QOLB_TICKET, 2, 2, BEFORE, 0},
+    {"one waits at a condition while one stays, one seat", waits_while_one_stays, QOLB_TICKET, 1, 2, BEFORE, 0},
+    {"enters again", enters_again, QOLB_TICKET, 2, 2, BEFORE, 0},
+    {"enters again, and there is one seat", enters_again, QOLB_TICKET, 1, 2, BEFORE, 0},
+    {"holds twice", one_holds_twice, QOLB_TICKET, 2, 3, BEFORE, 0},
+    {"holds twice, and there is one seat", one_holds_twice, QOLB_TICKET, 1, 3, BEFORE, 0},
+    {"three want two seats twice", enters_twice, QOLB_TICKET, 2, 3, BEFORE, 0},
+    {"three want two seats twice, and link", enters_twice, QOLB_LINK, 2, 3, BEFORE, 0},
+    {"one stays", one_stays, QOLB_TICKET, 2, 3, BEFORE, 0},
+    {"one stays, with one seat", one_stays, QOLB_TICKET, 1, 3, BEFORE, 0},
+    {"two of three yield", two_yield, QOLB_TICKET, 2, 3, BEFORE, 0},
+    {"two of three yield, and there is one seat", two_yield, QOLB_TICKET, 1, 3, BEFORE, 0},
+    {"two are late beside one that yields", two_late_beside_one_that_yields, QOLB_TICKET, 1, 3, BEFORE, 0},
+    {"one is late beside one that yields", one_late_beside_one_that_yields, QOLB_TICKET, 1, 3, BEFORE, 0},
+    {"the last frees, and each yields", last_frees_and_yields, QOLB_TICKET, 2, 3, BEFORE, 0},
+    {"bursts: enters again", enters_again, QOLB_TICKET, 2, 2, BEFORE, 2},
+    {"bursts: three enter", enters, QOLB_TICKET, 2, 3, BEFORE, 2},
+    {"bursts: two enter, at the first use", enters, QOLB_TICKET, 2, 2, AT_FIRST_USE, 2},
+    {"bursts: three enter twice", enters_twice, QOLB_TICKET, 2, 3, BEFORE, 2},
+    {"bursts: three with three seats enter twice", enters_twice, QOLB_TICKET, 3, 3, BEFORE, 2},
+    {"bursts: two enter thrice", enters_thrice, QOLB_TICKET, 2, 2, BEFORE, 4},
+    {"bursts: two stay long", one_stays_long, QOLB_TICKET, 2, 2, BEFORE, 4},
+    {"bursts: one stays", one_stays, QOLB_TICKET, 2, 3, BEFORE, 2},
+    {"bursts: one stays long", one_stays_long, QOLB_TICKET, 3, 3, BEFORE, 4},
+    {"bursts: one stays, three in a burst", one_stays, QOLB_TICKET, 3, 3, BEFORE, 3},
+    {"bursts: two link twice", enters_twice, QOLB_LINK, 2, 2, BEFORE, 2},
+    {"bursts: two are late", is_late, QOLB_TICKET, 2, 3, BEFORE, 2},
+    {"bursts: one is late and comes again", is_late_and_comes_again, QOLB_TICKET, 2, 2, BEFORE, 2},
+    {"bursts: two are late and come again", is_late_and_comes_again, QOLB_TICKET, 3, 3, BEFORE, 2},
+    {"bursts: one tries", tries, QOLB_TICKET, 2, 3, BEFORE, 2},
+    {"bursts: one shuts", shuts, QOLB_TICKET, 2, 3, BEFORE, 2},
+    {"bursts: the last frees", last_frees, QOLB_TICKET, 2, 3, BEFORE, 2},
+    {"bursts: one closes", one_closes, QOLB_TICKET, 2, 2, BEFORE, 2},
+    {"bursts: two wait at a condition, one not for ever", waits, QOLB_TICKET, 3, 3, BEFORE, 2},
+    {"bursts: two wait at a condition until one shuts", waits_until_shut, QOLB_TICKET, 2, 3, BEFORE, 2},
+    {"bursts: holds twice", one_holds_twice, QOLB_TICKET, 2, 3, BEFORE, 2},
+    {"nodes: three acquire", acquires_once, QOLB_TICKET, 3, 3, WITH_NODES, 0},
+    {"nodes: three acquire, who link", acquires_once, QOLB_LINK, 3, 3, WITH_NODES, 0},
+    {"nodes: two acquire twice", acquires_twice, QOLB_TICKET, 2, 2, WITH_NODES, 0},
+    {"nodes: two acquire twice, and link", acquires_twice, QOLB_LINK, 2, 2, WITH_NODES, 0},
+    {"nodes: two are late", acquires_in_time, QOLB_TICKET, 3, 3, WITH_NODES, 0},
+    {"nodes: one is late and comes again", acquires_in_time_and_again, QOLB_TICKET, 2, 2, WITH_NODES, 0},
+    {"nodes: one looks on", one_looks_on, QOLB_TICKET, 3, 3, WITH_NODES, 0},
+    {"nodes: one withdraws", one_withdraws, QOLB_TICKET, 3, 3, WITH_NODES, 0},
+    {"nodes: one shuts", one_shuts, QOLB_TICKET, 3, 3, WITH_NODES, 0},
+    {"nodes: one shuts, and one looks on", one_shuts_and_one_looks_on, QOLB_TICKET, 3, 3, WITH_NODES, 0},
+    {NULL, NULL, 0, 0, 0, 0, 0},
 };
 
 /* Before each run all is as at the start of the program. */
@@ -382,8 +420,8 @@ void set_up(const struct scene *scene) {
     qolb_node nodes[THREADS] = {{0}};
     memset(qolb_bells_, 0, sizeof qolb_bells_), memset(&it, 0, sizeof it), memset(order, 0, sizeof order);
     qolb_own_ = (struct own){0, 0, 0}, time_of_order = 0;
-    it.lock.kind = scene->kind, it.lock.seats = scene->seats, it.users = scene->threads;
-    if (scene->opens == BEFORE) MUST(qolb_lock_open(&it.lock, scene->kind, 0, scene->seats, &zeros) == QOLB_DONE);
+    it.lock.kind = scene->kind, it.lock.seats = scene->seats + BURST * scene->burst, it.users = scene->threads;
+    if (scene->opens == BEFORE) MUST(qolb_lock_open(&it.lock, scene->kind, 0, it.lock.seats, &zeros) == QOLB_DONE);
     if (scene->opens != WITH_NODES) return;
     MUST(qolb_open(scene->kind, 0, (uint64_t)scene->threads, QOLB_NO_LEASE, &zeros, nodes, THREADS) == QOLB_DONE);
     for (int k = 0; k < scene->threads; k++) it.of[k].node = nodes[k];
@@ -391,8 +429,9 @@ void set_up(const struct scene *scene) {
 
 static void check_hall(struct hall *hall) {
     MUST(!hall->waits && !hall->first && !hall->last && !hall->at_door && !hall->guests && !hall->sleepers && !hall->guard);
-    for (unsigned k = 0; k < hall->seats; k++) MUST(hall->seat[k]->holder == 0 && (hall->gate == OPEN || hall->seat[k]->state == FREE));
-    MUST(hall->gate == QUEUED_UP || hall->gate == OPEN);
+    for (unsigned k = 0; k < hall->seats; k++) MUST(hall->seat[k]->holder == 0 && (hall->gate & OPEN || hall->seat[k]->state == FREE));
+    MUST(hall->gate == QUEUED_UP || hall->gate == OPEN || (hall->burst && (hall->gate - OPEN) % NUMBER <= WAITED && !in_of(hall->gate)));
+    MUST(!hall->keepers);
 }
 
 /* All threads have ended. */
