@@ -1,5 +1,5 @@
 /* Times entering and leaving a lock that no other thread wants, by one thread: a qolb_lock beside a node of the same line (qolb_acquire and
- * qolb_deqolb); a lock as it is by default, also while a thread waits at its condition; a pthread_mutex, and with -DMCS, which needs Debian's package
+ * qolb_deqolb); a lock as it is by default, also while a thread waits at its condition; one with bursts; a pthread_mutex, and with -DMCS, which needs Debian's package
  * libck-dev, Concurrency Kit's MCS lock. The program has a second thread. With an older library there is no default lock.
  *
  *   cc -std=c11 -O2 -pthread -Iinclude bench/enter.c crates/qolb_c/out/libqolb.a -o enter && ./enter [BATCHES]
@@ -24,8 +24,8 @@ static ck_spinlock_mcs_context_t context;
 enum { ROUNDS = 10000, MAX_BATCHES = 10001 };
 
 static _Alignas(QOLB_NODE_ALIGN) qolb_node nodes[QOLB_KINDS];
-/* Of each kind, the default, and the default with a thread at its condition. */
-enum { DEFAULT = QOLB_KINDS, WAITED, LOCKS };
+/* Of each kind, the default, the default with a thread at its condition, and one with bursts. */
+enum { DEFAULT = QOLB_KINDS, WAITED, BURSTS, LOCKS };
 static _Alignas(QOLB_NODE_ALIGN) qolb_lock locks[LOCKS];
 static qolb_cond cond = QOLB_COND_INIT;
 static pthread_mutex_t mutex = PTHREAD_MUTEX_INITIALIZER;
@@ -46,7 +46,7 @@ ROUNDS_OF(mutex, pthread_mutex_lock(&mutex) != 0, pthread_mutex_unlock(&mutex) !
 ROUNDS_OF(mcs, (ck_spinlock_mcs_lock(&mcs, &context), 0), (ck_spinlock_mcs_unlock(&mcs, &context), 0))
 #endif
 
-enum { MAX_WAYS = 2 * QOLB_KINDS + 4 };
+enum { MAX_WAYS = 2 * QOLB_KINDS + 5 };
 
 static struct way {
     char name[32];
@@ -73,6 +73,9 @@ static void add_ways(void) {
 #ifdef QOLB_LOCK_INIT_DEFAULT
     add_way(rounds_of_lock, DEFAULT, "%s", "default");
     add_way(rounds_of_lock, WAITED, "%s", "default, one waits");
+#endif
+#ifdef QOLB_LOCK_INIT_BURSTS
+    add_way(rounds_of_lock, BURSTS, "%s", "bursts of 1,024");
 #endif
     add_way(rounds_of_mutex, 0, "%s", "pthread_mutex");
 #ifdef MCS
@@ -102,6 +105,9 @@ static void opens(void) {
     }
 #ifdef QOLB_LOCK_INIT_DEFAULT
     locks[DEFAULT] = locks[WAITED] = (qolb_lock)QOLB_LOCK_INIT_DEFAULT;
+#endif
+#ifdef QOLB_LOCK_INIT_BURSTS
+    locks[BURSTS] = (qolb_lock)QOLB_LOCK_INIT_BURSTS(QOLB_LINK, 4, 1024);
 #endif
 }
 

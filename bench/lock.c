@@ -1,12 +1,12 @@
 /* Turns at one lock, by threads that each want it again and again: how many a second, and the longest wait. And a table of locks that one thread enters at random.
  *
  *   cc -std=c11 -O2 -pthread -Iinclude bench/lock.c crates/qolb_c/out/libqolb.a -o lock
- *   ./lock NAME THREADS MICROSECONDS SECONDS       prints turns a second and the longest wait in microseconds
+ *   ./lock NAME THREADS MICROSECONDS[s] SECONDS    prints turns a second and the longest wait in microseconds
  *   ./lock NAME table LOCKS ROUNDS                 prints nanoseconds a round, and bytes of heap of each lock
  *
- * NAME is default, ring, link or ticket with a number of seats (link:4), node:ring, node:link or node:ticket, with a node for each thread, mutex, or with -DMCS, which needs
- * Debian's package libck-dev, mcs. The holder keeps its processor busy for MICROSECONDS, and adds 1 to a number. With an older library there is no
- * default. bench/locks runs it. */
+ * NAME is default, ring, link or ticket with a number of seats (link:4) and perhaps of turns of a burst (link:4+1024), node:ring, node:link or node:ticket, with a
+ * node for each thread, mutex, or with -DMCS, which needs Debian's package libck-dev, mcs. The holder keeps its processor busy for MICROSECONDS, or with an s
+ * sleeps so long, and adds 1 to a number. With an older library there is no default, and no burst. bench/locks and bench/bursts run it. */
 #define _DEFAULT_SOURCE
 #include "kinds.h"
 #include <malloc.h>
@@ -51,7 +51,7 @@ static struct { _Alignas(QOLB_NODE_ALIGN) struct object object; } only;
 static struct { _Alignas(QOLB_NODE_ALIGN) uint64_t number; } counted;
 static struct worker workers[MOST];
 static atomic_int begins, over;
-static uint64_t busy;
+static uint64_t busy, asleep;
 
 static void enter(struct object *it, struct worker *me) {
     if (way == BY_LOCK && qolb_lock_enter(&it->lock) != QOLB_GRANTED) abort();
@@ -83,17 +83,25 @@ static void *works(void *argument) {
     uint64_t asked = 0;
     while (!atomic_load(&begins)) sched_yield();
     while (!atomic_load_explicit(&over, memory_order_relaxed)) {
-        int timed = busy || me->turns % 64 == 0;
+        int timed = busy || asleep || me->turns % 64 == 0;
         if (timed) asked = now();
         enter(&only.object, me);
         uint64_t came = timed ? now() : 0;
         while (busy && now() - came < busy) {}
+        if (asleep) usleep((useconds_t)(asleep / 1000));
         counted.number++;
         leave(&only.object, me);
         if (timed && came - asked > me->longest) me->longest = came - asked;
         me->turns++;
     }
     return NULL;
+}
+
+/* A number of seats, or one with the turns of a burst, which older libraries refuse. */
+static uint32_t seats_of(const char *text) {
+    char *rest;
+    uint32_t seats = (uint32_t)strtoul(text, &rest, 10);
+    return *rest == '+' ? seats + ((uint32_t)strtoul(rest + 1, NULL, 10) << 16) : seats;
 }
 
 /* Returns whether there is a lock of this name. */
@@ -105,7 +113,7 @@ static int take_lock(const char *name) {
     for (uint32_t kind = 0; kind < QOLB_KINDS; kind++) {
         const char *named = qolb_kind_name(kind);
         size_t length = strlen(named);
-        if (strncmp(name, named, length) == 0 && name[length] == ':') return as = (qolb_lock)QOLB_LOCK_INIT_OF(kind, (uint32_t)atoi(name + length + 1)), 1;
+        if (strncmp(name, named, length) == 0 && name[length] == ':') return as = (qolb_lock)QOLB_LOCK_INIT_OF(kind, seats_of(name + length + 1)), 1;
         as.kind = kind;
         if (strncmp(name, "node:", 5) == 0 && strcmp(name + 5, named) == 0) return way = BY_NODE, 1;
     }
@@ -178,6 +186,7 @@ int main(int argc, char **argv) {
     if (strcmp(argv[2], "table") == 0) return of_a_table((size_t)atol(argv[3]), (size_t)atol(argv[4]));
     int threads = atoi(argv[2]);
     if (threads < 1 || threads > MOST) return 2;
-    busy = (uint64_t)(atof(argv[3]) * 1e3);
+    uint64_t *lasts = strchr(argv[3], 's') ? &asleep : &busy;
+    *lasts = (uint64_t)(atof(argv[3]) * 1e3);
     return turns(threads, atof(argv[4]));
 }

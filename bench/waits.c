@@ -3,8 +3,8 @@
 //
 //   clang -O3 -march=x86-64-v2 -pthread -o waits bench/waits.c && ./waits THREADS MICROSECONDS SECONDS
 //
-// With -DNODES it is a line of the C library whose threads have a node each (qolb_acquire), and with -DLOCK a qolb_lock. Both sleep at the
-// library's bells:
+// With -DNODES it is a line of the C library whose threads have a node each (qolb_acquire), and with -DLOCK a qolb_lock, or with -DBURSTS=TURNS too one with bursts.
+// Both sleep at the library's bells:
 //
 //   make -C include library
 //   clang -O3 -march=x86-64-v2 -pthread -DLOCK -Iinclude -o waits bench/waits.c crates/qolb_c/out/libqolb.a
@@ -74,7 +74,11 @@ static _Alignas(128) qolb_lock lock;
 struct port {
     char unused;
 };
+#ifdef BURSTS
+static void open_lock(int threads) { lock = (qolb_lock)QOLB_LOCK_INIT_BURSTS(QOLB_LINK, 4, BURSTS), (void)threads; }
+#else
 static void open_lock(int threads) { lock = (qolb_lock)QOLB_LOCK_INIT((uint32_t)threads); }
+#endif
 static void open_port(struct port *p, int thread) { (void)p, (void)thread; }
 static void close_port(struct port *p, int thread) { (void)p, (void)thread; }
 static uint64_t last_lane(void) { return lane; }
