@@ -1,11 +1,13 @@
 /* Bells, at which threads sleep that wait for a lock or for a node's turn, and the clock of their time limits. One of the library's internal files.
  *
  * Each place at which a node of a line waits has a bell, and so has the door of each lock, for threads that want a seat. A waiter adds itself to the
- * bell's sleepers, and to a count of more: of all that sleep for its lock, or of all with nodes of their own. It reads the bell's word, checks once
- * more for its turn or seat, and sleeps while the word is unchanged. A waker first makes its change, and then loads that count; if it is not 0, the
- * waker loads the sleepers of the few bells that it has to ring. Each step is sequentially consistent, but for those of leave_hall, in lock.c. So one
- * of the two sees the other: a Dekker handshake. tools/bells.py goes through all orders of these steps, and through those of protocols that differ by
- * one step; tools/seats.py runs these files themselves, on a model of the processor's memory.
+ * bell's sleepers, and to counts of more: of all that wait for its lock; or, with a node of its own, of all that wait for its line, and of all such. It
+ * reads the bell's word, checks once more for its turn or seat, and sleeps while the word is unchanged. A waker first makes its change, and then loads
+ * those counts, the one of most first; if none is 0, the waker loads the sleepers of the few bells that it has to ring. Each step is sequentially
+ * consistent, but for those of leave_hall, in lock.c. So one of the two sees the other: a Dekker handshake. tools/bells.py goes through all orders of
+ * these steps, and through those of protocols that differ by one step; tools/seats.py runs these files themselves, on a model of the processor's memory.
+ *
+ * A waiter without a thread has a notice in the bell's list in place of a sleeper: the waker makes its call (notify.c).
  *
  * The bells are in the library and not in the opened lines. So ringing touches nothing that the next holder may have freed; and all callers of one
  * library ring the same bells, in any language, from the program or from a library that it opened at run time. */
@@ -73,7 +75,12 @@ enum { BELLS = 1024 };
 enum { PLACE_WORDS = 16 };
 
 struct bell {
-    _Alignas(APART) atomic_uint sleepers, word;
+    _Alignas(APART) atomic_uint sleepers;
+    atomic_uint in_line;            /* of the lines whose first bell this is: the number of their nodes that sleep, or have a notice in a list */
+    _Atomic(struct notice *) first; /* of the notices in the bell's list; written under the guard */
+    _Alignas(APART) atomic_uint word;
+    atomic_uint guard, ended; /* the second: the number of calls that ended and another thread waited for */
+    struct running *running;  /* the calls of notices that run, under the guard */
 };
 
 extern HIDDEN struct bell qolb_bells_[BELLS];
@@ -89,20 +96,61 @@ static inline void ring(struct bell *bell) {
     if (atomic_load(&bell->sleepers)) qolb_toll_(bell);
 }
 
+/* ---- Notices (notify.c) ---- */
+
+/* A wish for a call when a place of a line is reached, in the list of that place's bell. */
+struct notice {
+    struct notice *next, **before; /* `before` is NULL while it is in no list */
+    uint64_t key;                  /* of line and place: lines that share a bell make no calls for each other */
+    void (*call)(void *);          /* NULL if none is wanted since the last off; written by the node's caller alone */
+    void *arg;
+    atomic_uint *in_line, *in_all; /* the counts that have it while it is in a list; written once. The second may be NULL */
+};
+
+_Static_assert(sizeof(struct notice) <= NOTICE_BYTES, "a notice is in its node's block");
+
+/* The same for two lines only if 2^32 lines were opened between them. */
+static inline uint64_t key_of(const qolb_node *node, uint64_t word) { return (uint64_t)*first_bell_of(node) << 32 | (uint32_t)word; }
+
+static inline struct bell *bell_of_key(uint64_t key) { return &qolb_bells_[((uint32_t)(key >> 32) + (uint32_t)key / PLACE_WORDS) % BELLS]; }
+
+/* Puts the notice into the list of the place at which the node waits, and polls: WAITING, and its call will be made; any other answer, and it will not. */
+HIDDEN uint32_t qolb_listen_(struct notice *notice, qolb_node *node);
+
+/* Takes the notice out of its list: WITHDRAWN. If it was in none: DONE, after the calls of it that run in other threads. */
+HIDDEN uint32_t qolb_unlist_(struct notice *notice);
+
+/* Makes the call of the notice with this key, if the list has one. If the calling thread is in such a call, then after that. */
+HIDDEN void qolb_make_call_(struct bell *bell, uint64_t key);
+
+/* ---- Ringing ---- */
+
 /* The bells to be rung by a node that has released its line: that of the next holder, and that of the waiter behind it, which can wake up during
  * the holder's turn. If there is none, a bell at which no waiter of the line sleeps. */
 struct next {
     struct bell *holder, *ahead;
+    uint64_t key; /* of the holder's place */
 };
 
 static inline struct next next_of(qolb_node *node) {
-    struct next next = {bell_at(node, qolb_went_to_proved_(node)), bell_at(node, qolb_went_ahead_proved_(node))};
+    uint64_t word = qolb_went_to_proved_(node);
+    struct next next = {bell_at(node, word), bell_at(node, qolb_went_ahead_proved_(node)), key_of(node, word)};
     return next;
 }
 
-static inline void ring_for(struct next next) {
+static inline void wake_for(struct next next) {
     ring(next.holder);
     ring(next.ahead);
+}
+
+static inline void call_for(struct next next) {
+    if (atomic_load(&next.holder->first)) qolb_make_call_(next.holder, next.key);
+}
+
+/* The call comes last, as it may take a while. */
+static inline void ring_for(struct next next) {
+    wake_for(next);
+    call_for(next);
 }
 
 #endif

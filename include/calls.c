@@ -2,16 +2,26 @@
  * holder reads and writes the line, and every call that would change the node's state is misuse: its lock would not know of it. Only opening and
  * closing write to a handle, so threads may have theirs side by side, as qolb_open writes them.
  *
- * The calls that wait for a turn are here, too, and all that release a line ring its bells (bells.h). This is tested, not proved. So is the memory
- * of an open line beside its table. */
+ * The calls that wait for a turn are here, too, and those by which a node is told of its turn (notify.c). All that release a line ring its bells
+ * (bells.h). This is tested, not proved. So is the memory of an open line beside its table. */
 #define _GNU_SOURCE
 #include "bells.h"
+#include <errno.h>
 #include <sched.h>
+#include <unistd.h>
+#ifdef __linux__
+#include <sys/syscall.h>
+#endif
 
 /* The longest sleep of a busy node in nanoseconds: no call rings for it. */
 enum { NAP = 200000 };
 
 /* ---- Opening ---- */
+
+/* The number of nodes that sleep at bells or have a notice in a list, of any line that is no lock's. A release loads it, and nothing more while it is 0. */
+static struct {
+    _Alignas(APART) atomic_uint waiting;
+} anywhere;
 
 /* The first bells of lines that are opened one after another are far apart: the next is behind this one by the golden part of all bells. */
 enum { NEXT_BELLS = 633 };
@@ -21,26 +31,29 @@ uint32_t qolb_open(uint32_t kind, uint64_t label, uint64_t nodes, uint64_t lease
     uint32_t got = qolb_open_proved_(kind, label, nodes, lease, opening, out, handles);
     if (got != QOLB_DONE) return got;
     uint32_t bell = atomic_fetch_add(&drawn, NEXT_BELLS);
-    for (uint64_t k = 0; k < nodes; k++) *first_bell_of(&out[k]) = bell;
+    for (uint64_t k = 0; k < nodes; k++) {
+        *first_bell_of(&out[k]) = bell;
+        *notice_of(&out[k]) = (struct notice){.in_line = &qolb_bells_[bell % BELLS].in_line, .in_all = &anywhere.waiting};
+    }
     return got;
 }
 
 /* ---- Releasing a line ---- */
 
-/* The number of sleepers at bells with a node of their own, for any line. A release loads it, and nothing more while it is 0. */
-static struct {
-    _Alignas(APART) atomic_uint sleepers;
-} anywhere;
-
-/* After a misuse there may be no node. */
 __attribute__((noinline)) static uint32_t rung(qolb_node *node, uint32_t got) {
-    if (got != QOLB_MISUSE) ring_for(next_of(node));
+    ring_for(next_of(node));
     return got;
 }
 
+/* The number of the line's nodes among those, and of nodes of the few lines that have the same first bell. */
+static inline atomic_uint *waiting_in_line(const qolb_node *node) { return notice_of(node)->in_line; }
+
+/* After a misuse there may be no node. */
+static inline int rings(const qolb_node *node, uint32_t got) { return got != QOLB_MISUSE && atomic_load(waiting_in_line(node)); }
+
 /* The answer of a call that released the line. The load is behind the release: the proved call hands the line over by an instruction that no load
  * passes. */
-static inline uint32_t let_go(qolb_node *node, uint32_t got) { return atomic_load(&anywhere.sleepers) ? rung(node, got) : got; }
+static inline uint32_t let_go(qolb_node *node, uint32_t got) { return atomic_load(&anywhere.waiting) && rings(node, got) ? rung(node, got) : got; }
 
 /* The answer of any other call. A node that is told that the line is closed has forwarded it. */
 static inline uint32_t told(qolb_node *node, uint32_t got) { return got == QOLB_CLOSED ? let_go(node, got) : got; }
@@ -64,7 +77,17 @@ uint32_t qolb_wait(qolb_node *node, uint64_t polls) {
 
 uint32_t qolb_clear(qolb_node *node) { return qolb_is_lent_(node) ? (uint32_t)QOLB_MISUSE : qolb_clear_proved_(node); }
 
-uint32_t qolb_close(qolb_node *node) { return qolb_is_lent_(node) ? (uint32_t)QOLB_MISUSE : qolb_close_proved_(node); }
+static int may_close(qolb_node *node) {
+    uint32_t state = qolb_state_proved_(node);
+    return state == QOLB_STATE_IDLE || state == QOLB_STATE_LEFT || state == QOLB_STATE_ROLLED || state == QOLB_STATE_SHUT;
+}
+
+/* Its notice is in the node's block. */
+uint32_t qolb_close(qolb_node *node) {
+    if (qolb_is_lent_(node)) return QOLB_MISUSE;
+    if (may_close(node)) qolb_notify_off(node);
+    return qolb_close_proved_(node);
+}
 
 /* ---- Waiting for a turn ---- */
 
@@ -82,12 +105,14 @@ static uint32_t look_a_while(qolb_node *node, const struct limit *limit) {
 static uint32_t sleep_at_bell(qolb_node *node, const struct limit *limit) {
     struct bell *bell = bell_at(node, qolb_waits_at_proved_(node));
     atomic_fetch_add(&bell->sleepers, 1);
-    atomic_fetch_add(&anywhere.sleepers, 1);
+    atomic_fetch_add(waiting_in_line(node), 1);
+    atomic_fetch_add(&anywhere.waiting, 1);
     unsigned word = atomic_load(&bell->word);
     uint32_t got = qolb_poll_proved_(node);
     uint64_t time = got == QOLB_WAITING ? left(limit) : 0;
     if (time) qolb_sleep_at_(&bell->word, word, time);
-    atomic_fetch_sub(&anywhere.sleepers, 1);
+    atomic_fetch_sub(&anywhere.waiting, 1);
+    atomic_fetch_sub(waiting_in_line(node), 1);
     atomic_fetch_sub(&bell->sleepers, 1);
     return got;
 }
@@ -142,6 +167,42 @@ static inline uint32_t acquire(qolb_node *node, uint64_t nanoseconds) {
 uint32_t qolb_acquire(qolb_node *node) { return acquire(node, FOR_EVER); }
 
 uint32_t qolb_acquire_within(qolb_node *node, uint64_t nanoseconds) { return acquire(node, nanoseconds); }
+
+/* ---- Being told of a turn (notify.c) ---- */
+
+uint32_t qolb_notify(qolb_node *node, void (*call)(void *), void *arg) {
+    if (qolb_is_lent_(node) || !call || qolb_state_proved_(node) != QOLB_STATE_QUEUED) return QOLB_MISUSE;
+    struct notice *notice = notice_of(node);
+    qolb_notify_off(node);
+    notice->call = call;
+    notice->arg = arg;
+    uint32_t got = qolb_listen_(notice, node);
+    if (got != QOLB_WAITING) notice->call = NULL;
+    return told(node, got);
+}
+
+uint32_t qolb_notify_off(qolb_node *node) {
+    if (qolb_is_lent_(node) || !node->own) return QOLB_MISUSE;
+    struct notice *notice = notice_of(node);
+    if (!notice->call) return QOLB_DONE;
+    uint32_t got = qolb_unlist_(notice);
+    notice->call = NULL;
+    return got;
+}
+
+/* By syscall, which is no cancellation point, as write is. The thread that releases the line keeps its errno. */
+static void add_to_descriptor(void *fd) {
+    uint64_t one = 1;
+    int error = errno;
+#ifdef __linux__
+    syscall(SYS_write, (int)(intptr_t)fd, &one, sizeof one);
+#else
+    (void)!write((int)(intptr_t)fd, &one, sizeof one);
+#endif
+    errno = error;
+}
+
+uint32_t qolb_notify_fd(qolb_node *node, int fd) { return qolb_notify(node, add_to_descriptor, (void *)(intptr_t)fd); }
 
 /* ---- The others ---- */
 

@@ -9,6 +9,7 @@ enum {
     LINE_BYTES = 112, /* of the block with the line, which all nodes share, and the count of those that do */
     NODE_BYTES = 160, /* of the block of each node, to which its handle points */
     SEAT_BYTES = 40,  /* behind a node's data, for a lock's seat */
+    NOTICE_BYTES = 56, /* in its place, for the notice of a node that is no lock's */
     GAP_BYTES = QOLB_NODE_ALIGN
 };
 
@@ -39,7 +40,8 @@ struct room {
 
 extern BY_THREAD __attribute__((visibility("hidden"))) struct room qolb_room_;
 
-_Static_assert(NODE_BYTES % GAP_BYTES + SEAT_BYTES + sizeof(uint32_t) + sizeof(struct before) <= GAP_BYTES && SEAT_BYTES <= GAP_BYTES / 2, "all has room there");
+_Static_assert(SEAT_BYTES <= GAP_BYTES / 2 && NOTICE_BYTES <= GAP_BYTES / 2, "both are before the number");
+_Static_assert(NODE_BYTES % GAP_BYTES + GAP_BYTES / 2 + sizeof(uint32_t) + sizeof(struct before) <= GAP_BYTES, "all has room there");
 
 /* The first bytes behind a node's data. */
 static inline void *behind(const qolb_node *node) { return (char *)node->own + NODE_BYTES; }
@@ -48,5 +50,8 @@ static inline void *behind(const qolb_node *node) { return (char *)node->own + N
  * the handle or in the proved part has room for it. It is in the middle of the gap behind the node's data: if NODE_BYTES is
  * wrong, it does no harm until c_examples/memory.c reports that. */
 static inline uint32_t *first_bell_of(const qolb_node *node) { return (uint32_t *)((char *)node->own + NODE_BYTES + GAP_BYTES / 2); }
+
+/* The node's notice (bells.h), before that number. A node of a lock has its seat there, and no notice. */
+static inline struct notice *notice_of(const qolb_node *node) { return behind(node); }
 
 #endif

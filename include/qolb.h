@@ -164,7 +164,7 @@
  *
  * Leaving a lock does the same, and wakes the first thread at its door, and the one behind it. In a burst it wakes only the thread that watches.
  *
- * No call wakes the thread of a busy node. That thread makes its request again 16 times, yields the processor in between, and then every 200 us.
+ * No call wakes the thread of a busy node, and no notification tells of its end. That thread makes its request again 16 times, yields the processor in between, and then every 200 us.
  *
  * A granted line is its node's, even if the node has not polled: all nodes behind wait until its thread has woken up and had its turn.
  *
@@ -173,6 +173,37 @@
  * No wait is a cancellation point. A thread that is cancelled while it waits goes on waiting, is granted the line or is late, and ends at its next
  * cancellation point: so it leaves no request in the queue that would block the line. A thread that may be cancelled at any instruction
  * (PTHREAD_CANCEL_ASYNCHRONOUS) must make no call.
+ *
+ * EVENT LOOPS
+ *
+ * A thread that serves many tasks, as an event loop does, must not wait for one of them. qolb_enqolb, qolb_poll and qolb_withdraw never wait, and
+ * qolb_notify tells when the request is at its turn. Here an eventfd tells it, which epoll, poll or io_uring watches:
+ *
+ *     uint32_t got = qolb_enqolb(&node);
+ *     if (got == QOLB_QUEUED) got = qolb_notify_fd(&node, fd);   // WAITING: fd will be readable; then read it, and call qolb_notify_fd again
+ *     if (got == QOLB_GRANTED) turn(&node);                      // and qolb_deqolb
+ *
+ * To give up: qolb_notify_off, then qolb_withdraw, and if that answers GRANTED, qolb_deqolb. No step of it waits for a turn of another node.
+ *
+ * A notification is one call, `call(arg)`. The thread that releases the line makes it, after the release and inside the call that released, under whatever locks
+ * that thread holds. So:
+ *
+ * - The call passes the news on: it sets a flag, makes a task ready, writes to a descriptor. It does not wait for another thread. It does not throw, jump
+ *   out or end the thread. The thread is not cancelled in it.
+ * - The call may use any node that its thread may use, by calls that do not wait. A release in it makes its own calls later: after this one has returned, or,
+ *   if 32 others are already put off, at once.
+ * - qolb_notify, qolb_notify_fd, qolb_notify_off and qolb_close wait until a call of the same node that another thread is in has returned, or has said
+ *   qolb_notify_done. So a call says that before it takes a lock under which such a call is made, before it resumes a coroutine, and before it makes one of
+ *   these four calls itself.
+ * - A call may be early, though this is rare: then the request still waits. Call qolb_notify again, which polls and wants another call in one step.
+ * - A call may be late: if the node was granted its turn by qolb_poll, the call is still made, until qolb_notify_off. Whatever `arg` is must last until then.
+ * - A descriptor is taken off before it is closed, or the number of another file may be written to.
+ * - Not from a signal handler. After a fork the child has the wish too: a release in the child writes to the parent's eventfd.
+ *
+ * A release that finds somebody registered may wait for the guard of a bell, for as long as another thread takes to change a list there: a few instructions,
+ * unless that thread loses the processor. While nodes of other lines are registered, a release takes some ten instructions more.
+ *
+ * The sanitizer of threads is told that what was done before qolb_notify comes before the call, and the call before what follows qolb_notify_off.
  *
  * BUSY
  *
@@ -233,7 +264,7 @@
 /* The version of this header. QOLB_VERSION is one number, 10000 for each major version, 100 for each minor one; qolb_version() returns that of the
  * library that the program runs with. */
 #define QOLB_VERSION_MAJOR 1
-#define QOLB_VERSION_MINOR 7
+#define QOLB_VERSION_MINOR 8
 #define QOLB_VERSION_PATCH 0
 #define QOLB_VERSION (QOLB_VERSION_MAJOR * 10000 + QOLB_VERSION_MINOR * 100 + QOLB_VERSION_PATCH)
 
@@ -378,7 +409,23 @@ uint32_t qolb_deqolb(qolb_node *node);
 /* Releases the line and closes it: no later request is served. In the state HOLDING: DONE. Else MISUSE. */
 uint32_t qolb_shut(qolb_node *node);
 
-/* Frees the node and empties the handle. In the states IDLE, LEFT, ROLLED, SHUT: DONE. Else MISUSE. The last node frees the line. */
+/* Has `call(arg)` called once, when the request is at its turn or the line is closed (EVENT LOOPS, above). In the state QUEUED: WAITING, and the call will be
+ * made; GRANTED or CLOSED, as of qolb_poll, and it will not. Else MISUSE, also if `call` is null. A second wish of a node replaces the first. Waits
+ * as qolb_notify_off does, and for nothing else. */
+uint32_t qolb_notify(qolb_node *node, void (*call)(void *arg), void *arg) QOLB_LOOK;
+
+/* Has 1 added once to the eventfd `fd`, when qolb_notify would make its call. The same answers. Take it off before you close `fd`. */
+uint32_t qolb_notify_fd(qolb_node *node, int fd) QOLB_LOOK;
+
+/* Takes the node's wish for a call back. The request stays. WITHDRAWN: the call was not made, and will not be. DONE: none was wanted, or it was made; it
+ * waits until that call has returned, or has said qolb_notify_done, unless the calling thread is in it. MISUSE for an empty handle and for a lent node. */
+uint32_t qolb_notify_off(qolb_node *node);
+
+/* Says, in a notification's call, that from here on nobody has to wait for it: it does not touch its `arg` any more. Elsewhere it does nothing. */
+void qolb_notify_done(void);
+
+/* Frees the node and empties the handle. In the states IDLE, LEFT, ROLLED, SHUT: DONE, after qolb_notify_off. Else MISUSE. The last node frees the
+ * line. */
 uint32_t qolb_close(qolb_node *node);
 
 /* The node's number, from 1; 0 for an empty handle. */
@@ -511,6 +558,10 @@ QOLB_LOOK static inline uint32_t qolb_acquire_within_(qolb_node *node, uint64_t 
 QOLB_LOOK static inline uint32_t qolb_withdraw_(qolb_node *node) { return qolb_took_(node, qolb_withdraw(node)); }
 QOLB_LOOK static inline uint32_t qolb_prepend_(qolb_node *node) { return qolb_took_(node, qolb_prepend(node)); }
 QOLB_LOOK static inline uint32_t qolb_link_(qolb_node *node) { return qolb_took_(node, qolb_link(node)); }
+QOLB_LOOK static inline uint32_t qolb_notify_(qolb_node *node, void (*call)(void *arg), void *arg) {
+    return qolb_took_(node, qolb_notify(node, call, arg));
+}
+QOLB_LOOK static inline uint32_t qolb_notify_fd_(qolb_node *node, int fd) { return qolb_took_(node, qolb_notify_fd(node, fd)); }
 static inline uint32_t qolb_deqolb_(qolb_node *node) { return qolb_gives_(node), qolb_deqolb(node); }
 static inline uint32_t qolb_shut_(qolb_node *node) { return qolb_gives_(node), qolb_shut(node); }
 
@@ -553,6 +604,8 @@ QOLB_LOOK static inline uint32_t qolb_cond_wait_within_(qolb_cond *cond, qolb_lo
 #define qolb_withdraw qolb_withdraw_
 #define qolb_prepend qolb_prepend_
 #define qolb_link qolb_link_
+#define qolb_notify qolb_notify_
+#define qolb_notify_fd qolb_notify_fd_
 #define qolb_deqolb qolb_deqolb_
 #define qolb_shut qolb_shut_
 #endif

@@ -151,6 +151,10 @@ class Node {
     QOLB_NODISCARD qolb_answer withdraw() { return answer(qolb_withdraw(&node_)); }
     QOLB_NODISCARD qolb_answer prepend() { return answer(qolb_prepend(&node_)); }
     QOLB_NODISCARD qolb_answer link() { return answer(qolb_link(&node_)); }
+    // Have a call made, or 1 added to an eventfd, when the request is at its turn (EVENT LOOPS in qolb.h).
+    QOLB_NODISCARD qolb_answer notify(void (*call)(void *arg), void *arg) { return answer(qolb_notify(&node_, call, arg)); }
+    QOLB_NODISCARD qolb_answer notify_fd(int fd) { return answer(qolb_notify_fd(&node_, fd)); }
+    qolb_answer notify_off() { return answer(qolb_notify_off(&node_)); }
     qolb_answer read(qolb_bytes &out) { return answer(qolb_read(&node_, &out)); }
     qolb_answer write(std::uint64_t mask, const qolb_bytes &bytes) { return answer(qolb_write(&node_, mask, &bytes)); }
     qolb_answer read_lane(std::uint64_t lane, std::uint64_t &out) { return answer(qolb_read_lane(&node_, lane, &out)); }

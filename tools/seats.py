@@ -1,5 +1,5 @@
 #!/usr/bin/env python3
-"""Explores runs of the C library's own files, of locks and of nodes (include/lock.c, gate.c, door.c, conditions.c, calls.c and bells.c), with two and three
+"""Explores runs of the C library's own files, of locks and of nodes (include/lock.c, gate.c, door.c, conditions.c, calls.c, notify.c and bells.c), with two and three
 threads that use a lock or have a node each, on a model of the processor's memory (tools/seats).
 
 tools/seats.py [MOST] [--scene BEGINNING ..] [--fault WORDS | --no-faults] [--jobs 2]
@@ -28,9 +28,13 @@ import tempfile
 import time
 
 ROOT = pathlib.Path(__file__).resolve().parent.parent
-BUILT = ("lock.c", "gate.c", "door.c", "conditions.c", "calls.c", "bells.c")
+BUILT = ("lock.c", "gate.c", "door.c", "conditions.c", "calls.c", "notify.c", "bells.c")
 HEADERS = ("lock.h", "bells.h")
 SOURCES = {name: (ROOT / "include" / name).read_text() for name in (*BUILT, *HEADERS)}
+# What a thread keeps while it makes calls of notifications: the model has several threads in one.
+OF_THREAD = "static BY_THREAD struct caller_of_notices *in_call;\n"
+assert OF_THREAD in SOURCES["notify.c"]
+SOURCES["notify.c"] = SOURCES["notify.c"].replace(OF_THREAD, "void **model_in_call(void);\n#define in_call (*(struct caller_of_notices **)model_in_call())\n")
 # How often a waiter polls decides nothing here, as the model's clock times no pause: once.
 COUNTED = "    unsigned looks = atomic_load_explicit(&counted, memory_order_relaxed);\n"
 assert COUNTED in SOURCES["bells.c"]
@@ -49,6 +53,10 @@ HOOKED = [
     ("CALM = 16", "CALM = 1"),
     ("WATCHES = 8", "WATCHES = 1"),
     ("WATCHED_PART = 16", "WATCHED_PART = 2"),
+    # In some scenes all places share a bell.
+    ("enum { BELLS = 1024 };\n", "enum { BELLS = 1024 };\nextern unsigned model_bells;\n"),
+    ("(*first_bell_of(node) + word / PLACE_WORDS) % BELLS", "(*first_bell_of(node) + word / PLACE_WORDS) % model_bells"),
+    ("((uint32_t)(key >> 32) + (uint32_t)key / PLACE_WORDS) % BELLS", "((uint32_t)(key >> 32) + (uint32_t)key / PLACE_WORDS) % model_bells"),
     (WAITS, WAITS.replace("    if (!me->seat) {\n", "    if (me->seat) { void hook_waits(void); hook_waits(); }\n    if (!me->seat) {\n")),
     (AT_DOOR, "    { void hook_waits(void); hook_waits(); }\n" + AT_DOOR),
     (GIVES_UP, "            { void hook_ends(void); hook_ends(); }\n" + GIVES_UP),
@@ -63,7 +71,8 @@ TOLD_CLOSED = "    if (got == QOLB_CLOSED) ring_for(next_of(&seat->node));\n    
 LOOK = "    unsigned word = atomic_load(&bell->word);\n    uint32_t got = qolb_poll_proved_(&seat->node);\n"
 COUNT = "    atomic_fetch_add(&bell->sleepers, 1);\n"
 IN_ALL = "    atomic_fetch_add(&hall->sleepers, 1);\n    unsigned word"
-ANYWHERE = "    atomic_fetch_add(&anywhere.sleepers, 1);\n"
+IN_LINE = "    atomic_fetch_add(waiting_in_line(node), 1);\n"
+ANYWHERE = IN_LINE + "    atomic_fetch_add(&anywhere.waiting, 1);\n"
 NODE_LOOK = "    unsigned word = atomic_load(&bell->word);\n    uint32_t got = qolb_poll_proved_(node);\n"
 NEXT = "    ring(next.holder);\n    ring(next.ahead);\n"
 RETURNS_BUSY = "    if (hall->burst) {\n        atomic_exchange(&seat->state, LEAVING);\n        qolb_call_out_(hall);\n    }\n    atomic_store(&seat->state, FREE);\n"
@@ -110,15 +119,52 @@ FAULTS = {
     "a shut reads behind one that it told": (SHUT, "".join(reversed(SHUT.splitlines(True)))),
     "a shut tells nobody": ("        tell(it, SHUT);\n", ""),
     "nodes: the sleeper does not count itself at its bell": (COUNT + ANYWHERE, ANYWHERE),
-    "nodes: the sleeper does not count itself at any bell": (COUNT + ANYWHERE, COUNT),
+    "nodes: the sleeper does not count itself in its line": (COUNT + ANYWHERE, (COUNT + ANYWHERE).replace(IN_LINE, ""), "    atomic_fetch_sub(waiting_in_line(node), 1);\n", ""),
+    "nodes: the sleeper does not count itself at any bell": (COUNT + ANYWHERE, COUNT + IN_LINE),
     "nodes: the word is read after the second look": (NODE_LOOK, "".join(reversed(NODE_LOOK.splitlines(True)))),
     "nodes: there is no second look": (NODE_LOOK, NODE_LOOK.replace("qolb_poll_proved_(node)", "QOLB_WAITING")),
     "nodes: the second look comes before the count": (COUNT + ANYWHERE + NODE_LOOK, NODE_LOOK.split("\n", 1)[1] + COUNT + ANYWHERE + NODE_LOOK.split("\n", 1)[0] + "\n"),
     "nodes: who releases rings no bell": ("MOVES(qolb_deqolb, let_go)", "MOVES(qolb_deqolb, told)"),
     "nodes: who is told that the line is closed rings no bell": ("got == QOLB_CLOSED ? let_go(node, got) : got", "(void)node, got"),
-    "nodes: who is told so while it waits rings no bell": ("    return told(node, got);\n", "    return got;\n"),
+    "nodes: who is told so while it waits rings no bell": ("    return told(node, got);\n}\n\nstatic inline", "    return got;\n}\n\nstatic inline"),
     "nodes: who shuts the line rings no bell": ("MOVES(qolb_shut, let_go)", "MOVES(qolb_shut, told)"),
     "nodes: who is late does not withdraw": ("uint32_t got = qolb_withdraw_proved_(node);", "uint32_t got = QOLB_WITHDRAWN;"),
+}
+
+# Notifications of nodes.
+LISTENS = "    put_in(notice, bell);\n    uint32_t got = qolb_poll_proved_(node);\n"
+LISTED = "    atomic_store(&bell->first, notice);\n    add_to_counts(notice, 1);\n"
+NOTED = "    me.notice = notice;\n    me.next = bell->running;\n    bell->running = &me;\n    return_guard(&bell->guard);\n    in_call->running = &me;\n"
+OFF = "    uint32_t got = notice->before ? QOLB_WITHDRAWN : QOLB_DONE;\n    if (notice->before) take_out(notice);\n    while ((call = running_elsewhere(notice, bell))) await_end(bell, call);\n"
+ENDS = "    if (me->awaited) atomic_fetch_add(&bell->ended, 1);\n    return_guard(&bell->guard);\n    if (me->awaited) qolb_wake_at_(&bell->ended, INT32_MAX);\n"
+TAKES = "    struct running me = {NULL, NULL, &in_call, 0};\n    take_guard(&bell->guard);\n"
+CALLS = "    tell_acquire(notice);\n    call(arg);\n"
+FAULTS |= {
+    "notices: there is no second look": (LISTENS, LISTENS.replace("qolb_poll_proved_(node)", "QOLB_WAITING")),
+    "notices: the look comes before the notice": (LISTENS, "".join(reversed(LISTENS.splitlines(True)))),
+    "notices: a notice is in no count": (LISTED, LISTED.replace("    add_to_counts(notice, 1);\n", ""), "    add_to_counts(notice, -1u);\n", ""),
+    "notices: a notice is not counted in its line": ("    atomic_fetch_add(notice->in_line, by);\n", ""),
+    "notices: a notice is not counted in all": ("    if (notice->in_all) atomic_fetch_add(notice->in_all, by);\n", ""),
+    "notices: a notice is counted after the look": (LISTED, LISTED.splitlines(True)[0], LISTENS, LISTENS + "    add_to_counts(notice, 1);\n"),
+    "notices: who releases makes no call": ("    if (atomic_load(&next.holder->first)) qolb_make_call_(next.holder, next.key);\n", ""),
+    "notices: who releases makes the call of any notice at the bell": ("    while (it && it->key != key) it = it->next;\n", ""),
+    "notices: who releases takes no guard": (TAKES, TAKES.splitlines(True)[0]),
+    "notices: who releases makes the call under the guard": (NOTED, NOTED.replace("    return_guard(&bell->guard);\n", ""), CALLS, CALLS + "    return_guard(&bell->guard);\n"),
+    "notices: the call is noted after the guard": (NOTED, "    return_guard(&bell->guard);\n    take_guard(&bell->guard);\n" + NOTED),
+    "notices: a notice stays in the list while its call is made": ("    take_out(notice);\n    void (*call)", "    void (*call)"),
+    "notices: an off leaves the notice": (OFF, OFF.replace("    if (notice->before) take_out(notice);\n", "")),
+    "notices: an off takes the notice out without the guard": ("    struct running *call;\n    take_guard(&bell->guard);\n    uint32_t got = notice->before", "    struct running *call;\n    if (notice->before) return take_out(notice), QOLB_WITHDRAWN;\n    take_guard(&bell->guard);\n    uint32_t got = notice->before"),
+    "notices: an off does not wait for a call": (OFF, OFF.replace("    while ((call = running_elsewhere(notice, bell))) await_end(bell, call);\n", "")),
+    "notices: an off waits for no call that had begun before it": ("    if (!notice->call) return QOLB_DONE;\n", "    if (!notice->before) return QOLB_DONE;\n"),
+    "notices: who ends a call wakes nobody": (ENDS, ENDS.replace("    if (me->awaited) qolb_wake_at_(&bell->ended, INT32_MAX);\n", "")),
+    "notices: who ends a call adds nothing": (ENDS, ENDS.replace("    if (me->awaited) atomic_fetch_add(&bell->ended, 1);\n", "")),
+    "notices: a waiter for a call's end says so after the guard": ("    call->awaited = 1;\n    unsigned ended = atomic_load(&bell->ended);\n    return_guard(&bell->guard);\n", "    unsigned ended = atomic_load(&bell->ended);\n    return_guard(&bell->guard);\n    call->awaited = 1;\n"),
+    "notices: a call that is done is still waited for": ("void qolb_notify_done(void) {\n    struct running *me = in_call ? in_call->running : NULL;\n    if (!me) return;\n", "void qolb_notify_done(void) {}\nstatic void ends(void) {\n    struct running *me = in_call->running;\n", "    call(arg);\n    qolb_notify_done();\n", "    call(arg);\n    ends();\n"),
+    "notices: closing leaves the notice": ("    if (may_close(node)) qolb_notify_off(node);\n", ""),
+    "notices: a second wish leaves the first": ("    qolb_notify_off(node);\n    notice->call", "    if (!notice->before) qolb_notify_off(node);\n    notice->call"),
+    "notices: a call is made inside another": ("    if (is_put_off(bell, key)) return;\n", ""),
+    "notices: calls that were put off are not made": ("    for (; me.made != me.wanted; me.made++)", "    for (; 0; me.made++)"),
+    "notices: who is told that it is closed makes no call": ("    return told(node, got);\n}\n\nuint32_t qolb_notify_off", "    return got;\n}\n\nuint32_t qolb_notify_off"),
 }
 
 # The gate.
@@ -247,6 +293,19 @@ IN_TWO_TURNS = {
     "nodes: the second look comes before the count": "nodes: three acquire",
     "nodes: who shuts the line rings no bell": "nodes: one shuts",
     "nodes: who is late does not withdraw": "nodes: one is late and comes again",
+    "notices: the look comes before the notice": "notices",
+    "notices: a notice is counted after the look": "notices",
+    "notices: who releases takes no guard": "notices",
+    "notices: the call is noted after the guard": "notices",
+    "notices: a notice stays in the list while its call is made": "notices",
+    "notices: an off takes the notice out without the guard": "notices",
+    "notices: an off does not wait for a call": "notices",
+    "notices: an off waits for no call that had begun before it": "notices",
+    "notices: who ends a call wakes nobody": "notices",
+    "notices: who ends a call adds nothing": "notices",
+    "notices: a waiter for a call's end says so after the guard": "notices",
+    "notices: a call that is done is still waited for": "notices",
+    "notices: who is told that it is closed makes no call": "notices",
     "the gate is set by a plain store": "two want two seats twice, and link",
     "who comes to the door does not look at the gate": "two of three yield, and there is one seat",
     "an open gate is closed though a thread went in": "two of three yield",
@@ -259,6 +318,8 @@ IN_TWO_TURNS = {
 
 # Changes after which no run may fail.
 HARMLESS = {
+    # Its node is not closed, and wants no other call, before the call is done.
+    "the notice is read after the guard": ("    void *arg = notice->arg;\n", "", CALLS, CALLS.replace("call(arg)", "call(notice->arg)")),
     # The thread that is in opens the gate by a later step, and nobody else reads which node it is before that.
     "the node of a kept turn is told after the gate is set": ("    hall->held_by = kept;\n    atomic_store_explicit(&kept->holder, 0, memory_order_release);\n    atomic_exchange(&hall->gate, own_number());\n", "    atomic_store_explicit(&kept->holder, 0, memory_order_release);\n    atomic_exchange(&hall->gate, own_number());\n    hall->held_by = kept;\n"),
     # The first meets a seat that is about to be free, and looks again; and it leaves the list only under the guard.
@@ -332,7 +393,7 @@ def goes_well(most, scenes, base):
 def is_found(fault, base):
     """Prints where a library with this fault fails; False if it does not."""
     turns = 2 if fault in IN_TWO_TURNS else 1
-    scene = IN_TWO_TURNS.get(fault, next((kind for kind in ("nodes", "bursts") if fault.startswith(kind)), ""))
+    scene = IN_TWO_TURNS.get(fault, fault.split(":")[0] if ":" in fault else "")
     with tempfile.TemporaryDirectory() as name:
         told, well = run(built(pathlib.Path(name), with_fault(FAULTS[fault]), base), turns, scene)
     print(f"{fault}: all runs go well" if well else f"{fault}: at {turns}, {last_of(told)}", flush=True)

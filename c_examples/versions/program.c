@@ -1,5 +1,5 @@
 /* A program that is linked with the library of one release, and runs with that of another. With -DCALLS_OF_1_1 it makes calls that came with 1.1, and so
- * with -DCALLS_OF_1_3 to -DCALLS_OF_1_7. */
+ * with -DCALLS_OF_1_3 to -DCALLS_OF_1_8. */
 #include <qolb.h>
 #include <stdio.h>
 
@@ -30,6 +30,10 @@ int main(void) {
 #ifdef CALLS_OF_1_7
     uint64_t was;
     if (qolb_add_lane(&node, 0, 5, &was) != QOLB_DONE || was != 0 || qolb_version() < 10700) return 11;
+#endif
+#ifdef CALLS_OF_1_8
+    qolb_notify_done();
+    if (qolb_notify_fd(&node, 0) != QOLB_MISUSE || qolb_notify_off(&node) != QOLB_DONE || qolb_version() < 10800) return 12;
 #endif
     if (qolb_deqolb(&node) != QOLB_DONE || qolb_close(&node) != QOLB_DONE) return 4;
     puts("ends");

@@ -22,6 +22,7 @@ struct late {
 static struct thread {
     ucontext_t context;
     struct own_data own;
+    void *in_call;
     enum { ENDED, RUNS, SLEEPS } state;
     uintptr_t word;
     int times_out, lates;
@@ -38,6 +39,8 @@ static long runs;
 static struct { unsigned char taken, options, free; } path[1 << 14];
 
 static struct thread *me(void) { return &threads[self_]; }
+
+void **model_in_call(void) { return &me()->in_call; }
 
 void must(int is_so, const char *what) {
     if (is_so) return;
@@ -78,15 +81,15 @@ struct cell {
     long run;
     struct clock told, done[4];
 };
-static struct cell cells[1 << 12];
+static struct cell cells[1 << 13];
 static struct { uintptr_t from, to; } freed[64];
 static int many_freed;
 static _Alignas(128) char arena[1 << 16];
 static size_t arena_used;
 
 static struct cell *cell_of(uintptr_t at) {
-    size_t k = at / 4 * 0x9e3779b97f4a7c15 >> 52;
-    for (;; k = (k + 1) % (1 << 12)) {
+    size_t k = at / 4 * 0x9e3779b97f4a7c15 >> 51;
+    for (;; k = (k + 1) % (1 << 13)) {
         if (cells[k].run != runs) memset(&cells[k], 0, sizeof cells[k]), cells[k].run = runs, cells[k].at = at / 4;
         if (cells[k].at == at / 4) return &cells[k];
     }
@@ -214,6 +217,8 @@ static uint64_t change(volatile void *where, unsigned size, enum change how, uin
     void __tsan_write##bytes(void *p) { touch(p, bytes, PLAIN_WRITE); }
 OF_SIZE(32, 4)
 OF_SIZE(64, 8)
+void __tsan_read16(void *p) { touch(p, 16, PLAIN_READ); }
+void __tsan_write16(void *p) { touch(p, 16, PLAIN_WRITE); }
 void __tsan_write_range(void *p, size_t size) { touch(p, (unsigned)size, PLAIN_WRITE); }
 void __tsan_read_range(void *p, size_t size) { touch(p, (unsigned)size, PLAIN_READ); }
 void __tsan_func_entry(void *p) { (void)p; }
@@ -290,7 +295,7 @@ static void run(void) {
     threads[THREADS].clock.at[THREADS] = 1;
     set_up(scene);
     for (int k = 0; k < scene->threads; k++) {
-        threads[k].own = (struct own_data){0, 0, 0}, threads[k].state = RUNS, threads[k].now = 0, threads[k].lates = 0;
+        threads[k].own = (struct own_data){0, 0, 0}, threads[k].in_call = NULL, threads[k].state = RUNS, threads[k].now = 0, threads[k].lates = 0;
         threads[k].clock = threads[THREADS].clock, threads[k].clock.at[k] = 1;
         getcontext(&threads[k].context);
         threads[k].context.uc_stack.ss_sp = threads[k].stack, threads[k].context.uc_stack.ss_size = sizeof threads[k].stack;

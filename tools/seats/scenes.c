@@ -4,9 +4,12 @@
 #include <sched.h>
 #include "explorer.h"
 
-static struct { qolb_lock lock; qolb_cond cond; struct { _Alignas(QOLB_NODE_ALIGN) qolb_node node; } of[THREADS]; int turns, inside, users, has; atomic_int over; } it;
+static struct { qolb_lock lock; qolb_cond cond; struct { _Alignas(QOLB_NODE_ALIGN) qolb_node node; } of[THREADS]; int turns, inside, users, has; atomic_int over;
+    /* Of each task: whether its call was made, and how often since it wanted one. */
+    struct { atomic_uint word; int calls; } told[THREADS]; atomic_uint mutex; int depth; } it;
 
 BY_THREAD struct room qolb_room_;
+unsigned model_bells;
 
 /* Of each thread that waits in the queue, and whom the lock knows: since which time; how many turns it has seen of threads whose calls began later, and how many
  * threads go that were in their calls then. And since when a thread is in its call. The hooks are put into the library's files (../seats.py). */
@@ -336,6 +339,157 @@ static void one_shuts(int self) { shuts_line(self, qolb_acquire(&it.of[self].nod
 
 static void one_shuts_and_one_looks_on(int self) { shuts_line(self, self == 1 ? looks_on(1) : qolb_acquire(&it.of[self].node)); }
 
+/* ---- Tasks that have a node each, and want a call in place of a wait ---- */
+
+static void tells(void *task) {
+    int k = (int)(intptr_t)task;
+    step(0);
+    it.told[k].calls++;
+    atomic_store(&it.told[k].word, 1);
+    qolb_wake_at_(&it.told[k].word, 1);
+}
+
+/* The thread of the task sleeps until the call was made; false if its time is over. */
+static int is_told(int k, uint64_t time) {
+    if (!atomic_load(&it.told[k].word)) qolb_sleep_at_(&it.told[k].word, 0, time);
+    return atomic_load(&it.told[k].word) != 0;
+}
+
+static uint32_t wants_call(int self, void (*call)(void *)) {
+    atomic_store(&it.told[self].word, 0);
+    return qolb_notify(&it.of[self].node, call, (void *)(intptr_t)self);
+}
+
+static uint32_t takes_back(int self) {
+    uint32_t off = qolb_notify_off(&it.of[self].node);
+    MUST(it.told[self].calls == (off == QOLB_DONE));
+    it.told[self].calls = 0;
+    uint32_t got = qolb_withdraw(&it.of[self].node);
+    return got == QOLB_WITHDRAWN ? (uint32_t)QOLB_LATE : got;
+}
+
+static uint32_t is_notified(int self, uint64_t time) {
+    uint32_t got = qolb_enqolb(&it.of[self].node);
+    while (got == QOLB_QUEUED || got == QOLB_WAITING) {
+        got = wants_call(self, tells);
+        if (got != QOLB_WAITING) break;
+        while (!is_told(self, time)) if (time != FOR_EVER) return takes_back(self);
+        MUST(qolb_notify_off(&it.of[self].node) == QOLB_DONE);
+        MUST(it.told[self].calls-- == 1);
+        got = qolb_poll(&it.of[self].node);
+    }
+    MUST(it.told[self].calls == 0);
+    return got;
+}
+
+static void notified(int self) {
+    MUST(is_notified(self, FOR_EVER) == QOLB_GRANTED);
+    releases_turn(self);
+}
+
+static void notified_twice(int self) { notified(self), notified(self); }
+
+static void notified_in_time(int self) {
+    uint32_t got = is_notified(self, self == 1 ? MS : FOR_EVER);
+    if (got == QOLB_LATE) return;
+    MUST(got == QOLB_GRANTED);
+    releases_turn(self);
+}
+
+/* Its node may be busy. */
+static void notified_in_time_and_again(int self) {
+    notified_in_time(self);
+    uint32_t got = self == 1 ? qolb_enqolb(&it.of[1].node) : (uint32_t)QOLB_BUSY;
+    if (got == QOLB_QUEUED) got = wants_call(1, tells) == QOLB_WAITING ? takes_back(1) : (uint32_t)QOLB_GRANTED;
+    if (got == QOLB_GRANTED) releases_turn(1);
+}
+
+static void one_notified_shuts(int self) { shuts_line(self, is_notified(self, FOR_EVER)); }
+
+static void one_notified_beside_threads(int self) {
+    if (self == 1) notified(self);
+    else acquires_once(self);
+}
+
+/* The first wish is replaced; its call was made, or will not be. */
+static void wants_two_calls(int self) {
+    uint32_t got = qolb_enqolb(&it.of[self].node);
+    if (got == QOLB_QUEUED) got = wants_call(self, tells);
+    if (got == QOLB_WAITING) got = qolb_notify(&it.of[self].node, tells, (void *)(intptr_t)self);
+    if (got == QOLB_WAITING) {
+        while (!is_told(self, FOR_EVER)) {}
+        qolb_notify_off(&it.of[self].node);
+        MUST(it.told[self].calls == 1 || it.told[self].calls == 2);
+        it.told[self].calls = 0;
+        atomic_store(&it.told[self].word, 0);
+        while ((got = qolb_poll(&it.of[self].node)) == QOLB_WAITING) sched_yield();
+    }
+    MUST(got == QOLB_GRANTED);
+    releases_turn(self);
+}
+
+/* The call has the task's turn, in the thread that released, and the task's thread does nothing more with the node. It is called for one turn after another. */
+static void has_turn(void *task) {
+    int k = (int)(intptr_t)task;
+    MUST(it.depth++ == 0);
+    uint32_t got = qolb_notify(&it.of[k].node, has_turn, task);
+    if (got == QOLB_GRANTED) {
+        qolb_notify_done();
+        releases_turn(k);
+        atomic_store(&it.told[k].word, 1);
+        qolb_wake_at_(&it.told[k].word, 1);
+    }
+    it.depth--;
+}
+
+static void has_turn_in_call(int self) {
+    if (self == 0) {
+        acquires_once(self);
+        return;
+    }
+    uint32_t got = qolb_enqolb(&it.of[self].node);
+    if (got == QOLB_QUEUED) got = wants_call(self, has_turn);
+    if (got == QOLB_GRANTED) releases_turn(self);
+    while (got == QOLB_WAITING && !is_told(self, FOR_EVER)) {}
+}
+
+/* The call takes a lock that its task has while it takes the wish back. */
+static void locks_and_tells(void *task) {
+    qolb_notify_done();
+    take_guard(&it.mutex);
+    it.told[(intptr_t)task].calls++;
+    return_guard(&it.mutex);
+}
+
+static void takes_back_under_a_lock(int self) {
+    if (self != 1) {
+        acquires_once(self);
+        return;
+    }
+    uint32_t got = qolb_enqolb(&it.of[1].node);
+    if (got == QOLB_QUEUED) got = wants_call(1, locks_and_tells);
+    if (got == QOLB_WAITING) {
+        take_guard(&it.mutex);
+        qolb_notify_off(&it.of[1].node);
+        MUST(it.told[1].calls <= 1);
+        got = qolb_withdraw(&it.of[1].node);
+        return_guard(&it.mutex);
+    }
+    if (got == QOLB_GRANTED) releases_turn(1);
+}
+
+/* One withdraws and closes, and leaves its wish to that; the others close too, and the last frees the line. */
+static void closes_with_a_wish(int self) {
+    qolb_node *node = &it.of[self].node;
+    uint32_t got = self == 1 ? qolb_enqolb(node) : qolb_acquire(node);
+    if (got == QOLB_QUEUED) got = wants_call(self, tells);
+    if (got == QOLB_WAITING) got = qolb_withdraw(node);
+    if (got == QOLB_GRANTED) releases_turn(self);
+    MUST(qolb_close(node) == QOLB_DONE);
+    if (self == 1) MUST(it.told[1].calls <= 1);
+    it.told[self].calls = 0;
+}
+
 const struct scene scenes[] = {
     {"each enters, at the first use", enters, QOLB_TICKET, 3, 2, AT_FIRST_USE, 0},
     {"three enter", enters, QOLB_TICKET, 3, 3, BEFORE, 0},
@@ -411,6 +565,21 @@ const struct scene scenes[] = {
     {"nodes: one withdraws", one_withdraws, QOLB_TICKET, 3, 3, WITH_NODES, 0},
     {"nodes: one shuts", one_shuts, QOLB_TICKET, 3, 3, WITH_NODES, 0},
     {"nodes: one shuts, and one looks on", one_shuts_and_one_looks_on, QOLB_TICKET, 3, 3, WITH_NODES, 0},
+    {"notices: three", notified, QOLB_TICKET, 3, 3, WITH_NODES, 0},
+    {"notices: three, who link", notified, QOLB_LINK, 3, 3, WITH_NODES, 0},
+    {"notices: three at one bell", notified, QOLB_TICKET, 3, 3, AT_ONE_BELL, 0},
+    {"notices: two twice", notified_twice, QOLB_TICKET, 2, 2, WITH_NODES, 0},
+    {"notices: two twice at one bell", notified_twice, QOLB_TICKET, 2, 2, AT_ONE_BELL, 0},
+    {"notices: one gives up", notified_in_time, QOLB_TICKET, 3, 3, WITH_NODES, 0},
+    {"notices: one gives up at one bell", notified_in_time, QOLB_TICKET, 3, 3, AT_ONE_BELL, 0},
+    {"notices: one gives up and asks again", notified_in_time_and_again, QOLB_TICKET, 2, 2, WITH_NODES, 0},
+    {"notices: one shuts", one_notified_shuts, QOLB_TICKET, 3, 3, WITH_NODES, 0},
+    {"notices: one beside threads", one_notified_beside_threads, QOLB_TICKET, 3, 3, WITH_NODES, 0},
+    {"notices: each wants two calls", wants_two_calls, QOLB_TICKET, 2, 2, WITH_NODES, 0},
+    {"notices: calls have turns", has_turn_in_call, QOLB_TICKET, 3, 3, WITH_NODES, 0},
+    {"notices: calls have turns, at one bell", has_turn_in_call, QOLB_TICKET, 3, 3, AT_ONE_BELL, 0},
+    {"notices: one takes back under a lock", takes_back_under_a_lock, QOLB_TICKET, 3, 3, WITH_NODES, 0},
+    {"notices: one closes with a wish", closes_with_a_wish, QOLB_TICKET, 3, 3, WITH_NODES, 0},
     {NULL, NULL, 0, 0, 0, 0, 0},
 };
 
@@ -420,9 +589,10 @@ void set_up(const struct scene *scene) {
     qolb_node nodes[THREADS] = {{0}};
     memset(qolb_bells_, 0, sizeof qolb_bells_), memset(&it, 0, sizeof it), memset(order, 0, sizeof order);
     qolb_own_ = (struct own){0, 0, 0}, time_of_order = 0;
+    model_bells = scene->opens == AT_ONE_BELL ? 1 : BELLS;
     it.lock.kind = scene->kind, it.lock.seats = scene->seats + BURST * scene->burst, it.users = scene->threads;
     if (scene->opens == BEFORE) MUST(qolb_lock_open(&it.lock, scene->kind, 0, it.lock.seats, &zeros) == QOLB_DONE);
-    if (scene->opens != WITH_NODES) return;
+    if (scene->opens < WITH_NODES) return;
     MUST(qolb_open(scene->kind, 0, (uint64_t)scene->threads, QOLB_NO_LEASE, &zeros, nodes, THREADS) == QOLB_DONE);
     for (int k = 0; k < scene->threads; k++) it.of[k].node = nodes[k];
 }
@@ -434,10 +604,21 @@ static void check_hall(struct hall *hall) {
     MUST(!hall->keepers);
 }
 
+UNSEEN static void check_bells(void) {
+    for (unsigned k = 0; k < BELLS; k++) {
+        struct bell *bell = &qolb_bells_[k];
+        MUST(!bell->first && !bell->running && !bell->in_line && !bell->sleepers && !bell->guard);
+    }
+}
+
 /* All threads have ended. */
 void check_end(const struct scene *scene) {
-    MUST((scene->does != enters && scene->does != acquires_once) || it.turns == scene->threads);
-    MUST((scene->does != enters_twice && scene->does != acquires_twice) || it.turns == 2 * scene->threads);
+    static const struct { void (*does)(int); int turns; } each[] = {
+        {enters, 1}, {acquires_once, 1}, {enters_twice, 2}, {acquires_twice, 2}, {notified, 1}, {notified_twice, 2}, {one_notified_beside_threads, 1},
+        {wants_two_calls, 1}, {has_turn_in_call, 1}};
+    for (size_t k = 0; k < sizeof each / sizeof each[0]; k++) MUST(scene->does != each[k].does || it.turns == each[k].turns * scene->threads);
+    for (int k = 0; k < THREADS; k++) MUST(it.told[k].calls == 0 || scene->does == takes_back_under_a_lock);
+    check_bells();
     MUST(scene->does != one_stays || it.turns == 6);
     if (it.lock.own) check_hall(it.lock.own);
     MUST(qolb_lock_holder(&it.lock) == 0 && it.inside == 0 && it.cond.own == NULL);

@@ -27,7 +27,7 @@ const ABOUT: &str =
 
 /// What `--version` says after the name: the version, which `tools/sources` compares, and the kinds of lines. A program can't know which kit
 /// built it, nor whether it was proved: the script `qolb` adds that.
-const VERSION: &str = "1.7.0
+const VERSION: &str = "1.8.0
 kinds of lines: plain, ring, link, ticket";
 
 const STATUSES: &str = "Exit statuses:
