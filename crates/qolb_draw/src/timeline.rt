@@ -70,10 +70,10 @@ fn push_bars<A: Allocator>(
     let mut stand = Stand::Away;
     let mut start = 0u32;
     for column in 0..end {
-        let next = Stand::of(grid.marks[column * nodes + (node as usize - 1)]);
-        if next.differs(stand) {
+        let mark = grid.marks[column * nodes + (node as usize - 1)];
+        if stand.ends_at(mark) {
             push_stand(svg, row, start, column as u32, stand, node)?;
-            stand = next;
+            stand = Stand::of(mark);
             start = column as u32;
         }
     }

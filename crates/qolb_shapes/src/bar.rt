@@ -34,18 +34,20 @@ impl Stand {
         }
     }
 
-    /// Returns `true` if both states are the same.
-    fn is_same(self, other: Stand) -> bool
-        ensures { result ≡ spec.is_same self other }
+    /// Returns `true` if a node in this state is no longer in it with this mark.
+    pub fn ends_at(self, mark: Symbol) -> bool
+        ensures { result ≡ not (spec.is_same (spec.stand_of mark) self) }
     {
-        self == other
-    }
-
-    /// Returns `true` if the states differ.
-    pub fn differs(self, other: Stand) -> bool
-        ensures { result ≡ not (spec.is_same self other) }
-    {
-        !self.is_same(other)
+        match self {
+            Stand::Away => !matches!(
+                mark,
+                Symbol::Idle | Symbol::Shut | Symbol::Told | Symbol::Gives
+            ),
+            Stand::Waits => !matches!(mark, Symbol::Waits),
+            Stand::AtTurn => !matches!(mark, Symbol::AtTurn | Symbol::Takes),
+            Stand::Holds => !matches!(mark, Symbol::Holds),
+            Stand::Withdrawn => !matches!(mark, Symbol::Withdrawn),
+        }
     }
 
     /// Returns the class of the state's bar.

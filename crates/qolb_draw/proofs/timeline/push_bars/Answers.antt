@@ -7,7 +7,7 @@ use Rattle.qolb_shapes.specs.Shapes.{stand_of}
 use Rattle.qolb_draw.proofs.Rows.{place_within}
 use Rattle.qolb_draw.proofs.Shapes.{bars_begun, bar_goes_on, bar_ends, bars_are, bars_ended, stands_next, stands_ended}
 use Rattle.qolb_draw.proofs.timeline.push_bars.Goals as goal
-use Rattle.qolb_draw.proofs.timeline.push_bars.Goals.{then-differs+in_ok-push_stand, else-differs}
+use Rattle.qolb_draw.proofs.timeline.push_bars.Goals.{then-ends_at+in_ok-push_stand, else-ends_at}
 
 pub loop-column-init : goal.loop-column-init
 loop-column-init g c =
@@ -22,12 +22,12 @@ loop-column-preserved g c =
     let there : c.loop-column.column * nodes + (c.args.node - 1) < length c.args.grid.now.marks.items = subst (λ (n : ℕ). c.loop-column.column * nodes + (c.args.node - 1) < n) (sym c.requires.size) (place_within _ _ _ _ below c.requires.first c.requires.last) in
     let now = stands_next nodes c.args.grid.now.marks.items c.args.node c.loop-column.column c.len-end.result lt
     ∙ ap (λ s. s ∷ stands_out_of nodes c.args.grid.now.marks.items c.args.node (c.loop-column.column + 1) (c.len-end.result - (c.loop-column.column + 1)))
-    (sym (c.of-next.ensures ∙ ap stand_of (c.index.ensures ∙ get_or_default _ _ _ symbol.Idle there))) in
-    elim c.if-differs.branch [
-      | then-differs+in_ok-push_stand w ↦
-          bars_are _ _ _ _ _ _ _ _ _ _ _ (bar_ends _ _ _ _ _ _ _ _ _ _ _ _ c.loop-column.invariant now (sym c.differs.ensures ∙ w.if-differs.true) (ap (λ v. v.items) w.svg-is ∙ w.in_ok-push_stand.ensures)) w.stand-is w.start-is
-      | else-differs w ↦
-          bars_are _ _ _ _ _ _ _ _ _ _ _ (bar_goes_on _ _ _ _ _ _ _ _ _ _ _ _ c.loop-column.invariant now (sym c.differs.ensures ∙ w.if-differs.false) (ap (λ v. v.items) w.svg-is)) w.stand-is w.start-is
+    (sym (ap stand_of (c.index-mark.ensures ∙ get_or_default _ _ _ symbol.Idle there))) in
+    elim c.if-ends_at.branch [
+      | then-ends_at+in_ok-push_stand w ↦
+          bars_are _ _ _ _ _ _ _ _ _ _ _ (bar_ends _ _ _ _ _ _ _ _ _ _ _ _ c.loop-column.invariant now (sym c.ends_at.ensures ∙ w.if-ends_at.true) (ap (λ v. v.items) w.svg-is ∙ w.in_ok-push_stand.ensures)) (w.stand-is ∙ w.of-stand.ensures) w.start-is
+      | else-ends_at w ↦
+          bars_are _ _ _ _ _ _ _ _ _ _ _ (bar_goes_on _ _ _ _ _ _ _ _ _ _ _ _ c.loop-column.invariant now (sym c.ends_at.ensures ∙ w.if-ends_at.false) (ap (λ v. v.items) w.svg-is)) w.stand-is w.start-is
     ]
 
 pub returns : goal.returns
