@@ -2,7 +2,7 @@
 ghost use Rattle.std.specs.Prelude.{◌≡◌, ◌↔◌, IsOk};
 
 use anyhow::{bail, ensure};
-use qolb_run::{AlwaysOpen, Kind, Lines, WaitMode, report_work, run_schedule, run_steps};
+use qolb_run::{AlwaysOpen, Kind, Lines, WaitMode, answer_work, run_schedule, run_steps};
 use qolb_script::{Watched, WorkKind};
 use std::alloc::Global;
 use std::sync::Wait;
@@ -120,19 +120,9 @@ fn report<R: Threads + Wait + Sync>(
     kind: WorkKind,
     lines: Lines,
 ) -> anyhow::Result<Vec<u8>> {
-    let mut said = Vec::new(alloc);
-    let done = report_work(
-        rt,
-        alloc,
-        &AlwaysOpen,
-        &mut Watched::new(script),
-        &mut Watched::new(&mut said),
-        kind,
-        lines,
-        WaitMode::Awake,
-    );
-    match done {
-        Ok(()) => Ok(said),
+    let waits = WaitMode::Awake;
+    match answer_work(rt, alloc, &AlwaysOpen, script, kind, lines, waits) {
+        Ok(text) => Ok(text),
         Err(why) => bail!("it is refused: {why}"),
     }
 }

@@ -6,7 +6,6 @@ pub mod Resting
 pub mod Drawn
 pub mod Outs
 pub mod Lines
-pub mod Refusing
 pub mod SameRuns
 pub mod Covering
 pub mod Within

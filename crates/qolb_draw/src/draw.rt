@@ -1,47 +1,32 @@
-//! Pictures of schedules: draws the schedule of a reader, and writes the picture.
-ghost use Rattle.std.specs.Prelude.{◌≡◌, ◌≢◌, ◌↔◌, ℕ, List, true, false, Ok, Err, OnOk, IfOk, IfErr, IfSome, max};
-ghost use Rattle.std.specs.Io.KnownBytes.{Appends};
-ghost use Rattle.qolb_script.specs.Watched.{inner_of, has_failed};
-ghost use Rattle.qolb_replay.specs.Outcome.{ReplayMayFail};
-ghost use Rattle.qolb_draw.specs.Pictures.{picture_of, in_form, IsPicture};
+//! Pictures of schedules.
+ghost use Rattle.std.specs.Prelude.{◌≡◌, Ok, IfOk, IfErr, max};
+ghost use Rattle.qolb_replay.specs.Outcome.{HasNoReply};
+ghost use Rattle.qolb_draw.specs.Pictures.{picture_of, picture_to, in_form};
 ghost use Rattle.qolb_draw.specs.Svg.{svg_of};
 
 use crate::grid::draw_line;
 use crate::text::{LEGEND, push_line};
 use crate::timeline::push_timeline;
-use qolb_replay::{ReplayError, read_input};
-use qolb_script::{Schedule, ScriptError, Watched, read_schedule};
+use qolb_replay::ReplayError;
+use qolb_script::{Schedule, read_schedule};
 use qolb_shapes::{Form, svg};
 use std::alloc::{AllocError, Allocator};
-use std::io::{Read, Write};
 
-/// Draws the schedule that the reader gives, and writes its picture in this form. The states are those of a replay by plain lines.
+/// Returns the picture of a schedule in this form. The states are those of a replay by plain lines.
 ///
-/// Reads the whole input first, and builds the whole picture before it writes the first byte. So with every error but `Write` no byte was
-/// written. An error is one that a replay by plain lines may have, too.
-pub fn draw_schedule<A: Allocator, R: Read, W: Write>(
+/// # Errors
+///
+/// `Memory`, or `Script` with the first fault of the schedule.
+pub fn draw_schedule<A: Allocator + Copy>(
     alloc: A,
-    reader: &mut Watched<R>,
-    writer: &mut Watched<W>,
+    script: &[u8],
     form: Form,
-) -> Result<(), ReplayError>
-    ensures ok { OnOk result (IfSome (R.remaining (inner_of reader.old)) (λ input.
-        (text : List ℕ) × IsPicture form input text
-        × Appends (W.contents (inner_of writer.old)) (W.contents (inner_of writer.new)) text)) }
-    ensures refused { IfErr result (λ error.
-        IfSome (R.remaining (inner_of reader.old)) (λ input. ReplayMayFail input error)) }
-    ensures unwritten { IfErr result (λ error. error ≢ ReplayError.Write
-        → writer.new ≡ writer.old) }
-    ensures read_fault { (result ≡ Err ReplayError.Read) ↔ (has_failed reader.new ≡ true) }
-    ensures write_fault { result ≡ Err ReplayError.Write → has_failed writer.new ≡ true }
-    ensures written { OnOk result (has_failed writer.new ≡ false) }
-    ensures memory { result ≢ Err (ReplayError.Script ScriptError.Memory) }
+) -> Result<Vec<u8, A>, ReplayError>
+    ensures ok { IfOk result (λ text. picture_to form script.now ≡ Ok text.items) }
+    ensures refused { IfErr result (HasNoReply script.now) }
 {
-    let input = read_input(&alloc, reader)?;
-    let schedule = read_schedule(&alloc, input.as_slice())?;
-    let text = picture_in(&alloc, &schedule, form)?;
-    writer.write_all(text.as_slice())?;
-    Ok(())
+    let schedule = read_schedule(alloc, script)?;
+    Ok(picture_in(alloc, &schedule, form)?)
 }
 
 /// Returns the picture of a schedule in this form.

@@ -1,5 +1,5 @@
 -- The progress of drawing a step script.
-use Rattle.std.proofs.Common.{◌≡◌, ℕ, ◌+◌, ◌<◌, ◌≤◌, List, [], ◌∷◌, ◌++◌, length, take, drop, get_or, refl, sym, ap, ◌∙◌, subst, arith, append_assoc, append-nil, drop-drop, Option, Some, None, Result, Ok, Err, IfOk, IfErr, OnErr, All, IfSome, length-append}
+use Rattle.std.proofs.Common.{◌≡◌, ℕ, ◌+◌, ◌<◌, ◌≤◌, List, [], ◌∷◌, ◌++◌, length, take, drop, get_or, refl, sym, ap, ◌∙◌, subst, arith, append_assoc, append-nil, drop-drop, Option, None, Result, Ok, Err, IfOk, IfErr, OnErr, All, length-append}
 use Rattle.std.specs.Result.{result_ok}
 use Rattle.std.proofs.lemmas.List.{take_all, take_more}
 use Rattle.std.proofs.lemmas.List.FromFn.{length-map-range_with_len}
@@ -8,17 +8,11 @@ use Rattle.link_core.specs.declared.event.Event.{Event}
 use Rattle.link_core.specs.declared.state.State.{State}
 use Rattle.link_core.specs.declared.told.Told.{Told}
 use Rattle.link_core.specs.declared.told.NotEnabled.{NotEnabled}
-use Rattle.link_core.specs.Progress.{rank}
 use Rattle.link_core.specs.State.{IsNode, entry, first}
 use Rattle.link_core.specs.Steps.{Step, IsRefused, node_of}
 use Rattle.link_core.proofs.Sound.{step_sizes}
-use Rattle.qolb_replay.specs.declared.input.TheConstants.{MAX_BYTES}
-use Rattle.qolb_replay.specs.declared.replay.ReplayError.TheVariants as error
-use Rattle.qolb_replay.specs.declared.steps.Detail.TheVariants as detail
-use Rattle.qolb_replay.specs.Outcome.{StepsMayFail}
-use Rattle.qolb_replay.specs.StepRuns.{Heard, Tells, line_of, step_text}
-use Rattle.qolb_replay.specs.StepRuns as run
-use Rattle.qolb_script.specs.StepScript.{IsOfItsNodes, StepScript, steps_of}
+use Rattle.qolb_replay.specs.StepRuns.{line_of}
+use Rattle.qolb_script.specs.StepScript.{IsOfItsNodes, StepScript}
 use Rattle.qolb_draw_steps.specs.StepPictures.{event_line, event_lines}
 use Rattle.qolb_draw_steps.specs.StepShapes.{Seen, StepShape, Watches, nothing, made, refused, entries_of, event_shapes, seen_shapes}
 use Rattle.qolb_draw_steps.specs.StepSvg.{step_texts}
@@ -167,23 +161,3 @@ lines_end script i core before text was end = (was.all, core, sees_all script i 
 pub shapes_end : (script : StepScript) (i : ℕ) (core : State) (home : ℕ) (entries : List Entry) (before svg : List ℕ) → SeesShapes script i core home entries before svg → length script.events ≤ i
     → (all : List Seen) × (last : State) × Watches (first (line_of script)) script.events all last × (svg ≡ before ++ step_texts (seen_shapes 0 script.events all))
 shapes_end script i core home entries before svg was end = (was.all, core, sees_all script i core was.all was.sees end, was.svg_is)
-
--- a run that is drawn has a reply, so writing its picture may fail as writing its reply may
-tells_so : {from last : State} {events : List Event} {all : List Seen} → Watches from events all last → (heard : List Heard) × Tells from events heard last
-tells_so nothing = ([], run.nothing)
-tells_so (made {after = after} event what runs step) = let before = tells_so runs in (before.0 ++ record { told = Some what; rank = rank after } ∷ [], run.told event what before.1 step)
-tells_so (refused {before = before} event why runs refusal) = let so_far = tells_so runs in (so_far.0 ++ record { told = None; rank = rank before } ∷ [], run.refused event why so_far.1 refusal)
-
-pub may_fail_to_write : (remaining : Option (List ℕ)) (input : List ℕ) (script : StepScript) (all : List Seen) (last : State) → IfSome remaining (λ rest. input ≡ rest) → length input ≤ MAX_BYTES → steps_of input ≡ Ok script
-    → Watches (first (line_of script)) script.events all last → IfSome remaining (λ rest. StepsMayFail detail.Words rest error.Write)
-may_fail_to_write None input script all last is fits read runs = tt
-may_fail_to_write (Some rest) input script all last is fits read runs =
-    let heard = tells_so runs in (
-      step_text detail.Words heard.0 last,
-      record {
-        fits = subst (λ (i : List ℕ). length i ≤ MAX_BYTES) is fits;
-        script = script;
-        read = ap steps_of (sym is) ∙ read;
-        reply = record { all = heard.0; last = last; runs = heard.1; text_is = refl };
-      },
-    )

@@ -1,13 +1,11 @@
-//! Pictures of step scripts: draws the step script of a reader, and writes the picture.
-ghost use Rattle.std.specs.Prelude.{◌≡◌, ◌≢◌, ◌≤◌, ◌↔◌, ◌++◌, ℕ, List, true, Ok, Err, OnOk, IfOk, IfErr, IfSome, false};
-ghost use Rattle.std.specs.Io.KnownBytes.{Appends};
+//! Pictures of step scripts.
+ghost use Rattle.std.specs.Prelude.{◌≡◌, ◌≤◌, ◌++◌, List, length, OnOk, IfOk, IfErr};
 ghost use Rattle.qolb_model.specs.declared.config.TheConstants.{MAX_NODES};
 ghost use Rattle.link_core.specs.declared.state.State.{State};
 ghost use Rattle.link_core.specs.State.{first};
-ghost use Rattle.qolb_script.specs.Watched.{inner_of, has_failed};
-ghost use Rattle.qolb_replay.specs.Outcome.{StepsMayFail};
+ghost use Rattle.qolb_replay.specs.declared.input.TheConstants.{MAX_BYTES};
+ghost use Rattle.qolb_replay.specs.Outcome.{HasNoStepReply};
 ghost use Rattle.qolb_replay.specs.StepRuns.{line_of};
-ghost use Rattle.qolb_replay.specs.declared.steps.Detail.TheVariants as detail;
 ghost use Rattle.qolb_draw_steps.specs.StepPictures.{IsDrawn, IsStepPicture, event_lines};
 ghost use Rattle.qolb_draw_steps.specs.StepShapes.{Seen, Watches, seen_shapes};
 ghost use Rattle.qolb_draw_steps.specs.StepSvg.{step_texts};
@@ -19,42 +17,29 @@ use crate::step_text::{LETTERS, push_event_line, push_node_heads};
 use line_lanes::Line64;
 use link_core::Core;
 use qolb_model::LineConfig;
-use qolb_replay::{ReplayError, read_input};
-use qolb_script::{ScriptError, Steps, Watched, read_steps};
+use qolb_replay::ReplayError;
+use qolb_script::{Steps, read_steps};
 use qolb_shapes::Form;
 use qolb_shapes::svg::svg_of;
 use std::alloc::{AllocError, Allocator};
-use std::io::{Read, Write};
 
-/// Draws the step script that the reader gives, and writes its picture in this form. The states are those of a run of the list's core. For
-/// each event the picture shows the point of its node, the words that changed, and the place of the line.
+/// Returns the picture of a step script in this form. The states are those of a run of the list's core. For each event the picture shows the
+/// point of its node, the words that changed, and the place of the line.
 ///
-/// Reads the whole input first, and builds the whole picture before it writes the first byte. So with every error but `Write` no byte was
-/// written. An error is one that a run of the script may have, too.
-pub fn draw_steps<A: Allocator, R: Read, W: Write>(
+/// # Errors
+///
+/// `Memory`, or `Script` with the first fault of the step script.
+pub fn draw_steps<A: Allocator + Copy>(
     alloc: A,
-    reader: &mut Watched<R>,
-    writer: &mut Watched<W>,
+    script: &[u8],
     form: Form,
-) -> Result<(), ReplayError>
-    ensures ok { OnOk result (IfSome (R.remaining (inner_of reader.old)) (λ input.
-        (text : List ℕ) × IsStepPicture form input text
-        × Appends (W.contents (inner_of writer.old)) (W.contents (inner_of writer.new)) text)) }
-    ensures refused { IfErr result (λ error.
-        IfSome (R.remaining (inner_of reader.old)) (λ input.
-        StepsMayFail detail.Words input error)) }
-    ensures unwritten { IfErr result (λ error. error ≢ ReplayError.Write
-        → writer.new ≡ writer.old) }
-    ensures read_fault { (result ≡ Err ReplayError.Read) ↔ (has_failed reader.new ≡ true) }
-    ensures write_fault { result ≡ Err ReplayError.Write → has_failed writer.new ≡ true }
-    ensures written { OnOk result (has_failed writer.new ≡ false) }
-    ensures memory { result ≢ Err (ReplayError.Script ScriptError.Memory) }
+) -> Result<Vec<u8, A>, ReplayError>
+    ensures ok { IfOk result (λ text. length script.now ≤ MAX_BYTES
+        → IsStepPicture form script.now text.items) }
+    ensures refused { IfErr result (HasNoStepReply script.now) }
 {
-    let input = read_input(&alloc, reader)?;
-    let steps = read_steps(&alloc, input.as_slice())?;
-    let text = picture_in(&alloc, &steps, form)?;
-    writer.write_all(text.as_slice())?;
-    Ok(())
+    let steps = read_steps(alloc, script)?;
+    Ok(picture_in(alloc, &steps, form)?)
 }
 
 /// Returns the picture of a step script in this form.

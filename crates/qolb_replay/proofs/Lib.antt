@@ -1,4 +1,3 @@
 pub mod InTurn
 pub mod Replayed
 pub mod StepsRun
-pub mod Refusing

@@ -40,9 +40,16 @@ ReplayMayFail input error = MayFailBy IsReply HasReplayFault input error
 abbrev pub StepsMayFail : Detail → List ℕ → ReplayError → Type 0
 StepsMayFail detail input error = MayFailBy (IsStepReplyTo detail) HasStepFault input error
 
--- why a schedule, whose bytes are not too many, has no reply: memory was refused, or the bytes are no schedule
+-- why bytes have no answer: memory was refused, or the first fault in them is this one
+abbrev pub HasNoAnswer : (List ℕ → ScriptError → Type 0) → List ℕ → ReplayError → Type 0
+HasNoAnswer HasFault input why = (why ≡ error.Memory) ⊎ ((fault : ScriptError) × (why ≡ error.Script fault) × HasFault input fault × (fault ≢ script.Memory))
+
+-- as a schedule, and as a step script
 abbrev pub HasNoReply : List ℕ → ReplayError → Type 0
-HasNoReply input why = (why ≡ error.Memory) ⊎ ((fault : ScriptError) × (why ≡ error.Script fault) × (reply_to input ≡ Err fault) × (fault ≢ script.Memory))
+HasNoReply input why = HasNoAnswer HasReplayFault input why
+
+abbrev pub HasNoStepReply : List ℕ → ReplayError → Type 0
+HasNoStepReply input why = HasNoAnswer HasStepFault input why
 
 -- the error of a replay whose input could not be read
 abbrev pub as_replay_error : InputError → ReplayError

@@ -8,4 +8,4 @@ mod steps;
 pub use input::{InputError, MAX_BYTES, read_all, read_input};
 pub use qolb_lines::ReplayLine;
 pub use replay::{ReplayError, answered_over, answered_plainly, run_schedule_over};
-pub use steps::{Detail, run_steps, run_steps_with};
+pub use steps::{Detail, answer_steps, run_steps, run_steps_with};

@@ -122,7 +122,7 @@ where
     ensures memory { result ≢ Err (ReplayError.Script ScriptError.Memory) }
 {
     let input = read_input(alloc, reader)?;
-    let text = answered_over::<Global, L>(&alloc, alloc, input.as_slice())?;
+    let text = answered_over::<Global, L>(alloc, alloc, input.as_slice())?;
     writer.write_all(text.as_slice())?;
     Ok(())
 }
@@ -139,10 +139,10 @@ fn config_for<A: Allocator>(schedule: &Schedule<A>) -> LineConfig
 }
 
 /// The reply of the schedule that the input is, by plain lines.
-pub fn answered_plainly<'a, A: Allocator>(
-    alloc: &'a A,
+pub fn answered_plainly<A: Allocator + Copy>(
+    alloc: A,
     input: &[u8],
-) -> Result<Vec<u8, &'a A>, ReplayError>
+) -> Result<Vec<u8, A>, ReplayError>
     ensures ok { IfOk result (λ text. reply_to input.now ≡ Ok text.items) }
     ensures refused { IfErr result (HasNoReply input.now) }
 {
@@ -153,18 +153,18 @@ pub fn answered_plainly<'a, A: Allocator>(
 
 /// The reply of the schedule that the input is. Lines that nodes share and their ports lie in memory of `shared`, all else in memory of
 /// `alloc`.
-pub fn answered_over<'a, A: Allocator, L: OpenLine<Free> + Drop>(
-    alloc: &'a A,
+pub fn answered_over<A: Allocator + Copy, L: OpenLine<Free> + Drop>(
+    alloc: A,
     shared: Global,
     input: &[u8],
-) -> Result<Vec<u8, &'a A>, ReplayError>
+) -> Result<Vec<u8, A>, ReplayError>
 where
     L::Port: Drop,
     ensures ok { IfOk result (λ text. reply_to input.now ≡ Ok text.items) }
     ensures refused { IfErr result (HasNoReply input.now) }
 {
     let schedule = read_schedule(alloc, input)?;
-    let lines = open_ported::<&A, L>(alloc, shared, &config_for(&schedule), schedule.lines())?;
+    let lines = open_ported::<A, L>(alloc, shared, &config_for(&schedule), schedule.lines())?;
     Ok(reply(alloc, &schedule, lines)?)
 }
 

@@ -1,10 +1,11 @@
 //! Runs of step scripts on the list's core: what each event tells, and then the line's counts.
-ghost use Rattle.std.specs.Prelude.{◌≡◌, ◌≢◌, ◌↔◌, ℕ, List, Option, true, false, Ok, Err, OnOk, OnErr, IfOk, IfErr, IfSome, ◌++◌};
+ghost use Rattle.std.specs.Prelude.{◌≡◌, ◌≢◌, ◌≤◌, ◌↔◌, ℕ, List, Option, length, true, false, Ok, Err, OnOk, OnErr, IfOk, IfErr, IfSome, ◌++◌};
 ghost use Rattle.std.specs.Io.KnownBytes.{Appends};
 ghost use Rattle.qolb_script.specs.Watched.{inner_of, has_failed};
 ghost use Rattle.qolb_script.specs.StepReply.{step_said};
 ghost use Rattle.link_core.specs.Progress.{rank};
-ghost use Rattle.qolb_replay.specs.Outcome.{StepsMayFail};
+ghost use Rattle.qolb_replay.specs.Outcome.{StepsMayFail, HasNoStepReply};
+ghost use Rattle.qolb_replay.specs.declared.input.TheConstants.{MAX_BYTES};
 ghost use Rattle.qolb_replay.specs.declared.steps.Detail.TheVariants as detail;
 ghost use Rattle.qolb_replay.specs.StepRuns.{IsStepReply, IsStepReplyTo, Heard, heard_text, is_busy, nodes_busy};
 
@@ -75,10 +76,23 @@ pub fn run_steps_with<A: Allocator, R: Read, W: Write>(
     ensures memory { result ≢ Err (ReplayError.Script ScriptError.Memory) }
 {
     let input = read_input(&alloc, reader)?;
-    let steps = read_steps(&alloc, input.as_slice())?;
-    let text = reply(&alloc, &steps, detail)?;
+    let text = answer_steps(&alloc, input.as_slice(), detail)?;
     writer.write_all(text.as_slice())?;
     Ok(())
+}
+
+/// The reply of the step script that the input is.
+pub fn answer_steps<A: Allocator + Copy>(
+    alloc: A,
+    input: &[u8],
+    detail: Detail,
+) -> Result<Vec<u8, A>, ReplayError>
+    ensures ok { IfOk result (λ text. length input.now ≤ MAX_BYTES
+        → IsStepReplyTo detail input.now text.items) }
+    ensures refused { IfErr result (HasNoStepReply input.now) }
+{
+    let steps = read_steps(alloc, input)?;
+    Ok(reply(alloc, &steps, detail)?)
 }
 
 /// Returns the reply of a step script.

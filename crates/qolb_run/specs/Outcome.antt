@@ -5,7 +5,7 @@ use Rattle.qolb_replay.specs.declared.replay.ReplayError.TheVariants as error
 use Rattle.qolb_replay.specs.declared.input.TheConstants.{MAX_BYTES}
 use Rattle.qolb_script.specs.declared.error.ScriptError.{ScriptError}
 use Rattle.qolb_replay.specs.StepRuns.{IsStepReplyTo}
-use Rattle.qolb_replay.specs.Outcome.{IsReply, HasReplayFault, HasStepFault, MayFailBy}
+use Rattle.qolb_replay.specs.Outcome.{IsReply, HasReplayFault, HasStepFault, HasNoAnswer, MayFailBy}
 use Rattle.line_kinds.specs.declared.Lines.{Lines}
 use Rattle.qolb_run.specs.declared.task.Task.{Task}
 use Rattle.qolb_run.specs.declared.task.Task.TheVariants.{Replay, Steps, Work}
@@ -40,15 +40,15 @@ Answers KindSpec (Replay kind) input text = IsReply input text
 Answers KindSpec (Steps detail) input text = IsStepReplyTo detail input text
 Answers KindSpec (Work kind lines waits) input text = IsReplyOver (KindSpec lines) kind input text
 
+abbrev pub HasWorkFault : WorkKind → List ℕ → ScriptError → Type 0
+HasWorkFault kind input fault = work_of kind input ≡ Err fault
+
 abbrev pub HasFault : Task → List ℕ → ScriptError → Type 0
 HasFault (Replay kind) input fault = HasReplayFault input fault
 HasFault (Steps detail) input fault = HasStepFault input fault
-HasFault (Work kind lines waits) input fault = work_of kind input ≡ Err fault
+HasFault (Work kind lines waits) input fault = HasWorkFault kind input fault
 
--- the bytes have a reply; or they are too many, or have a first fault
-abbrev pub IsAnswered : Task → List ℕ → Type 0
-IsAnswered task input = (text : List ℕ) × Answers (λ lines work report. Unit {0}) task input text
-
+-- the bytes are too many, or have a first fault
 abbrev pub IsRefused : Task → List ℕ → Type 0
 IsRefused task input = (MAX_BYTES < length input) ⊎ ((fault : ScriptError) × HasFault task input fault)
 
@@ -62,6 +62,12 @@ MayEnd task input (ending.Replay why) = MayFail task input why
 MayEnd (Replay kind) input (ending.Stalled worker) = ⊥
 MayEnd (Steps detail) input (ending.Stalled worker) = ⊥
 MayEnd (Work kind lines waits) input (ending.Stalled worker) = (work : WorkScript) × IsWork kind input work × MayStop work (run.Stalled worker)
+
+-- why bytes have no report of work: memory was refused, or the first fault in them is this one; or they are a work script, and one of its
+-- workers gave up
+abbrev pub HasNoReport : WorkKind → List ℕ → TaskError → Type 0
+HasNoReport kind input (ending.Replay why) = HasNoAnswer (HasWorkFault kind) input why
+HasNoReport kind input (ending.Stalled worker) = (work : WorkScript) × (work_of kind input ≡ Ok work) × MayStop work (run.Stalled worker)
 
 -- the error of a task whose work has no report
 abbrev pub task_error : RunError → TaskError

@@ -12,11 +12,11 @@ pub use line_blocking::{
 };
 pub use line_kinds::Lines;
 pub use qolb_replay::{
-    Detail, InputError, MAX_BYTES, ReplayError, ReplayLine, read_all, read_input,
+    Detail, InputError, MAX_BYTES, ReplayError, ReplayLine, answer_steps, read_all, read_input,
     run_schedule_over, run_steps, run_steps_with,
 };
 pub use qolb_work::{AlwaysOpen, Gate, MAX_REFUSALS, Progress, RunError, WaitMode, run_work_over};
-pub use replay::{Kind, run_schedule};
-pub use report::{TaskError, report_work};
+pub use replay::{Kind, answer_schedule, run_schedule};
+pub use report::{TaskError, answer_work};
 pub use task::Task;
 pub use work::{KindSpec, Locks, run_work, run_work_with};

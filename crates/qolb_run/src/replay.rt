@@ -71,20 +71,28 @@ pub fn run_schedule<R: Read, W: Write>(
     ensures memory { result ≢ Err (ReplayError.Script ScriptError.Memory) }
 {
     let input = read_input(alloc, reader)?;
-    let text = match kind.shared() {
-        None => answered_plainly(&alloc, input.as_slice())?,
-        Some(lines) => answered_by(lines, &alloc, input.as_slice())?,
-    };
+    let text = answer_schedule(alloc, input.as_slice(), kind)?;
     writer.write_all(text.as_slice())?;
     Ok(())
 }
 
+/// Returns the reply of a schedule by lines of this kind.
+///
+/// # Errors
+///
+/// `Memory`, or `Script` with the first fault of the schedule.
+pub fn answer_schedule(alloc: Global, script: &[u8], kind: Kind) -> Result<Vec<u8>, ReplayError>
+    ensures ok { IfOk result (λ text. reply_to script.now ≡ Ok text.items) }
+    ensures refused { IfErr result (HasNoReply script.now) }
+{
+    match kind.shared() {
+        None => answered_plainly(alloc, script),
+        Some(lines) => answered_by(lines, alloc, script),
+    }
+}
+
 /// The reply of the schedule that the input is, by lines of this name.
-fn answered_by<'a>(
-    lines: Lines,
-    alloc: &'a Global,
-    input: &[u8],
-) -> Result<Vec<u8, &'a Global>, ReplayError>
+fn answered_by(lines: Lines, alloc: Global, input: &[u8]) -> Result<Vec<u8>, ReplayError>
     ensures ok { IfOk result (λ text. reply_to input.now ≡ Ok text.items) }
     ensures refused { IfErr result (HasNoReply input.now) }
 {
@@ -92,12 +100,12 @@ fn answered_by<'a>(
 }
 
 /// The reply of the schedule that the input is, by lines of this discipline.
-fn answered_with<'a, Q: Discipline<Free>>(
-    alloc: &'a Global,
+fn answered_with<Q: Discipline<Free>>(
+    alloc: Global,
     input: &[u8],
-) -> Result<Vec<u8, &'a Global>, ReplayError>
+) -> Result<Vec<u8>, ReplayError>
     ensures ok { IfOk result (λ text. reply_to input.now ≡ Ok text.items) }
     ensures refused { IfErr result (HasNoReply input.now) }
 {
-    answered_over::<Global, Line<Free, Q>>(alloc, *alloc, input)
+    answered_over::<Global, Line<Free, Q>>(alloc, alloc, input)
 }

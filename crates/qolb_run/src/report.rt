@@ -1,20 +1,17 @@
-//! Work scripts: from the bytes of the script to the bytes of the report.
-ghost use Rattle.std.specs.Prelude.{◌≡◌, ◌≢◌, ◌↔◌, ℕ, List, true, false, Ok, Err, OnOk, IfOk, IfErr, IfSome};
-ghost use Rattle.std.specs.Io.KnownBytes.{Appends};
-ghost use Rattle.qolb_script.specs.Watched.{inner_of, has_failed};
-ghost use Rattle.qolb_run.specs.declared.task.Task.TheVariants as task;
-ghost use Rattle.line_kinds.specs.declared.Lines.{Lines};
-ghost use Rattle.qolb_work.specs.declared.work.WaitMode.{WaitMode};
+//! Work scripts: from the bytes of the script to the text of the report.
+ghost use Rattle.std.specs.Prelude.{◌≡◌, ◌≤◌, ℕ, length, Ok, Err, IfOk, IfErr};
+ghost use Rattle.qolb_script.specs.WorkScript.{work_of};
+ghost use Rattle.qolb_replay.specs.declared.input.TheConstants.{MAX_BYTES};
+ghost use Rattle.qolb_replay.specs.Outcome.{HasNoAnswer};
 ghost use Rattle.qolb_run.specs.declared.report.TaskError.TheVariants.{Replay};
-ghost use Rattle.qolb_run.specs.Outcome.{IsWork, IsReplyOver, MayFail, MayEnd, task_error};
+ghost use Rattle.qolb_run.specs.Outcome.{IsReplyOver, HasWorkFault, HasNoReport, task_error};
 
 use crate::work::{KindSpec, Locks, run_work_with};
 use line_kinds::Lines;
-use qolb_replay::{ReplayError, read_input};
-use qolb_script::{ScriptError, Watched, Work, WorkKind, read_work, write_report};
+use qolb_replay::ReplayError;
+use qolb_script::{Watched, Work, WorkKind, read_work, write_report};
 use qolb_work::{Gate, RunError, WaitMode};
 use std::alloc::Global;
-use std::io::{Read, Write};
 use std::sync::Wait;
 use std::thread::Threads;
 use thiserror::Error;
@@ -49,59 +46,40 @@ impl From<RunError> for TaskError {
     }
 }
 
-/// Does the work of the script that the reader gives, and writes its report.
+/// Does the work of a work script, and returns its report as text. Blocks until all workers have ended.
 ///
-/// Reads the whole input first, and does the work before it writes the first byte. So with every error but `Write` no byte was written.
-pub fn report_work<T: Threads + Wait + Sync, G: Gate + Sync, R: Read, W: Write>(
+/// # Errors
+///
+/// `Stalled` with the first worker that gave up; or `Memory`, or `Script` with the first fault of the work script.
+pub fn answer_work<T: Threads + Wait + Sync, G: Gate + Sync>(
     rt: &T,
     alloc: Global,
     gate: &G,
-    reader: &mut Watched<R>,
-    writer: &mut Watched<W>,
+    script: &[u8],
     kind: WorkKind,
     lines: Lines,
     waits: WaitMode,
-) -> Result<(), TaskError>
-    ensures ok { OnOk result (IfSome (R.remaining (inner_of reader.old)) (λ input.
-        (text : List ℕ) × IsReplyOver (⟦<Locks as KindSpec>⟧.done_over lines) kind input text
-        × Appends (W.contents (inner_of writer.old)) (W.contents (inner_of writer.new)) text)) }
-    ensures refused { IfErr result (λ error.
-        IfSome (R.remaining (inner_of reader.old)) (λ input.
-        MayEnd (task.Work kind lines waits) input error)) }
+) -> Result<Vec<u8>, TaskError>
+    ensures ok { IfOk result (λ text. length script.now ≤ MAX_BYTES
+        → IsReplyOver (⟦<Locks as KindSpec>⟧.done_over lines) kind script.now text.items) }
+    ensures refused { IfErr result (HasNoReport kind script.now) }
     ensures by_gate { (worker : ℕ) → result ≡ Err (TaskError.Stalled worker)
         → G.may_refuse gate.now worker }
-    ensures unwritten { IfErr result (λ error. error ≢ TaskError.Replay ReplayError.Write
-        → writer.new ≡ writer.old) }
-    ensures read_fault { (result ≡ Err (TaskError.Replay ReplayError.Read))
-        ↔ (has_failed reader.new ≡ true) }
-    ensures write_fault { result ≡ Err (TaskError.Replay ReplayError.Write)
-        → has_failed writer.new ≡ true }
-    ensures written { OnOk result (has_failed writer.new ≡ false) }
-    ensures memory { result ≢ Err (TaskError.Replay (ReplayError.Script ScriptError.Memory)) }
 {
-    let work = read_script(alloc, reader, kind)?;
+    let work = read_script(alloc, script, kind)?;
     let report = run_work_with(rt, alloc, gate, &work, lines, waits)?;
-    if write_report(&report, writer).is_err() {
-        return Err(TaskError::Replay(ReplayError::Write));
+    let mut text = Watched::new(Vec::new(alloc));
+    if write_report(&report, &mut text).is_err() {
+        // Only want of memory keeps a vector from growing.
+        return Err(TaskError::Replay(ReplayError::Memory));
     }
-    Ok(())
+    Ok(text.into_inner())
 }
 
-/// Reads the work script that the reader gives.
-fn read_script<R: Read>(
-    alloc: Global,
-    reader: &mut Watched<R>,
-    kind: WorkKind,
-) -> Result<Work, ReplayError>
-    ensures work { IfOk result (λ work.
-        IfSome (R.remaining (inner_of reader.old)) (λ input. IsWork kind input work)) }
-    ensures refused { IfErr result (λ error. (error ≢ ReplayError.Write)
-        × IfSome (R.remaining (inner_of reader.old)) (λ input.
-        (lines : Lines) (waits : WaitMode) → MayFail (task.Work kind lines waits) input error)) }
-    ensures read_fault { (result ≡ Err ReplayError.Read) ↔ (has_failed reader.new ≡ true) }
-    ensures memory { result ≢ Err (ReplayError.Script ScriptError.Memory) }
+/// Reads a work script.
+fn read_script(alloc: Global, script: &[u8], kind: WorkKind) -> Result<Work, ReplayError>
+    ensures work { IfOk result (λ work. work_of kind script.now ≡ Ok work) }
+    ensures refused { IfErr result (HasNoAnswer (HasWorkFault kind) script.now) }
 {
-    let input = read_input(alloc, reader)?;
-    let work = read_work(alloc, input.as_slice(), kind)?;
-    Ok(work)
+    Ok(read_work(alloc, script, kind)?)
 }

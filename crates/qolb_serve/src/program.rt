@@ -1,37 +1,33 @@
 //! Does what the words ask for, and reports how that ended.
-ghost use Rattle.std.specs.Prelude.{◌≡◌, ◌≢◌, ◌≤◌, ◌↔◌, ℕ, List, true, false, Err, Some, None, map, string_bytes, IfSome, IfErr, IfOk, IsErrAnd, IsSome, OnOk, MatchOption};
+ghost use Rattle.std.specs.Prelude.{◌≡◌, ◌≢◌, ◌≤◌, ℕ, List, length, Err, Some, None, map, string_bytes, IfSome, IfErr, IfOk, MatchOption};
 ghost use Rattle.std.specs.Io.KnownBytes.{Appends};
 ghost use Rattle.std.specs.IoError.{error_kind};
 ghost use Rattle.std.specs.declared.io.ErrorKind.TheVariants as io_kind;
-ghost use Rattle.qolb_script.specs.Watched.{inner_of, has_failed};
+ghost use Rattle.qolb_replay.specs.declared.input.TheConstants.{MAX_BYTES};
 ghost use Rattle.qolb_args.specs.CommandLine.{NamesWish, IsNotTaken};
-ghost use Rattle.qolb_run.specs.Outcome.{Answers, IsReplyOver, MayEnd};
-ghost use Rattle.qolb_draw.specs.Pictures.{IsPicture};
-ghost use Rattle.qolb_draw_steps.specs.StepPictures.{IsStepPicture};
-ghost use Rattle.qolb_replay.specs.declared.steps.Detail.TheVariants as detail;
-ghost use Rattle.qolb_run.specs.declared.task.Task.TheVariants as task;
-ghost use Rattle.qolb_run.specs.declared.replay.Kind.TheVariants as kind;
+ghost use Rattle.qolb_args.specs.declared.command_line.Subcommand.{Subcommand};
+ghost use Rattle.qolb_run.specs.Outcome.{IsReplyOver, HasNoReport};
 ghost use Rattle.qolb_serve.specs.Subcommands.{Performs, IsDenied, MayDeny, complaint};
 ghost use Rattle.qolb_serve.specs.Status.{status_of};
-ghost use Rattle.qolb_args.specs.declared.command_line.Subcommand.{Subcommand};
 
 use clap::error::ErrorKind;
 use qolb_args::{Args, Subcommand, parse_args};
-use qolb_draw::{Form, draw_schedule};
+use qolb_draw::draw_schedule;
 use qolb_draw_steps::draw_steps;
 use qolb_explain::{Complaint, explain_schedule, explain_steps, explain_work};
 use qolb_run::{
-    AlwaysOpen, KindSpec, Lines, Locks, Progress, ReplayError, Task, TaskError, WaitMode, read_all,
-    report_work, run_schedule, run_steps_with,
+    AlwaysOpen, KindSpec, Lines, Locks, Progress, ReplayError, Task, TaskError, WaitMode,
+    answer_schedule, answer_steps, answer_work, read_all,
 };
-use qolb_script::{ScriptError, Watched, WorkKind};
+use qolb_script::{Watched, WorkKind};
 use std::alloc::Global;
 use std::io::{self, Read, Write};
 use std::rt::Clock;
 use std::sync::Wait;
 use std::thread::Threads;
 
-/// Does what the words ask for, of which the first is the program's name. Reads from `reader`, writes to `out`, and complains to `err`.
+/// Does what the words ask for, of which the first is the program's name. Reads all of `reader` first, and then writes the answer to `out`.
+/// Complains to `err`.
 ///
 /// Returns the exit status. A failed write to `err` does not change it.
 pub fn serve<T: Threads + Wait + Clock + Eprint + Sync, R: Read, W: Write, E: Write>(
@@ -54,6 +50,7 @@ pub fn serve<T: Threads + Wait + Clock + Eprint + Sync, R: Read, W: Write, E: Wr
     ensures usage { result ≡ 2 → IsNotTaken (map string_bytes words.now) }
     ensures fault { result ≡ 4 → (subcommand : Subcommand)
         × NamesWish (map string_bytes words.now) subcommand }
+    ensures silent { result ≡ 0 → err.new ≡ err.old }
     ensures unread { result ≡ 2 → reader.new ≡ reader.old }
     ensures unwritten { 1 ≤ result → result ≤ 3 → out.new ≡ out.old }
 {
@@ -67,10 +64,13 @@ pub fn serve<T: Threads + Wait + Clock + Eprint + Sync, R: Read, W: Write, E: Wr
             return 2;
         }
     };
-    let mut input = Watched::new(&mut *reader);
-    let text = match answer_or_refuse(rt, alloc, request, &mut input) {
+    let script = match read_all(alloc, &mut Watched::new(&mut *reader)) {
+        Ok(script) => script,
+        Err(error) => return fail(err, TaskError::Replay(error)),
+    };
+    let text = match answer(rt, alloc, request, &script) {
         Ok(text) => text,
-        Err(refusal) => return refuse(err, request.subcommand, refusal),
+        Err(error) => return refuse(err, request, &script, error),
     };
     if out.write_all(&text).is_err() {
         return fail(err, TaskError::Replay(ReplayError::Write));
@@ -78,249 +78,60 @@ pub fn serve<T: Threads + Wait + Clock + Eprint + Sync, R: Read, W: Write, E: Wr
     0
 }
 
-/// The error of a request, and the script if its fault is to be explained.
-#[derive(Drop)]
-struct Refusal {
-    error: TaskError,
-    script: Option<Vec<u8>>,
-}
-
-/// Returns the answer to a request as a text in memory, or why there is none. Keeps the script if it may have to be explained.
-fn answer_or_refuse<T: Threads + Wait + Clock + Eprint + Sync, R: Read>(
+/// Returns the answer to a request, or why there is none.
+fn answer<T: Threads + Wait + Clock + Eprint + Sync>(
     rt: &T,
     alloc: Global,
     request: Args,
-    input: &mut Watched<R>,
-) -> Result<Vec<u8>, Refusal>
-    ensures granted { IfOk result (λ text.
-        IfSome (R.remaining (inner_of input.old)) (λ script.
-        Performs ⟦<Locks as KindSpec>⟧.done_over request.subcommand script text.items)) }
-    ensures err { IfErr result (λ refusal.
-        IfSome (R.remaining (inner_of input.old)) (λ script.
-        MayDeny request.subcommand script refusal.error)) }
-    ensures read_fault { has_failed input.new ≡ true
-        → IsErrAnd result (λ refusal. refusal.error ≡ TaskError.Replay ReplayError.Read) }
-    ensures never_stalls { IfErr result (λ refusal.
-        (worker : ℕ) → refusal.error ≢ TaskError.Stalled worker) }
-
-    // A refused script is kept if that is asked for, and then it is the script that was read.
-    ensures asked { IfErr result (λ refusal. (fault : ScriptError)
-        → refusal.error ≡ TaskError.Replay (ReplayError.Script fault) → request.explain ≡ true
-        → IsSome refusal.script) }
-    ensures unasked { IfErr result (λ refusal. request.explain ≡ false → refusal.script ≡ None) }
-    ensures kept { IfErr result (λ refusal.
-        IfSome refusal.script (λ kept.
-        IfSome (R.remaining (inner_of input.old)) (λ script. kept.items ≡ script))) }
-{
-    if !request.explain {
-        return match answer(rt, alloc, request, input) {
-            Ok(text) => Ok(text),
-            Err(error) => Err(Refusal {
-                error,
-                script: None,
-            }),
-        };
-    }
-    let script = match read_all(alloc, input) {
-        Ok(script) => script,
-        Err(error) => {
-            return Err(Refusal {
-                error: TaskError::Replay(error),
-                script: None,
-            });
-        }
-    };
-    match answer(rt, alloc, request, &mut Watched::new(script.as_slice())) {
-        Ok(text) => Ok(text),
-        Err(error) => Err(Refusal {
-            error,
-            script: Some(script),
-        }),
-    }
-}
-
-/// Returns the answer to a request as a text in memory.
-///
-/// The caller writes the text to the output: no contract can name the contents of a writer that was lent to a `Watched`.
-fn answer<T: Threads + Wait + Clock + Eprint + Sync, R: Read>(
-    rt: &T,
-    alloc: Global,
-    request: Args,
-    input: &mut Watched<R>,
+    script: &[u8],
 ) -> Result<Vec<u8>, TaskError>
+    requires fits { length script.now ≤ MAX_BYTES }
     ensures granted { IfOk result (λ text.
-        IfSome (R.remaining (inner_of input.old)) (λ script.
-        Performs ⟦<Locks as KindSpec>⟧.done_over request.subcommand script text.items)) }
-    ensures err { IfErr result (λ error.
-        IfSome (R.remaining (inner_of input.old)) (λ script.
-        MayDeny request.subcommand script error)) }
-    ensures read_fault { (result ≡ Err (TaskError.Replay ReplayError.Read))
-        ↔ (has_failed input.new ≡ true) }
-    ensures no_writer { result ≢ Err (TaskError.Replay ReplayError.Write) }
-    ensures never_stalls { (worker : ℕ) → result ≢ Err (TaskError.Stalled worker) }
-{
-    let mut text = Watched::new(Vec::new(alloc));
-    match run_args(rt, alloc, request, input, &mut text) {
-        Ok(()) => Ok(text.into_inner()),
-        // Nothing but want of memory keeps a vector from growing.
-        Err(TaskError::Replay(ReplayError::Write)) => Err(TaskError::Replay(ReplayError::Memory)),
-        Err(error) => Err(error),
-    }
-}
-
-/// Does what the request asks for.
-fn run_args<T: Threads + Wait + Clock + Eprint + Sync, R: Read, W: Write>(
-    rt: &T,
-    alloc: Global,
-    request: Args,
-    input: &mut Watched<R>,
-    output: &mut Watched<W>,
-) -> Result<(), TaskError>
-    ensures granted { OnOk result (IfSome (R.remaining (inner_of input.old)) (λ script.
-        (text : List ℕ) × Performs ⟦<Locks as KindSpec>⟧.done_over request.subcommand script text
-        × Appends (W.contents (inner_of output.old)) (W.contents (inner_of output.new)) text)) }
-    ensures err { IfErr result (λ error.
-        IfSome (R.remaining (inner_of input.old)) (λ script.
-        MayDeny request.subcommand script error)) }
-    ensures unwritten { IfErr result (λ error. error ≢ TaskError.Replay ReplayError.Write
-        → output.new ≡ output.old) }
-    ensures read_fault { (result ≡ Err (TaskError.Replay ReplayError.Read))
-        ↔ (has_failed input.new ≡ true) }
-    ensures write_fault { result ≡ Err (TaskError.Replay ReplayError.Write)
-        → has_failed output.new ≡ true }
-    ensures memory { result ≢ Err (TaskError.Replay (ReplayError.Script ScriptError.Memory)) }
-    ensures never_stalls { (worker : ℕ) → result ≢ Err (TaskError.Stalled worker) }
+        Performs ⟦<Locks as KindSpec>⟧.done_over request.subcommand script.now text.items) }
+    ensures denied { IfErr result (MayDeny request.subcommand script.now) }
+    ensures no_fault { IfErr result (λ error. status_of error ≢ 4) }
 {
     match request.subcommand {
-        Subcommand::Answer(task) => run(rt, alloc, task, request.progress, input, output),
-        Subcommand::Draw(form) => draw(alloc, form, input, output),
-        Subcommand::DrawSteps(form) => draw_of_steps(alloc, form, input, output),
-    }
-}
-
-/// Draws a schedule.
-fn draw<R: Read, W: Write>(
-    alloc: Global,
-    form: Form,
-    input: &mut Watched<R>,
-    output: &mut Watched<W>,
-) -> Result<(), TaskError>
-    ensures drawn { OnOk result (IfSome (R.remaining (inner_of input.old)) (λ script.
-        (text : List ℕ) × IsPicture form script text
-        × Appends (W.contents (inner_of output.old)) (W.contents (inner_of output.new)) text)) }
-    ensures refused { IfErr result (λ error.
-        IfSome (R.remaining (inner_of input.old)) (λ script.
-        MayEnd (task.Replay kind.Plain) script error)) }
-    ensures unwritten { IfErr result (λ error. error ≢ TaskError.Replay ReplayError.Write
-        → output.new ≡ output.old) }
-    ensures read_fault { (result ≡ Err (TaskError.Replay ReplayError.Read))
-        ↔ (has_failed input.new ≡ true) }
-    ensures write_fault { result ≡ Err (TaskError.Replay ReplayError.Write)
-        → has_failed output.new ≡ true }
-    ensures memory { result ≢ Err (TaskError.Replay (ReplayError.Script ScriptError.Memory)) }
-    ensures never_stalls { (worker : ℕ) → result ≢ Err (TaskError.Stalled worker) }
-{
-    Ok(draw_schedule(alloc, input, output, form)?)
-}
-
-/// Draws a step script.
-fn draw_of_steps<R: Read, W: Write>(
-    alloc: Global,
-    form: Form,
-    input: &mut Watched<R>,
-    output: &mut Watched<W>,
-) -> Result<(), TaskError>
-    ensures drawn { OnOk result (IfSome (R.remaining (inner_of input.old)) (λ script.
-        (text : List ℕ) × IsStepPicture form script text
-        × Appends (W.contents (inner_of output.old)) (W.contents (inner_of output.new)) text)) }
-    ensures refused { IfErr result (λ error.
-        IfSome (R.remaining (inner_of input.old)) (λ script.
-        MayEnd (task.Steps detail.Words) script error)) }
-    ensures unwritten { IfErr result (λ error. error ≢ TaskError.Replay ReplayError.Write
-        → output.new ≡ output.old) }
-    ensures read_fault { (result ≡ Err (TaskError.Replay ReplayError.Read))
-        ↔ (has_failed input.new ≡ true) }
-    ensures write_fault { result ≡ Err (TaskError.Replay ReplayError.Write)
-        → has_failed output.new ≡ true }
-    ensures memory { result ≢ Err (TaskError.Replay (ReplayError.Script ScriptError.Memory)) }
-    ensures never_stalls { (worker : ℕ) → result ≢ Err (TaskError.Stalled worker) }
-{
-    Ok(draw_steps(alloc, input, output, form)?)
-}
-
-/// Does the task. Work reports its progress, if `progress` is set.
-fn run<T: Threads + Wait + Clock + Eprint + Sync, R: Read, W: Write>(
-    rt: &T,
-    alloc: Global,
-    task: Task,
-    progress: bool,
-    input: &mut Watched<R>,
-    output: &mut Watched<W>,
-) -> Result<(), TaskError>
-    ensures answered { OnOk result (IfSome (R.remaining (inner_of input.old)) (λ script.
-        (text : List ℕ) × Answers ⟦<Locks as KindSpec>⟧.done_over task script text
-        × Appends (W.contents (inner_of output.old)) (W.contents (inner_of output.new)) text)) }
-    ensures refused { IfErr result (λ error.
-        IfSome (R.remaining (inner_of input.old)) (λ script. MayEnd task script error)) }
-    ensures unwritten { IfErr result (λ error. error ≢ TaskError.Replay ReplayError.Write
-        → output.new ≡ output.old) }
-    ensures read_fault { (result ≡ Err (TaskError.Replay ReplayError.Read))
-        ↔ (has_failed input.new ≡ true) }
-    ensures write_fault { result ≡ Err (TaskError.Replay ReplayError.Write)
-        → has_failed output.new ≡ true }
-    ensures memory { result ≢ Err (TaskError.Replay (ReplayError.Script ScriptError.Memory)) }
-    ensures never_stalls { (worker : ℕ) → result ≢ Err (TaskError.Stalled worker) }
-{
-    match task {
-        Task::Replay(kind) => Ok(run_schedule(alloc, input, output, kind)?),
-        Task::Steps(detail) => Ok(run_steps_with(alloc, input, output, detail)?),
-        Task::Work(kind, lines, waits) => {
-            work(rt, alloc, kind, lines, waits, progress, input, output)
+        Subcommand::Answer(Task::Replay(kind)) => Ok(answer_schedule(alloc, script, kind)?),
+        Subcommand::Answer(Task::Steps(detail)) => Ok(answer_steps(alloc, script, detail)?),
+        Subcommand::Answer(Task::Work(kind, lines, waits)) => {
+            work(rt, alloc, request.progress, script, kind, lines, waits)
         }
+        Subcommand::Draw(form) => Ok(draw_schedule(alloc, script, form)?),
+        Subcommand::DrawSteps(form) => Ok(draw_steps(alloc, script, form)?),
     }
 }
 
-/// Does the work of a work script. It reports its progress, if `progress` is set and there is a clock.
-fn work<T: Threads + Wait + Clock + Eprint + Sync, R: Read, W: Write>(
+/// Does the work of a work script, and returns its report as text. It reports its progress, if `progress` is set and there is a clock.
+fn work<T: Threads + Wait + Clock + Eprint + Sync>(
     rt: &T,
     alloc: Global,
+    progress: bool,
+    script: &[u8],
     kind: WorkKind,
     lines: Lines,
     waits: WaitMode,
-    progress: bool,
-    input: &mut Watched<R>,
-    output: &mut Watched<W>,
-) -> Result<(), TaskError>
-    ensures ok { OnOk result (IfSome (R.remaining (inner_of input.old)) (λ script.
-        (text : List ℕ) × IsReplyOver (⟦<Locks as KindSpec>⟧.done_over lines) kind script text
-        × Appends (W.contents (inner_of output.old)) (W.contents (inner_of output.new)) text)) }
-    ensures refused { IfErr result (λ error.
-        IfSome (R.remaining (inner_of input.old)) (λ script.
-        MayEnd (task.Work kind lines waits) script error)) }
-    ensures unwritten { IfErr result (λ error. error ≢ TaskError.Replay ReplayError.Write
-        → output.new ≡ output.old) }
-    ensures read_fault { (result ≡ Err (TaskError.Replay ReplayError.Read))
-        ↔ (has_failed input.new ≡ true) }
-    ensures write_fault { result ≡ Err (TaskError.Replay ReplayError.Write)
-        → has_failed output.new ≡ true }
-    ensures memory { result ≢ Err (TaskError.Replay (ReplayError.Script ScriptError.Memory)) }
+) -> Result<Vec<u8>, TaskError>
+    ensures ok { IfOk result (λ text. length script.now ≤ MAX_BYTES
+        → IsReplyOver (⟦<Locks as KindSpec>⟧.done_over lines) kind script.now text.items) }
+    ensures refused { IfErr result (HasNoReport kind script.now) }
     ensures never_stalls { (worker : ℕ) → result ≢ Err (TaskError.Stalled worker) }
 {
     if progress {
         if let Ok(gate) = Progress::new(rt) {
-            return report_work(rt, alloc, &gate, input, output, kind, lines, waits);
+            return answer_work(rt, alloc, &gate, script, kind, lines, waits);
         }
     }
-    report_work(rt, alloc, &AlwaysOpen, input, output, kind, lines, waits)
+    answer_work(rt, alloc, &AlwaysOpen, script, kind, lines, waits)
 }
 
-/// Writes the error and, if the script is there and refused, its fault. Returns the exit status.
-fn refuse<E: Write>(err: &mut E, subcommand: Subcommand, refusal: Refusal) -> u8
-    ensures { result ≡ status_of refusal.error }
+/// Writes the error and, if that is asked for and the script is refused, its fault. Returns the exit status.
+fn refuse<E: Write>(err: &mut E, request: Args, script: &[u8], error: TaskError) -> u8
+    ensures { result ≡ status_of error }
 {
-    let status = fail(err, refusal.error);
-    if let (1, Some(script)) = (status, &refusal.script) {
-        if let Some(complaint) = complaint_of(subcommand, script) {
+    let status = fail(err, error);
+    if status == 1 && request.explain {
+        if let Some(complaint) = complaint_of(request.subcommand, script) {
             let _ = writeln!(err, "{complaint}");
         }
     }

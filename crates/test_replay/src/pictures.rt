@@ -4,18 +4,13 @@ use crate::styles::{Sheet, are_seen, signs_differ};
 use linked_list_allocator::LocalHeap;
 use qolb_draw::{Form, draw_schedule};
 use qolb_run::ReplayError;
-use qolb_script::{ScriptError, Watched};
+use qolb_script::ScriptError;
 use std::alloc::Global;
-use std::io;
-use std::io::{Read, Write};
 use std::test::Fail;
 
 /// The picture of the script.
 fn drawn(alloc: Global, script: &str, form: Form) -> Result<String, Fail> {
-    let mut reader = Watched::new(script.as_bytes());
-    let mut text: Vec<u8> = Vec::new(alloc);
-    draw_schedule(alloc, &mut reader, &mut Watched::new(&mut text), form)?;
-    Ok(String::from_utf8(text)?)
+    Ok(String::from_utf8(draw_schedule(alloc, script.as_bytes(), form)?)?)
 }
 
 const LETTERS: &str =
@@ -235,59 +230,9 @@ fn refuses_what_a_replay_refuses(rt: HostRuntime) {
         ("nodes 2 lines 1\nenq 3 0", ScriptError::Number(2)),
         ("nodes 2 lines 1\nenq 1", ScriptError::BadLine(2)),
     ] {
-        let mut reader = Watched::new(script.as_bytes());
-        let mut text: Vec<u8> = Vec::new(rt.alloc());
-        let done = draw_schedule(
-            rt.alloc(),
-            &mut reader,
-            &mut Watched::new(&mut text),
-            Form::Text,
-        );
-        expect(&rt, script, done, Err(ReplayError::Script(error)));
-        expect(&rt, "bytes written", text.len(), 0);
+        let done = draw_schedule(rt.alloc(), script.as_bytes(), Form::Text);
+        expect(&rt, script, done.err(), Some(ReplayError::Script(error)));
     }
-}
-
-/// A reader and writer that fails at once.
-#[derive(Drop)]
-struct Failing;
-
-impl Read for Failing {
-    fn read(&mut self, _buf: &mut [u8]) -> io::Result<usize> {
-        Err(io::Error::from(io::ErrorKind::Other))
-    }
-}
-
-impl Write for Failing {
-    fn write(&mut self, _buf: &[u8]) -> io::Result<usize> {
-        Err(io::Error::from(io::ErrorKind::Other))
-    }
-
-    fn flush(&mut self) -> io::Result<()> {
-        Ok(())
-    }
-}
-
-#[test]
-fn tells_faults_of_reader_and_writer(rt: HostRuntime) {
-    let mut text: Vec<u8> = Vec::new(rt.alloc());
-    let mut reader = Watched::new(Failing);
-    let done = draw_schedule(
-        rt.alloc(),
-        &mut reader,
-        &mut Watched::new(&mut text),
-        Form::Text,
-    );
-    expect(&rt, "done", done, Err(ReplayError::Read));
-    expect(&rt, "bytes written", text.len(), 0);
-    let mut reader = Watched::new(HAND_OVER.as_bytes());
-    let done = draw_schedule(
-        rt.alloc(),
-        &mut reader,
-        &mut Watched::new(Failing),
-        Form::Text,
-    );
-    expect(&rt, "done", done, Err(ReplayError::Write));
 }
 
 /// The outcome of drawing a hand-over on a heap of this many bytes.
@@ -295,20 +240,19 @@ fn tells_faults_of_reader_and_writer(rt: HostRuntime) {
 struct OnHeap {
     error: Option<ReplayError>,
     is_whole: bool,
-    written: usize,
     /// The bytes of the heap that are in use at the end.
     used: usize,
 }
 
 fn drawn_within(alloc: Global, bytes: usize, whole: &str) -> Option<OnHeap> {
     let heap = LocalHeap::new(alloc, bytes).ok()?;
-    let mut reader = Watched::new(HAND_OVER.as_bytes());
-    let mut text: Vec<u8> = Vec::new(alloc);
-    let done = draw_schedule(&heap, &mut reader, &mut Watched::new(&mut text), Form::Svg);
+    let (error, is_whole) = match draw_schedule(&heap, HAND_OVER.as_bytes(), Form::Svg) {
+        Ok(text) => (None, text.as_slice() == whole.as_bytes()),
+        Err(error) => (Some(error), false),
+    };
     Some(OnHeap {
-        error: done.err(),
-        is_whole: text.as_slice() == whole.as_bytes(),
-        written: text.len(),
+        error,
+        is_whole,
         used: heap.used(),
     })
 }
@@ -319,13 +263,11 @@ fn each_allocation_is_refused(rt: HostRuntime) -> Result<(), Fail> {
     let refused = OnHeap {
         error: Some(ReplayError::Memory),
         is_whole: false,
-        written: 0,
         used: 0,
     };
     let served = OnHeap {
         error: None,
         is_whole: true,
-        written: whole.len(),
         used: 0,
     };
     let mut refusals = 0usize;

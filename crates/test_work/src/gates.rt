@@ -2,8 +2,8 @@
 use crate::rows::{expect, expect_at};
 use crate::work::{EITHER, expect_work};
 use line_kinds::{ALL, Lines};
-use qolb_run::{Gate, RunError, TaskError, WaitMode, report_work, run_work, run_work_with};
-use qolb_script::{Report, Watched, WorkKind, read_work};
+use qolb_run::{Gate, RunError, TaskError, WaitMode, answer_work, run_work, run_work_with};
+use qolb_script::{Report, WorkKind, read_work};
 use std::alloc::Global;
 use std::process::Abort;
 use std::sync::Wait;
@@ -37,21 +37,16 @@ fn a_worker_gives_up_before_a_closed_gate(rt: HostRuntime) -> Result<(), Fail> {
 
 #[test]
 fn a_report_of_work_says_who_gave_up(rt: HostRuntime) {
-    let mut reader = Watched::new(b"board workers 2\n2 put 5\n".as_slice());
-    let mut writer = Watched::new(Vec::new(rt.alloc()));
-    let done = report_work(
+    let done = answer_work(
         &rt,
         rt.alloc(),
         &Closed,
-        &mut reader,
-        &mut writer,
+        b"board workers 2\n2 put 5\n",
         WorkKind::Board,
         Lines::Ring,
         WaitMode::Awake,
     );
-    let written = writer.into_inner();
-    let wanted = (Err(TaskError::Stalled(2)), 0);
-    expect(&rt, "a report", (done, written.len()), wanted);
+    expect(&rt, "a report", done.err(), Some(TaskError::Stalled(2)));
 }
 
 #[test]
@@ -311,18 +306,9 @@ fn work_that_is_reported_is_done_once(rt: HostRuntime) -> Result<(), Fail> {
         for lines in ALL {
             for waits in EITHER {
                 let gate = Counting::new(1);
-                let mut reader = Watched::new(script.as_bytes());
-                let mut writer = Watched::new(Vec::new(rt.alloc()));
-                let done = report_work(
-                    &rt,
-                    rt.alloc(),
-                    &gate,
-                    &mut reader,
-                    &mut writer,
-                    *kind,
-                    lines,
-                    waits,
-                );
+                let alloc = rt.alloc();
+                let script = script.as_bytes();
+                let done = answer_work(&rt, alloc, &gate, script, *kind, lines, waits);
                 let found = (done.is_ok(), gate.asks());
                 expect_at(&rt, &(*kind, lines, waits), found, (true, [1, 1, 1]));
             }
