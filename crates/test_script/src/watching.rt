@@ -86,7 +86,7 @@ impl Write for SlowWriter {
 }
 
 /// The number of interruptions before each read or write.
-static INTERRUPTIONS: [u64; 4] = [0, 1, 2, 1_000];
+static INTERRUPTIONS: [u64; 5] = [0, 1, 2, 1_000, 100_000];
 
 /// Errors that are not interruptions.
 static FAULTS: [ErrorKind; 5] = [
@@ -173,5 +173,25 @@ fn bytes_are_read_and_written(rt: HostRuntime) -> Result<(), Fail> {
     expect(&rt, "a write", wrote, (Ok(()), false));
     let written = writer.into_inner();
     expect(&rt, "written", written.as_slice(), b"ok\n".as_slice());
+    Ok(())
+}
+
+#[test]
+fn many_bytes_are_read_and_written_at_once(rt: HostRuntime) -> Result<(), Fail> {
+    let alloc = rt.alloc();
+    let bytes = vec![in alloc; b'x'; 100_000]?;
+    let mut room = vec![in alloc; b'-'; 65_536]?;
+    let mut reader = Watched::new(bytes.as_slice());
+    for read in [65_536, 34_464, 0] {
+        let found = (reader.read(room.as_mut_slice()), reader.failed());
+        expect_at(&rt, &read, found, (Ok(read), false));
+    }
+    let is_filled = room.iter().all(|byte| *byte == b'x');
+    expect(&rt, "the room is filled", is_filled, true);
+    let mut writer = Watched::new(Vec::new(alloc));
+    let wrote = (writer.write_all(bytes.as_slice()), writer.failed());
+    expect(&rt, "a write", wrote, (Ok(()), false));
+    let is_same = writer.into_inner().as_slice() == bytes.as_slice();
+    expect(&rt, "the bytes are written", is_same, true);
     Ok(())
 }

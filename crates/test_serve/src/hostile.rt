@@ -76,11 +76,11 @@ impl<'a> Read for FailingReader<'a> {
 
 /// A writer that takes at most `part` bytes a write, and after `good` writes fails once, or takes none.
 #[derive(Drop)]
-struct FailingWriter {
-    taken: Vec<u8>,
-    part: usize,
-    good: usize,
-    fails: bool,
+pub struct FailingWriter {
+    pub taken: Vec<u8>,
+    pub part: usize,
+    pub good: usize,
+    pub fails: bool,
 }
 
 impl Write for FailingWriter {

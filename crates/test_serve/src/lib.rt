@@ -6,6 +6,8 @@ mod helps;
 #[cfg(test)]
 mod hostile;
 #[cfg(test)]
+mod long;
+#[cfg(test)]
 mod runs;
 #[cfg(test)]
 mod scarce;

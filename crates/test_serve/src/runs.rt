@@ -1,7 +1,7 @@
 //! Runs of the program: words and script, with the status and the output.
 use line_kinds::{ALL, Lines};
 use qolb_run::{ReplayError, Task, TaskError};
-use qolb_serve::{Subcommand, fail, parse_args, serve};
+use qolb_serve::{Subcommand, fail, parse_args, refuse_words, serve};
 use std::alloc::Global;
 use std::io::{self, Read, Write};
 use std::process::Abort;
@@ -31,7 +31,7 @@ pub fn run<T: Threads + Wait + Clock + Eprint + Sync, R: Read, W: Write>(
 }
 
 /// Returns the status, standard output and standard error of a run.
-fn told<T: Threads + Wait + Clock + Eprint + Sync>(
+pub fn told<T: Threads + Wait + Clock + Eprint + Sync>(
     rt: &T,
     alloc: Global,
     words: &[&str],
@@ -511,6 +511,27 @@ fn tells_who_stalled(rt: HostRuntime) -> Result<(), Fail> {
     let mut err: Vec<u8> = Vec::new(rt.alloc());
     assert_eq!(rt; fail(&mut err, TaskError::Replay(ReplayError::Memory)), 3);
     assert_eq!(rt; err.as_slice(), b"out of memory\n".as_slice());
+    Ok(())
+}
+
+/// Errors of reading the words of the command line, with the status and the complaint.
+static NO_WORDS: [(io::ErrorKind, u8, &str); 2] = [
+    (
+        io::ErrorKind::InvalidData,
+        2,
+        "error: the arguments are no UTF-8 text\n",
+    ),
+    (io::ErrorKind::OutOfMemory, 3, "out of memory\n"),
+];
+
+#[test]
+fn tells_that_words_could_not_be_read(rt: HostRuntime) -> Result<(), Fail> {
+    for (kind, want, complaint) in &NO_WORDS {
+        let mut err: Vec<u8> = Vec::new(rt.alloc());
+        let status = refuse_words(&mut err, &io::Error::from(*kind));
+        let told = String::from_utf8(err)?;
+        assert_eq!(rt; (status, told.as_str()), (*want, *complaint));
+    }
     Ok(())
 }
 
