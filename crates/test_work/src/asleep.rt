@@ -112,6 +112,42 @@ impl Hooks for Kept {
     }
 }
 
+/// Hooks by which one release ends and no later one. So work ends only if one job is done.
+#[derive(Drop)]
+struct OneJob {
+    releases: AtomicU64,
+}
+
+impl Default for OneJob {
+    fn default() -> OneJob {
+        OneJob {
+            releases: AtomicU64::new(0),
+        }
+    }
+}
+
+impl Hooks for OneJob {
+    fn on_release<K: Keep, L: ParkingLine<K>>(&self, _line: &L, _port: &L::Port) {
+        if self.releases.fetch_add(1, Ordering::SeqCst) == 0 {
+            return;
+        }
+        for _ in 0..u64::MAX {
+            yield_now();
+        }
+    }
+}
+
+/// A gate that is open for the first job of each worker, and closed for the next ones.
+struct ForOne;
+
+impl Gate for ForOne {
+    ghost may_refuse = { λ gate worker. Unit {0} };
+
+    fn may(&self, _worker: u64, at: u64) -> bool {
+        at == 0
+    }
+}
+
 /// Does the work behind this gate over lines with these hooks.
 fn work_hooked<
     R: Threads + Wait + Sync,
@@ -168,8 +204,8 @@ const NOTHING_PAID: Report = Report::Bank {
     total: 0,
 };
 
-/// A job of each kind for each of two or three workers, with the report. At least two workers ask for each line.
-static JOBS_OF_EACH_KIND: [(WorkKind, &str, Report); 7] = [
+/// A job of each kind for each of two workers or more, with the report. At least two workers ask for each line.
+static JOBS_OF_EACH_KIND: [(WorkKind, &str, Report); 10] = [
     (
         WorkKind::Board,
         "board workers 2\n1 put 5\n2 put 6\n",
@@ -204,6 +240,22 @@ static JOBS_OF_EACH_KIND: [(WorkKind, &str, Report); 7] = [
         WorkKind::Bank,
         "bank workers 3 lines 2\n1 move 8 0 1\n2 out 0 1\n3 out 8 1\n",
         NOTHING_PAID,
+    ),
+    // more workers
+    (
+        WorkKind::Board,
+        "board workers 4\n3 put 5\n4 put 6\n",
+        TWO_STORED,
+    ),
+    (
+        WorkKind::Board,
+        "board workers 8\n4 take\n8 take\n",
+        NOTHING_TAKEN,
+    ),
+    (
+        WorkKind::Bank,
+        "bank workers 8 lines 1\n5 in 0 1\n8 in 0 1\n",
+        TWO_PAID,
     ),
 ];
 
@@ -242,5 +294,20 @@ fn who_gives_up_before_a_closed_gate_does_no_job(rt: HostRuntime) -> Result<(), 
         WaitMode::Awake,
     );
     expect(&rt, "one worker", found, Err(RunError::Stalled(1)));
+    Ok(())
+}
+
+#[test]
+fn who_gives_up_before_a_later_job_does_not_do_it(rt: HostRuntime) -> Result<(), Fail> {
+    let script = b"board workers 5\n5 put 5\n5 put 6\n";
+    let work = read_work(rt.alloc(), script, WorkKind::Board)?;
+    let found = work_over_rings::<_, ForOne, OneJob>(
+        &rt,
+        rt.alloc(),
+        &ForOne,
+        &work,
+        WaitMode::Awake,
+    );
+    expect(&rt, "two jobs", found, Err(RunError::Stalled(5)));
     Ok(())
 }

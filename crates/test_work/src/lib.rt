@@ -4,6 +4,8 @@
 #[cfg(test)]
 mod asleep;
 #[cfg(test)]
+mod eight;
+#[cfg(test)]
 mod gates;
 #[cfg(test)]
 mod progress;

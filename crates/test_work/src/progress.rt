@@ -266,3 +266,24 @@ fn progress_is_said_once_a_second(rt: HostRuntime) -> Result<(), Fail> {
     }
     Ok(())
 }
+
+#[test]
+fn progress_is_said_after_hours(rt: HostRuntime) -> Result<(), Fail> {
+    let expected = [
+        "1 of 9 jobs done",
+        "2 of 9 jobs done",
+        "3 of 9 jobs done",
+        "5 of 9 jobs done",
+    ];
+    let console = expecting(rt.alloc(), expected.as_slice());
+    let gate = Progress::new(&console)?;
+    gate.begins(9);
+    // The second, and the number of lines printed after a worker has asked for its next job: at an hour, at two hours, and at two days.
+    let rows = [(3_600, 1), (7_199, 2), (7_200, 3), (7_200, 3), (172_800, 4)];
+    for (second, lines) in rows {
+        console.second.store(second, Ordering::SeqCst);
+        let may = gate.may(1, 1);
+        expect_at(&rt, &second, (may, console.lines()), (true, (lines, 0)));
+    }
+    Ok(())
+}

@@ -38,6 +38,31 @@ where
     Ok(())
 }
 
+/// Node 1 has left, and asks again once its entry has become clear, without a look at it.
+static ASKS_AGAIN: [(u64, CallOutcome); 9] = [
+    (1, CallOutcome::Ask(Enq::Granted)),
+    (1, CallOutcome::Write(0xab)),
+    (2, CallOutcome::Prepend(Prep::Linking)),
+    (1, CallOutcome::Release),
+    (1, CallOutcome::Ask(Enq::Busy)),
+    (2, CallOutcome::Link(Enq::Granted)),
+    (2, CallOutcome::Sees(0xab)),
+    (1, CallOutcome::State(PortState::Left)),
+    (1, CallOutcome::Ask(Enq::Queued)),
+];
+
+fn who_left_asks_once_its_entry_is_clear<R: Abort, L: SplitCalls + Drop>(
+    rt: &R,
+    alloc: Global,
+) -> Result<(), Fail>
+where
+    L::Port: Drop,
+{
+    let mut row = CheckedLine::<L>::of_zeros(alloc, 2)?;
+    expect_by_halves(rt, &mut row, &ASKS_AGAIN);
+    Ok(())
+}
+
 /// Node 3 asks behind node 2, which links last.
 static BEHIND: [(u64, CallOutcome); 10] = [
     (1, CallOutcome::Ask(Enq::Granted)),
@@ -223,6 +248,7 @@ where
     L::Port: Drop,
 {
     a_late_linker_finds_the_line_in_the_mailbox_before_it::<R, L>(rt, alloc)?;
+    who_left_asks_once_its_entry_is_clear::<R, L>(rt, alloc)?;
     those_behind_a_late_linker_wait_for_it::<R, L>(rt, alloc)?;
     one_who_links_before_the_release_waits::<R, L>(rt, alloc)?;
     a_chain_of_withdrawn_nodes_ends_at_a_late_linker::<R, L>(rt, alloc)?;
