@@ -7,6 +7,7 @@ use example_line::timed::add_within;
 use line_blocking::{Deadline, Got, ParkOnPoll, TimedAcquire, acquire_parking, acquire_timeout};
 use qolb_model::{Enq, Free, Keep, LineSync, OpenError, OpenLine, Out, ParkingLine, Poll};
 use std::alloc::Global;
+use std::hint::spin_loop;
 use std::io;
 use std::process::Abort;
 use std::rt::Clock;
@@ -524,6 +525,94 @@ where
     expect(rt, "the limit", notes.last(), u64::MAX);
 }
 
+/// Hooks that note the shortest time from a poll in vain to the sleep behind it, in nanoseconds of `clock`.
+#[derive(Drop)]
+struct Between<'c, C> {
+    clock: &'c C,
+    since: AtomicU64,
+    shortest: AtomicU64,
+}
+
+/// Returns the reading of `clock` in nanoseconds, or 0 if it can't be read.
+fn nanos_at<C: Clock>(clock: &C) -> u64 {
+    match clock.monotonic() {
+        Ok(now) => u64::try_from(now.as_nanos()).unwrap_or(u64::MAX),
+        Err(_) => 0,
+    }
+}
+
+impl<C: Clock> Hooks for &Between<'_, C> {
+    fn on_waiting<K: Keep, L: ParkingLine<K>>(&self, _line: &L, _port: &L::Port) {
+        self.since.store(nanos_at(self.clock), Ordering::SeqCst);
+    }
+
+    fn sleep<R: Wait, K: Keep, L: ParkingLine<K>>(
+        &self,
+        _rt: &R,
+        _line: &L,
+        _port: &L::Port,
+        _at_most: Duration,
+    ) {
+        let took = nanos_at(self.clock).saturating_sub(self.since.load(Ordering::SeqCst));
+        self.shortest.fetch_min(took, Ordering::SeqCst);
+    }
+}
+
+/// Node 2 polls a new `ParkOnPoll` so, with these hooks.
+fn look_timed<R: Wait + Clock, L: OpenLine<Free> + ParkingLine<Free> + Drop>(
+    rt: &R,
+    alloc: Global,
+    between: &Between<R>,
+) -> Option<bool>
+where
+    L::Port: Drop,
+{
+    let (line, mut one, mut two) = open_two::<L>(alloc)?;
+    let line = ParkOnPoll::new(rt, HookedLine::with(between, line));
+    Some(look_behind(&line, &mut one, &mut two))
+}
+
+/// How often 256 pauses are timed, and how often node 2 polls so.
+const TIMED: u64 = 20;
+
+/// Returns the shortest time that 256 pauses took, in nanoseconds.
+fn time_of_pauses<C: Clock>(clock: &C) -> u64 {
+    let mut shortest = u64::MAX;
+    for _ in 0..TIMED {
+        let since = nanos_at(clock);
+        for _ in 0..256 {
+            spin_loop();
+        }
+        shortest = shortest.min(nanos_at(clock).saturating_sub(since));
+    }
+    shortest
+}
+
+/// Between a poll in vain and its sleep a `ParkOnPoll` takes at least half the time of 256 pauses, however often it is tried. A body that
+/// does not pause takes a small part of it.
+fn each_look_in_vain_pauses<R: Wait + Clock + Abort, L: OpenLine<Free> + ParkingLine<Free> + Drop>(
+    rt: &R,
+    alloc: Global,
+)
+where
+    L::Port: Drop,
+{
+    let between = Between {
+        clock: rt,
+        since: AtomicU64::new(0),
+        shortest: AtomicU64::new(u64::MAX),
+    };
+    for _ in 0..TIMED {
+        let found = look_timed::<R, L>(rt, alloc, &between);
+        expect(rt, "polls", found, Some(true));
+    }
+    let (took, wanted) = (between.shortest.load(Ordering::SeqCst), time_of_pauses(rt));
+    assert!(rt;
+        took >= wanted / 2,
+        "{took} ns, and 256 pauses take {wanted}"
+    );
+}
+
 /// Node 2 withdraws its request behind node 1. Returns the answer.
 fn withdraw_behind<L: LineSync<Free>>(line: &L, one: &mut L::Port, two: &mut L::Port) -> Option<Out>
     requires belongs_one { L.belongs line.now one.old }
@@ -767,6 +856,7 @@ where
     a_busy_node_keeps_to_its_time::<R, L>(rt, alloc);
     a_limit_does_not_begin_again::<R, L>(rt, alloc);
     each_look_in_vain_sleeps_once::<R, L>(rt, alloc);
+    each_look_in_vain_pauses::<R, L>(rt, alloc);
     no_withdrawal_sleeps::<R, L>(rt, alloc);
     a_long_wait_sleeps::<R, L>(rt, alloc);
     each_holder_that_lets_go_is_noted::<R, L>(rt, alloc);
