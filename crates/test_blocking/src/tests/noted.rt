@@ -525,7 +525,7 @@ where
     expect(rt, "the limit", notes.last(), u64::MAX);
 }
 
-/// Hooks that note the shortest time from a poll in vain to the sleep behind it, in nanoseconds of `clock`.
+/// Hooks that note the shortest time from a poll that finds the turn not there to the sleep behind it, in nanoseconds of `clock`.
 #[derive(Drop)]
 struct Between<'c, C> {
     clock: &'c C,
@@ -588,8 +588,8 @@ fn time_of_pauses<C: Clock>(clock: &C) -> u64 {
     shortest
 }
 
-/// Between a poll in vain and its sleep a `ParkOnPoll` takes at least half the time of 256 pauses, however often it is tried. A body that
-/// does not pause takes a small part of it.
+/// Between a poll that finds the turn not there and its sleep, a `ParkOnPoll` takes at least half the time of 256 pauses, however often it
+/// is tried. A body that does not pause takes a small part of it.
 fn each_look_in_vain_pauses<R: Wait + Clock + Abort, L: OpenLine<Free> + ParkingLine<Free> + Drop>(
     rt: &R,
     alloc: Global,
