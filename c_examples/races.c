@@ -1,4 +1,5 @@
-/* Data that a lock guards, and data that is used in some wrong way, for the thread sanitizer: it must be quiet about the first and report each other.
+/* Data that a lock guards, and data that is used in some wrong way, for the thread sanitizer, and for valgrind's helgrind and drd: they must be quiet about
+ * the first and report each other.
  *
  *   build/races WAY     its number below
  *
@@ -82,6 +83,9 @@ int main(int argc, char **argv) {
     pthread_t ids[2];
     way = argc > 1 ? atoi(argv[1]) : GUARDED;
     if (way < GUARDED || way >= WAYS) return 2;
+#ifdef ANNOTATE_BENIGN_RACE_SIZED
+    ANNOTATE_BENIGN_RACE_SIZED(&done, sizeof done, "no atomic to valgrind");
+#endif
     alarm(600);
     MUST(pthread_create(&ids[0], NULL, second, NULL), 0);
     MUST(pthread_create(&ids[1], NULL, first, NULL), 0);

@@ -248,6 +248,9 @@
  * Lines of one label are one to it, and so are a few of different labels: between these it may miss a race. Each lock is separate, whatever its
  * label.
  *
+ * Helgrind and drd of valgrind are told the same in files that are compiled with -DQOLB_HELGRIND, or with -DQOLB_DRD, where valgrind's headers are there.
+ * The library's own words must be suppressed: valgrind --tool=helgrind --suppressions=PREFIX/share/qolb/valgrind.supp. Else both report right programs.
+ *
  * The library has no tables for unwinding, so a backtrace that begins inside one of its calls may end there.
  *
  * PROCESSOR
@@ -260,6 +263,13 @@
 
 #include <stddef.h>
 #include <stdint.h>
+
+/* For the tools of valgrind, of which each wants its own (SANITIZERS AND DEBUGGERS). */
+#if defined(QOLB_HELGRIND)
+#include <valgrind/helgrind.h>
+#elif defined(QOLB_DRD)
+#include <valgrind/drd.h>
+#endif
 
 /* The version of this header. QOLB_VERSION is one number, 10000 for each major version, 100 for each minor one; qolb_version() returns that of the
  * library that the program runs with. */
@@ -530,22 +540,30 @@ static inline qolb_node qolb_move(qolb_node *from) {
 #endif
 #endif
 
-/* ---- Below: what the sanitizer wants. No name that ends in `_` is for callers. ---- */
+/* ---- Below: what the sanitizer and valgrind want. No name that ends in `_` is for callers. ---- */
 
-#ifdef QOLB_TSAN
+#if defined(QOLB_HELGRIND) || defined(QOLB_DRD)
+#define QOLB_TOOK_(address) ANNOTATE_HAPPENS_AFTER(address)
+#define QOLB_GIVES_(address) ANNOTATE_HAPPENS_BEFORE(address)
+#elif defined(QOLB_TSAN)
 void __tsan_acquire(void *address);
 void __tsan_release(void *address);
+#define QOLB_TOOK_(address) __tsan_acquire(address)
+#define QOLB_GIVES_(address) __tsan_release(address)
+#endif
+
+#ifdef QOLB_TOOK_
 
 /* An address for each label, the same in all files of the program. */
 __attribute__((weak)) char qolb_lines_[1021];
 
 static inline uint32_t qolb_took_(qolb_node *node, uint32_t got) {
-    if (got == QOLB_GRANTED || got == QOLB_CLOSED) __tsan_acquire(&qolb_lines_[qolb_label(node) % sizeof qolb_lines_]);
+    if (got == QOLB_GRANTED || got == QOLB_CLOSED) QOLB_TOOK_(&qolb_lines_[qolb_label(node) % sizeof qolb_lines_]);
     return got;
 }
 
 static inline void qolb_gives_(qolb_node *node) {
-    if (qolb_state(node) == QOLB_STATE_HOLDING) __tsan_release(&qolb_lines_[qolb_label(node) % sizeof qolb_lines_]);
+    if (qolb_state(node) == QOLB_STATE_HOLDING) QOLB_GIVES_(&qolb_lines_[qolb_label(node) % sizeof qolb_lines_]);
 }
 
 QOLB_LOOK static inline uint32_t qolb_enqolb_(qolb_node *node) { return qolb_took_(node, qolb_enqolb(node)); }
@@ -567,12 +585,12 @@ static inline uint32_t qolb_shut_(qolb_node *node) { return qolb_gives_(node), q
 
 /* For a lock, its own address. */
 static inline uint32_t qolb_entered_(qolb_lock *lock, uint32_t got) {
-    if (got == QOLB_GRANTED || got == QOLB_CLOSED || got == QOLB_LATE) __tsan_acquire(lock);
+    if (got == QOLB_GRANTED || got == QOLB_CLOSED || got == QOLB_LATE) QOLB_TOOK_(lock);
     return got;
 }
 
 static inline void qolb_leaves_(qolb_lock *lock) {
-    if (qolb_lock_turn(lock)) __tsan_release(lock);
+    if (qolb_lock_turn(lock)) QOLB_GIVES_(lock);
 }
 
 QOLB_LOOK static inline uint32_t qolb_lock_enter_(qolb_lock *lock) { return qolb_entered_(lock, qolb_lock_enter(lock)); }
