@@ -1,11 +1,11 @@
 #!/usr/bin/env python3
 """Prints how long the built program takes for scripts of 1,000, 10,000 and 100,000 lines by 2, 20 and 200 nodes: a table for bench/figures.
 
-    tools/grows.py [--program PATH] [--sizes 1000,10000,100000] [--nodes 2,20,200] [--seconds 600] [RUN..]
+    tools/grows.py [--program PATH] [--sizes 1000,10000,100000] [--nodes 2,20,200] [--times 3] [--seconds 600] [RUN..]
 
 RUN is a part of the name of a run, such as `draw` or `--kind ring`; without one all are made. In the schedules and step scripts each node hands
 the line over to the next and asks again, so all others wait. The lines of a work script are of all workers in turn. `--explain` is
-measured on a schedule whose last line is bad. Seconds are of a processor (of all processors, if there are workers), the median of three runs;
+measured on a schedule whose last line is bad. Seconds are of a processor (of all processors, if there are workers), the median of --times runs;
 MB are the largest memory, and bytes the output's. A run that takes longer than a minute is made once, and one that takes longer than --seconds is ended.
 """
 
@@ -93,21 +93,21 @@ def took(program, words, script, status, limit):
         return used.ru_utime + used.ru_stime, used.ru_maxrss / 1024, answer.seek(0, os.SEEK_END)
 
 
-def row(program, words, script, status, limit):
+def row(program, words, script, status, limit, times):
     """The seconds, MB and bytes of a run, as the table has them."""
     seconds, memory, size = took(program, words, script, status, limit)
     if seconds is None:
         return f"more than {limit}", memory, "-"
-    runs = [seconds] if seconds > 60 else [seconds, *(took(program, words, script, status, limit)[0] for _ in range(2))]
+    runs = [seconds] if seconds > 60 else [seconds, *(took(program, words, script, status, limit)[0] for _ in range(times - 1))]
     return f"{statistics.median(runs):.2f}", memory, size
 
 
-def heads(program):
+def heads(program, times):
     """What the table's first lines say of the runs."""
     version = os.path.join(os.path.dirname(program), "qolb.kit" if program.endswith("out/qolb") else "kit")
     with open("/proc/cpuinfo") as cpus:
         names = [line.split(":")[1].strip() for line in cpus if line.startswith("model name")]
-    yield "Seconds of a processor of a run on a script of so many lines by so many nodes or workers, the median of three; MB of memory; bytes of output."
+    yield f"Seconds of a processor of a run on a script of so many lines by so many nodes or workers, the median of {times}; MB of memory; bytes of output."
     yield f"date {datetime.date.today()}"
     yield "kit " + (open(version).read().strip() if os.path.exists(version) else "not noted")
     yield f"machine {len(names)} processors of an {names[0]}"
@@ -120,12 +120,13 @@ def main():
     words.add_argument("--program", default=PROGRAM)
     words.add_argument("--sizes", default="1000,10000,100000")
     words.add_argument("--nodes", default="2,20,200")
+    words.add_argument("--times", type=int, default=3)
     words.add_argument("--seconds", type=int, default=600)
     asked = words.parse_args()
     program = os.path.abspath(asked.program)
     if not os.access(program, os.X_OK):
         raise SystemExit(f"there is no program {program}: see README.md for how to build it")
-    for line in heads(program):
+    for line in heads(program, asked.times):
         print("#", line)
     print("run", "nodes", "lines", "seconds", "MB", "bytes", sep="\t", flush=True)
     for given, make, status in RUNS:
@@ -135,7 +136,7 @@ def main():
         for nodes in map(int, asked.nodes.split(",")):
             for size in map(int, asked.sizes.split(",")):
                 script = "\n".join(make(nodes, size)).encode() + b"\n"
-                seconds, memory, output = row(program, given, script, status, asked.seconds)
+                seconds, memory, output = row(program, given, script, status, asked.seconds, asked.times)
                 print(name, nodes, size, seconds, f"{memory:.0f}", output, sep="\t", flush=True)
 
 
