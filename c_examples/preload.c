@@ -10,9 +10,10 @@
  * another unlocks it. A mutex that a thread held when it forked is held in the child, and those that waited are not there. A program that never destroys its
  * mutexes keeps 3 KB for each address at which it locked one. A wait until a time of the clock CLOCK_REALTIME does not notice that this is set meanwhile.
  *
- * QOLB_KIND=ring, link or ticket chooses the kind of line; else it is that of a lock by default.
+ * QOLB_BURST=TURNS is the hard limit of a burst (qolb.h, LOCKS): 1024, if it is not set, and 0 for strict order. QOLB_KIND=ring, link or ticket chooses the kind
+ * of line; else it is that of a lock by default.
  *
- * With QOLB_REPORT=FILE the program appends a line there at its end: the number of their kind, how many mutexes were ours in all, and at most at a time, how
+ * With QOLB_REPORT=FILE the program appends a line there at its end: the number of their kind, the burst, how many mutexes were ours in all, and at most at a time, how
  * often one was granted, was late or was not free at once, and how often two threads were in one at the same time, which must be 0. Counting costs time, and
  * is left out without it. */
 #define _GNU_SOURCE
@@ -52,9 +53,10 @@ REAL(cancel, "GLIBC_2.2.5", pthread_t)
 
 /* ---- Settings ---- */
 
+enum { USUAL_BURST = 1024, BURSTS = 65536 };
+
 static struct {
-    uint32_t kind;
-    uint64_t seats;
+    uint32_t kind, seats, burst;
     char report[4096]; /* empty: nothing is counted */
 } settings;
 
@@ -77,6 +79,18 @@ static void choose_kind(const char *name) {
     settings.seats = settings.kind == QOLB_TICKET ? 3 : 4;
 }
 
+/* The number that is written there, with digits alone; 65536 if it is another or greater. */
+static uint32_t number_in(const char *digits) {
+    uint32_t number = *digits ? 0 : BURSTS;
+    for (; *digits && number < BURSTS; digits++) number = *digits >= '0' && *digits <= '9' ? number * 10 + (uint32_t)(*digits - '0') : BURSTS;
+    return number < BURSTS ? number : BURSTS;
+}
+
+static void choose_burst(const char *digits) {
+    settings.burst = digits ? number_in(digits) : USUAL_BURST;
+    if (settings.burst == 1 || settings.burst == BURSTS) refuse("QOLB_BURST", digits, "0, for strict order, or a number from 2 to 65535");
+}
+
 /* A copy, as a program may write its title over its environment. */
 static void choose_report(const char *name) {
     if (!name) return;
@@ -86,6 +100,7 @@ static void choose_report(const char *name) {
 
 void qolb_begin_(void) {
     choose_kind(getenv("QOLB_KIND"));
+    choose_burst(getenv("QOLB_BURST"));
     choose_report(getenv("QOLB_REPORT"));
 }
 
@@ -118,8 +133,8 @@ __attribute__((destructor)) static void report(void) {
     qolb_process_();
     int file = counts() ? open(settings.report, O_WRONLY | O_APPEND | O_CREAT | O_CLOEXEC, 0666) : -1;
     if (file < 0) return;
-    int size = snprintf(text, sizeof text, "kind %u mutexes %llu at once %lld grants %llu late %llu not free %llu violations %llu\n", settings.kind, mutexes,
-                        most_at_once, grants, late, not_free, violations);
+    int size = snprintf(text, sizeof text, "kind %u burst %u mutexes %llu at once %lld grants %llu late %llu not free %llu violations %llu\n", settings.kind,
+                        settings.burst, mutexes, most_at_once, grants, late, not_free, violations);
     if (write(file, text, (size_t)size) != size) perror(settings.report);
     close(file);
 }
@@ -134,7 +149,7 @@ static struct line *take_line(void) {
     line = qolb_take_memory_(sizeof *line);
     if (!line) return NULL;
     *line = (struct line){0};
-    if (qolb_lock_open(&line->lock, settings.kind, 0, settings.seats, &zeros) == QOLB_DONE) return line;
+    if (qolb_lock_open(&line->lock, settings.kind, 0, QOLB_SEATS(settings.seats, settings.burst), &zeros) == QOLB_DONE) return line;
     qolb_give_memory_(line, sizeof *line);
     return NULL;
 }

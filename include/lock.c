@@ -324,24 +324,30 @@ __attribute__((noinline)) static uint32_t enter_slowly(qolb_lock *lock, uint64_t
 }
 
 /* All that runs while the line is kept is inline, and saves no register. */
-static inline uint32_t enter(qolb_lock *lock, uint64_t nanoseconds) {
+static inline int goes_in_at_once(const qolb_lock *lock) {
     struct hall *hall = hall_of(lock);
     uint64_t me = qolb_own_.number;
-    if (hall && me) {
-        uint64_t gate = atomic_load_explicit(&hall->gate, memory_order_relaxed);
-        if (gate & OPEN && atomic_compare_exchange_strong(&hall->gate, &gate, me + (gate ^ OPEN))) return QOLB_GRANTED;
-    }
-    return enter_slowly(lock, nanoseconds);
+    if (!hall || !me) return 0;
+    uint64_t gate = atomic_load_explicit(&hall->gate, memory_order_relaxed);
+    return gate & OPEN && atomic_compare_exchange_strong(&hall->gate, &gate, me + (gate ^ OPEN));
+}
+
+static inline uint32_t enter(qolb_lock *lock, uint64_t nanoseconds) {
+    return goes_in_at_once(lock) ? (uint32_t)QOLB_GRANTED : enter_slowly(lock, nanoseconds);
 }
 
 uint32_t qolb_lock_enter_within(qolb_lock *lock, uint64_t nanoseconds) { return enter(lock, nanoseconds); }
 
 uint32_t qolb_lock_enter(qolb_lock *lock) { return enter(lock, FOR_EVER); }
 
-uint32_t qolb_lock_enter_unasked_(qolb_lock *lock, uint64_t nanoseconds) {
+__attribute__((noinline)) static uint32_t enter_unasked_slowly(qolb_lock *lock, uint64_t nanoseconds) {
     struct hall *hall;
     uint32_t got = hall_opened(lock, &hall);
     return got == QOLB_DONE ? qolb_enter_hall_(hall, nanoseconds) : got;
+}
+
+uint32_t qolb_lock_enter_unasked_(qolb_lock *lock, uint64_t nanoseconds) {
+    return goes_in_at_once(lock) ? (uint32_t)QOLB_GRANTED : enter_unasked_slowly(lock, nanoseconds);
 }
 
 /* With the last seat that is free, so that threads that try again and again keep mostly that one busy. If it is busy, another thread has the lock. A seat

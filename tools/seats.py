@@ -172,7 +172,7 @@ KEEPS = "    if (is_alone(hall, kept)) qolb_leave_gate_(hall, atomic_load(&hall-
 BEFORE_GATE = "    go_in_by(hall, kept);\n" + KEEPS
 ENDS_KEPT = "    atomic_store(&hall->gate, QUEUED_UP);\n    qolb_end_turn_(hall, hall->held_by, release);\n"
 GOES_IN = "    return gate & OPEN && atomic_compare_exchange_strong(&hall->gate, &gate, own_number() + (gate ^ OPEN));\n"
-GOES_IN_AT_ONCE = "        if (gate & OPEN && atomic_compare_exchange_strong(&hall->gate, &gate, me + (gate ^ OPEN))) return QOLB_GRANTED;\n"
+GOES_IN_AT_ONCE = "    return gate & OPEN && atomic_compare_exchange_strong(&hall->gate, &gate, me + (gate ^ OPEN));\n"
 TAKES_BACK = "    if (atomic_compare_exchange_strong(&hall->gate, &gate, QUEUED_UP)) qolb_end_turn_(hall, hall->held_by, qolb_deqolb_proved_);\n"
 OPENS = "    if (!(*gate & ASLEEP)) return atomic_compare_exchange_strong(&hall->gate, gate, open);\n"
 ENDS_SO = "release == qolb_deqolb_proved_ && !(gate & CALLED) && !is_last(hall, gate)"
@@ -190,7 +190,7 @@ FAULTS |= {
     "who takes a seat looks at the gate before that": ("    unsigned state = atomic_load(&seat->state);\n    if (state != FREE", "    marks_gate(me->hall);\n    unsigned state = atomic_load(&seat->state);\n    if (state != FREE", "    marks_gate(me->hall);\n    uint32_t got = qolb_enqolb_proved_(&seat->node);\n", "    uint32_t got = qolb_enqolb_proved_(&seat->node);\n"),
     "who comes to the door does not look at the gate": ("    come(hall, &my);\n    marks_gate(hall);\n", "    come(hall, &my);\n"),
     "two go in by one gate": (GOES_IN, "    if (gate & OPEN) atomic_store(&hall->gate, own_number() + (gate ^ OPEN));\n    return gate & OPEN;\n"),
-    "two go in by one gate at once": (GOES_IN_AT_ONCE, "        if (gate & OPEN) return atomic_store(&hall->gate, me + (gate ^ OPEN)), QOLB_GRANTED;\n"),
+    "two go in by one gate at once": (GOES_IN_AT_ONCE, "    if (gate & OPEN) atomic_store(&hall->gate, me + (gate ^ OPEN));\n    return gate & OPEN;\n"),
     "an open gate is closed though a thread went in": (TAKES_BACK, "    atomic_store(&hall->gate, QUEUED_UP);\n    qolb_end_turn_(hall, hall->held_by, qolb_deqolb_proved_);\n"),
     "an open gate is closed, and the line is kept": (TAKES_BACK, "    atomic_compare_exchange_strong(&hall->gate, &gate, QUEUED_UP);\n"),
     "a thread that is in is called by no mark": ("        else atomic_compare_exchange_strong(&hall->gate, &gate, gate | CALLED);\n", "        else break;\n"),
