@@ -13,9 +13,12 @@
  * QOLB_BURST=TURNS is the hard limit of a burst (qolb.h, LOCKS): 1024, if it is not set, and 0 for strict order. QOLB_KIND=ring, link or ticket chooses the kind
  * of line; else it is that of a lock by default.
  *
- * With QOLB_REPORT=FILE the program appends a line there at its end: the number of their kind, the burst, how many mutexes were ours in all, and at most at a time, how
- * often one was granted, was late or was not free at once, and how often two threads were in one at the same time, which must be 0. Counting costs time, and
- * is left out without it. */
+ * With QOLB_REPORT=FILE the program appends a line there at its end: the number of their kind, the burst, how many mutexes were ours in all, and at most at a
+ * time, how often one was granted, was late or was not free at once, and how often two threads were in one at the same time, which must be 0. Counting costs
+ * time, and is left out without it.
+ *
+ * What does not call the C library's mutexes by their names is not taken in: C11's mtx_t, Rust's std::sync::Mutex, and libraries that are opened with
+ * RTLD_DEEPBIND, which must not share a mutex with others then. */
 #define _GNU_SOURCE
 #include "preload.h"
 #include <dlfcn.h>
