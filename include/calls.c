@@ -6,6 +6,7 @@
  * (bells.h). This is tested, not proved. So is the memory of an open line beside its table. */
 #define _GNU_SOURCE
 #include "bells.h"
+#include "probes.h"
 #include <errno.h>
 #include <sched.h>
 #include <unistd.h>
@@ -110,7 +111,11 @@ static uint32_t sleep_at_bell(qolb_node *node, const struct limit *limit) {
     unsigned word = atomic_load(&bell->word);
     uint32_t got = qolb_poll_proved_(node);
     uint64_t time = got == QOLB_WAITING ? left(limit) : 0;
-    if (time) qolb_sleep_at_(&bell->word, word, time);
+    if (time) {
+        PROBE(sleep, of_node(node));
+        qolb_sleep_at_(&bell->word, word, time);
+        PROBE(wake, of_node(node));
+    }
     atomic_fetch_sub(&anywhere.waiting, 1);
     atomic_fetch_sub(waiting_in_line(node), 1);
     atomic_fetch_sub(&bell->sleepers, 1);
@@ -150,10 +155,18 @@ static uint32_t ask_again(qolb_node *node, const struct limit *limit) {
     return got;
 }
 
+/* The wait of a node that is busy, or whose request waits: GRANTED, CLOSED, LATE. */
+static uint32_t waited(qolb_node *node, uint32_t got, const struct limit *limit) {
+    PROBE(wait, of_node(node));
+    if (got == QOLB_BUSY) got = ask_again(node, limit);
+    if (got == QOLB_QUEUED) got = await(node, limit);
+    PROBE_END(got, of_node(node));
+    return got;
+}
+
 /* The answer of a waiting call, for a node that made a request and was not granted the line at once. */
 __attribute__((noinline)) static uint32_t acquired(qolb_node *node, uint32_t got, struct limit limit) {
-    if (got == QOLB_BUSY) got = ask_again(node, &limit);
-    if (got == QOLB_QUEUED) got = await(node, &limit);
+    if (got == QOLB_BUSY || got == QOLB_QUEUED) got = waited(node, got, &limit);
     return told(node, got);
 }
 

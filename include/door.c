@@ -78,7 +78,7 @@ static void pause_once(void) { __builtin_ia32_pause(); }
 static int is_told(const struct caller *my) { return atomic_load_explicit(&my->told, memory_order_relaxed) == TOLD; }
 
 /* Waits at the door until it is told, or for a while. */
-static void await_word(struct caller *my, const struct limit *limit) {
+static void await_word(struct hall *hall, struct caller *my, const struct limit *limit) {
     for (unsigned k = qolb_looks_(); k > 0; k--, pause_once())
         if (is_told(my)) return;
     for (int k = 0; k < YIELDS; k++) {
@@ -88,7 +88,9 @@ static void await_word(struct caller *my, const struct limit *limit) {
     uint64_t time = left(limit);
     unsigned untold = UNTOLD, asleep = ASLEEP_UNTOLD;
     if (!time || !atomic_compare_exchange_strong(&my->told, &untold, ASLEEP_UNTOLD)) return;
+    PROBE(sleep, of_seat(hall, NULL));
     qolb_sleep_at_(&my->told, ASLEEP_UNTOLD, time);
+    PROBE(wake, of_seat(hall, NULL));
     atomic_compare_exchange_strong(&my->told, &asleep, UNTOLD);
 }
 
@@ -139,7 +141,7 @@ uint32_t qolb_wait_at_door_(struct asking *me, const struct limit *limit) {
         if (is_told(&my)) got = look_as_first(me, &my);
         if (got != QOLB_WAITING || me->seat) break;
         if (left(limit) == 0) got = QOLB_LATE;
-        else await_word(&my, limit);
+        else await_word(hall, &my, limit);
     }
     go(hall, &my);
     return got;

@@ -63,6 +63,7 @@ static void make(struct hall *hall, void *block, qolb_node *nodes, unsigned seat
     hall->seats = seats;
     hall->burst = burst;
     hall->calm = burst ? 0 : CALM;
+    hall->label = qolb_label_proved_(&nodes[0]);
     hall->lent.own = (void *)((uintptr_t)hall | 1);
     hall->held_by = NULL;
     hall->waits = NULL;
@@ -250,7 +251,11 @@ static uint32_t sleep_at_bell(struct hall *hall, struct seat *seat, const struct
     uint32_t got = qolb_poll_proved_(&seat->node);
     int sleeps = got == QOLB_WAITING && (!hall->burst || qolb_may_sleep_(hall, seat));
     uint64_t time = sleeps ? left(limit) : 0;
-    if (time) qolb_sleep_at_(&bell->word, word, time);
+    if (time) {
+        PROBE(sleep, of_seat(hall, seat));
+        qolb_sleep_at_(&bell->word, word, time);
+        PROBE(wake, of_seat(hall, seat));
+    }
     atomic_fetch_sub(&hall->sleepers, 1);
     atomic_fetch_sub(&bell->sleepers, 1);
     return got;
@@ -300,7 +305,9 @@ __attribute__((noinline)) static uint32_t enter_later(struct asking me, uint32_t
     if (got == QOLB_BUSY) got = qolb_take_seat_(&me);
     if (got == QOLB_WAITING || got == QOLB_QUEUED) {
         me.late = 1;
+        PROBE(wait, of_seat(me.hall, me.seat));
         got = await(&me, nanoseconds);
+        PROBE_END(got, of_seat(me.hall, me.seat));
     }
     return settle(&me, got);
 }

@@ -8,6 +8,7 @@
 #define QOLB_LOCK_H
 
 #include "bells.h"
+#include "probes.h"
 
 /* A lock's `seats` have the number of its seats, and BURST times the turns of its bursts (gate.c); 0 turns: it has none. */
 enum { MAX_SEATS = 200, BURST = 65536 };
@@ -61,6 +62,7 @@ struct hall {
     _Atomic(struct seat *) watcher; /* the seat whose thread sees to it that the kept turn ends */
     atomic_uint keepers;            /* the number of threads that look at the hall though they have opened its gate: it stays so long */
     atomic_uint orders;             /* the number of requests */
+    uint64_t label;                 /* of the line; read by threads that wait */
     /* Written once. */
     _Alignas(QOLB_NODE_ALIGN) void *block; /* what malloc gave */
     unsigned seats;
@@ -69,6 +71,11 @@ struct hall {
     qolb_node lent;
     struct seat *seat[];
 };
+
+/* For the probes of a thread that waits, with a seat or at the door. */
+static inline struct probed of_seat(const struct hall *hall, struct seat *seat) {
+    return (struct probed){hall->label, seat ? qolb_number_proved_(&seat->node) : 0, *first_bell_of(&hall->seat[0]->node)};
+}
 
 static inline struct hall *hall_of(const qolb_lock *lock) { return __atomic_load_n(&lock->own, __ATOMIC_ACQUIRE); }
 

@@ -251,6 +251,9 @@
  * Helgrind and drd of valgrind are told the same in files that are compiled with -DQOLB_HELGRIND, or with -DQOLB_DRD, where valgrind's headers are there.
  * The library's own words must be suppressed: valgrind --tool=helgrind --suppressions=PREFIX/share/qolb/valgrind.supp. Else both report right programs.
  *
+ * bpftrace, perf and gdb find probes where a thread waits (provider qolb: wait, sleep, wake, granted, withdrawn, closed), each with the line's label and the
+ * node's number, if the library was built with <sys/sdt.h>.
+ *
  * The library has no tables for unwinding, so a backtrace that begins inside one of its calls may end there.
  *
  * PROCESSOR

@@ -41,7 +41,7 @@ assert COUNTED in SOURCES["bells.c"]
 SOURCES["bells.c"] = SOURCES["bells.c"].replace(COUNTED, "    unsigned looks = 1;\n")
 RENAMED = [f"-D{name}=model_{short}" for name, short in (("malloc", "malloc"), ("free", "free"), ("syscall", "syscall"), ("sched_yield", "yield"), ("clock_gettime", "clock"))]
 # The files of tools/seats, with flags of their own: scenes are built as the library is.
-BY_MODEL = ["-w", "-O1", "-fsanitize=thread", "-U__SANITIZE_THREAD__", *RENAMED]
+BY_MODEL = ["-w", "-O1", "-fsanitize=thread", "-U__SANITIZE_THREAD__", "-DQOLB_NO_PROBES", *RENAMED]
 OF_MODEL = {"scenes.c": BY_MODEL, "explorer.c": ["-O2"], "line.c": ["-O2"]}
 # In the sources: fewer looks, polls and turns before the same decisions; and what tells the scenes since when a thread waits that the lock knows, and until when.
 WAITS = "    struct limit limit = from_now(nanoseconds);\n    uint32_t got = QOLB_WAITING;\n    if (!me->seat) {\n"
