@@ -1,11 +1,12 @@
 /* Two hundred threads at one lock for some time: each enters, waits at most some time, tries, and waits at a condition, in a random order. No addition may be
  * lost, no two threads be in at once, and each thread has to go on.
  *
- *   build/stress SECONDS KIND SEATS [SEED]     a thread that has no turn in ten times as long ends the program
+ *   build/stress SECONDS KIND SEATS[+BURST] [SEED]     a thread that has no turn in ten times as long ends the program
  *
  * Prints the turns of all, and the least and the most of one thread. */
 #define _GNU_SOURCE
 #include <qolb.h>
+#include <string.h>
 
 #include "waiters.h"
 
@@ -66,9 +67,10 @@ static void *works(void *argument) {
 }
 
 int main(int argc, char **argv) {
-    if (argc < 4) return fputs("stress SECONDS KIND SEATS [SEED]\n", stderr), 2;
+    if (argc < 4) return fputs("stress SECONDS KIND SEATS[+BURST] [SEED]\n", stderr), 2;
     double last = atof(argv[1]);
-    lock = (qolb_lock)QOLB_LOCK_INIT_OF((uint32_t)atoi(argv[2]), (uint32_t)atoi(argv[3]));
+    const char *plus = strchr(argv[3], '+');
+    lock = (qolb_lock)QOLB_LOCK_INIT_BURSTS((uint32_t)atoi(argv[2]), atoi(argv[3]), plus ? atoi(plus + 1) : 0);
     alarm((unsigned)(10 * last) + 60);
     for (int k = 0; k < THREADS; k++) {
         workers[k].seed = (uint32_t)(k + 1) * 77773u + (argc > 4 ? (uint32_t)atoi(argv[4]) : 0);

@@ -4,7 +4,7 @@
  * bell's sleepers, and to counts of more: of all that wait for its lock; or, with a node of its own, of all that wait for its line, and of all such. It
  * reads the bell's word, checks once more for its turn or seat, and sleeps while the word is unchanged. A waker first makes its change, and then loads
  * those counts, the one of most first; if none is 0, the waker loads the sleepers of the few bells that it has to ring. Each step is sequentially
- * consistent, but for those of leave_hall, in lock.c. So one of the two sees the other: a Dekker handshake. tools/spin goes through all orders of
+ * consistent, but for those of qolb_end_turn_, in lock.c. So one of the two sees the other: a Dekker handshake. tools/spin goes through all orders of
  * these steps, and through those of protocols that differ by one step; tools/seats.py runs these files themselves, on a model of the processor's memory.
  *
  * A waiter without a thread has a notice in the bell's list in place of a sleeper: the waker makes its call (notify.c).
