@@ -117,11 +117,17 @@ static inline struct bell *bell_of_key(uint64_t key) { return &qolb_bells_[((uin
 /* Puts the notice into the list of the place at which the node waits, and polls: WAITING, and its call will be made; any other answer, and it will not. */
 HIDDEN uint32_t qolb_listen_(struct notice *notice, qolb_node *node);
 
+/* Puts the notice into the list of this key's bell. */
+HIDDEN void qolb_list_(struct notice *notice, uint64_t key);
+
 /* Takes the notice out of its list: WITHDRAWN. If it was in none: DONE, after the calls of it that run in other threads. */
 HIDDEN uint32_t qolb_unlist_(struct notice *notice);
 
 /* Makes the call of the notice with this key, if the list has one. If the calling thread is in such a call, then after that. */
 HIDDEN void qolb_make_call_(struct bell *bell, uint64_t key);
+
+/* The call of a notification by an eventfd (calls.c). */
+HIDDEN void qolb_add_to_descriptor_(void *fd);
 
 /* ---- Ringing ---- */
 

@@ -204,7 +204,7 @@ uint32_t qolb_notify_off(qolb_node *node) {
 }
 
 /* By syscall, which is no cancellation point, as write is. The thread that releases the line keeps its errno. */
-static void add_to_descriptor(void *fd) {
+void qolb_add_to_descriptor_(void *fd) {
     uint64_t one = 1;
     int error = errno;
 #ifdef __linux__
@@ -215,7 +215,7 @@ static void add_to_descriptor(void *fd) {
     errno = error;
 }
 
-uint32_t qolb_notify_fd(qolb_node *node, int fd) { return qolb_notify(node, add_to_descriptor, (void *)(intptr_t)fd); }
+uint32_t qolb_notify_fd(qolb_node *node, int fd) { return qolb_notify(node, qolb_add_to_descriptor_, (void *)(intptr_t)fd); }
 
 /* ---- The others ---- */
 

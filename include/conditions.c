@@ -135,16 +135,20 @@ uint32_t qolb_cond_signal(qolb_cond *cond) { return signal_some(cond, 0); }
 
 uint32_t qolb_cond_broadcast(qolb_cond *cond) { return signal_some(cond, 1); }
 
-/* Tells the waiters at a condition, too. A waiter that is told may end at once: its successor in the list is read before. */
-uint32_t qolb_lock_shut(qolb_lock *lock) {
-    struct hall *hall = hall_of(lock);
-    struct seat *seat = qolb_held_seat_(hall);
-    if (!seat) return QOLB_MISUSE;
+/* A waiter that is told may end at once: its successor in the list is read before. */
+void qolb_tell_shut_(struct hall *hall) {
     for (struct waiter *it = hall->waits, *beside; it; it = beside) {
         beside = it->beside;
         tell(it, SHUT);
     }
     hall->waits = NULL;
+}
+
+uint32_t qolb_lock_shut(qolb_lock *lock) {
+    struct hall *hall = hall_of(lock);
+    struct seat *seat = qolb_held_seat_(hall);
+    if (!seat) return QOLB_MISUSE;
+    qolb_tell_shut_(hall);
     qolb_leave_hall_(hall, seat, qolb_shut_proved_);
     return QOLB_DONE;
 }

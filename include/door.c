@@ -12,7 +12,7 @@
 
 /* ---- The list, under its guard ---- */
 
-static void put_last(struct hall *hall, struct caller *me) {
+void qolb_stand_(struct hall *hall, struct caller *me) {
     me->before = hall->last;
     me->next = NULL;
     if (hall->last) hall->last->next = me;
@@ -20,7 +20,7 @@ static void put_last(struct hall *hall, struct caller *me) {
     hall->last = me;
 }
 
-static void take_out(struct hall *hall, struct caller *me) {
+void qolb_go_out_(struct hall *hall, struct caller *me) {
     if (me->next) me->next->before = me->before;
     else hall->last = me->before;
     if (me->before) me->before->next = me->next;
@@ -29,35 +29,51 @@ static void take_out(struct hall *hall, struct caller *me) {
 
 /* ---- Telling ---- */
 
-/* Whom to wake once the guard is returned. They may be gone by then. */
-struct woken {
+/* Whom to wake once the guard is returned, and which calls to make. They may be gone by then, and so may the hall. */
+struct told {
     atomic_uint *first, *second;
+    struct due due;
+    int met; /* the first is a task that has no seat, and one is about to be free */
 };
 
-/* Tells the first to look for a seat. The one behind it is woken, if it sleeps, and looks on for a while. Under the guard. */
-static struct woken tell_first(struct hall *hall) {
-    struct woken woken = {NULL, NULL};
+/* Tells the first to look for a seat. The one behind it is woken, if it sleeps, and looks on for a while. */
+static void tell_first(struct hall *hall, struct told *told) {
     struct caller *first = hall->first, *second = first ? first->next : NULL;
     unsigned asleep = ASLEEP_UNTOLD;
-    if (first && atomic_exchange(&first->told, TOLD) == ASLEEP_UNTOLD) woken.first = &first->told;
-    if (second && atomic_compare_exchange_strong(&second->told, &asleep, UNTOLD)) woken.second = &second->told;
-    return woken;
+    if (first && atomic_exchange(&first->told, TOLD) == ASLEEP_UNTOLD) told->first = &first->told;
+    if (second && atomic_compare_exchange_strong(&second->told, &asleep, UNTOLD)) told->second = &second->told;
 }
 
-static void wake(struct woken woken) {
-    if (woken.first) qolb_wake_at_(woken.first, 1);
-    if (woken.second) qolb_wake_at_(woken.second, 1);
+/* Under the guard: serves those at the door, in their order. */
+static struct told serve(struct hall *hall) {
+    struct told told = {NULL, NULL, {0, 0}, 0};
+    enum at_first first = GOES;
+    while (first == GOES && hall->first && hall->first->is_task) first = qolb_seat_first_(hall, &told.due);
+    told.met = first == MEETS;
+    if (first == GOES) tell_first(hall, &told);
+    return told;
 }
 
+static void carry_out(struct told told) {
+    if (told.first) qolb_wake_at_(told.first, 1);
+    if (told.second) qolb_wake_at_(told.second, 1);
+    qolb_make_due_calls_(told.due);
+}
+
+/* A seat that is about to be free may be one whose thread knows of nobody at the door: it is waited for. */
 void qolb_admit_(struct hall *hall) {
-    take_guard(&hall->guard);
-    struct woken woken = tell_first(hall);
-    return_guard(&hall->guard);
-    wake(woken);
+    int met = 1;
+    while (met) {
+        take_guard(&hall->guard);
+        struct told told = serve(hall);
+        met = told.met;
+        return_guard(&hall->guard);
+        carry_out(told);
+        if (met) sched_yield();
+    }
 }
 
 void qolb_free_seat_(struct hall *hall, struct seat *seat) {
-    struct woken woken = {NULL, NULL};
     int guarded = atomic_load(&hall->at_door) != 0;
     if (guarded) {
         take_guard(&hall->guard);
@@ -66,9 +82,9 @@ void qolb_free_seat_(struct hall *hall, struct seat *seat) {
     }
     atomic_store_explicit(&seat->state, FREE, memory_order_release);
     if (!guarded) return;
-    woken = tell_first(hall);
+    struct told told = serve(hall);
     return_guard(&hall->guard);
-    wake(woken);
+    carry_out(told);
 }
 
 /* ---- Waiting ---- */
@@ -97,7 +113,7 @@ static void await_word(struct hall *hall, struct caller *my, const struct limit 
 static void come(struct hall *hall, struct caller *my) {
     take_guard(&hall->guard);
     if (!hall->first) atomic_store_explicit(&my->told, TOLD, memory_order_relaxed);
-    put_last(hall, my);
+    qolb_stand_(hall, my);
     return_guard(&hall->guard);
 }
 
@@ -110,7 +126,7 @@ static int has_free_seat(struct hall *hall) {
 /* Who was told of a seat, and does not take it, or finds one more, tells the next. */
 static void go(struct hall *hall, struct caller *my) {
     take_guard(&hall->guard);
-    take_out(hall, my);
+    qolb_go_out_(hall, my);
     return_guard(&hall->guard);
     atomic_fetch_sub(&hall->sleepers, 1);
     atomic_fetch_sub(&hall->at_door, 1);
@@ -131,7 +147,7 @@ static uint32_t look_as_first(struct asking *me, struct caller *my) {
 
 uint32_t qolb_wait_at_door_(struct asking *me, const struct limit *limit) {
     struct hall *hall = me->hall;
-    struct caller my = {NULL, NULL, UNTOLD};
+    struct caller my = {NULL, NULL, UNTOLD, 0};
     uint32_t got = QOLB_WAITING;
     atomic_fetch_add(&hall->at_door, 1);
     atomic_fetch_add(&hall->sleepers, 1);

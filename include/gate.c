@@ -76,7 +76,7 @@ void qolb_leave_gate_(struct hall *hall, uint64_t gate, uint32_t (*release)(qolb
 
 /* A thread that waits at a condition is not waited for. */
 static int is_alone(struct hall *hall, const struct seat *kept) {
-    if (atomic_load(&hall->at_door)) return 0;
+    if (atomic_load(&hall->at_door) || waits_without_thread(hall)) return 0;
     for (unsigned k = 0; k < hall->seats; k++)
         if (hall->seat[k] != kept && atomic_load(&hall->seat[k]->state) != FREE) return 0;
     return 1;

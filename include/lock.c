@@ -76,6 +76,7 @@ static void make(struct hall *hall, void *block, qolb_node *nodes, unsigned seat
     atomic_init(&hall->sleepers, 0);
     atomic_init(&hall->at_door, 0);
     atomic_init(&hall->guests, 0);
+    atomic_init(&hall->tasks, 0);
     atomic_init(&hall->guard, 0);
     for (unsigned k = 0; k < seats; k++) make_seat(hall->seat[k] = behind(&nodes[k]), &nodes[k]);
 }
@@ -110,7 +111,7 @@ uint32_t qolb_lock_open(qolb_lock *lock, uint32_t kind, uint64_t label, uint64_t
 }
 
 /* The lock's hall, which is opened if there is none. */
-static uint32_t hall_opened(qolb_lock *lock, struct hall **hall) {
+uint32_t qolb_hall_opened_(qolb_lock *lock, struct hall **hall) {
     static const qolb_bytes zeros;
     while (!(*hall = hall_of(lock))) {
         uint32_t kind = __atomic_load_n(&lock->kind, __ATOMIC_RELAXED), seats = __atomic_load_n(&lock->seats, __ATOMIC_RELAXED);
@@ -148,10 +149,11 @@ uint64_t qolb_lock_holder(const qolb_lock *lock) {
     struct hall *hall = hall_of(lock);
     uint64_t thread = hall ? in_of(atomic_load(&hall->gate)) : 0;
     for (unsigned k = 0; hall && !thread && k < hall->seats; k++) thread = atomic_load(&hall->seat[k]->holder);
-    return thread / NUMBER % ((uint64_t)1 << SYSTEM_BITS);
+    return thread == BY_TASK ? UINT64_MAX : thread / NUMBER % ((uint64_t)1 << SYSTEM_BITS);
 }
 
 qolb_node *qolb_lent_(const qolb_node *node) {
+    if ((uintptr_t)node->own & 2) return qolb_lent_by_task_((void *)((uintptr_t)node->own & ~(uintptr_t)3));
     struct hall *hall = (struct hall *)((uintptr_t)node->own & ~(uintptr_t)1);
     struct seat *seat = qolb_held_seat_(hall);
     return seat ? &seat->node : NULL;
@@ -167,11 +169,13 @@ static inline int goes_in(struct hall *hall) {
 
 /* The last step on the hall by a thread that was late, tried without success, or was told that the lock is shut: the last has forwarded the line, as
  * its node tells until the seat is free. */
-static void give_back(struct hall *hall, struct seat *seat, uint32_t got) {
-    if (got == QOLB_CLOSED) ring_for(next_of(&seat->node));
+void qolb_give_back_(struct hall *hall, struct seat *seat, uint32_t got) {
+    struct next next = got == QOLB_CLOSED ? next_of(&seat->node) : (struct next){NULL, NULL, 0};
+    if (next.holder) wake_for(next);
     atomic_exchange(&seat->state, LEAVING);
     if (atomic_load(&hall->watcher) == seat) qolb_call_out_(hall);
     qolb_free_seat_(hall, seat);
+    if (next.holder) call_for(next);
 }
 
 /* A seat whose node was found busy. Nobody is told: while a seat is busy there is a thread before it in the queue, which will do so. With bursts the end of the kept
@@ -203,7 +207,7 @@ static inline uint32_t ask_at(struct asking *me, struct seat *seat) {
 /* Begins with the thread's last seat. With bursts a thread at the door goes in by no gate: others may wait before it. */
 uint32_t qolb_take_seat_(struct asking *me) {
     struct hall *hall = me->hall;
-    if (!(me->is_first && hall->burst) && goes_in(hall)) return QOLB_GRANTED;
+    if (!me->is_task && !(me->is_first && hall->burst) && goes_in(hall)) return QOLB_GRANTED;
     me->met = 0;
     if (!me->is_first && atomic_load(&hall->at_door)) return QOLB_WAITING;
     marks_gate(hall);
@@ -295,7 +299,7 @@ static inline uint32_t settle(struct asking *me, uint32_t got) {
         qolb_own_.by_seat++;
         atomic_store_explicit(&me->seat->holder, own_number(), memory_order_release);
     } else {
-        give_back(me->hall, me->seat, got);
+        qolb_give_back_(me->hall, me->seat, got);
     }
     return got;
 }
@@ -314,7 +318,7 @@ __attribute__((noinline)) static uint32_t enter_later(struct asking me, uint32_t
 
 /* The first seat is the thread's last one, which mostly works. */
 static uint32_t enter_by_seat(struct hall *hall, uint64_t nanoseconds) {
-    struct asking me = {hall, NULL, 0, 0, 0, QUEUED_UP};
+    struct asking me = {.hall = hall, .seen = QUEUED_UP};
     unsigned last = (own_number(), qolb_own_.last_seat);
     uint32_t got = last < hall->seats && !atomic_load(&hall->at_door) ? ask_at(&me, hall->seat[last]) : (uint32_t)QOLB_BUSY;
     return got == QOLB_GRANTED ? settle(&me, got) : enter_later(me, got, nanoseconds);
@@ -324,7 +328,7 @@ uint32_t qolb_enter_hall_(struct hall *hall, uint64_t nanoseconds) { return goes
 
 __attribute__((noinline)) static uint32_t enter_slowly(qolb_lock *lock, uint64_t nanoseconds) {
     struct hall *hall;
-    uint32_t got = hall_opened(lock, &hall);
+    uint32_t got = qolb_hall_opened_(lock, &hall);
     if (got != QOLB_DONE) return got;
     if (is_in(hall) || own_seat(hall)) return QOLB_MISUSE;
     return qolb_enter_hall_(hall, nanoseconds);
@@ -349,7 +353,7 @@ uint32_t qolb_lock_enter(qolb_lock *lock) { return enter(lock, FOR_EVER); }
 
 __attribute__((noinline)) static uint32_t enter_unasked_slowly(qolb_lock *lock, uint64_t nanoseconds) {
     struct hall *hall;
-    uint32_t got = hall_opened(lock, &hall);
+    uint32_t got = qolb_hall_opened_(lock, &hall);
     return got == QOLB_DONE ? qolb_enter_hall_(hall, nanoseconds) : got;
 }
 
@@ -361,11 +365,11 @@ uint32_t qolb_lock_enter_unasked_(qolb_lock *lock, uint64_t nanoseconds) {
  * of a thread that is still in its last call says nothing. */
 uint32_t qolb_lock_try(qolb_lock *lock) {
     struct hall *hall;
-    uint32_t got = hall_opened(lock, &hall);
+    uint32_t got = qolb_hall_opened_(lock, &hall);
     if (got != QOLB_DONE) return got;
     if (goes_in(hall)) return QOLB_GRANTED;
     if (atomic_load(&hall->gate) != QUEUED_UP || atomic_load(&hall->at_door) || qolb_lock_holder(lock)) return QOLB_BUSY;
-    struct asking me = {hall, NULL, 0, 0, 0, QUEUED_UP};
+    struct asking me = {.hall = hall, .seen = QUEUED_UP};
     unsigned k = hall->seats - 1;
     while (k > 0 && atomic_load(&hall->seat[k]->state) != FREE) k--;
     got = ask_at(&me, hall->seat[k]);
@@ -375,11 +379,13 @@ uint32_t qolb_lock_try(qolb_lock *lock) {
 
 /* ---- Leaving ---- */
 
-/* For a holder that has released the line while threads of the lock sleep: rings for the next holder and the waiter behind it, as its node tells,
- * and tells the first at the door. */
+/* For a holder that has released the line while others of the lock wait: rings for the next holder and the waiter behind it, as its node tells, and serves
+ * the first at the door. A call comes last: it may use the lock, and the seat is free by then. */
 __attribute__((noinline)) static void ring_and_free(struct hall *hall, struct seat *seat) {
-    ring_for(next_of(&seat->node));
+    struct next next = next_of(&seat->node);
+    wake_for(next);
     qolb_free_seat_(hall, seat);
+    call_for(next);
 }
 
 /* A release uses instructions on the line's words that let no load pass a store before them. So a thread that wants a seat sees that this one is
@@ -393,7 +399,7 @@ void qolb_end_turn_(struct hall *hall, struct seat *seat, uint32_t (*release)(qo
 }
 
 /* By a request of its own. */
-static void leave_by_seat(struct hall *hall, struct seat *seat, uint32_t (*release)(qolb_node *)) {
+void qolb_leave_by_seat_(struct hall *hall, struct seat *seat, uint32_t (*release)(qolb_node *)) {
     if (seat->calm >= hall->calm && release == qolb_deqolb_proved_) qolb_keep_turn_(hall, seat);
     else qolb_end_turn_(hall, seat, release);
 }
@@ -404,7 +410,7 @@ void qolb_leave_hall_(struct hall *hall, struct seat *seat, uint32_t (*release)(
         qolb_leave_gate_(hall, gate, release);
     } else {
         if (qolb_own_.by_seat) qolb_own_.by_seat--;
-        leave_by_seat(hall, seat, release);
+        qolb_leave_by_seat_(hall, seat, release);
     }
 }
 
@@ -440,7 +446,7 @@ uint32_t qolb_lock_leave_for_another_(qolb_lock *lock) {
         uint64_t thread = atomic_exchange(&hall->seat[k]->holder, 0);
         if (!thread) continue;
         if (thread == me && qolb_own_.by_seat) qolb_own_.by_seat--;
-        leave_by_seat(hall, hall->seat[k], qolb_deqolb_proved_);
+        qolb_leave_by_seat_(hall, hall->seat[k], qolb_deqolb_proved_);
         return QOLB_DONE;
     }
     return QOLB_MISUSE;
@@ -483,6 +489,7 @@ uint32_t qolb_lock_close(qolb_lock *lock) {
     }
     while (atomic_load(&hall->keepers)) sched_yield();
     __atomic_store_n(&lock->own, NULL, __ATOMIC_SEQ_CST);
+    take_guard(&hall->guard); /* who served the last task returns it first */
     free_hall(hall);
     return QOLB_DONE;
 }

@@ -1,5 +1,5 @@
-/* What a lock has, and what lock.c, gate.c, door.c and conditions.c call of each other (qolb.h, LOCKS). Four of the library's internal files. Tested, not
- * proved; each step on the line is a proved call.
+/* What a lock has, and what lock.c, gate.c, door.c, conditions.c and tasks.c call of each other (qolb.h, LOCKS). Five of the library's internal files. Tested,
+ * not proved; each step on the line is a proved call.
  *
  * A lock has a hall: a line, and for each of its nodes a seat. A thread that enters takes a free seat, makes a request with its node, and waits for its
  * turn; it returns the seat when it leaves. A thread that finds no free seat waits at the door, in a list (door.c). While nobody waits, the line is kept, and
@@ -36,12 +36,13 @@ _Static_assert(sizeof(struct seat) <= SEAT_BYTES, "a seat is in its node's block
 
 /* ---- The door ---- */
 
-/* What a thread at the door was told: nothing, or to look for a seat. */
+/* What a thread at the door was told: nothing, or to look for a seat. A task there is told nothing. */
 enum { UNTOLD, TOLD, ASLEEP_UNTOLD };
 
 struct caller {
     struct caller *next, *before; /* at the door; NULL behind the last, and before the first */
     atomic_uint told;
+    int is_task; /* it is in a struct task (tasks.c) */
 };
 
 /* ---- Halls ---- */
@@ -55,7 +56,8 @@ struct hall {
     struct waiter *waits;
     atomic_uint sleepers; /* the number of threads that sleep at any bell of the line, or are at the door. A leaver that finds none rings no bell */
     atomic_uint at_door;  /* the number of threads that are at the door, or about to be */
-    atomic_uint guests;   /* the number of threads that use the hall and have no seat */
+    atomic_uint guests;   /* the number of threads that use the hall and have no seat, and of tasks at the door */
+    atomic_uint tasks;    /* the number of tasks that wait. While there are any, no turn is kept */
     atomic_uint guard;    /* of the door's list (take_guard) */
     struct caller *first, *last;
     /* With bursts. */
@@ -117,6 +119,7 @@ struct asking {
     int late;          /* it was not granted the lock at once */
     int met;           /* while it looked for a seat it met one that is about to be free */
     int is_first;      /* it is the first at the door */
+    int is_task;       /* it goes in by no gate here */
     uint64_t seen;     /* with bursts, the gate as it saw it last while it waited */
 };
 
@@ -124,6 +127,15 @@ struct asking {
  * went in by the gate. */
 HIDDEN uint32_t qolb_take_seat_(struct asking *me);
 HIDDEN uint32_t qolb_enter_hall_(struct hall *hall, uint64_t nanoseconds);
+
+/* The lock's hall, which is opened if there is none. */
+HIDDEN uint32_t qolb_hall_opened_(qolb_lock *lock, struct hall **hall);
+
+/* The last step on the hall by who was late, tried without success, or was told that the lock is shut. */
+HIDDEN void qolb_give_back_(struct hall *hall, struct seat *seat, uint32_t got);
+
+/* Leaves for who holds the line by this seat, by a request of its own. */
+HIDDEN void qolb_leave_by_seat_(struct hall *hall, struct seat *seat, uint32_t (*release)(qolb_node *));
 
 /* The seat by whose node the calling thread holds the line, also if it is in by the gate; NULL if it does not hold it. */
 HIDDEN struct seat *qolb_held_seat_(struct hall *hall);
@@ -163,17 +175,45 @@ HIDDEN int qolb_watch_(struct asking *me);
 HIDDEN int qolb_may_sleep_(struct hall *hall, struct seat *seat);
 
 /* Whether somebody waits who has no thread, and so could not watch the gate. With bursts, no turn is kept then. */
-static inline int waits_without_thread(struct hall *hall) { return (void)hall, 0; }
+static inline int waits_without_thread(struct hall *hall) { return atomic_load(&hall->tasks) != 0; }
 
 /* ---- door.c ---- */
 
 /* Waits for a seat: the answer of its request, WAITING for a turn, LATE, or GRANTED without a seat, by the gate. */
 HIDDEN uint32_t qolb_wait_at_door_(struct asking *me, const struct limit *limit);
 
-/* Tells the first at the door, if there is one, to look for a seat. */
+/* Makes the requests of the tasks that are the first at the door, as long as there are seats, and tells a thread that is then the first to look for one. */
 HIDDEN void qolb_admit_(struct hall *hall);
+
+/* Under the guard: a new last one at the door, and one that goes. */
+HIDDEN void qolb_stand_(struct hall *hall, struct caller *me);
+HIDDEN void qolb_go_out_(struct hall *hall, struct caller *me);
 
 /* Frees a seat that has been LEAVING since before a read-modify-write step of this thread, and tells the first at the door. The hall may be gone afterwards. */
 HIDDEN void qolb_free_seat_(struct hall *hall, struct seat *seat);
+
+/* ---- tasks.c ---- */
+
+/* The number that all tasks have in a gate, and as holders of seats. No thread has it, as the system gives none the number 0. */
+#define BY_TASK (((uint64_t)1 << SYSTEM_BITS) * NUMBER)
+
+/* The calls of tasks that are to be made once the guard is returned. */
+struct due {
+    uint64_t key;
+    unsigned calls;
+};
+
+/* Under the guard, if the first at the door is a task: makes its request, with which it goes from the door. Else there is no seat for it; MEETS if one is about to
+ * be free. */
+enum at_first { GOES, STAYS, MEETS };
+HIDDEN enum at_first qolb_seat_first_(struct hall *hall, struct due *due);
+
+HIDDEN void qolb_make_due_calls_(struct due due);
+
+/* The node by which this task holds its lock, or NULL. */
+HIDDEN qolb_node *qolb_lent_by_task_(void *task);
+
+/* In conditions.c: for the holder, tells all that wait at a condition that the lock is shut. */
+HIDDEN void qolb_tell_shut_(struct hall *hall);
 
 #endif

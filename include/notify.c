@@ -96,6 +96,15 @@ uint32_t qolb_listen_(struct notice *notice, qolb_node *node) {
     return got;
 }
 
+void qolb_list_(struct notice *notice, uint64_t key) {
+    struct bell *bell = bell_of_key(key);
+    notice->key = key;
+    tell_release(notice);
+    take_guard(&bell->guard);
+    put_in(notice, bell);
+    return_guard(&bell->guard);
+}
+
 /* Waits, without the guard meanwhile, until another call that was awaited has ended. */
 static void await_end(struct bell *bell, struct running *call) {
     call->awaited = 1;

@@ -200,6 +200,24 @@
  * - A descriptor is taken off before it is closed, or the number of another file may be written to.
  * - Not from a signal handler. After a fork the child has the wish too: a release in the child writes to the parent's eventfd.
  *
+ * A lock is entered by tasks, too, beside threads: qolb_task_enter asks for it, and tells by a call when the task has it. No thread owns the turn: any thread may
+ * go on with the task, one call at a time, and leave for it. Tasks and threads stand in one queue, first come, first served; a task keeps its place from when
+ * qolb_task_enter has returned.
+ *
+ *     uint32_t got = qolb_task_enter(&task, &lock, make_ready, &task);   // WAITING: the call comes; then qolb_task_poll
+ *     if (got == QOLB_GRANTED) work(), qolb_task_leave(&task);
+ *
+ * What is said above of qolb_notify holds for that call; qolb_task_poll, qolb_task_cancel and qolb_task_leave stand for the four calls that wait for one that
+ * another thread is in. And:
+ *
+ * - Every call by which a thread or a task enters, leaves, gives up or closes a lock may make calls of tasks that it lets through. While a task waits no burst
+ *   begins, and one that goes on ends with the turn that is under way.
+ * - qolb_task_enter, qolb_task_cancel and qolb_task_leave wait for the guard of the lock's door, and qolb_task_enter for a thread that is about to free a seat:
+ *   for the end of their calls, and for no turn.
+ * - A thread that waits in qolb_lock_enter for a lock which one of its own tasks holds waits until that task leaves, so for ever if it would have to do so itself.
+ *   The library doesn't see that: it does not know which thread has which task. In an event loop let tasks enter, and never the loop's thread.
+ * - qolb_cond_wait is for threads alone. A task may signal.
+ *
  * A release that finds somebody registered may wait for the guard of a bell, for as long as another thread takes to change a list there: a few instructions,
  * unless that thread loses the processor. While nodes of other lines are registered, a release takes some ten instructions more.
  *
@@ -499,14 +517,15 @@ uint32_t qolb_lock_shut(qolb_lock *lock);
 
 /* Frees the lock's memory: it is unopened again, and its next use opens it, with its kind and its seats, and with zeros. (qolb_lock_shut is the call
  * after which all that enter are told CLOSED.) The thread that was granted the lock last may close it while another is still in qolb_lock_leave.
- * DONE, also if it was unopened; MISUSE, and nothing changed, if a thread holds it, or waits for it or at a condition of it. */
+ * DONE, also if it was unopened; MISUSE, and nothing changed, if a thread or a task holds it, or waits for it, or a thread
+ * at a condition of it. */
 uint32_t qolb_lock_close(qolb_lock *lock);
 
 /* The holder's node, lent until the holder leaves, for qolb_read, qolb_write, qolb_read_lane, qolb_write_lane, qolb_add_lane, qolb_turns_left,
  * qolb_number, qolb_label and qolb_state. For every other call, and for any other thread, it is MISUSE. NULL if the calling thread does not hold the lock. */
 qolb_node *qolb_lock_turn(qolb_lock *lock);
 
-/* A number of the thread that holds the lock; 0 if none does, and for the moment of a handoff. On Linux it is the system's, that the thread had when it
+/* A number of the thread that holds the lock; UINT64_MAX if a task does; 0 if none does, and for the moment of a handoff. On Linux it is the system's, that the thread had when it
  * first entered a lock: in a forked child, that of the parent's thread. */
 uint64_t qolb_lock_holder(const qolb_lock *lock);
 
@@ -524,6 +543,37 @@ uint32_t qolb_cond_wait_within(qolb_cond *cond, qolb_lock *lock, uint64_t nanose
  * thread waits. */
 uint32_t qolb_cond_signal(qolb_cond *cond);
 uint32_t qolb_cond_broadcast(qolb_cond *cond);
+
+/* A task that enters locks: nobody waits in it. It starts as QOLB_TASK_INIT. It stays where it is from qolb_task_enter until its turn is over or it has given up.
+ * Only these calls read or change its contents. */
+typedef struct qolb_task {
+    void *own[16];
+} qolb_task;
+#define QOLB_TASK_INIT {{QOLB_NULL_}}
+
+/* Asks for the lock for a task, and does not wait for a turn. GRANTED: the task holds it. WAITING: `call(arg)` will be called once, when the task has it or the lock is
+ * shut (EVENT LOOPS, above); then qolb_task_poll tells which. CLOSED. MISUSE: the task waits or holds already, or `call` is null. At the first use of the
+ * lock also NO_MEMORY, BAD_NODES, BAD_KIND. */
+uint32_t qolb_task_enter(qolb_task *task, qolb_lock *lock, void (*call)(void *arg), void *arg) QOLB_LOOK;
+
+/* The same, and 1 is added to the eventfd `fd` in place of a call. Close it only after the task's turn or qolb_task_cancel. */
+uint32_t qolb_task_enter_fd(qolb_task *task, qolb_lock *lock, int fd) QOLB_LOOK;
+
+/* Polls for a task that waits: GRANTED, and it holds the lock; CLOSED; WAITING, and the call comes, or comes again. MISUSE if it does not wait. */
+uint32_t qolb_task_poll(qolb_task *task) QOLB_LOOK;
+
+/* Gives up, for a task that waits: no call is made afterwards. WITHDRAWN, also if it was at its turn: it leaves then. CLOSED. DONE if it does not wait; MISUSE,
+ * and nothing changed, if it was told that it holds the lock. */
+uint32_t qolb_task_cancel(qolb_task *task);
+
+/* Leaves for a task, in any thread. DONE; MISUSE if the task does not hold the lock, or was not told yet that it does. */
+uint32_t qolb_task_leave(qolb_task *task);
+
+/* Leaves for a task, and closes the lock, as qolb_lock_shut does. DONE; MISUSE as of qolb_task_leave. */
+uint32_t qolb_task_shut(qolb_task *task);
+
+/* The node of a task that holds a lock, lent until it leaves, as qolb_lock_turn lends a thread's: to whoever makes the calls for the task. Else NULL. */
+qolb_node *qolb_task_turn(qolb_task *task);
 
 /* The version of the library, as QOLB_VERSION is that of the header. */
 uint32_t qolb_version(void);
@@ -610,6 +660,29 @@ QOLB_LOOK static inline uint32_t qolb_cond_wait_(qolb_cond *cond, qolb_lock *loc
 QOLB_LOOK static inline uint32_t qolb_cond_wait_within_(qolb_cond *cond, qolb_lock *lock, uint64_t nanoseconds) {
     return qolb_leaves_(lock), qolb_entered_(lock, qolb_cond_wait_within(cond, lock, nanoseconds));
 }
+
+/* A task's lock is its first word. */
+static inline uint32_t qolb_tasked_(qolb_task *task, uint32_t got) {
+    if (got == QOLB_GRANTED || got == QOLB_CLOSED) QOLB_TOOK_(task->own[0]);
+    return got;
+}
+
+static inline void qolb_task_leaves_(qolb_task *task) {
+    if (qolb_task_turn(task)) QOLB_GIVES_(task->own[0]);
+}
+
+QOLB_LOOK static inline uint32_t qolb_task_enter_(qolb_task *task, qolb_lock *lock, void (*call)(void *arg), void *arg) {
+    return qolb_tasked_(task, qolb_task_enter(task, lock, call, arg));
+}
+QOLB_LOOK static inline uint32_t qolb_task_enter_fd_(qolb_task *task, qolb_lock *lock, int fd) { return qolb_tasked_(task, qolb_task_enter_fd(task, lock, fd)); }
+QOLB_LOOK static inline uint32_t qolb_task_poll_(qolb_task *task) { return qolb_tasked_(task, qolb_task_poll(task)); }
+static inline uint32_t qolb_task_leave_(qolb_task *task) { return qolb_task_leaves_(task), qolb_task_leave(task); }
+static inline uint32_t qolb_task_shut_(qolb_task *task) { return qolb_task_leaves_(task), qolb_task_shut(task); }
+#define qolb_task_enter qolb_task_enter_
+#define qolb_task_enter_fd qolb_task_enter_fd_
+#define qolb_task_poll qolb_task_poll_
+#define qolb_task_leave qolb_task_leave_
+#define qolb_task_shut qolb_task_shut_
 #define qolb_lock_enter qolb_lock_enter_
 #define qolb_lock_try qolb_lock_try_
 #define qolb_lock_enter_within qolb_lock_enter_within_

@@ -1,6 +1,6 @@
 #!/usr/bin/env python3
-"""Explores runs of the C library's own files, of locks and of nodes (include/lock.c, gate.c, door.c, conditions.c, calls.c, notify.c and bells.c), with two and three
-threads that use a lock or have a node each, on a model of the processor's memory (tools/seats).
+"""Explores runs of the C library's own files, of locks and of nodes (include/lock.c, gate.c, door.c, conditions.c, tasks.c, calls.c, notify.c and bells.c), with two and
+three threads that use a lock or have a node each, on a model of the processor's memory (tools/seats).
 
 tools/seats.py [MOST] [--scene BEGINNING ..] [--fault WORDS | --no-faults] [--jobs 2]
     runs of at most MOST turns of the schedule, 2, of the library as it is; and of each library with a fault, as many as it takes: five minutes
@@ -28,7 +28,7 @@ import tempfile
 import time
 
 ROOT = pathlib.Path(__file__).resolve().parent.parent
-BUILT = ("lock.c", "gate.c", "door.c", "conditions.c", "calls.c", "notify.c", "bells.c")
+BUILT = ("lock.c", "gate.c", "door.c", "conditions.c", "tasks.c", "calls.c", "notify.c", "bells.c")
 HEADERS = ("lock.h", "bells.h")
 SOURCES = {name: (ROOT / "include" / name).read_text() for name in (*BUILT, *HEADERS)}
 # What a thread keeps while it makes calls of notifications: the model has several threads in one.
@@ -53,12 +53,14 @@ HOOKED = [
     ("CALM = 16", "CALM = 1"),
     ("WATCHES = 8", "WATCHES = 1"),
     ("WATCHED_PART = 16", "WATCHED_PART = 2"),
-    # In some scenes all places share a bell.
-    ("enum { BELLS = 1024 };\n", "enum { BELLS = 1024 };\nextern unsigned model_bells;\n"),
+    # Fewer bells are cleared sooner; in some scenes all places share one.
+    ("enum { BELLS = 1024 };\n", "enum { BELLS = 32 };\nextern unsigned model_bells;\n"),
     ("(*first_bell_of(node) + word / PLACE_WORDS) % BELLS", "(*first_bell_of(node) + word / PLACE_WORDS) % model_bells"),
     ("((uint32_t)(key >> 32) + (uint32_t)key / PLACE_WORDS) % BELLS", "((uint32_t)(key >> 32) + (uint32_t)key / PLACE_WORDS) % model_bells"),
     (WAITS, WAITS.replace("    if (!me->seat) {\n", "    if (me->seat) { void hook_waits(void); hook_waits(); }\n    if (!me->seat) {\n")),
     (AT_DOOR, "    { void hook_waits(void); hook_waits(); }\n" + AT_DOOR),
+    ("        qolb_stand_(hall, &me->at);\n", "        qolb_stand_(hall, &me->at);\n        { void hook_task_waits(void); hook_task_waits(); }\n"),
+    ("    return got == QOLB_WAITING ? settle(me, listen(me), 1) : settle(me, got, 0);\n", "    if (got == QOLB_WAITING) { void hook_task_waits(void); hook_task_waits(); }\n    return got == QOLB_WAITING ? settle(me, listen(me), 1) : settle(me, got, 0);\n"),
     (GIVES_UP, "            { void hook_ends(void); hook_ends(); }\n" + GIVES_UP),
     (IS_LATE, IS_LATE.replace("got = QOLB_LATE;", "{ void hook_ends(void); got = QOLB_LATE, hook_ends(); }")),
 ]
@@ -66,8 +68,8 @@ HOOKED = [
 LEAVING = "    atomic_store_explicit(&seat->state, LEAVING, memory_order_release);\n"
 FREED = "atomic_store_explicit(&seat->state, FREE, memory_order_release);\n"
 LEAVES = f"    if (atomic_load(&hall->sleepers)) ring_and_free(hall, seat);\n    else {FREED}"
-RINGS = "    ring_for(next_of(&seat->node));\n    qolb_free_seat_(hall, seat);\n"
-TOLD_CLOSED = "    if (got == QOLB_CLOSED) ring_for(next_of(&seat->node));\n    atomic_exchange(&seat->state, LEAVING);\n"
+RINGS = "    struct next next = next_of(&seat->node);\n    wake_for(next);\n    qolb_free_seat_(hall, seat);\n    call_for(next);\n"
+TOLD_CLOSED = "    if (next.holder) wake_for(next);\n    atomic_exchange(&seat->state, LEAVING);\n"
 LOOK = "    unsigned word = atomic_load(&bell->word);\n    uint32_t got = qolb_poll_proved_(&seat->node);\n"
 COUNT = "    atomic_fetch_add(&bell->sleepers, 1);\n"
 IN_ALL = "    atomic_fetch_add(&hall->sleepers, 1);\n    unsigned word"
@@ -79,10 +81,11 @@ RETURNS_BUSY = "    if (hall->burst) {\n        atomic_exchange(&seat->state, LE
 STANDS = "    stand(cond, hall, &me);\n    atomic_fetch_add(&hall->guests, 1);\n    qolb_leave_hall_(hall, seat, qolb_deqolb_proved_);\n"
 SHUT = "        beside = it->beside;\n        tell(it, SHUT);\n"
 FAULTS = {
+    "one sleeper alone is woken at a bell": ("    qolb_wake_at_(&bell->word, INT32_MAX);\n", "    qolb_wake_at_(&bell->word, 1);\n"),
     "nobody says that a seat is about to be free": (LEAVING, ""),
     "who leaves rings no bell": (LEAVES, f"    {FREED}"),
     "who leaves rings no bell of the line": (RINGS, "    qolb_free_seat_(hall, seat);\n"),
-    "who leaves tells nobody at the door": (RINGS, f"    ring_for(next_of(&seat->node));\n    {FREED}"),
+    "who leaves tells nobody at the door": (RINGS, RINGS.replace("    qolb_free_seat_(hall, seat);\n", f"    {FREED}")),
     "a seat is freed by a relaxed store where nobody sleeps": (LEAVES, LEAVES.replace("_release", "_relaxed")),
     "who leaves looks for sleepers after the seat is free": (LEAVES, f"    {FREED}    if (atomic_load(&hall->sleepers)) ring_and_free(hall, seat);\n"),
     "who leaves asks for whom to ring after the seat is free": (RINGS, "    qolb_free_seat_(hall, seat);\n    ring_for(next_of(&seat->node));\n"),
@@ -98,7 +101,7 @@ FAULTS = {
     "who lets go rings at its own place": ("qolb_went_to_proved_(node)", "qolb_waits_at_proved_(node)"),
     "a seat is taken without a look at whether it is free": ("state != FREE || !atomic_compare_exchange_strong(&seat->state, &state, TAKEN)", "atomic_exchange(&seat->state, TAKEN) == LEAVING"),
     "the hall is found by a relaxed load": ("__atomic_load_n(&lock->own, __ATOMIC_ACQUIRE)", "__atomic_load_n(&lock->own, __ATOMIC_RELAXED)"),
-    "who is late keeps its seat": ("    } else {\n        give_back(me->hall, me->seat, got);\n", "    } else if (got != QOLB_LATE) {\n        give_back(me->hall, me->seat, got);\n"),
+    "who is late keeps its seat": ("    } else {\n        qolb_give_back_(me->hall, me->seat, got);\n", "    } else if (got != QOLB_LATE) {\n        qolb_give_back_(me->hall, me->seat, got);\n"),
     "who is late keeps its request": ("    uint32_t got = qolb_withdraw_proved_(&seat->node);\n", "    uint32_t got = QOLB_WITHDRAWN;\n"),
     "who tries asks for the last seat alone": ("    while (k > 0 && atomic_load(&hall->seat[k]->state) != FREE) k--;\n", ""),
     "a busy seat is asked no more": (RETURNS_BUSY, RETURNS_BUSY.replace("    atomic_store(&seat->state, FREE);\n", "")),
@@ -181,7 +184,7 @@ FAULTS |= {
     "the gate is opened without a second look": (KEEPS, "    qolb_leave_gate_(hall, atomic_load(&hall->gate), qolb_deqolb_proved_);\n"),
     "the gate is opened before the second look": (BEFORE_GATE, "    go_in_by(hall, kept);\n    atomic_store(&hall->gate, OPEN);\n    if (!is_alone(hall, kept)) qolb_take_back_(hall, OPEN);\n"),
     "the gate is set by a plain store": ("    atomic_exchange(&hall->gate, own_number());\n", "    atomic_store_explicit(&hall->gate, own_number(), memory_order_release);\n"),
-    "who keeps its turn looks at the seats alone": ("    if (atomic_load(&hall->at_door)) return 0;\n    for", "    for"),
+    "who keeps its turn looks at the seats alone": ("atomic_load(&hall->at_door) || waits_without_thread(hall)", "waits_without_thread(hall)"),
     "who keeps its turn looks at the door alone": ("        if (hall->seat[k] != kept && atomic_load(&hall->seat[k]->state) != FREE) return 0;\n", "        (void)kept;\n"),
     "who keeps its turn looks for seats that are taken alone": ("hall->seat[k] != kept && atomic_load(&hall->seat[k]->state) != FREE", "hall->seat[k] != kept && atomic_load(&hall->seat[k]->state) == LEAVING"),
     "a call is not heard": (ENDS_SO, ENDS_SO.replace(" && !(gate & CALLED)", "")),
@@ -205,7 +208,7 @@ FAULTS |= {
 # The door.
 FREES = "    int guarded = atomic_load(&hall->at_door) != 0;\n"
 GUARDED = "        guarded = hall->first != NULL;\n        if (!guarded) return_guard(&hall->guard);\n"
-FREE_THEN_TOLD = f"    {FREED}    if (!guarded) return;\n    woken = tell_first(hall);\n"
+FREE_THEN_TOLD = f"    {FREED}    if (!guarded) return;\n    struct told told = serve(hall);\n"
 FORGETS = "    atomic_exchange(&my->told, UNTOLD);\n    me->is_first = 1;\n    uint32_t got = qolb_take_seat_(me);\n"
 GOES = "    if (atomic_load(&hall->at_door) && (is_told(my) || has_free_seat(hall))) qolb_admit_(hall);\n"
 COMES = "static void come(struct hall *hall, struct caller *my) {\n    take_guard(&hall->guard);\n"
@@ -216,14 +219,14 @@ FAULTS |= {
     "who frees a seat looks at the door after that": (FREES, f"    {FREED}{FREES}"),
     "who frees a seat returns the guard after that though nobody is there": (GUARDED, "        guarded = 1;\n"),
     "who frees a seat takes no guard": ("    if (guarded) {\n        take_guard(&hall->guard);\n", "    if (guarded) {\n"),
-    "who frees a seat wakes nobody": ("    return_guard(&hall->guard);\n    wake(woken);\n}\n\n/* ---- Waiting", "    return_guard(&hall->guard);\n}\n\n/* ---- Waiting"),
+    "who frees a seat wakes nobody": ("    return_guard(&hall->guard);\n    carry_out(told);\n}\n\n/* ---- Waiting", "    return_guard(&hall->guard);\n}\n\n/* ---- Waiting"),
     "who frees a seat tells nobody, though it wakes": ("atomic_exchange(&first->told, TOLD) == ASLEEP_UNTOLD", "atomic_load(&first->told) == ASLEEP_UNTOLD"),
-    "who goes from the door wakes nobody": ("    return_guard(&hall->guard);\n    wake(woken);\n}\n\nvoid", "    return_guard(&hall->guard);\n}\n\nvoid"),
+    "who goes from the door wakes nobody": ("        carry_out(told);\n", ""),
     "a later thread takes a seat before those at the door": ("    if (!me->is_first && atomic_load(&hall->at_door)) return QOLB_WAITING;\n", ""),
     "the last seat is asked though one is at the door": ("last < hall->seats && !atomic_load(&hall->at_door) ?", "last < hall->seats ?"),
     "who tries takes a seat before those at the door": ("atomic_load(&hall->gate) != QUEUED_UP || atomic_load(&hall->at_door) || qolb_lock_holder(lock)", "atomic_load(&hall->gate) != QUEUED_UP || qolb_lock_holder(lock)"),
     "who goes from the door tells nobody": (GOES, ""),
-    "who goes looks for free seats before it is out of the list": ("    take_guard(&hall->guard);\n    take_out(hall, my);\n", "    int tells = is_told(my) || has_free_seat(hall);\n    take_guard(&hall->guard);\n    take_out(hall, my);\n", GOES, GOES.replace("(is_told(my) || has_free_seat(hall))", "tells")),
+    "who goes looks for free seats before it is out of the list": ("    take_guard(&hall->guard);\n    qolb_go_out_(hall, my);\n", "    int tells = is_told(my) || has_free_seat(hall);\n    take_guard(&hall->guard);\n    qolb_go_out_(hall, my);\n", GOES, GOES.replace("(is_told(my) || has_free_seat(hall))", "tells")),
     "the first at the door waits to be told": ("    if (!hall->first) atomic_store_explicit(&my->told, TOLD, memory_order_relaxed);\n", ""),
     "each at the door looks for itself": ("    if (!hall->first) atomic_store_explicit(&my->told, TOLD, memory_order_relaxed);\n", "    atomic_store_explicit(&my->told, TOLD, memory_order_relaxed);\n"),
     "what was told at the door is forgotten after the look": (FORGETS, "    me->is_first = 1;\n    uint32_t got = qolb_take_seat_(me);\n    atomic_exchange(&my->told, UNTOLD);\n"),
@@ -234,7 +237,7 @@ FAULTS |= {
     "who comes to the door is put first": ("    me->before = hall->last;\n    me->next = NULL;\n    if (hall->last) hall->last->next = me;\n    else hall->first = me;\n    hall->last = me;\n", "    me->next = hall->first;\n    me->before = NULL;\n    if (hall->first) hall->first->before = me;\n    else hall->last = me;\n    hall->first = me;\n"),
     "who is woken early at the door is told nothing else": ("    atomic_compare_exchange_strong(&my->told, &asleep, UNTOLD);\n}\n", "    atomic_store(&my->told, UNTOLD);\n}\n"),
     "who sleeps at the door says so by two steps": ("    if (!time || !atomic_compare_exchange_strong(&my->told, &untold, ASLEEP_UNTOLD)) return;\n", "    if (!time || atomic_load(&my->told) != UNTOLD) return;\n    atomic_store(&my->told, ASLEEP_UNTOLD);\n"),
-    "who is late at the door stays in the list": ("    take_guard(&hall->guard);\n    take_out(hall, my);\n", "    take_guard(&hall->guard);\n    if (my->next || my->before) take_out(hall, my);\n    else hall->first = hall->last = NULL;\n    if (my->next) my->next->before = my;\n"),
+    "who is late at the door stays in the list": ("    take_guard(&hall->guard);\n    qolb_go_out_(hall, my);\n", "    take_guard(&hall->guard);\n    if (my->next || my->before) qolb_go_out_(hall, my);\n    else hall->first = hall->last = NULL;\n    if (my->next) my->next->before = my;\n"),
 }
 
 # Bursts.
@@ -254,7 +257,7 @@ FAULTS |= {
     "bursts: who goes in forgets the turns": (GOES_IN, GOES_IN.replace("(gate ^ OPEN)", "(gate ^ OPEN) % TURN"), GOES_IN_AT_ONCE, GOES_IN_AT_ONCE.replace("(gate ^ OPEN)", "(gate ^ OPEN) % TURN")),
     "bursts: at an open gate no turn is counted": ("(gate | WAITED) + (gate & OPEN ? TURN : 0)", "gate | WAITED"),
     "bursts: who waits has no turns counted": ("    if (hall->burst) count_turns(hall);\n    else qolb_call_out_(hall);\n", "    if (!hall->burst) qolb_call_out_(hall);\n"),
-    "bursts: a thread at the door goes in by the gate": ("    if (!(me->is_first && hall->burst) && goes_in(hall)) return QOLB_GRANTED;\n", "    if (goes_in(hall)) return QOLB_GRANTED;\n"),
+    "bursts: a thread at the door goes in by the gate": ("!me->is_task && !(me->is_first && hall->burst) && goes_in(hall)", "!me->is_task && goes_in(hall)"),
     "bursts: one begins before the gate is set": ("    go_in_by(hall, kept);\n    struct seat *watcher = oldest(hall, kept);\n", "    struct seat *watcher = oldest(hall, kept);\n    go_in_by(hall, kept);\n"),
     "bursts: no watcher is named": (NAMES, ""),
     "bursts: the last watcher stays so": ("    atomic_store(&hall->watcher, NULL);\n", ""),
@@ -278,6 +281,64 @@ FAULTS |= {
     "bursts: who does not close the lock ends none": ("    if (hall->burst) qolb_call_out_(hall);\n    qolb_free_seat_(hall, hall->seat[0]);\n", "    qolb_free_seat_(hall, hall->seat[0]);\n"),
     "bursts: a lock is closed while a thread looks at it that has opened the gate": (KEEPERS, ""),
     "bursts: who opens the gate counts itself after that": (WAKES, "    int opened = atomic_compare_exchange_strong(&hall->gate, gate, open);\n    atomic_fetch_add(&hall->keepers, 1);\n" + "".join(WAKES.splitlines(True)[2:])),
+}
+
+# Tasks at a lock.
+SERVES = "    while (first == GOES && hall->first && hall->first->is_task) first = qolb_seat_first_(hall, &told.due);\n"
+COMES_TO_DOOR = "    count_at_door(hall, 1);\n    while (comes(me, got, &stands)) sched_yield();\n    if (!stands) count_at_door(hall, -1u);\n"
+LOOKS_AS_FIRST = "    if (!hall->first) *got = ask(me, 1, &met);\n"
+STANDS_LAST = "        qolb_stand_(hall, &me->at);\n        atomic_store(&me->state, AT_DOOR);\n"
+AT_THE_GATE = "    atomic_fetch_add(&hall->tasks, 1);\n    if (goes_in(hall)) {\n"
+COUNTED_OUT = "    count_at_door(hall, -1u);\n    atomic_store(&me->state, SEATED);\n    return GOES;\n"
+IS_DUE = "        due->calls++;\n        qolb_list_(&me->notice, due->key);\n"
+GOES_AWAY = "        qolb_go_out_(hall, &me->at);\n        atomic_store(&me->state, IDLE);\n"
+GRANTED_TO = "        atomic_store_explicit(&seat->holder, BY_TASK, memory_order_release);\n        atomic_fetch_sub(&hall->tasks, 1);\n"
+FAULTS |= {
+    "tasks: who frees a seat makes no request for a task": (SERVES, ""),
+    "tasks: after one task nobody is served": (SERVES, SERVES.replace("while (first == GOES && hall->first", "if (hall->first")),
+    "tasks: a thread is told before a task that came before it": (SERVES, "    if (hall->first && hall->first->is_task && hall->first->next && !hall->first->next->is_task) {\n        if (atomic_exchange(&hall->first->next->told, TOLD) == ASLEEP_UNTOLD) told.first = &hall->first->next->told;\n        return told;\n    }\n" + SERVES),
+    "tasks: a task behind a thread is served before it": (SERVES, "    struct caller *ahead = hall->first;\n    if (ahead && !ahead->is_task && ahead->next && ahead->next->is_task) qolb_go_out_(hall, ahead), ahead->before = NULL, ahead->next = hall->first, hall->first ? (hall->first->before = ahead) : (hall->last = ahead), ahead->next->is_task && (hall->first = ahead->next, hall->first->before = NULL, hall->first->next ? (hall->first->next->before = ahead) : (hall->last = ahead), ahead->next = hall->first->next, ahead->before = hall->first, hall->first->next = ahead);\n" + SERVES),
+    "tasks: who frees a seat serves before that": (FREE_THEN_TOLD, f"    struct told told = {{NULL, NULL, {{0, 0}}, 0}};\n    if (guarded) told = serve(hall);\n    {FREED}    if (!guarded) return;\n"),
+    "tasks: who goes from the door waits for no seat that is about to be free": ("        met = told.met;\n", "        met = 0;\n"),
+    "tasks: a task waits for no seat that is about to be free": ("    int waits = !me->seat && met;\n    *stands = !me->seat && !met;\n", "    int waits = 0;\n    *stands = !me->seat;\n"),
+    "tasks: a task counts itself behind its look for a seat": (COMES_TO_DOOR, "    while (comes(me, got, &stands)) sched_yield();\n    if (stands) count_at_door(hall, 1);\n"),
+    "tasks: a task has no look as the first": (LOOKS_AS_FIRST, ""),
+    "tasks: a task that is not the first looks for a seat": (LOOKS_AS_FIRST, LOOKS_AS_FIRST.replace("if (!hall->first) ", "")),
+    "tasks: a later task takes a seat before those at the door": ("    if (!me->is_first && atomic_load(&hall->at_door)) return QOLB_WAITING;\n", "    if (!me->is_first && !me->is_task && atomic_load(&hall->at_door)) return QOLB_WAITING;\n"),
+    "tasks: a task at the door is no guest": ("    atomic_fetch_add(&hall->guests, by);\n", ""),
+    "tasks: a task at the door does not count among those that sleep": ("    atomic_fetch_add(&hall->sleepers, by);\n", ""),
+    "tasks: a task at the door is not counted there": ("    atomic_fetch_add(&hall->at_door, by);\n", ""),
+    "tasks: a task comes to the front": (STANDS_LAST, STANDS_LAST.splitlines(True)[0] + "        if (hall->first != &me->at) {\n            qolb_go_out_(hall, &me->at);\n            me->at.next = hall->first;\n            me->at.before = NULL;\n            hall->first->before = &me->at;\n            hall->first = &me->at;\n        }\n" + STANDS_LAST.splitlines(True)[1]),
+    "tasks: a task says behind the guard that it is at the door": (STANDS_LAST + "    }\n    return_guard(&hall->guard);\n", STANDS_LAST.splitlines(True)[0] + "    }\n    return_guard(&hall->guard);\n    if (*stands) atomic_store(&me->state, AT_DOOR);\n"),
+    "tasks: who polls at the door does not wait for the guard": ("    if (state != AT_DOOR) return state;\n", "    return state;\n"),
+    "tasks: who is due is not called": ("    for (unsigned k = 0; k < due.calls; k++)", "    for (unsigned k = 0; k < 0; k++)"),
+    "tasks: who is due is called under the guard": (IS_DUE, IS_DUE + "        qolb_make_call_(bell_of_key(due->key), due->key);\n"),
+    "tasks: who got the lock with its seat is not due": ("    if (me->got != QOLB_WAITING) {\n", "    if (me->got == QOLB_CLOSED) {\n"),
+    "tasks: who was told of a shut with its seat is not due": ("    if (me->got != QOLB_WAITING) {\n", "    if (me->got == QOLB_GRANTED) {\n"),
+    "tasks: a task that gets a seat wants no call at its place": ("    me->got = got == QOLB_WAITING ? listen(me) : got;\n", "    me->got = got;\n"),
+    "tasks: a task is told before it is counted out": (COUNTED_OUT, COUNTED_OUT.splitlines(True)[1] + COUNTED_OUT.splitlines(True)[0] + COUNTED_OUT.splitlines(True)[2]),
+    "tasks: a lock is closed while its guard is taken": ("    take_guard(&hall->guard); /* who served the last task returns it first */\n", ""),
+    "tasks: a task counts itself behind its look at the gate": (AT_THE_GATE, "    int is_in = goes_in(hall);\n    atomic_fetch_add(&hall->tasks, 1);\n    if (is_in) {\n"),
+    "tasks: a task does not call who is in": ("    while (gate != QUEUED_UP && !(gate & CALLED)) {\n        int opens", "    while (gate & OPEN) {\n        int opens"),
+    "tasks: two go in by one gate": ("        if (atomic_compare_exchange_strong(&hall->gate, &gate, opens ? BY_TASK + (gate ^ OPEN) : gate | CALLED)) return opens;\n", "        atomic_store(&hall->gate, opens ? BY_TASK + (gate ^ OPEN) : gate | CALLED);\n        return opens;\n"),
+    "tasks: who keeps its turn looks for no task": ("atomic_load(&hall->at_door) || waits_without_thread(hall)", "atomic_load(&hall->at_door)"),
+    "tasks: a burst begins without a look for tasks": ("waits_without_thread(hall) || (watcher", "(watcher", "    else if (waits_without_thread(hall)) qolb_end_turn_(hall, kept, qolb_deqolb_proved_);\n", ""),
+    "tasks: a burst begins without a second look for tasks": ("waits_without_thread(hall) || (watcher", "(watcher"),
+    "tasks: a task that holds counts as one that waits": (GRANTED_TO, GRANTED_TO.splitlines(True)[0]),
+    "tasks: a task that went in counts as one that waits": ("        atomic_store(&me->state, HOLDS);\n        atomic_fetch_sub(&hall->tasks, 1);\n        return QOLB_GRANTED;\n", "        atomic_store(&me->state, HOLDS);\n        return QOLB_GRANTED;\n"),
+    "tasks: a task that gave up counts as one that waits": ("        atomic_store(&me->state, IDLE);\n        atomic_fetch_sub(&hall->tasks, 1);\n        qolb_give_back_", "        atomic_store(&me->state, IDLE);\n        qolb_give_back_"),
+    "tasks: a task that holds by a seat is not known": (GRANTED_TO, GRANTED_TO.splitlines(True)[1]),
+    "tasks: a task that gives up takes no guard": ("    take_guard(&hall->guard);\n    int stood = ", "    int stood = "),
+    "tasks: a task that gives up stays at the door": (GOES_AWAY, GOES_AWAY.splitlines(True)[1]),
+    "tasks: a task that gives up at its turn keeps the line": ("    if (got != QOLB_GRANTED) return got;\n    qolb_task_leave(task);\n", "    if (got != QOLB_GRANTED) return got;\n"),
+    "tasks: who gives up leaves its notice": ("    qolb_unlist_(&me->notice);\n    uint32_t got = settle(me, me->got == QOLB_WAITING ? qolb_withdraw", "    uint32_t got = settle(me, me->got == QOLB_WAITING ? qolb_withdraw"),
+    "tasks: who polls leaves its notice": ("    qolb_unlist_(&me->notice);\n    return settle(me,", "    return settle(me,"),
+    "tasks: who polls wants no other call": ("    return settle(me, me->got == QOLB_WAITING ? listen(me) : me->got, 1);\n", "    return settle(me, me->got == QOLB_WAITING ? qolb_poll_proved_(&me->seat->node) : me->got, 1);\n"),
+    "tasks: who is told of a shut by its seat makes no call": ("    if (next.holder) call_for(next);\n", ""),
+    "tasks: a task is read after WAITING": ("    if (got == QOLB_WAITING) return got;\n    struct hall *hall = me->hall;\n    struct seat *seat = me->seat;\n", "    struct hall *hall = me->hall;\n    struct seat *seat = me->seat;\n    if (got == QOLB_WAITING) return got;\n"),
+    "tasks: who leaves makes no call": (RINGS, RINGS.replace("    call_for(next);\n", "")),
+    "tasks: who leaves makes the call before its seat is free": (RINGS, "    ring_for(next_of(&seat->node));\n    qolb_free_seat_(hall, seat);\n"),
+    "tasks: a task in by the gate leaves as by a seat": ("    if (seat) qolb_leave_by_seat_(hall, seat, release);\n    else qolb_leave_gate_(hall, atomic_load(&hall->gate), release);\n", "    qolb_leave_by_seat_(hall, seat ? seat : hall->held_by, release);\n"),
 }
 
 # How the names of the scenes begin in which a fault is looked for that takes two turns of the schedule. The others take one, and are looked for in all.
@@ -322,8 +383,6 @@ HARMLESS = {
     "the notice is read after the guard": ("    void *arg = notice->arg;\n", "", CALLS, CALLS.replace("call(arg)", "call(notice->arg)")),
     # The thread that is in opens the gate by a later step, and nobody else reads which node it is before that.
     "the node of a kept turn is told after the gate is set": ("    hall->held_by = kept;\n    atomic_store_explicit(&kept->holder, 0, memory_order_release);\n    atomic_exchange(&hall->gate, own_number());\n", "    atomic_store_explicit(&kept->holder, 0, memory_order_release);\n    atomic_exchange(&hall->gate, own_number());\n    hall->held_by = kept;\n"),
-    # The first meets a seat that is about to be free, and looks again; and it leaves the list only under the guard.
-    "who frees a seat tells before that": (FREE_THEN_TOLD, f"    if (guarded) woken = tell_first(hall);\n    {FREED}    if (!guarded) return;\n"),
     # Who goes with a seat tells the next when it frees that seat. Who goes without one has looked at all seats, and was told of those that were freed since.
     "who goes from the door tells of no seat": (GOES, GOES.replace("(is_told(my) || has_free_seat(hall))", "is_told(my)")),
     # Of what it was told, a seat is free, or its new thread tells the next when it leaves.

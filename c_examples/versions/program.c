@@ -34,6 +34,8 @@ int main(void) {
 #ifdef CALLS_OF_1_8
     qolb_notify_done();
     if (qolb_notify_fd(&node, 0) != QOLB_MISUSE || qolb_notify_off(&node) != QOLB_DONE || qolb_version() < 10800) return 12;
+    static qolb_task task = QOLB_TASK_INIT;
+    if (qolb_task_poll(&task) != QOLB_MISUSE || qolb_task_leave(&task) != QOLB_MISUSE || qolb_task_cancel(&task) != QOLB_DONE) return 13;
 #endif
     if (qolb_deqolb(&node) != QOLB_DONE || qolb_close(&node) != QOLB_DONE) return 4;
     puts("ends");

@@ -11,8 +11,8 @@ struct clock {
 };
 
 /* What these threads do at the same time, each by its number, over a lock of this kind with these seats and bursts, which is opened at its first use or before;
- * or with a node each of a line of this kind, all of whose places share a bell or none. */
-enum { AT_FIRST_USE, BEFORE, WITH_NODES, AT_ONE_BELL };
+ * or with a node each of a line of this kind. The places of a line share one bell or none. */
+enum { AT_FIRST_USE, BEFORE, BEFORE_AT_ONE_BELL, WITH_NODES, AT_ONE_BELL };
 struct scene {
     const char *name;
     void (*does)(int self);

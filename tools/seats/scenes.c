@@ -6,41 +6,51 @@
 
 static struct { qolb_lock lock; qolb_cond cond; struct { _Alignas(QOLB_NODE_ALIGN) qolb_node node; } of[THREADS]; int turns, inside, users, has; atomic_int over;
     /* Of each task: whether its call was made, and how often since it wanted one. */
-    struct { atomic_uint word; int calls; } told[THREADS]; atomic_uint mutex; int depth; } it;
+    struct { atomic_uint word; int calls; } told[THREADS + 1]; atomic_uint mutex; int depth;
+    qolb_task task[THREADS + 1]; } it;
 
 BY_THREAD struct room qolb_room_;
 unsigned model_bells;
 
 /* Of each thread that waits in the queue, and whom the lock knows: since which time; how many turns it has seen of threads whose calls began later, and how many
- * threads go that were in their calls then. And since when a thread is in its call. The hooks are put into the library's files (../seats.py). */
-static struct { int in_call, waits, passed, gone; long began, since; } order[THREADS];
+ * threads go that were in their calls then. And since when a thread is in its call. A task counts as the thread that makes its calls; a thread may make those of
+ * a second one. The hooks are put into the library's files (../seats.py). */
+static struct { int in_call, waits, passed, gone, is_task; long began, since; } order[THREADS + 1];
+static int for_second[THREADS];
 static long time_of_order;
 #define UNSEEN __attribute__((no_sanitize("thread")))
 void hook_waits(void);
 void hook_ends(void);
+void hook_task_waits(void);
 
-UNSEEN static int who(void) { return (int)(qolb_own_.number / NUMBER % ((uint64_t)1 << SYSTEM_BITS)) - 100; }
+UNSEEN static int who(void) {
+    int me = (int)(own_number() / NUMBER % ((uint64_t)1 << SYSTEM_BITS)) - 100;
+    return for_second[me] ? THREADS : me;
+}
+UNSEEN static void is_second(int self, int so) { for_second[self] = so; }
 UNSEEN static void begins_call(void) {
-    own_number();
-    order[who()].in_call = 1, order[who()].waits = 0, order[who()].began = ++time_of_order;
+    int me = who();
+    order[me].in_call = 1, order[me].waits = order[me].is_task = 0, order[me].began = ++time_of_order;
 }
 UNSEEN void hook_waits(void) {
     int me = who();
     if (order[me].in_call) order[me].waits = 1, order[me].since = ++time_of_order, order[me].passed = order[me].gone = 0;
 }
+UNSEEN void hook_task_waits(void) { hook_waits(), order[who()].is_task = 1; }
 UNSEEN void hook_ends(void) { order[who()].waits = 0; }
 UNSEEN static void ends_call(void) {
     int me = who();
-    for (int k = 0; k < THREADS; k++) order[k].gone += order[me].in_call && order[me].began < order[k].since;
+    for (int k = 0; k <= THREADS; k++) order[k].gone += order[me].in_call && order[me].began < order[k].since;
     order[me].in_call = order[me].waits = 0;
 }
 
-/* A burst of B turns has at most B - 1 turns of later calls, which did not wait. One ends when a thread goes that was there before. */
+/* A burst of B turns has at most B - 1 turns of later calls, which did not wait. One ends when a thread goes that was there before. While a task waits there is
+ * none. */
 UNSEEN static void enters_turn(void) {
     int me = who(), burst = (int)(it.lock.seats / BURST), later = burst ? burst - 1 : 0;
-    for (int k = 0; k < THREADS; k++) {
+    for (int k = 0; k <= THREADS; k++) {
         if (!order[k].waits || !order[me].in_call || order[me].began < order[k].since) continue;
-        must(++order[k].passed <= (order[k].gone + 1) * later, "a thread that waits is overtaken too often");
+        must(++order[k].passed <= (order[k].gone + 1) * (order[k].is_task ? 0 : later), "a thread that waits is overtaken too often");
         must(!order[me].waits, "a thread that waits is overtaken by one behind it");
     }
     ends_call();
@@ -490,6 +500,222 @@ static void closes_with_a_wish(int self) {
     it.told[self].calls = 0;
 }
 
+/* ---- Tasks at a lock ---- */
+
+static uint32_t task_asks(int k) {
+    atomic_store(&it.told[k].word, 0);
+    begins_call();
+    uint32_t got = qolb_task_enter(&it.task[k], &it.lock, tells, (void *)(intptr_t)k);
+    if (got == QOLB_CLOSED) ends_call();
+    return got;
+}
+
+static void task_gives_up(int k) {
+    hook_ends();
+    uint32_t got = qolb_task_cancel(&it.task[k]);
+    MUST((got == QOLB_WITHDRAWN || got == QOLB_CLOSED) && it.told[k].calls <= 1);
+    it.told[k].calls = 0;
+    ends_call();
+}
+
+/* The answer of a task that waits. */
+static uint32_t task_waits(int k, uint64_t time) {
+    uint32_t got = QOLB_WAITING;
+    while (got == QOLB_WAITING) {
+        while (!is_told(k, time))
+            if (time != FOR_EVER) return task_gives_up(k), QOLB_LATE;
+        atomic_store(&it.told[k].word, 0);
+        got = qolb_task_poll(&it.task[k]);
+    }
+    MUST(it.told[k].calls-- == 1);
+    if (got != QOLB_GRANTED) ends_call();
+    return got;
+}
+
+static uint32_t task_enters(int k, uint64_t time) {
+    uint32_t got = task_asks(k);
+    return got == QOLB_WAITING ? task_waits(k, time) : got;
+}
+
+static void task_turn(int k) {
+    MUST(qolb_lock_leave(&it.lock) == QOLB_MISUSE && qolb_task_cancel(&it.task[k]) == QOLB_MISUSE && qolb_lock_holder(&it.lock) == UINT64_MAX);
+    turn();
+    MUST(qolb_task_leave(&it.task[k]) == QOLB_DONE);
+}
+
+static void by_task(int self) {
+    MUST(task_enters(self, FOR_EVER) == QOLB_GRANTED);
+    task_turn(self);
+}
+
+static void by_task_twice(int self) { by_task(self), by_task(self); }
+
+static void by_task_or_gives_up(int self) {
+    if (task_enters(self, MS) == QOLB_GRANTED) task_turn(self);
+}
+
+static void one_task_gives_up(int self) { self == 1 ? by_task_or_gives_up(self) : by_task(self); }
+
+static void a_task_beside_threads(int self) { self == 1 ? by_task(self) : enters(self); }
+
+static void tasks_beside_a_thread(int self) { self ? by_task(self) : enters(self); }
+
+static void a_task_beside_threads_twice(int self) { a_task_beside_threads(self), a_task_beside_threads(self); }
+
+static void tasks_beside_a_thread_twice(int self) { tasks_beside_a_thread(self), tasks_beside_a_thread(self); }
+
+/* The first lets the others go on in its turn. */
+static void a_task_beside_one_that_yields(int self) { self == 0 ? enters_with(3) : a_task_beside_threads(self); }
+
+static void tasks_beside_one_that_yields(int self) { self == 0 ? enters_with(3) : by_task(self); }
+
+static void a_task_beside_one_that_stays(int self) { self == 1 ? by_task(self) : one_stays(self); }
+
+static void a_task_gives_up_between_threads(int self) { self == 1 ? by_task_or_gives_up(self) : enters(self); }
+
+static void a_task_gives_up_beside_one_that_yields(int self) { self == 0 ? enters_with(3) : a_task_gives_up_between_threads(self); }
+
+static void a_task_gives_up_before_one_beside_one_that_yields(int self) { self == 0 ? enters_with(3) : self == 1 ? by_task_or_gives_up(self) : by_task(self); }
+
+static void a_task_gives_up_and_asks_again(int self) {
+    if (self == 1) by_task_or_gives_up(self);
+    a_task_beside_threads(self);
+}
+
+static void a_thread_is_late_between_tasks(int self) { self == 1 ? is_late(self) : by_task(self); }
+
+static void a_thread_is_late_before_a_task(int self) { self == 2 ? by_task(self) : self == 1 ? is_late(self) : enters_with(3); }
+
+static void both_give_up(int self) { self == 0 ? enters(self) : self == 1 ? by_task_or_gives_up(self) : is_late(self); }
+
+static void one_tries_beside_a_task(int self) { self == 2 ? by_task(self) : tries(self); }
+
+/* Thread 0 has two tasks. */
+static void second_task(int self, uint32_t got, int gives_up) {
+    is_second(self, 1);
+    if (got == QOLB_WAITING && gives_up) {
+        task_gives_up(THREADS);
+    } else {
+        MUST(got == QOLB_GRANTED || task_waits(THREADS, FOR_EVER) == QOLB_GRANTED);
+        task_turn(THREADS);
+    }
+    is_second(self, 0);
+}
+
+static void two_tasks(int self, int first_gives_up, int second_gives_up) {
+    if (self) return enters(self);
+    uint32_t first = task_asks(0);
+    if (first == QOLB_GRANTED) task_turn(0);
+    is_second(self, 1);
+    uint32_t second = task_asks(THREADS);
+    is_second(self, 0);
+    if (second == QOLB_GRANTED) second_task(self, second, 0);
+    if (first == QOLB_WAITING && first_gives_up) task_gives_up(0);
+    else if (first == QOLB_WAITING) MUST(task_waits(0, FOR_EVER) == QOLB_GRANTED), task_turn(0);
+    if (second == QOLB_WAITING) second_task(self, second, second_gives_up);
+}
+
+static void two_tasks_of_one(int self) { two_tasks(self, 0, 0); }
+static void first_of_two_gives_up(int self) { two_tasks(self, 1, 0); }
+static void second_of_two_gives_up(int self) { two_tasks(self, 0, 1); }
+static void both_of_two_give_up(int self) { two_tasks(self, 1, 1); }
+
+static void task_until_shut(int self, int shuts) {
+    uint32_t got = task_enters(self, FOR_EVER);
+    if (got == QOLB_CLOSED) return;
+    MUST(got == QOLB_GRANTED);
+    turn();
+    MUST((shuts ? qolb_task_shut : qolb_task_leave)(&it.task[self]) == QOLB_DONE);
+}
+
+static void tasks_until_shut(int self) { self == 0 ? shuts(0) : task_until_shut(self, 0); }
+static void a_task_until_shut(int self) { self == 2 ? task_until_shut(self, 0) : shuts(self); }
+static void a_task_shuts(int self) { self == 1 ? task_until_shut(self, 1) : shuts(self + 1); }
+
+static void last_task_frees(int self) {
+    MUST(task_enters(self, FOR_EVER) == QOLB_GRANTED);
+    turn();
+    int last = --it.users == 0;
+    MUST(qolb_task_leave(&it.task[self]) == QOLB_DONE);
+    if (last) MUST(qolb_lock_close(&it.lock) == QOLB_DONE);
+}
+
+static void last_of_both_frees(int self) { self == 1 ? last_task_frees(self) : last_frees(self); }
+
+/* The task polls all the time, called or not. */
+static void last_that_polls_frees(int self) {
+    if (self != 1) return last_frees(self);
+    uint32_t got = task_asks(1);
+    while (got == QOLB_WAITING) {
+        sched_yield();
+        got = qolb_task_poll(&it.task[1]);
+    }
+    MUST(got == QOLB_GRANTED && it.told[1].calls <= 1);
+    it.told[1].calls = 0;
+    turn();
+    int last = --it.users == 0;
+    MUST(qolb_task_leave(&it.task[1]) == QOLB_DONE);
+    if (last) MUST(qolb_lock_close(&it.lock) == QOLB_DONE);
+}
+
+/* Who is in tries to close the lock while a thread and a task wait, or are about to. */
+static void closes_while_both_wait(int self) {
+    if (self == 1) return by_task(self);
+    begins_call();
+    MUST(qolb_lock_enter(&it.lock) == QOLB_GRANTED);
+    if (self == 0) MUST(qolb_lock_close(&it.lock) == QOLB_MISUSE);
+    turn();
+    leave();
+}
+
+/* A task signals to a thread that waits at a condition. */
+static void a_task_signals(int self) {
+    if (self == 2) return enters(self);
+    if (self == 0) {
+        MUST(task_enters(self, FOR_EVER) == QOLB_GRANTED);
+        it.has = 1;
+        qolb_cond_signal(&it.cond);
+        task_turn(self);
+        return;
+    }
+    MUST(qolb_lock_enter(&it.lock) == QOLB_GRANTED);
+    while (!it.has) MUST(qolb_cond_wait(&it.cond, &it.lock) == QOLB_GRANTED);
+    turn();
+    leave();
+}
+
+/* The call has the task's turn, in the thread that let it through, and may ask again, once. The task's thread does nothing more with it. */
+static void has_task_turn(void *task) {
+    int k = (int)(intptr_t)task;
+    uint32_t got = qolb_task_poll(&it.task[k]);
+    if (got == QOLB_WAITING) return;
+    qolb_notify_done();
+    do {
+        MUST(got == QOLB_GRANTED && it.inside++ == 0);
+        it.turns++;
+        MUST(--it.inside == 0);
+        MUST(qolb_task_leave(&it.task[k]) == QOLB_DONE);
+        got = it.has && ++it.told[k].calls == 1 ? qolb_task_enter(&it.task[k], &it.lock, has_task_turn, task) : QOLB_BUSY;
+    } while (got == QOLB_GRANTED);
+    if (got == QOLB_WAITING) return;
+    it.told[k].calls = 0;
+    atomic_store(&it.told[k].word, 1);
+    qolb_wake_at_(&it.told[k].word, 1);
+}
+
+static void task_turn_in_call(int self, int asks_again) {
+    if (self == 0) return enters(self);
+    uint32_t got = qolb_task_enter(&it.task[self], &it.lock, has_task_turn, (void *)(intptr_t)self);
+    if (got == QOLB_GRANTED) {
+        task_turn(self);
+        if (asks_again) by_task(self);
+    }
+    while (got == QOLB_WAITING && !is_told(self, FOR_EVER)) {}
+}
+
+static void has_task_turn_in_call(int self) { task_turn_in_call(self, 0); }
+static void task_asks_again_in_call(int self) { task_turn_in_call(self, 1); }
+
 const struct scene scenes[] = {
     {"each enters, at the first use", enters, QOLB_TICKET, 3, 2, AT_FIRST_USE, 0},
     {"three enter", enters, QOLB_TICKET, 3, 3, BEFORE, 0},
@@ -565,6 +791,8 @@ const struct scene scenes[] = {
     {"nodes: one withdraws", one_withdraws, QOLB_TICKET, 3, 3, WITH_NODES, 0},
     {"nodes: one shuts", one_shuts, QOLB_TICKET, 3, 3, WITH_NODES, 0},
     {"nodes: one shuts, and one looks on", one_shuts_and_one_looks_on, QOLB_TICKET, 3, 3, WITH_NODES, 0},
+    {"nodes: three acquire at one bell", acquires_once, QOLB_TICKET, 3, 3, AT_ONE_BELL, 0},
+    {"nodes: two acquire twice at one bell", acquires_twice, QOLB_TICKET, 2, 2, AT_ONE_BELL, 0},
     {"notices: three", notified, QOLB_TICKET, 3, 3, WITH_NODES, 0},
     {"notices: three, who link", notified, QOLB_LINK, 3, 3, WITH_NODES, 0},
     {"notices: three at one bell", notified, QOLB_TICKET, 3, 3, AT_ONE_BELL, 0},
@@ -580,6 +808,83 @@ const struct scene scenes[] = {
     {"notices: calls have turns, at one bell", has_turn_in_call, QOLB_TICKET, 3, 3, AT_ONE_BELL, 0},
     {"notices: one takes back under a lock", takes_back_under_a_lock, QOLB_TICKET, 3, 3, WITH_NODES, 0},
     {"notices: one closes with a wish", closes_with_a_wish, QOLB_TICKET, 3, 3, WITH_NODES, 0},
+    {"tasks: three, one seat", by_task, QOLB_TICKET, 1, 3, BEFORE, 0},
+    {"tasks: three, two seats", by_task, QOLB_TICKET, 2, 3, BEFORE, 0},
+    {"tasks: three, who link", by_task, QOLB_LINK, 2, 3, BEFORE, 0},
+    {"tasks: three, at the first use", by_task, QOLB_TICKET, 3, 3, AT_FIRST_USE, 0},
+    {"tasks: two twice, one seat", by_task_twice, QOLB_TICKET, 1, 2, BEFORE, 0},
+    {"tasks: two twice, two seats", by_task_twice, QOLB_TICKET, 2, 2, BEFORE, 0},
+    {"tasks: one gives up, one seat", one_task_gives_up, QOLB_TICKET, 1, 3, BEFORE, 0},
+    {"tasks: one gives up, two seats", one_task_gives_up, QOLB_TICKET, 2, 3, BEFORE, 0},
+    {"tasks: one and two threads, one seat", a_task_beside_threads, QOLB_TICKET, 1, 3, BEFORE, 0},
+    {"tasks: two and a thread, one seat", tasks_beside_a_thread, QOLB_TICKET, 1, 3, BEFORE, 0},
+    {"tasks: one and two threads twice, one seat", a_task_beside_threads_twice, QOLB_TICKET, 1, 3, BEFORE, 0},
+    {"tasks: two and a thread twice, one seat", tasks_beside_a_thread_twice, QOLB_TICKET, 1, 3, BEFORE, 0},
+    {"tasks: one beside one that yields, one seat", a_task_beside_one_that_yields, QOLB_TICKET, 1, 3, BEFORE, 0},
+    {"tasks: two beside one that yields, one seat", tasks_beside_one_that_yields, QOLB_TICKET, 1, 3, BEFORE, 0},
+    {"tasks: one beside one that stays, one seat", a_task_beside_one_that_stays, QOLB_TICKET, 1, 3, BEFORE, 0},
+    {"tasks: one gives up between threads, one seat", a_task_gives_up_between_threads, QOLB_TICKET, 1, 3, BEFORE, 0},
+    {"tasks: a thread is late between two, one seat", a_thread_is_late_between_tasks, QOLB_TICKET, 1, 3, BEFORE, 0},
+    {"tasks: a thread is late before one, one seat", a_thread_is_late_before_a_task, QOLB_TICKET, 1, 3, BEFORE, 0},
+    {"tasks: both give up, one seat", both_give_up, QOLB_TICKET, 1, 3, BEFORE, 0},
+    {"tasks: two of one thread, one seat", two_tasks_of_one, QOLB_TICKET, 1, 3, BEFORE, 0},
+    {"tasks: the first of two gives up, one seat", first_of_two_gives_up, QOLB_TICKET, 1, 3, BEFORE, 0},
+    {"tasks: two until one shuts, one seat", tasks_until_shut, QOLB_TICKET, 1, 3, BEFORE, 0},
+    {"tasks: one until one shuts, one seat", a_task_until_shut, QOLB_TICKET, 1, 3, BEFORE, 0},
+    {"tasks: one shuts, one seat", a_task_shuts, QOLB_TICKET, 1, 3, BEFORE, 0},
+    {"tasks: the last frees, one seat", last_task_frees, QOLB_TICKET, 1, 3, BEFORE, 0},
+    {"tasks: the last of both frees, one seat", last_of_both_frees, QOLB_TICKET, 1, 3, BEFORE, 0},
+    {"tasks: the last frees, who polls, one seat", last_that_polls_frees, QOLB_TICKET, 1, 3, BEFORE, 0},
+    {"tasks: one closes while both wait, one seat", closes_while_both_wait, QOLB_TICKET, 1, 3, BEFORE, 0},
+    {"tasks: calls have turns, one seat", has_task_turn_in_call, QOLB_TICKET, 1, 3, BEFORE, 0},
+    {"tasks: one and two threads, two seats", a_task_beside_threads, QOLB_TICKET, 2, 3, BEFORE, 0},
+    {"tasks: two and a thread, two seats", tasks_beside_a_thread, QOLB_TICKET, 2, 3, BEFORE, 0},
+    {"tasks: one and two threads twice, two seats", a_task_beside_threads_twice, QOLB_TICKET, 2, 3, BEFORE, 0},
+    {"tasks: two and a thread twice, two seats", tasks_beside_a_thread_twice, QOLB_TICKET, 2, 3, BEFORE, 0},
+    {"tasks: one beside one that yields, two seats", a_task_beside_one_that_yields, QOLB_TICKET, 2, 3, BEFORE, 0},
+    {"tasks: two beside one that yields, two seats", tasks_beside_one_that_yields, QOLB_TICKET, 2, 3, BEFORE, 0},
+    {"tasks: one beside one that stays, two seats", a_task_beside_one_that_stays, QOLB_TICKET, 2, 3, BEFORE, 0},
+    {"tasks: one gives up between threads, two seats", a_task_gives_up_between_threads, QOLB_TICKET, 2, 3, BEFORE, 0},
+    {"tasks: a thread is late between two, two seats", a_thread_is_late_between_tasks, QOLB_TICKET, 2, 3, BEFORE, 0},
+    {"tasks: a thread is late before one, two seats", a_thread_is_late_before_a_task, QOLB_TICKET, 2, 3, BEFORE, 0},
+    {"tasks: both give up, two seats", both_give_up, QOLB_TICKET, 2, 3, BEFORE, 0},
+    {"tasks: two of one thread, two seats", two_tasks_of_one, QOLB_TICKET, 2, 3, BEFORE, 0},
+    {"tasks: the first of two gives up, two seats", first_of_two_gives_up, QOLB_TICKET, 2, 3, BEFORE, 0},
+    {"tasks: two until one shuts, two seats", tasks_until_shut, QOLB_TICKET, 2, 3, BEFORE, 0},
+    {"tasks: one until one shuts, two seats", a_task_until_shut, QOLB_TICKET, 2, 3, BEFORE, 0},
+    {"tasks: one shuts, two seats", a_task_shuts, QOLB_TICKET, 2, 3, BEFORE, 0},
+    {"tasks: the last frees, two seats", last_task_frees, QOLB_TICKET, 2, 3, BEFORE, 0},
+    {"tasks: the last of both frees, two seats", last_of_both_frees, QOLB_TICKET, 2, 3, BEFORE, 0},
+    {"tasks: the last frees, who polls, two seats", last_that_polls_frees, QOLB_TICKET, 2, 3, BEFORE, 0},
+    {"tasks: one closes while both wait, two seats", closes_while_both_wait, QOLB_TICKET, 2, 3, BEFORE, 0},
+    {"tasks: calls have turns, two seats", has_task_turn_in_call, QOLB_TICKET, 2, 3, BEFORE, 0},
+    {"tasks: one and two threads, who link", a_task_beside_threads, QOLB_LINK, 2, 3, BEFORE, 0},
+    {"tasks: one gives up beside one that yields", a_task_gives_up_beside_one_that_yields, QOLB_TICKET, 1, 3, BEFORE, 0},
+    {"tasks: one gives up before another", a_task_gives_up_before_one_beside_one_that_yields, QOLB_TICKET, 1, 3, BEFORE, 0},
+    {"tasks: one gives up and asks again", a_task_gives_up_and_asks_again, QOLB_TICKET, 1, 3, BEFORE, 0},
+    {"tasks: the second of two gives up", second_of_two_gives_up, QOLB_TICKET, 1, 3, BEFORE, 0},
+    {"tasks: both of two give up", both_of_two_give_up, QOLB_TICKET, 1, 3, BEFORE, 0},
+    {"tasks: three, three seats at one bell", by_task, QOLB_TICKET, 3, 3, BEFORE_AT_ONE_BELL, 0},
+    {"tasks: one and two threads, three seats at one bell", a_task_beside_threads, QOLB_TICKET, 3, 3, BEFORE_AT_ONE_BELL, 0},
+    {"tasks: calls ask again, one seat", task_asks_again_in_call, QOLB_TICKET, 1, 3, BEFORE, 0},
+    {"tasks: calls ask again, two seats", task_asks_again_in_call, QOLB_TICKET, 2, 3, BEFORE, 0},
+    {"tasks: one tries beside one", one_tries_beside_a_task, QOLB_TICKET, 2, 3, BEFORE, 0},
+    {"tasks: one signals", a_task_signals, QOLB_TICKET, 2, 3, BEFORE, 0},
+    {"tasks, bursts: three", by_task, QOLB_TICKET, 2, 3, BEFORE, 2},
+    {"tasks, bursts: one and two threads", a_task_beside_threads, QOLB_TICKET, 2, 3, BEFORE, 2},
+    {"tasks, bursts: one and two threads twice", a_task_beside_threads_twice, QOLB_TICKET, 2, 3, BEFORE, 2},
+    {"tasks, bursts: two and a thread twice", tasks_beside_a_thread_twice, QOLB_TICKET, 2, 3, BEFORE, 2},
+    {"tasks, bursts: one beside one that stays", a_task_beside_one_that_stays, QOLB_TICKET, 2, 3, BEFORE, 2},
+    {"tasks, bursts: two of one thread", two_tasks_of_one, QOLB_TICKET, 2, 3, BEFORE, 2},
+    {"tasks, bursts: the first of two gives up", first_of_two_gives_up, QOLB_TICKET, 2, 3, BEFORE, 2},
+    {"tasks, bursts: one gives up and asks again", a_task_gives_up_and_asks_again, QOLB_TICKET, 2, 3, BEFORE, 2},
+    {"tasks, bursts: both give up", both_give_up, QOLB_TICKET, 2, 3, BEFORE, 2},
+    {"tasks, bursts: a thread is late between two", a_thread_is_late_between_tasks, QOLB_TICKET, 2, 3, BEFORE, 2},
+    {"tasks, bursts: one tries", one_tries_beside_a_task, QOLB_TICKET, 2, 3, BEFORE, 2},
+    {"tasks, bursts: one until one shuts", a_task_until_shut, QOLB_TICKET, 2, 3, BEFORE, 2},
+    {"tasks, bursts: the last of both frees", last_of_both_frees, QOLB_TICKET, 2, 3, BEFORE, 2},
+    {"tasks, bursts: one closes while both wait", closes_while_both_wait, QOLB_TICKET, 2, 3, BEFORE, 2},
+    {"tasks, bursts: one signals", a_task_signals, QOLB_TICKET, 3, 3, BEFORE, 2},
     {NULL, NULL, 0, 0, 0, 0, 0},
 };
 
@@ -587,18 +892,18 @@ const struct scene scenes[] = {
 void set_up(const struct scene *scene) {
     static const qolb_bytes zeros;
     qolb_node nodes[THREADS] = {{0}};
-    memset(qolb_bells_, 0, sizeof qolb_bells_), memset(&it, 0, sizeof it), memset(order, 0, sizeof order);
+    memset(qolb_bells_, 0, sizeof qolb_bells_), memset(&it, 0, sizeof it), memset(order, 0, sizeof order), memset(for_second, 0, sizeof for_second);
     qolb_own_ = (struct own){0, 0, 0}, time_of_order = 0;
-    model_bells = scene->opens == AT_ONE_BELL ? 1 : BELLS;
-    it.lock.kind = scene->kind, it.lock.seats = scene->seats + BURST * scene->burst, it.users = scene->threads;
-    if (scene->opens == BEFORE) MUST(qolb_lock_open(&it.lock, scene->kind, 0, it.lock.seats, &zeros) == QOLB_DONE);
+    model_bells = scene->opens == AT_ONE_BELL || scene->opens == BEFORE_AT_ONE_BELL ? 1 : BELLS;
+    it.lock.kind = scene->kind, it.lock.seats = scene->seats + BURST * scene->burst, it.users = scene->threads, it.has = scene->does == task_asks_again_in_call;
+    if (scene->opens == BEFORE || scene->opens == BEFORE_AT_ONE_BELL) MUST(qolb_lock_open(&it.lock, scene->kind, 0, it.lock.seats, &zeros) == QOLB_DONE);
     if (scene->opens < WITH_NODES) return;
     MUST(qolb_open(scene->kind, 0, (uint64_t)scene->threads, QOLB_NO_LEASE, &zeros, nodes, THREADS) == QOLB_DONE);
     for (int k = 0; k < scene->threads; k++) it.of[k].node = nodes[k];
 }
 
 static void check_hall(struct hall *hall) {
-    MUST(!hall->waits && !hall->first && !hall->last && !hall->at_door && !hall->guests && !hall->sleepers && !hall->guard);
+    MUST(!hall->waits && !hall->first && !hall->last && !hall->at_door && !hall->guests && !hall->tasks && !hall->sleepers && !hall->guard);
     for (unsigned k = 0; k < hall->seats; k++) MUST(hall->seat[k]->holder == 0 && (hall->gate & OPEN || hall->seat[k]->state == FREE));
     MUST(hall->gate == QUEUED_UP || hall->gate == OPEN || (hall->burst && (hall->gate - OPEN) % NUMBER <= WAITED && !in_of(hall->gate)));
     MUST(!hall->keepers);
@@ -615,11 +920,15 @@ UNSEEN static void check_bells(void) {
 void check_end(const struct scene *scene) {
     static const struct { void (*does)(int); int turns; } each[] = {
         {enters, 1}, {acquires_once, 1}, {enters_twice, 2}, {acquires_twice, 2}, {notified, 1}, {notified_twice, 2}, {one_notified_beside_threads, 1},
-        {wants_two_calls, 1}, {has_turn_in_call, 1}};
+        {wants_two_calls, 1}, {has_turn_in_call, 1}, {by_task, 1}, {by_task_twice, 2}, {a_task_beside_threads, 1}, {tasks_beside_a_thread, 1},
+        {a_task_beside_threads_twice, 2}, {tasks_beside_a_thread_twice, 2}, {a_task_beside_one_that_yields, 1}, {tasks_beside_one_that_yields, 1},
+        {closes_while_both_wait, 1}, {a_task_signals, 1}, {has_task_turn_in_call, 1}};
     for (size_t k = 0; k < sizeof each / sizeof each[0]; k++) MUST(scene->does != each[k].does || it.turns == each[k].turns * scene->threads);
-    for (int k = 0; k < THREADS; k++) MUST(it.told[k].calls == 0 || scene->does == takes_back_under_a_lock);
+    for (int k = 0; k <= THREADS; k++) MUST(qolb_task_cancel(&it.task[k]) == QOLB_DONE && !qolb_task_turn(&it.task[k]));
+    for (int k = 0; k <= THREADS; k++) MUST(it.told[k].calls == 0 || scene->does == takes_back_under_a_lock);
     check_bells();
     MUST(scene->does != one_stays || it.turns == 6);
+    MUST(scene->does != task_asks_again_in_call || it.turns == 5);
     if (it.lock.own) check_hall(it.lock.own);
     MUST(qolb_lock_holder(&it.lock) == 0 && it.inside == 0 && it.cond.own == NULL);
     MUST(qolb_lock_close(&it.lock) == QOLB_DONE && it.lock.own == NULL);
