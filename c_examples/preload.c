@@ -107,6 +107,9 @@ void qolb_begin_(void) {
     choose_report(getenv("QOLB_REPORT"));
 }
 
+/* At the program's start, so that wrong settings end no program in its midst. */
+__attribute__((constructor)) static void begin(void) { qolb_process_(); }
+
 /* ---- Counters ---- */
 
 static atomic_ullong mutexes, grants, late, not_free, violations;

@@ -124,7 +124,7 @@ static struct entry *root[TABLES][STRIPES];
 
 static uint64_t hash_of(const void *address) { return (uint64_t)(uintptr_t)address * 0x9e3779b97f4a7c15; }
 
-static size_t stripe_of(const void *address) { return hash_of(address) >> 8 & (STRIPES - 1); }
+static size_t stripe_of(const void *address) { return hash_of(address) >> 32 & (STRIPES - 1); }
 
 atomic_uint *qolb_guard_table_(int table, const void *address) {
     qolb_process_();
