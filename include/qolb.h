@@ -544,8 +544,8 @@ uint32_t qolb_cond_wait_within(qolb_cond *cond, qolb_lock *lock, uint64_t nanose
 uint32_t qolb_cond_signal(qolb_cond *cond);
 uint32_t qolb_cond_broadcast(qolb_cond *cond);
 
-/* A task that enters locks: nobody waits in it. It starts as QOLB_TASK_INIT. It stays where it is from qolb_task_enter until its turn is over or it has given up.
- * Only these calls read or change its contents. */
+/* A task that enters locks: nobody waits in it. It starts as QOLB_TASK_INIT. It stays where it is while it waits, and while its node
+ * is lent (qolb_task_turn). Only these calls read or change its contents. */
 typedef struct qolb_task {
     void *own[16];
 } qolb_task;

@@ -21,6 +21,12 @@
 //! TABLE.lock()?.insert(key, value);                // first come, first served
 //! ```
 //!
+//! # Tasks
+//!
+//! A task of an executor waits without a thread: `node.turn().await` gives a node's turn, `mutex.lock_async().await` and `lock.lock_async().await` one of a
+//! `Mutex` or a `Lock`. These futures need no particular executor. They ask when they are first polled; tasks and threads stand in one queue, first come, first
+//! served. A future that is dropped withdraws its request. The guards of `lock_async` may go from thread to thread, if the value may.
+//!
 //! # A panic while a line is held
 //!
 //! While the thread unwinds, the guard is dropped, which releases the line; if the guard was leaked, the node releases it when the node is dropped.
@@ -36,11 +42,16 @@
 use std::cell::UnsafeCell;
 use std::ffi::c_void;
 use std::fmt;
-use std::marker::PhantomData;
+use std::future::Future;
+use std::marker::{PhantomData, PhantomPinned};
 use std::mem::MaybeUninit;
 use std::ops::{Deref, DerefMut};
+use std::os::fd::{AsRawFd, BorrowedFd};
 use std::panic::{RefUnwindSafe, UnwindSafe};
+use std::pin::Pin;
 use std::ptr::{NonNull, null_mut};
+use std::sync::PoisonError;
+use std::task::{Context, Poll, Waker};
 use std::time::{Duration, Instant};
 
 /// The kind of a line. Take `Kind::DEFAULT`, a ticket line, unless memory is short.
@@ -202,6 +213,16 @@ unsafe extern "C" {
     fn qolb_label(node: &mut Handle) -> u64;
     fn qolb_state(node: &mut Handle) -> u32;
     safe fn qolb_version() -> u32;
+    fn qolb_notify(node: &mut Handle, call: unsafe extern "C" fn(*mut c_void), arg: *mut c_void) -> u32;
+    fn qolb_notify_fd(node: &mut Handle, fd: i32) -> u32;
+    fn qolb_notify_off(node: &mut Handle) -> u32;
+    safe fn qolb_notify_done();
+    fn qolb_task_enter(task: *mut RawTask, lock: *mut RawLock, call: unsafe extern "C" fn(*mut c_void), arg: *mut c_void) -> u32;
+    fn qolb_task_poll(task: *mut RawTask) -> u32;
+    fn qolb_task_cancel(task: *mut RawTask) -> u32;
+    fn qolb_task_leave(task: *mut RawTask) -> u32;
+    fn qolb_task_shut(task: *mut RawTask) -> u32;
+    fn qolb_task_turn(task: *mut RawTask) -> Option<NonNull<Handle>>;
     fn qolb_lock_open(lock: *mut RawLock, kind: u32, label: u64, seats: u64, opening: *const LineBytes) -> u32;
     fn qolb_lock_enter(lock: *mut RawLock) -> u32;
     fn qolb_lock_try(lock: *mut RawLock) -> u32;
@@ -1155,15 +1176,24 @@ impl<T: Copy + Send + 'static> Lock<T> {
     }
 
     fn guard(&self) -> LockGuard<'_, T> {
-        let () = Self::FITS;
-        let mut bytes = LineBytes([MaybeUninit::uninit(); 64]);
-        // SAFETY: the calling thread holds the lock, so there is a turn, and the line has a `T`: an opening or a guard wrote it there.
-        let value = unsafe {
-            let mut turn = qolb_lock_turn(self.raw.0.get()).expect("the thread holds the lock");
-            qolb_read(turn.as_mut(), (&raw mut bytes).cast());
-            bytes.0.as_ptr().cast::<T>().read_unaligned()
-        };
+        // SAFETY: the calling thread holds the lock, so there is a turn.
+        let value = unsafe { value_of(qolb_lock_turn(self.raw.0.get())) };
         LockGuard { lock: self, value, stays: PhantomData }
+    }
+}
+
+/// The value in a line.
+///
+/// # Safety
+///
+/// It is the turn of a `Lock<T>`: an opening or a guard wrote a `T` there.
+unsafe fn value_of<T: Copy + Send + 'static>(turn: Option<NonNull<Handle>>) -> T {
+    let () = Lock::<T>::FITS;
+    let mut bytes = LineBytes([MaybeUninit::uninit(); 64]);
+    let mut turn = turn.expect("the lock is held");
+    unsafe {
+        qolb_read(turn.as_mut(), (&raw mut bytes).cast());
+        bytes.0.as_ptr().cast::<T>().read_unaligned()
     }
 }
 
@@ -1246,6 +1276,320 @@ impl<T: Copy + Send + 'static> Drop for LockGuard<'_, T> {
     fn drop(&mut self) {
         self.write();
         self.lock.raw.leave();
+    }
+}
+
+// ---- Tasks ----
+
+/// The waker of a task that waits. The library's call has a pointer to it, so it does not move.
+#[derive(Default)]
+struct Slot(std::sync::Mutex<Option<Waker>>, PhantomPinned);
+
+impl Slot {
+    fn set(&self, waker: &Waker) {
+        let mut slot = self.0.lock().unwrap_or_else(PoisonError::into_inner);
+        if !slot.as_ref().is_some_and(|it| it.will_wake(waker)) {
+            *slot = Some(waker.clone());
+        }
+    }
+
+    fn arg(&self) -> *mut c_void {
+        (&raw const *self).cast_mut().cast()
+    }
+}
+
+/// Takes the waker out, lets the slot go, and wakes: so the task may be dropped while it is woken, also under a lock that waking takes.
+unsafe extern "C" fn wake(slot: *mut c_void) {
+    // SAFETY: the slot is there until `qolb_notify_off` or `qolb_task_cancel` has returned, which waits for `qolb_notify_done`.
+    let waker = unsafe { &*slot.cast::<Slot>() }.0.lock().unwrap_or_else(PoisonError::into_inner).take();
+    qolb_notify_done();
+    if let Some(waker) = waker {
+        waker.wake();
+    }
+}
+
+impl Node {
+    /// Requests the line when it is first polled, and is ready when the line is granted or closed. Dropped before, it withdraws the request.
+    ///
+    /// While the node is busy from a request that was withdrawn, it wakes its task again and again. So let tasks that give up often use a `Mutex`.
+    pub fn turn(&mut self) -> TurnFuture<'_> {
+        TurnFuture { node: Some(self), waits: false, slot: Slot::default() }
+    }
+
+    /// Has 1 added to an eventfd when the request of this node is at its turn: `Waiting`; else as `poll`. Call `notify_off` before the descriptor is closed.
+    #[must_use]
+    pub fn notify_fd(&mut self, fd: BorrowedFd<'_>) -> Answer {
+        told(unsafe { qolb_notify_fd(self.0.get_mut(), fd.as_raw_fd()) })
+    }
+
+    /// Takes back what `notify_fd` wanted: `Withdrawn`, or `Done` if it was told or wants nothing.
+    pub fn notify_off(&mut self) -> Answer {
+        told(unsafe { qolb_notify_off(self.0.get_mut()) })
+    }
+}
+
+/// A node's way to its turn (`Node::turn`).
+#[must_use = "a future does nothing unless it is awaited"]
+pub struct TurnFuture<'a> {
+    node: Option<&'a mut Node>,
+    waits: bool,
+    slot: Slot,
+}
+
+impl<'a> Future for TurnFuture<'a> {
+    type Output = Result<Guard<'a>, Stopped>;
+
+    fn poll(self: Pin<&mut Self>, context: &mut Context<'_>) -> Poll<Self::Output> {
+        // SAFETY: the slot is not moved.
+        let this = unsafe { self.get_unchecked_mut() };
+        let node = this.node.as_mut().expect("a future that was ready is not polled again");
+        let mut answer = if this.waits { Answer::Queued } else { node.enqolb() };
+        if answer == Answer::Queued {
+            this.waits = true;
+            this.slot.set(context.waker());
+            // SAFETY: the slot stays in its place until this is dropped, and the drop takes the wish back.
+            answer = told(unsafe { qolb_notify(node.0.get_mut(), wake, this.slot.arg()) });
+        }
+        match answer {
+            Answer::Waiting => return Poll::Pending,
+            Answer::Busy => {
+                context.waker().wake_by_ref();
+                return Poll::Pending;
+            }
+            _ => this.waits = false,
+        }
+        let node = this.node.take().expect("it was there");
+        Poll::Ready(if answer == Answer::Granted { Ok(Guard(node)) } else { Err(stopped(answer)) })
+    }
+}
+
+impl Drop for TurnFuture<'_> {
+    fn drop(&mut self) {
+        if let (true, Some(node)) = (self.waits, self.node.as_mut()) {
+            node.notify_off();
+            if node.withdraw() == Answer::Granted {
+                node.deqolb();
+            }
+        }
+    }
+}
+
+#[repr(C)]
+struct RawTask([*mut c_void; 16]);
+
+impl RawTask {
+    const fn new() -> RawTask {
+        RawTask([null_mut(); 16])
+    }
+}
+
+/// A task's way into a lock.
+struct Entering<'a> {
+    raw: &'a RawQolb,
+    task: RawTask,
+    waits: bool,
+    slot: Slot,
+}
+
+impl<'a> Entering<'a> {
+    fn new(raw: &'a RawQolb) -> Entering<'a> {
+        Entering { raw, task: RawTask::new(), waits: false, slot: Slot::default() }
+    }
+
+    /// Ready with the task, which holds the lock then, and may be moved.
+    ///
+    /// # Safety
+    ///
+    /// It is not moved from the first call until it is ready or dropped.
+    unsafe fn poll(&mut self, context: &mut Context<'_>) -> Poll<Result<RawTask, Stopped>> {
+        self.slot.set(context.waker());
+        // SAFETY: task and slot stay in their places while the task waits.
+        let answer = unsafe {
+            match self.waits {
+                true => qolb_task_poll(&raw mut self.task),
+                false => qolb_task_enter(&raw mut self.task, self.raw.0.get(), wake, self.slot.arg()),
+            }
+        };
+        let answer = self.raw.took(answer);
+        self.waits = answer == Answer::Waiting;
+        match answer {
+            Answer::Waiting => Poll::Pending,
+            answer => Poll::Ready(entered(answer).map(|_| std::mem::replace(&mut self.task, RawTask::new()))),
+        }
+    }
+}
+
+impl Drop for Entering<'_> {
+    fn drop(&mut self) {
+        if self.waits {
+            // SAFETY: it waits, and did not move.
+            unsafe { qolb_task_cancel(&raw mut self.task) };
+        }
+    }
+}
+
+/// Leaves, or shuts, for a task that holds the lock.
+fn leave_by(raw: &RawQolb, task: &mut RawTask, shuts: bool) {
+    tsan::release(raw.0.get());
+    // SAFETY: the task holds the lock.
+    unsafe {
+        match shuts {
+            true => qolb_task_shut(task),
+            false => qolb_task_leave(task),
+        }
+    };
+}
+
+impl<T: ?Sized> Mutex<T> {
+    /// Asks when it is first polled, and is ready when the mutex is granted or shut. Dropped before, it gives up.
+    ///
+    /// Any number of tasks and threads have their turns in the order in which they asked. The guard may be dropped by another thread.
+    pub fn lock_async(&self) -> MutexFuture<'_, T> {
+        MutexFuture { mutex: self, entering: Some(Entering::new(&self.raw)) }
+    }
+}
+
+/// A task's way to a turn of a mutex (`Mutex::lock_async`).
+#[must_use = "a future does nothing unless it is awaited"]
+pub struct MutexFuture<'a, T: ?Sized> {
+    mutex: &'a Mutex<T>,
+    entering: Option<Entering<'a>>,
+}
+
+// SAFETY: a task is of no thread, and only `&mut self` uses it. The guard that comes of it has the value.
+unsafe impl<T: ?Sized + Send> Send for MutexFuture<'_, T> {}
+unsafe impl<T: ?Sized + Send> Sync for MutexFuture<'_, T> {}
+
+impl<'a, T: ?Sized> Future for MutexFuture<'a, T> {
+    type Output = Result<MutexTaskGuard<'a, T>, Stopped>;
+
+    fn poll(self: Pin<&mut Self>, context: &mut Context<'_>) -> Poll<Self::Output> {
+        // SAFETY: what enters is not moved before it is ready.
+        let this = unsafe { self.get_unchecked_mut() };
+        let entering = this.entering.as_mut().expect("a future that was ready is not polled again");
+        let Poll::Ready(got) = (unsafe { entering.poll(context) }) else { return Poll::Pending };
+        this.entering = None;
+        Poll::Ready(got.map(|task| MutexTaskGuard { mutex: this.mutex, task }))
+    }
+}
+
+/// A task's turn of a mutex, which ends when it is dropped, by any thread.
+#[must_use]
+pub struct MutexTaskGuard<'a, T: ?Sized> {
+    mutex: &'a Mutex<T>,
+    task: RawTask,
+}
+
+// SAFETY: the turn is of no thread, so it goes to another with the value; a shared guard gives only shared values.
+unsafe impl<T: ?Sized + Send> Send for MutexTaskGuard<'_, T> {}
+unsafe impl<T: ?Sized + Sync> Sync for MutexTaskGuard<'_, T> {}
+
+impl<T: ?Sized> MutexTaskGuard<'_, T> {
+    /// Leaves and closes the mutex: nobody enters later.
+    pub fn shut(mut self) {
+        // The drop that follows finds nothing to leave.
+        leave_by(&self.mutex.raw, &mut self.task, true);
+    }
+}
+
+// SAFETY of both: the task holds the lock.
+impl<T: ?Sized> Deref for MutexTaskGuard<'_, T> {
+    type Target = T;
+    fn deref(&self) -> &T {
+        unsafe { &*self.mutex.value.get() }
+    }
+}
+
+impl<T: ?Sized> DerefMut for MutexTaskGuard<'_, T> {
+    fn deref_mut(&mut self) -> &mut T {
+        unsafe { &mut *self.mutex.value.get() }
+    }
+}
+
+impl<T: ?Sized> Drop for MutexTaskGuard<'_, T> {
+    fn drop(&mut self) {
+        leave_by(&self.mutex.raw, &mut self.task, false);
+    }
+}
+
+impl<T: Copy + Send + 'static> Lock<T> {
+    /// Asks when it is first polled, and is ready when the lock is granted or shut. Dropped before, it gives up. As `Mutex::lock_async`.
+    pub fn lock_async(&self) -> LockFuture<'_, T> {
+        LockFuture { lock: self, entering: Some(Entering::new(&self.raw)) }
+    }
+}
+
+/// A task's way to a turn of a lock (`Lock::lock_async`).
+#[must_use = "a future does nothing unless it is awaited"]
+pub struct LockFuture<'a, T: Copy + Send + 'static> {
+    lock: &'a Lock<T>,
+    entering: Option<Entering<'a>>,
+}
+
+// SAFETY: as of a `MutexFuture`.
+unsafe impl<T: Copy + Send + 'static> Send for LockFuture<'_, T> {}
+unsafe impl<T: Copy + Send + 'static> Sync for LockFuture<'_, T> {}
+
+impl<'a, T: Copy + Send + 'static> Future for LockFuture<'a, T> {
+    type Output = Result<LockTaskGuard<'a, T>, Stopped>;
+
+    fn poll(self: Pin<&mut Self>, context: &mut Context<'_>) -> Poll<Self::Output> {
+        // SAFETY: what enters is not moved before it is ready.
+        let this = unsafe { self.get_unchecked_mut() };
+        let entering = this.entering.as_mut().expect("a future that was ready is not polled again");
+        let Poll::Ready(got) = (unsafe { entering.poll(context) }) else { return Poll::Pending };
+        this.entering = None;
+        Poll::Ready(got.map(|mut task| {
+            // SAFETY: the task holds the lock.
+            let value = unsafe { value_of(qolb_task_turn(&mut task)) };
+            LockTaskGuard { lock: this.lock, value, task }
+        }))
+    }
+}
+
+/// A task's turn of a lock: the value as the last holder left it. When it is dropped, by any thread, the value is written and the lock is left.
+#[must_use]
+pub struct LockTaskGuard<'a, T: Copy + Send + 'static> {
+    lock: &'a Lock<T>,
+    value: T,
+    task: RawTask,
+}
+
+// SAFETY: the turn is of no thread, and the guard has the value; a shared guard gives only shared values.
+unsafe impl<T: Copy + Send + 'static> Send for LockTaskGuard<'_, T> {}
+unsafe impl<T: Copy + Send + Sync + 'static> Sync for LockTaskGuard<'_, T> {}
+
+impl<T: Copy + Send + 'static> LockTaskGuard<'_, T> {
+    /// Writes the value, leaves and closes the lock: nobody enters later.
+    pub fn shut(mut self) {
+        self.end(true);
+    }
+
+    /// Does nothing if the task does not hold the lock any more.
+    fn end(&mut self, shuts: bool) {
+        let bytes = bytes_of(self.value);
+        // SAFETY: there is a turn if the task holds the lock.
+        unsafe { qolb_task_turn(&mut self.task).map(|mut turn| qolb_write(turn.as_mut(), u64::MAX, (&raw const bytes).cast())) };
+        leave_by(&self.lock.raw, &mut self.task, shuts);
+    }
+}
+
+impl<T: Copy + Send + 'static> Deref for LockTaskGuard<'_, T> {
+    type Target = T;
+    fn deref(&self) -> &T {
+        &self.value
+    }
+}
+
+impl<T: Copy + Send + 'static> DerefMut for LockTaskGuard<'_, T> {
+    fn deref_mut(&mut self) -> &mut T {
+        &mut self.value
+    }
+}
+
+impl<T: Copy + Send + 'static> Drop for LockTaskGuard<'_, T> {
+    fn drop(&mut self) {
+        self.end(false);
     }
 }
 

@@ -139,7 +139,6 @@ uint32_t qolb_task_enter(qolb_task *task, qolb_lock *lock, void (*call)(void *),
     me->got = QOLB_WAITING;
     me->notice = (struct notice){.call = call, .arg = arg, .in_line = &hall->sleepers};
     me->at = (struct caller){.is_task = 1};
-    me->lent.own = (void *)((uintptr_t)me | 3);
     return enter(me);
 }
 
@@ -230,7 +229,9 @@ static struct seat *held_seat(const struct task *me) {
 
 qolb_node *qolb_task_turn(qolb_task *task) {
     struct task *me = (struct task *)task;
-    return held_seat(me) ? &me->lent : NULL;
+    if (!held_seat(me)) return NULL;
+    me->lent.own = (void *)((uintptr_t)me | 3);
+    return &me->lent;
 }
 
 qolb_node *qolb_lent_by_task_(void *task) {
