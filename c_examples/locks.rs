@@ -210,9 +210,16 @@ fn conditions() {
         let (_held, told) = changed.wait_for(held, 60_000 * MS).unwrap();
         assert!(told);
     });
+    let enters = std::sync::atomic::AtomicBool::new(false);
     thread::scope(|scope| {
-        let waiter = scope.spawn(|| changed.wait(place.lock().unwrap()).err());
-        thread::sleep(20 * MS);
+        let waiter = scope.spawn(|| {
+            let held = place.lock().unwrap();
+            enters.store(true, std::sync::atomic::Ordering::SeqCst);
+            changed.wait(held).err()
+        });
+        while !enters.load(std::sync::atomic::Ordering::SeqCst) {
+            thread::yield_now();
+        }
         place.lock().unwrap().shut();
         assert_eq!(waiter.join().unwrap(), Some(Stopped::Closed));
     });
