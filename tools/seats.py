@@ -15,8 +15,9 @@ takes one step, or two; that it does so is proved elsewhere. No scene has reques
 that share a bell or a guard.
 
 In no run may a thread sleep without being woken, two threads have the lock or the line at once, two threads call a node or one call it out of its order,
-freed memory be touched, an answer be wrong, or a thread that waits be overtaken by one whose call began later. Each library with one fault must fail in
-some run, or this program does not see what it is for; and after each change that is harmless none may fail. It ends with 1 if this is not so.
+freed memory be touched, an answer be wrong, or a thread that waits be overtaken by one whose call began later; with bursts, by more of them than they allow, or by
+one that waits behind it. Each library with one fault must fail in some run, or this program does not see what it is for; and after each change that is harmless
+none may fail. It ends with 1 if this is not so.
 """
 
 import argparse
@@ -268,7 +269,6 @@ FAULTS |= {
     "bursts: one begins without a word to the door": (AT_THE_DOOR, "        atomic_fetch_or(&hall->gate, WAITED);\n"),
     "bursts: one begins without a look at the door": (AT_THE_DOOR, "        qolb_admit_(hall);\n"),
     "bursts: who opens the gate wakes nobody": ("    if (opened) wake_watcher(hall);\n", ""),
-    "bursts: who opens the gate wakes only where the watcher said so": ("    if (bell) ring(bell);\n", "    if (bell && atomic_load(&hall->gate) & ASLEEP) ring(bell);\n"),
     "bursts: the watcher's bell is read before the gate is opened": (WAKES, WAKES.replace("    int opened", "    struct seat *was = atomic_load(&hall->watcher);\n    struct bell *its = was ? atomic_load(&was->bell) : NULL;\n    int opened").replace("wake_watcher(hall)", "{ if (its) ring(its); }")),
     "bursts: the watcher tells its bell after it has looked at the gate": (SLEEPS, "", MAY_SLEEP, MAY_SLEEP + SLEEPS),
     "bursts: the watcher does not say that it sleeps": (SAYS_SO, "    return (void)asleep, 1;\n"),
@@ -375,6 +375,13 @@ IN_TWO_TURNS = {
     "who goes from the door tells nobody": "one is late beside one that yields",
     "who goes looks for free seats before it is out of the list": "one is late beside one that yields",
     "who sleeps at the door says so by two steps": "one is late beside one that yields",
+    "bursts: the named watcher is not looked at again": "bursts: one is late beside one that yields",
+    "bursts: the named watcher is looked at before": "bursts: one is late beside one that yields",
+    "bursts: one begins without a look at the door": "bursts: one stays",
+    "bursts: the watcher tells its bell after it has looked at the gate": "bursts: one yields",
+    "bursts: the watcher sleeps though it could not say so": "bursts: one yields",
+    "bursts: a busy seat looks taken while it ends one": "bursts: one tries",
+    "bursts: who opens the gate counts itself after that": "bursts: the last frees",
 }
 
 # Changes after which no run may fail.

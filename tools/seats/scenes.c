@@ -83,6 +83,12 @@ static void enters(int self) {
 /* Two let the others go on in their turns: one of them has a seat, and the other may go in by the gate. */
 static void two_yield(int self) { enters_with(self != 1); }
 
+/* One is in by the gate while it lets the other go on. */
+static void one_yields_in_a_burst(int self) {
+    if (self == 0) enters(self);
+    enters_with(self == 0 ? 3 : 0);
+}
+
 /* One enters four times, and the others once. */
 static void one_stays(int self) {
     if (self == 0) enters(self), enters(self), enters(self);
@@ -207,6 +213,20 @@ static void one_closes(int self) {
     leave();
     uint32_t got = qolb_lock_close(&it.lock);
     MUST(got == QOLB_DONE || got == QOLB_MISUSE);
+}
+
+/* One that has the first seat to itself tries to close the lock, while another leaves it and a third waits, whose turn lasts longer. */
+static void one_closes_beside_two(int self) {
+    if (self == 2) {
+        while (qolb_lock_holder(&it.lock) != 101 && !somebody_waits()) sched_yield();
+        MUST(qolb_lock_close(&it.lock) == QOLB_MISUSE);
+        atomic_store(&it.over, 1);
+        return;
+    }
+    while (self == 1 && qolb_lock_holder(&it.lock) != 100) sched_yield();
+    MUST(qolb_lock_enter(&it.lock) == QOLB_GRANTED);
+    while (!atomic_fetch_add(&it.over, 0) && (self == 1 || !somebody_waits())) sched_yield();
+    leave();
 }
 
 /* One enters while it holds the lock, and another leaves for it. */
@@ -767,6 +787,8 @@ const struct scene scenes[] = {
     {"bursts: three with three seats enter twice", enters_twice, QOLB_TICKET, 3, 3, BEFORE, 2},
     {"bursts: two enter thrice", enters_thrice, QOLB_TICKET, 2, 2, BEFORE, 4},
     {"bursts: two stay long", one_stays_long, QOLB_TICKET, 2, 2, BEFORE, 4},
+    {"bursts: one yields", one_yields_in_a_burst, QOLB_TICKET, 2, 2, BEFORE, 4},
+    {"bursts: two of three yield", two_yield, QOLB_TICKET, 2, 3, BEFORE, 2},
     {"bursts: one stays", one_stays, QOLB_TICKET, 2, 3, BEFORE, 2},
     {"bursts: one stays long", one_stays_long, QOLB_TICKET, 3, 3, BEFORE, 4},
     {"bursts: one stays, three in a burst", one_stays, QOLB_TICKET, 3, 3, BEFORE, 3},
@@ -775,9 +797,12 @@ const struct scene scenes[] = {
     {"bursts: one is late and comes again", is_late_and_comes_again, QOLB_TICKET, 2, 2, BEFORE, 2},
     {"bursts: two are late and come again", is_late_and_comes_again, QOLB_TICKET, 3, 3, BEFORE, 2},
     {"bursts: one tries", tries, QOLB_TICKET, 2, 3, BEFORE, 2},
+    {"bursts: one tries beside two", tries, QOLB_TICKET, 3, 3, BEFORE, 2},
+    {"bursts: one is late beside one that yields", one_late_beside_one_that_yields, QOLB_TICKET, 3, 3, BEFORE, 2},
     {"bursts: one shuts", shuts, QOLB_TICKET, 2, 3, BEFORE, 2},
     {"bursts: the last frees", last_frees, QOLB_TICKET, 2, 3, BEFORE, 2},
     {"bursts: one closes", one_closes, QOLB_TICKET, 2, 2, BEFORE, 2},
+    {"bursts: one closes beside two", one_closes_beside_two, QOLB_TICKET, 3, 3, BEFORE, 2},
     {"bursts: two wait at a condition, one not for ever", waits, QOLB_TICKET, 3, 3, BEFORE, 2},
     {"bursts: two wait at a condition until one shuts", waits_until_shut, QOLB_TICKET, 2, 3, BEFORE, 2},
     {"bursts: holds twice", one_holds_twice, QOLB_TICKET, 2, 3, BEFORE, 2},
