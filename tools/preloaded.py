@@ -19,6 +19,7 @@ The table is printed as tab-separated values; with --keep it also goes to bench/
 """
 
 import argparse
+import contextlib
 import dataclasses
 import datetime
 import hashlib
@@ -73,16 +74,16 @@ def ends(words, env, folder, stdin=os.devnull):
     with open(stdin, "rb") as source, open(folder / "out", "wb") as out, open(folder / "err", "wb") as err:
         since, most = time.monotonic(), (0.0, 0)
         process = subprocess.Popen(words, stdin=source, stdout=out, stderr=err, env=env, cwd=folder)
-        while process.returncode is None and time.monotonic() < since + LIMIT[0]:
-            most = max(most, used(process.pid))
-            try:
-                process.wait(0.01)
-            except subprocess.TimeoutExpired:
-                continue
+        try:
+            while process.returncode is None and time.monotonic() < since + LIMIT[0]:
+                most = max(most, used(process.pid))
+                with contextlib.suppress(subprocess.TimeoutExpired):
+                    process.wait(0.01)
+        finally:
+            if process.returncode is None:
+                process.kill()
+                process.wait()
     spent = time.monotonic() - since
-    if process.returncode is None:
-        process.kill()
-        process.wait()
     if process.returncode:
         raise Wrong(f"{' '.join(map(str, words))}: ended with {process.returncode} after {spent:.0f} seconds: {(folder / 'err').read_text()[-500:]}")
     return spent, *most
@@ -206,7 +207,7 @@ def connects(port):
 def clients(client, *arguments):
     """Runs four client processes at a time, numbered from 0, each of which checks what it is told; returns the seconds of all."""
     since = time.monotonic()
-    running = [multiprocessing.Process(target=client, args=(k, *arguments)) for k in range(4)]
+    running = [multiprocessing.Process(target=client, args=(k, *arguments), daemon=True) for k in range(4)]
     for it in running:
         it.start()
     for it in running:
@@ -403,6 +404,7 @@ def lines(asked, folder):
 def main():
     asked = asked_for()
     LIMIT[0] = asked.limit
+    signal.signal(signal.SIGTERM, lambda *_: sys.exit("ended by SIGTERM"))  # so that servers and clients end
     os.environ["PATH"] += ":/usr/sbin"
     subprocess.run(["make", "-s", "-C", ROOT / "c_examples", "build/preload.so"], check=True, stdout=subprocess.DEVNULL)
     load, all_of = os.getloadavg()[0], []
