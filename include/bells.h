@@ -117,6 +117,9 @@ static inline struct bell *bell_of_key(uint64_t key) { return &qolb_bells_[((uin
 /* Puts the notice into the list of the place at which the node waits, and polls: WAITING, and its call will be made; any other answer, and it will not. */
 HIDDEN uint32_t qolb_listen_(struct notice *notice, qolb_node *node);
 
+/* For the sanitizer of threads: what was done until now comes before the call of the notice at this address. */
+HIDDEN void qolb_tell_release_(const void *at);
+
 /* Puts the notice into the list of this key's bell. */
 HIDDEN void qolb_list_(struct notice *notice, uint64_t key);
 

@@ -16,7 +16,7 @@ static void tell_acquire(const void *at) {
     if (__tsan_acquire) __tsan_acquire((void *)(uintptr_t)at);
 }
 
-static void tell_release(const void *at) {
+void qolb_tell_release_(const void *at) {
     if (__tsan_release) __tsan_release((void *)(uintptr_t)at);
 }
 
@@ -87,7 +87,7 @@ uint32_t qolb_listen_(struct notice *notice, qolb_node *node) {
     uint64_t word = qolb_waits_at_proved_(node);
     struct bell *bell = bell_at(node, word);
     notice->key = key_of(node, word);
-    tell_release(notice);
+    qolb_tell_release_(notice);
     take_guard(&bell->guard);
     put_in(notice, bell);
     uint32_t got = qolb_poll_proved_(node);
@@ -99,7 +99,7 @@ uint32_t qolb_listen_(struct notice *notice, qolb_node *node) {
 void qolb_list_(struct notice *notice, uint64_t key) {
     struct bell *bell = bell_of_key(key);
     notice->key = key;
-    tell_release(notice);
+    qolb_tell_release_(notice);
     take_guard(&bell->guard);
     put_in(notice, bell);
     return_guard(&bell->guard);
@@ -133,7 +133,7 @@ void qolb_notify_done(void) {
     if (!me) return;
     struct bell *bell = in_call->bell;
     in_call->running = NULL;
-    tell_release(me->notice);
+    qolb_tell_release_(me->notice);
     take_guard(&bell->guard);
     struct running **at = &bell->running;
     while (*at != me) at = &(*at)->next;

@@ -23,6 +23,9 @@
 
 #include <array>
 #include <chrono>
+#if defined(__cpp_impl_coroutine) && __cplusplus >= 202002L
+#include <coroutine>
+#endif
 #include <condition_variable>
 #include <cstdint>
 #include <cstdlib>
@@ -155,6 +158,8 @@ class Node {
     QOLB_NODISCARD qolb_answer notify(void (*call)(void *arg), void *arg) { return answer(qolb_notify(&node_, call, arg)); }
     QOLB_NODISCARD qolb_answer notify_fd(int fd) { return answer(qolb_notify_fd(&node_, fd)); }
     qolb_answer notify_off() { return answer(qolb_notify_off(&node_)); }
+    // For the calls of qolb.h.
+    qolb_node *native_handle() { return &node_; }
     qolb_answer read(qolb_bytes &out) { return answer(qolb_read(&node_, &out)); }
     qolb_answer write(std::uint64_t mask, const qolb_bytes &bytes) { return answer(qolb_write(&node_, mask, &bytes)); }
     qolb_answer read_lane(std::uint64_t lane, std::uint64_t &out) { return answer(qolb_read_lane(&node_, lane, &out)); }
@@ -521,6 +526,160 @@ template <class T> class Guarded {
 };
 
 template <class T> using guarded = Guarded<T>;
+
+#if defined(__cpp_impl_coroutine) && __cplusplus >= 202002L
+
+// ---- Coroutines ----
+//
+//     qolb::Got got = co_await qolb::turn(node, loop);       // then qolb::Guard turn(node, std::adopt_lock)
+//     qolb::Entered turn = co_await qolb::enter(lock, loop); // leaves when it is destroyed, by any thread
+//
+// A loop runs what was posted to it: `void post(Ready &)` from any thread, and `void unpost(Ready &)`, behind which it will not run, by its own thread.
+// A coroutine that waits may be destroyed by the loop's thread: its request is withdrawn.
+class Ready {
+  public:
+    virtual void run() = 0;
+    Ready *next = nullptr, *before = nullptr;
+    bool posted = false; // under the loop's mutex
+
+  protected:
+    ~Ready() = default;
+};
+
+// Runs at once what is posted, in the thread that releases the line, behind its release; a release in what runs there nests nothing. Coroutines that
+// wait must not be destroyed while another thread may release the line.
+struct Inline {
+    void post(Ready &it) {
+        qolb_notify_done();
+        it.run();
+    }
+    void unpost(Ready &) {}
+};
+
+namespace detail {
+
+template <class Loop> class Waits : public Ready {
+  public:
+    explicit Waits(Loop &loop) : loop_(loop) {}
+    Waits(const Waits &) = delete;
+    Waits &operator=(const Waits &) = delete;
+
+  protected:
+    // The coroutine may be gone when this returns.
+    static void call(void *arg) {
+        auto *it = static_cast<Waits *>(arg);
+        it->loop_.post(*it);
+    }
+    ~Waits() = default;
+
+    Loop &loop_;
+    std::coroutine_handle<> waiter_;
+    std::uint32_t got_ = QOLB_MISUSE;
+    bool waits_ = false;
+};
+
+} // namespace detail
+
+template <class Loop> class Turn final : public detail::Waits<Loop> {
+  public:
+    Turn(qolb_node *node, Loop &loop) : detail::Waits<Loop>(loop), node_(node) {}
+
+    bool await_ready() {
+        this->got_ = qolb_enqolb(node_);
+        return this->got_ != QOLB_QUEUED;
+    }
+    // Once the call is wanted another thread may resume the coroutine and this is gone.
+    bool await_suspend(std::coroutine_handle<> waiter) {
+        this->waiter_ = waiter;
+        this->waits_ = true;
+        std::uint32_t got = qolb_notify(node_, this->call, static_cast<detail::Waits<Loop> *>(this));
+        if (got == QOLB_WAITING) return true;
+        this->waits_ = false;
+        this->got_ = got;
+        return false;
+    }
+    Got await_resume() {
+        switch (this->got_) {
+        case QOLB_GRANTED: return Got::granted;
+        case QOLB_CLOSED: return Got::closed;
+        case QOLB_BUSY: return Got::busy; // from a withdrawn request: come again later
+        default: return Got::misuse;
+        }
+    }
+    // A call that was too early is wanted again.
+    void run() override {
+        std::uint32_t got = qolb_notify(node_, this->call, static_cast<detail::Waits<Loop> *>(this));
+        if (got == QOLB_WAITING) return;
+        this->waits_ = false;
+        this->got_ = got;
+        this->waiter_.resume();
+    }
+    ~Turn() {
+        if (!this->waits_) return;
+        qolb_notify_off(node_);
+        this->loop_.unpost(*this);
+        if (qolb_withdraw(node_) == QOLB_GRANTED) qolb_deqolb(node_);
+    }
+
+  private:
+    qolb_node *node_;
+};
+
+// A turn of a lock.
+class Entered {
+  public:
+    Entered(std::uint32_t got, const qolb_task &task) : got_(got), task_(task) {}
+    Entered(Entered &&other) noexcept : got_(std::exchange(other.got_, std::uint32_t(QOLB_MISUSE))), task_(other.task_) {}
+    Entered(const Entered &) = delete;
+    Entered &operator=(Entered &&) = delete;
+    ~Entered() { leave(); }
+    explicit operator bool() const { return got_ == QOLB_GRANTED; }
+    qolb_answer answer() const { return static_cast<qolb_answer>(got_); }
+    void leave() {
+        if (std::exchange(got_, std::uint32_t(QOLB_MISUSE)) == QOLB_GRANTED) qolb_task_leave(&task_);
+    }
+
+  private:
+    std::uint32_t got_;
+    qolb_task task_;
+};
+
+template <class Loop> class Enter final : public detail::Waits<Loop> {
+  public:
+    Enter(qolb_lock *which, Loop &loop) : detail::Waits<Loop>(loop), lock_(which) {}
+    bool await_ready() { return false; }
+    bool await_suspend(std::coroutine_handle<> waiter) {
+        this->waiter_ = waiter;
+        this->waits_ = true;
+        std::uint32_t got = qolb_task_enter(&task_, lock_, this->call, static_cast<detail::Waits<Loop> *>(this));
+        if (got == QOLB_WAITING) return true;
+        this->waits_ = false;
+        this->got_ = got;
+        return false;
+    }
+    Entered await_resume() { return Entered(this->got_, task_); }
+    void run() override {
+        std::uint32_t got = qolb_task_poll(&task_);
+        if (got == QOLB_WAITING) return;
+        this->waits_ = false;
+        this->got_ = got;
+        this->waiter_.resume();
+    }
+    ~Enter() {
+        if (!this->waits_) return;
+        qolb_task_cancel(&task_);
+        this->loop_.unpost(*this);
+    }
+
+  private:
+    qolb_lock *lock_;
+    qolb_task task_ = QOLB_TASK_INIT;
+};
+
+template <class Loop> Turn<Loop> turn(Node &node, Loop &loop) { return Turn<Loop>(node.native_handle(), loop); }
+template <class Loop> Enter<Loop> enter(Lock &which, Loop &loop) { return Enter<Loop>(which.native_handle(), loop); }
+
+#endif
 
 } // namespace qolb
 

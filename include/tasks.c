@@ -139,6 +139,7 @@ uint32_t qolb_task_enter(qolb_task *task, qolb_lock *lock, void (*call)(void *),
     me->got = QOLB_WAITING;
     me->notice = (struct notice){.call = call, .arg = arg, .in_line = &hall->sleepers};
     me->at = (struct caller){.is_task = 1};
+    qolb_tell_release_(&me->notice); /* another thread may list it */
     return enter(me);
 }
 
