@@ -100,10 +100,7 @@ fn answered_by(lines: Lines, alloc: Global, input: &[u8]) -> Result<Vec<u8>, Rep
 }
 
 /// The reply of the schedule that the input is, by lines of this discipline.
-fn answered_with<Q: Discipline<Free>>(
-    alloc: Global,
-    input: &[u8],
-) -> Result<Vec<u8>, ReplayError>
+fn answered_with<Q: Discipline<Free>>(alloc: Global, input: &[u8]) -> Result<Vec<u8>, ReplayError>
     ensures ok { IfOk result (λ text. reply_to input.now ≡ Ok text.items) }
     ensures refused { IfErr result (HasNoReply input.now) }
 {
