@@ -82,7 +82,6 @@ RETURNS_BUSY = "    if (hall->burst) {\n        atomic_exchange(&seat->state, LE
 STANDS = "    stand(cond, hall, &me);\n    atomic_fetch_add(&hall->guests, 1);\n    qolb_leave_hall_(hall, seat, qolb_deqolb_proved_);\n"
 SHUT = "        beside = it->beside;\n        tell(it, SHUT);\n"
 FAULTS = {
-    "one sleeper alone is woken at a bell": ("    qolb_wake_at_(&bell->word, INT32_MAX);\n", "    qolb_wake_at_(&bell->word, 1);\n"),
     "nobody says that a seat is about to be free": (LEAVING, ""),
     "who leaves rings no bell": (LEAVES, f"    {FREED}"),
     "who leaves rings no bell of the line": (RINGS, "    qolb_free_seat_(hall, seat);\n"),

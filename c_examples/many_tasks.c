@@ -1,0 +1,205 @@
+/* Ten thousand tasks over four threads: half with a node each, half at a lock that threads enter, too. They are woken for no reason, and give up at random.
+ * Prints only errors.
+ *
+ *   build/many_tasks_c [TASKS [ROUNDS [SEED [SEATS]]]] */
+#define _GNU_SOURCE
+#include <qolb.h>
+#include <pthread.h>
+#include <sched.h>
+#include <stdatomic.h>
+#include <stdio.h>
+#include <stdlib.h>
+#include <time.h>
+#include <unistd.h>
+#define MUST(x) do { if (!(x)) { fprintf(stderr, "%s:%d: %s\n", __FILE__, __LINE__, #x); abort(); } } while (0)
+
+enum { IDLE, READY, RUNS, AGAIN };
+struct line { long count; long lane; _Alignas(128) qolb_node nodes[200]; };
+struct task {
+    _Alignas(128) atomic_int run;
+    struct task *next;
+    uint64_t random;
+    int rounds, phase;
+    struct line *line; /* NULL: at the lock */
+    qolb_node *node;
+    qolb_task task;
+    pthread_t entered;
+};
+static struct task *tasks;
+static int many;
+static atomic_int left;
+static pthread_mutex_t mutex = PTHREAD_MUTEX_INITIALIZER;
+static pthread_cond_t some = PTHREAD_COND_INITIALIZER;
+static struct task *head, **tail = &head;
+static qolb_lock lock;
+static long guarded;
+static atomic_long calls, cancels, late_grants, elsewhere, waits, busy;
+
+static void push(struct task *it) {
+    pthread_mutex_lock(&mutex);
+    it->next = NULL, *tail = it, tail = &it->next;
+    pthread_cond_signal(&some);
+    pthread_mutex_unlock(&mutex);
+}
+static void wake(struct task *it) {
+    for (;;) {
+        int s = atomic_load(&it->run);
+        if (s == IDLE && atomic_compare_exchange_strong(&it->run, &s, READY)) { push(it); return; }
+        if (s == RUNS && atomic_compare_exchange_strong(&it->run, &s, AGAIN)) return;
+        if (s == READY || s == AGAIN) return;
+    }
+}
+static void call(void *arg) { atomic_fetch_add_explicit(&calls, 1, memory_order_relaxed); wake(arg); }
+static unsigned draw(struct task *it, unsigned below) {
+    it->random ^= it->random << 13, it->random ^= it->random >> 7, it->random ^= it->random << 17;
+    return (unsigned)(it->random >> 20) % below;
+}
+
+static void turn(struct task *it) {
+    uint64_t was;
+    it->line->count++;
+    MUST(qolb_add_lane(it->node, 0, 1, &was) == QOLB_DONE && was == (uint64_t)it->line->count - 1);
+    qolb_deqolb(it->node);
+    it->rounds--, it->phase = 0;
+}
+/* True when it is done. */
+static int step_node(struct task *it) {
+    uint32_t got;
+    for (;;) {
+        if (it->phase == 0) {
+            if (it->rounds == 0) { qolb_notify_off(it->node); return 1; }
+            got = qolb_enqolb(it->node);
+            if (got == QOLB_BUSY) { busy++; wake(it); return 0; }
+            it->phase = got == QOLB_QUEUED;
+        } else {
+            got = draw(it, 3) ? qolb_poll(it->node) : QOLB_WAITING;
+        }
+        if (got == QOLB_GRANTED) { turn(it); continue; }
+        if (draw(it, 4) == 0) {
+            qolb_notify_off(it->node);
+            got = qolb_withdraw(it->node);
+            cancels++;
+            if (got == QOLB_GRANTED) { late_grants++; turn(it); continue; }
+            MUST(got == QOLB_WITHDRAWN);
+            it->phase = 0;
+            if (draw(it, 2)) { wake(it); return 0; }
+            continue;
+        }
+        got = qolb_notify(it->node, call, it);
+        if (got == QOLB_GRANTED) { turn(it); continue; }
+        MUST(got == QOLB_WAITING);
+        waits++;
+        return 0;
+    }
+}
+static int step_at_lock(struct task *it) {
+    uint32_t got;
+    for (;;) {
+        if (it->phase == 2) { /* holds; perhaps in another thread than it entered */
+            if (!pthread_equal(it->entered, pthread_self())) elsewhere++;
+            guarded++;
+            MUST(qolb_task_leave(&it->task) == QOLB_DONE);
+            it->phase = 0, it->rounds--;
+            continue;
+        }
+        if (it->phase == 0) {
+            if (it->rounds == 0) return 1;
+            it->phase = 1;
+            got = qolb_task_enter(&it->task, &lock, call, it);
+        } else {
+            got = qolb_task_poll(&it->task);
+        }
+        if (got == QOLB_GRANTED) {
+            it->phase = 2, it->entered = pthread_self();
+            if (draw(it, 4) == 0) { wake(it); return 0; }
+            continue;
+        }
+        MUST(got == QOLB_WAITING);
+        if (draw(it, 8) == 0) {
+            cancels++;
+            MUST(qolb_task_cancel(&it->task) == QOLB_WITHDRAWN);
+            it->phase = 0;
+            continue;
+        }
+        waits++;
+        return 0;
+    }
+}
+static void *work(void *_) {
+    (void)_;
+    for (;;) {
+        pthread_mutex_lock(&mutex);
+        while (!head && atomic_load(&left)) pthread_cond_wait(&some, &mutex);
+        struct task *it = head;
+        if (it && !(head = it->next)) tail = &head;
+        pthread_mutex_unlock(&mutex);
+        if (!it) return NULL;
+        atomic_store(&it->run, RUNS);
+        int done = it->line ? step_node(it) : step_at_lock(it), s = RUNS;
+        if (done) {
+            atomic_store(&it->run, READY); /* no wake pushes it any more */
+            if (atomic_fetch_sub(&left, 1) == 1) pthread_mutex_lock(&mutex), pthread_cond_broadcast(&some), pthread_mutex_unlock(&mutex);
+        } else if (!atomic_compare_exchange_strong(&it->run, &s, IDLE)) {
+            atomic_store(&it->run, READY);
+            push(it);
+        }
+    }
+}
+static void *nudge(void *_) {
+    (void)_;
+    unsigned seed = 7;
+    while (atomic_load(&left)) {
+        for (int k = 0; k < 20; k++) wake(&tasks[rand_r(&seed) % (unsigned)many]);
+        struct timespec t = {0, 50000};
+        nanosleep(&t, NULL);
+    }
+    return NULL;
+}
+static atomic_long by_threads;
+static void *enters(void *seed) {
+    unsigned s = (unsigned)(uintptr_t)seed;
+    while (atomic_load(&left)) {
+        uint32_t got = s % 3 == 0 ? qolb_lock_enter(&lock) : s % 3 == 1 ? qolb_lock_enter_within(&lock, 20000) : qolb_lock_try(&lock);
+        s = (s * 1103515245 + 12345) >> 3;
+        if (got == QOLB_GRANTED) { guarded++; MUST(qolb_lock_leave(&lock) == QOLB_DONE); by_threads++; }
+        struct timespec t = {0, 100000};
+        nanosleep(&t, NULL);
+    }
+    return NULL;
+}
+int main(int argc, char **argv) {
+    int workers = 4, rounds = argc > 2 ? atoi(argv[2]) : 5, seats = argc > 4 ? atoi(argv[4]) : 4;
+    many = argc > 1 ? atoi(argv[1]) : 10000;
+    uint64_t seed = argc > 3 ? strtoull(argv[3], NULL, 10) : 1;
+    alarm(240);
+    qolb_bytes zeros = {{0}};
+    lock = (qolb_lock)QOLB_LOCK_INIT_OF((uint32_t)(seed % 3), (uint32_t)seats);
+    int of_nodes = many / 2, lines = (of_nodes + 39) / 40;
+    struct line *line = aligned_alloc(128, (size_t)lines * sizeof *line);
+    tasks = aligned_alloc(128, (size_t)many * sizeof *tasks);
+    for (int k = 0; k < lines; k++) {
+        line[k] = (struct line){0};
+        MUST(qolb_open((uint32_t)k % 3, 1, 40, QOLB_NO_LEASE, &zeros, line[k].nodes, 40) == QOLB_DONE);
+    }
+    for (int k = 0; k < many; k++) {
+        tasks[k] = (struct task){.random = seed * 7919 + (uint64_t)k * 104729 + 1, .rounds = rounds};
+        if (k < of_nodes) tasks[k].line = &line[k / 40], tasks[k].node = &line[k / 40].nodes[k % 40];
+    }
+    atomic_store(&left, many);
+    for (int k = 0; k < many; k++) wake(&tasks[k]);
+    pthread_t t[64];
+    int n = 0;
+    for (; n < workers; n++) pthread_create(&t[n], NULL, work, NULL);
+    pthread_create(&t[n++], NULL, nudge, NULL);
+    pthread_create(&t[n++], NULL, enters, (void *)1);
+    pthread_create(&t[n++], NULL, enters, (void *)2);
+    for (int k = 0; k < n; k++) pthread_join(t[k], NULL);
+    long all = 0;
+    for (int k = 0; k < lines; k++) {
+        all += line[k].count;
+        for (int j = 0; j < 40; j++) MUST(qolb_close(&line[k].nodes[j]) == QOLB_DONE);
+    }
+    MUST(all == (long)of_nodes * rounds && guarded == (long)(many - of_nodes) * rounds + by_threads);
+    MUST(qolb_lock_close(&lock) == QOLB_DONE);
+    return 0;
+}
