@@ -1,7 +1,7 @@
 #!/usr/bin/env python3
 """Tries each mutant and prints what refused it: the edits of the named crates (all, if none is named), in must-fail/ of the crate and in
-tools/mutants/edits/CRATE, which a goal must refuse; and the patches tools/mutants/*.patch, which a test must refuse, if the patch changes a named
-crate or runs its tests. The gate tries only those in must-fail/.
+tools/mutants/CRATE.edits, which a goal must refuse; and the patches in tools/mutants/CRATE.patches, which a test of that crate must refuse, if the
+patch changes a named crate or runs its tests. In both files a line `== NAME` is above each mutant. The gate tries only those in must-fail/.
 
 An edit shows something only if the prover refuses it by a goal: what the changed function promises, what a call in it requires, or what a
 caller of it relies on. An edit that only renames goals is refused because answers name goals that no longer exist, and a harmless rewrite of the
@@ -60,33 +60,37 @@ MINUTES = 120
 
 
 class Body:
-    """A mutant: an edit of a crate, or a patch."""
+    """A mutant: an edit of a crate, or a patch for one of its tests."""
 
-    def __init__(self, crates, file):
-        self.file, self.text = file, file.read_text()
-        self.is_patch = file.suffix == ".patch"
-        if self.is_patch:
-            self.head = dict(line.split(": ", 1) for line in self.text.partition("\n\n")[0].splitlines())
-            self.crate, self.name = crates[self.head["Crate"]], file.stem
-            self.touches = {self.crate.name, *re.findall(r"^\+\+\+ b/crates/(\w+)", self.text, re.M)}
+    def __init__(self, crates, crate, name, text, is_patch=False, in_gate=False):
+        self.crate, self.text, self.is_patch, self.in_gate = crates[crate], text, is_patch, in_gate
+        self.name = name if is_patch else f"{crate}/{name}"
+        self.touches = {crate}
+        if is_patch:
+            self.head = dict(line.split(": ", 1) for line in text.partition("\n\n")[0].splitlines())
+            self.touches |= set(re.findall(r"^\+\+\+ b/crates/(\w+)", text, re.M))
             self.test = self.head["Test"].rpartition("::")[2]
-        else:
-            folder = file.parent.parent if file.parent.name == "must-fail" else file.parent
-            self.crate, self.name = crates[folder.name], f"{folder.name}/{file.stem}"
-            self.touches = {self.crate.name}
         # Mutants of one batch are tried one after another.
-        self.batch = file.name if self.is_patch else self.crate.name
-        self.in_gate = file.parent.name == "must-fail"
+        self.batch = name if is_patch else crate
 
     def takes_all_memory(self):
         return self.is_patch and self.test in left_out(self.crate)
 
 
+def packed(file):
+    """The mutants of a file, each with its name, which the line `== NAME` above it has."""
+    _, *parts = re.split(r"^== (\S+)\n", file.read_text() if file.is_file() else "", flags=re.M)
+    return [(name, text.rstrip("\n") + "\n") for name, text in zip(parts[::2], parts[1::2])]
+
+
 def bodies_of(crates, names, only):
-    files = [file for it in crates.values() for file in sorted((it.folder / "must-fail").glob("*.edit"))]
-    files += sorted(BODIES.glob("edits/*/*.edit")) + sorted(BODIES.glob("*.patch"))
-    found = [Body(crates, it) for it in files]
-    return [it for it in found if only in it.file.name and (not names or it.touches & set(names))]
+    found = []
+    for it in crates.values():
+        gate = sorted((it.folder / "must-fail").glob("*.edit"))
+        found += [Body(crates, it.name, file.stem, file.read_text(), in_gate=True) for file in gate]
+        found += [Body(crates, it.name, *mutant) for mutant in packed(BODIES / f"{it.name}.edits")]
+        found += [Body(crates, it.name, *mutant, is_patch=True) for mutant in packed(BODIES / f"{it.name}.patches")]
+    return [it for it in found if only in it.name and (not names or it.touches & set(names))]
 
 
 class Record:
