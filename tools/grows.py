@@ -1,5 +1,5 @@
 #!/usr/bin/env python3
-"""Prints how long the built program takes for scripts of 1,000, 10,000 and 100,000 lines by 2, 20 and 200 nodes: a table for bench/figures.
+"""Prints how long the built program takes for scripts of 1,000, 10,000 and 100,000 lines by 2, 20 and 200 nodes: a table for c/bench/figures.
 
     tools/grows.py [--program PATH] [--sizes 1000,10000,100000] [--nodes 2,20,200] [--times 3] [--seconds 600] [RUN..]
 

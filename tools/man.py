@@ -1,10 +1,10 @@
 #!/usr/bin/env python3
-"""Writes the manual pages: docs/man/qolb.3 from the text of include/qolb.h, and docs/man/qolb.1 from the help of the program.
+"""Writes the manual pages: docs/man/qolb.3 from the text of c/include/qolb.h, and docs/man/qolb.1 from the help of the program.
 
 tools/man.py [PROGRAM]      writes both; without a program, and none at crates/qolb/out/qolb, qolb(3) alone
 tools/man.py --check [PROGRAM]      compares them with the header and the program: writes nothing, and ends with 1 if one differs
 
-The header's tables of memory are those that c_examples/build/memory counts, once it is built (make -C c_examples manual): they are written and compared, too.
+The header's tables of memory are those that c/build/tests/memory counts, once it is built (make -C c/tests manual): they are written and compared, too.
 """
 
 import pathlib
@@ -13,9 +13,9 @@ import subprocess
 import sys
 
 ROOT = pathlib.Path(__file__).resolve().parent.parent
-HEADER = ROOT / "include/qolb.h"
+HEADER = ROOT / "c/include/qolb.h"
 PAGES = ROOT / "docs/man"
-MEMORY = ROOT / "c_examples/build/memory"
+MEMORY = ROOT / "c/build/tests/memory"
 SUBCOMMANDS = ["replay", "draw", "steps", "board", "bank"]
 
 
@@ -153,7 +153,7 @@ def with_memory(text):
         rows = "".join(f" *     {line}\n" for line in table.splitlines())
         text, found = re.subn(rf" \*     {table[:5]} .*\n(?: \*     .*\n)+", rows, text)
         if found != 1:
-            sys.exit(f"man.py: include/qolb.h has {found} tables of memory by {table[:5]}")
+            sys.exit(f"man.py: c/include/qolb.h has {found} tables of memory by {table[:5]}")
     return text
 
 
@@ -167,7 +167,7 @@ def check_memory(is_check):
     if not is_check:
         HEADER.write_text(text)
     elif text != before:
-        sys.exit("man.py: the tables of memory in include/qolb.h are not what c_examples/build/memory counts: run tools/man.py")
+        sys.exit("man.py: the tables of memory in c/include/qolb.h are not what c/build/tests/memory counts: run tools/man.py")
 
 
 def page_of_header():

@@ -5,11 +5,11 @@
 
 It fetches Debian's sources of ck and posixtestsuite by apt into FOLDER (else a temporary one), which must lie outside the repository, as they have
 links. Of ck it builds the tests of validation, throughput and latency, with a header for each kind of node and lock beside those of ck's own locks. Of the
-suite it runs each test of pthread_mutex_* and pthread_cond_*, alone and with c_examples/preload.c, and compares how they end. A test that others
+suite it runs each test of pthread_mutex_* and pthread_cond_*, alone and with c/preload/preload.c, and compares how they end. A test that others
 end differently is run again, so that one that ends now so, now so, is not held against the library. A test is ended after N seconds, 120.
 
 It prints a table, and ends with 1 if a test of ck failed with our locks, or one of the suite ended differently. --part runs one of the two. --write puts
-the table into tools/of_others.tsv, where a part that was not run stays as it was. It wants `make -C c_examples build/preload.so` and dpkg-dev; a quarter of an hour.
+the table into tools/of_others.tsv, where a part that was not run stays as it was. It wants `make -C c check` and dpkg-dev; a quarter of an hour.
 """
 
 import argparse
@@ -25,7 +25,7 @@ import tempfile
 
 from crates import ROOT, run_main
 
-BUILD = ROOT / "c_examples/build"
+BUILD = ROOT / "c/build"
 RECORD = ROOT / "tools/of_others.tsv"
 SOURCES = """Types: deb-src
 URIs: http://deb.debian.org/debian
@@ -225,7 +225,7 @@ def main():
     parser.add_argument("folder", nargs="?", metavar="FOLDER")
     args = parser.parse_args()
     if not (BUILD / "preload.so").exists():
-        sys.exit("of_others: make -C c_examples build/preload.so first")
+        sys.exit("of_others: make -C c check first")
     told, bad = recorded(), 0
     with contextlib.ExitStack() as stack:
         folder = pathlib.Path(args.folder or stack.enter_context(tempfile.TemporaryDirectory())).resolve()

@@ -1,5 +1,5 @@
 #!/usr/bin/env python3
-"""Runs programs of other authors with their mutexes as locks (c_examples/preload.c), and compares output, time and memory with runs of their own.
+"""Runs programs of other authors with their mutexes as locks (c/preload/preload.c), and compares output, time and memory with runs of their own.
 
     tools/preloaded.py [--runs 5] [--megabytes 16] [--kind link|ticket|ring] [--burst TURNS] [--only NAME ..] [--limit 120] [--keep]
 
@@ -15,7 +15,7 @@ be in one mutex at the same time. If one of these fails, this program says so an
 those of its load. At most 1.25 times the seconds are said to be within, and at most 3 KB for each mutex at once, and 1,024 KB for the library, above the most
 that a run alone took; if one program is not, this one ends with 2. Seconds mean something on a machine that does nothing else: the load is said.
 
-The table is printed as tab-separated values; with --keep it also goes to bench/figures/preloaded.tsv. It needs the C library (make -C c_examples build/preload.so).
+The table is printed as tab-separated values; with --keep it also goes to c/bench/figures/preloaded.tsv. It needs the C library (make -C c).
 """
 
 import argparse
@@ -39,8 +39,8 @@ import threading
 import time
 
 ROOT = pathlib.Path(__file__).resolve().parent.parent
-PRELOAD = ROOT / "c_examples/build/preload.so"
-KEPT = ROOT / "bench/figures/preloaded.tsv"
+PRELOAD = ROOT / "c/build/preload.so"
+KEPT = ROOT / "c/bench/figures/preloaded.tsv"
 LIMIT = [120]  # seconds, for a program, or to start or end a server
 MOST_TIMES, BYTES_EACH, KB_BESIDE = 1.25, 3072, 1024
 OTHERS = ": others used the machine, so seconds mean little, and those of processors more"
@@ -406,7 +406,7 @@ def main():
     LIMIT[0] = asked.limit
     signal.signal(signal.SIGTERM, lambda *_: sys.exit("ended by SIGTERM"))  # so that servers and clients end
     os.environ["PATH"] += ":/usr/sbin"
-    subprocess.run(["make", "-s", "-C", ROOT / "c_examples", "build/preload.so"], check=True, stdout=subprocess.DEVNULL)
+    subprocess.run(["make", "-s", "-C", ROOT / "c"], check=True, stdout=subprocess.DEVNULL)
     load, all_of = os.getloadavg()[0], []
     print("\t".join(COLUMNS), flush=True)
     with tempfile.TemporaryDirectory() as name:

@@ -1,5 +1,5 @@
 #!/usr/bin/env python3
-"""Explores runs of the C library's own files, of locks and of nodes (include/lock.c, gate.c, door.c, conditions.c, tasks.c, calls.c, notify.c and bells.c), with two and
+"""Explores runs of the C library's own files, of locks and of nodes (c/src/lock.c, gate.c, door.c, conditions.c, tasks.c, calls.c, notify.c and bells.c), with two and
 three threads that use a lock or have a node each, on a model of the processor's memory (tools/seats).
 
 tools/seats.py [MOST] [--scene BEGINNING ..] [--fault WORDS | --no-faults] [--jobs 2]
@@ -31,7 +31,7 @@ import time
 ROOT = pathlib.Path(__file__).resolve().parent.parent
 BUILT = ("lock.c", "gate.c", "door.c", "conditions.c", "tasks.c", "calls.c", "notify.c", "bells.c")
 HEADERS = ("lock.h", "bells.h")
-SOURCES = {name: (ROOT / "include" / name).read_text() for name in (*BUILT, *HEADERS)}
+SOURCES = {name: (ROOT / "c/src" / name).read_text() for name in (*BUILT, *HEADERS)}
 # What a thread keeps while it makes calls of notifications: the model has several threads in one.
 OF_THREAD = "static BY_THREAD struct caller_of_notices *in_call;\n"
 assert OF_THREAD in SOURCES["notify.c"]
@@ -425,7 +425,7 @@ def built(folder, sources, base):
         if name in changed:
             source = (folder if name in sources else ROOT / "tools/seats") / name
             told = OF_MODEL.get(name, BY_MODEL)
-            seen = ["-I", folder, "-I", base, "-I", ROOT / "include", "-I", ROOT / "tools/seats"]
+            seen = ["-I", folder, "-I", base, "-I", ROOT / "c/src", "-I", ROOT / "c/include", "-I", ROOT / "tools/seats"]
             subprocess.run(["cc", "-std=c11", *seen, *told, "-c", source, "-o", objects[-1]], check=True)
     subprocess.run(["cc", *objects, "-o", folder / "explorer"], check=True)
     return folder / "explorer"

@@ -1,0 +1,161 @@
+/* Times entering and leaving a lock that no other thread wants, by one thread: a qolb_lock beside a node of the same line (qolb_acquire and
+ * qolb_deqolb); a lock as it is by default, also while a thread waits at its condition; one with bursts; a pthread_mutex, and with -DMCS, which needs Debian's package
+ * libck-dev, Concurrency Kit's MCS lock. The program has a second thread. With an older library there is no default lock.
+ *
+ *   cc -std=c11 -O2 -pthread -Ic/include c/bench/enter.c c/build/libqolb.a -o enter && ./enter [BATCHES]
+ *
+ * Prints nanoseconds a round: the least and the median of BATCHES batches (101), in which the ways take turns, as multiples of the mutex's, too, and
+ * each lock's as a multiple of those of its node. The least is the figure to take if the machine has other work. With a second argument, ./enter 1 "qolb_lock,
+ * ticket", it does 10,000 rounds of that way alone, to be counted by valgrind --tool=callgrind --toggle-collect='rounds_of*'. */
+#define _DEFAULT_SOURCE
+#include "kinds.h"
+#include <pthread.h>
+#include <stdio.h>
+#include <stdlib.h>
+#include <string.h>
+#include <time.h>
+#include <unistd.h>
+#ifdef MCS
+#include <ck_spinlock.h>
+static ck_spinlock_mcs_t mcs = CK_SPINLOCK_MCS_INITIALIZER;
+static ck_spinlock_mcs_context_t context;
+#endif
+
+enum { ROUNDS = 10000, MAX_BATCHES = 10001 };
+
+static _Alignas(QOLB_NODE_ALIGN) qolb_node nodes[QOLB_KINDS];
+/* Of each kind, the default, the default with a thread at its condition, and one with bursts. */
+enum { DEFAULT = QOLB_KINDS, WAITED, BURSTS, LOCKS };
+static _Alignas(QOLB_NODE_ALIGN) qolb_lock locks[LOCKS];
+static qolb_cond cond = QOLB_COND_INIT;
+static pthread_mutex_t mutex = PTHREAD_MUTEX_INITIALIZER;
+
+#define ROUNDS_OF(name, enters, leaves)                                                \
+    static void rounds_of_##name(uint32_t kind) {                                      \
+        (void)kind;                                                                    \
+        for (int k = 0; k < ROUNDS; k++) {                                             \
+            if (enters) abort();                                                       \
+            if (leaves) abort();                                                       \
+        }                                                                              \
+    }
+
+ROUNDS_OF(node, qolb_acquire(&nodes[kind]) != QOLB_GRANTED, qolb_deqolb(&nodes[kind]) != QOLB_DONE)
+ROUNDS_OF(lock, qolb_lock_enter(&locks[kind]) != QOLB_GRANTED, qolb_lock_leave(&locks[kind]) != QOLB_DONE)
+ROUNDS_OF(mutex, pthread_mutex_lock(&mutex) != 0, pthread_mutex_unlock(&mutex) != 0)
+#ifdef MCS
+ROUNDS_OF(mcs, (ck_spinlock_mcs_lock(&mcs, &context), 0), (ck_spinlock_mcs_unlock(&mcs, &context), 0))
+#endif
+
+enum { MAX_WAYS = 2 * QOLB_KINDS + 5 };
+
+static struct way {
+    char name[32];
+    void (*rounds)(uint32_t kind);
+    uint32_t kind;
+} ways[MAX_WAYS];
+static int count;
+
+static double took[MAX_WAYS][MAX_BATCHES];
+
+static void add_way(void (*rounds)(uint32_t kind), uint32_t kind, const char *name, const char *of) {
+    struct way *it = &ways[count++];
+    snprintf(it->name, sizeof it->name, name, of);
+    it->rounds = rounds;
+    it->kind = kind;
+}
+
+/* The way of each node, and after it that of the lock of its kind. */
+static void add_ways(void) {
+    for (uint32_t kind = 0; kind < QOLB_KINDS; kind++) {
+        add_way(rounds_of_node, kind, "node, %s", qolb_kind_name(kind));
+        add_way(rounds_of_lock, kind, "qolb_lock, %s", qolb_kind_name(kind));
+    }
+#ifdef QOLB_LOCK_INIT_DEFAULT
+    add_way(rounds_of_lock, DEFAULT, "%s", "default");
+    add_way(rounds_of_lock, WAITED, "%s", "default, one waits");
+#endif
+#ifdef QOLB_LOCK_INIT_BURSTS
+    add_way(rounds_of_lock, BURSTS, "%s", "bursts of 1,024");
+#endif
+    add_way(rounds_of_mutex, 0, "%s", "pthread_mutex");
+#ifdef MCS
+    add_way(rounds_of_mcs, 0, "%s", "MCS");
+#endif
+}
+
+static double now(void) {
+    struct timespec time;
+    clock_gettime(CLOCK_MONOTONIC, &time);
+    return (double)time.tv_sec * 1e9 + (double)time.tv_nsec;
+}
+
+static int by_size(const void *one, const void *other) {
+    double a = *(const double *)one, b = *(const double *)other;
+    return (a > b) - (a < b);
+}
+
+/* One node of three of each kind, and a lock of three seats. */
+static void opens(void) {
+    const qolb_bytes zeros = {{0}};
+    for (uint32_t kind = 0; kind < QOLB_KINDS; kind++) {
+        qolb_node all[3] = {{0}};
+        if (qolb_open(kind, kind, 3, QOLB_NO_LEASE, &zeros, all, 3) != QOLB_DONE) abort();
+        nodes[kind] = qolb_move(&all[0]);
+        locks[kind] = (qolb_lock)QOLB_LOCK_INIT_OF(kind, 3);
+    }
+#ifdef QOLB_LOCK_INIT_DEFAULT
+    locks[DEFAULT] = locks[WAITED] = (qolb_lock)QOLB_LOCK_INIT_DEFAULT;
+#endif
+#ifdef QOLB_LOCK_INIT_BURSTS
+    locks[BURSTS] = (qolb_lock)QOLB_LOCK_INIT_BURSTS(QOLB_LINK, 4, 1024);
+#endif
+}
+
+/* In a process of one thread the C library's mutex takes no locked instruction. */
+static void *sleeps(void *unused) {
+#ifdef QOLB_LOCK_INIT_DEFAULT
+    if (qolb_lock_enter(&locks[WAITED]) != QOLB_GRANTED || qolb_cond_wait(&cond, &locks[WAITED]) != QOLB_GRANTED) abort();
+#else
+    pause();
+#endif
+    return unused;
+}
+
+static int of_one(const char *name) {
+    for (int k = 0; k < count; k++) {
+        if (strcmp(ways[k].name, name) != 0) continue;
+        ways[k].rounds(ways[k].kind);
+        return 0;
+    }
+    return fprintf(stderr, "enter: no way is called %s\n", name), 2;
+}
+
+int main(int argc, char **argv) {
+    int batches = argc > 1 ? atoi(argv[1]) : 101;
+    if (batches < 1 || batches > MAX_BATCHES) return 2;
+    pthread_t other;
+    add_ways();
+    opens();
+    if (pthread_create(&other, NULL, sleeps, NULL) != 0) return 1;
+    usleep(100000);
+    if (argc > 2) return of_one(argv[2]);
+    for (int b = 0; b < batches; b++) {
+        for (int k = 0; k < count; k++) {
+            double since = now();
+            ways[k].rounds(ways[k].kind);
+            took[k][b] = (now() - since) / ROUNDS;
+        }
+    }
+    const double *mutexes = NULL;
+    for (int k = 0; k < count; k++) {
+        qsort(took[k], (size_t)batches, sizeof took[k][0], by_size);
+        if (ways[k].rounds == rounds_of_mutex) mutexes = took[k];
+    }
+    for (int k = 0; k < count; k++) {
+        const double *it = took[k], *before = took[k - 1 + (k == 0)];
+        printf("%-18s least %5.1f median %5.1f   %.2f and %.2f of the mutex's", ways[k].name, it[0], it[batches / 2], it[0] / mutexes[0], it[batches / 2] / mutexes[batches / 2]);
+        if (ways[k].rounds == rounds_of_lock && ways[k].kind < QOLB_KINDS) printf("   %.2f and %.2f of the node's", it[0] / before[0], it[batches / 2] / before[batches / 2]);
+        puts("");
+    }
+    return 0;
+}

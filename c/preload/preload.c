@@ -1,0 +1,475 @@
+/* Any program's mutexes as locks of lines: a library to be preloaded, for a program that knows nothing of lines.
+ *
+ *   make -C c && LD_PRELOAD=c/build/preload.so PROGRAM        (glibc, Linux 4.14); installed as LIBDIR/qolb/preload.so
+ *
+ * Each ordinary mutex that the program locks gets its own qolb_lock, of 3 KB, and each condition variable by which it waits with one a qolb_cond. Recursive,
+ * error-checking, robust, shared and priority mutexes stay the C library's, and so does one for which there is no memory. Whether a mutex is a lock of ours is
+ * decided once, at its first use, until it is destroyed or initialised again.
+ *
+ * As with the C library, any thread may unlock such a mutex, unlocking a free one changes nothing, and a thread that locks one that it holds waits until
+ * another unlocks it. A mutex that a thread held when it forked is held in the child, and those that waited are not there. A program that never destroys its
+ * mutexes keeps 3 KB for each address at which it locked one. A wait until a time of the clock CLOCK_REALTIME does not notice that this is set meanwhile.
+ *
+ * QOLB_BURST=TURNS is the hard limit of a burst (qolb.h, LOCKS): 1024, if it is not set, and 0 for strict order. QOLB_KIND=ring, link or ticket chooses the kind
+ * of line; else it is that of a lock by default.
+ *
+ * With QOLB_REPORT=FILE the program appends a line there at its end: the number of their kind, the burst, how many mutexes were ours in all, and at most at a
+ * time, how often one was granted, was late or was not free at once, and how often two threads were in one at the same time, which must be 0. Counting costs
+ * time, and is left out without it.
+ *
+ * What does not call the C library's mutexes by their names is not taken in: C11's mtx_t, Rust's std::sync::Mutex, and libraries that are opened with
+ * RTLD_DEEPBIND, which must not share a mutex with others then. */
+#define _GNU_SOURCE
+#include "preload.h"
+#include <dlfcn.h>
+#include <errno.h>
+#include <fcntl.h>
+#include <pthread.h>
+#include <stdio.h>
+#include <stdlib.h>
+#include <string.h>
+#include <unistd.h>
+
+/* ---- The C library's own ---- */
+
+#define REAL(name, version, ...)                                               \
+    static int (*real_##name(void))(__VA_ARGS__) {                             \
+        static _Atomic(void *) found;                                          \
+        if (!found) found = dlvsym(RTLD_NEXT, "pthread_" #name, version);      \
+        return (int (*)(__VA_ARGS__))found;                                    \
+    }
+
+REAL(mutex_init, "GLIBC_2.2.5", pthread_mutex_t *, const pthread_mutexattr_t *)
+REAL(mutex_destroy, "GLIBC_2.2.5", pthread_mutex_t *)
+REAL(mutex_lock, "GLIBC_2.2.5", pthread_mutex_t *)
+REAL(mutex_trylock, "GLIBC_2.2.5", pthread_mutex_t *)
+REAL(mutex_timedlock, "GLIBC_2.2.5", pthread_mutex_t *, const struct timespec *)
+REAL(mutex_clocklock, "GLIBC_2.30", pthread_mutex_t *, clockid_t, const struct timespec *)
+REAL(mutex_unlock, "GLIBC_2.2.5", pthread_mutex_t *)
+REAL(cond_destroy, "GLIBC_2.3.2", pthread_cond_t *)
+REAL(cond_wait, "GLIBC_2.3.2", pthread_cond_t *, pthread_mutex_t *)
+REAL(cond_timedwait, "GLIBC_2.3.2", pthread_cond_t *, pthread_mutex_t *, const struct timespec *)
+REAL(cond_clockwait, "GLIBC_2.30", pthread_cond_t *, pthread_mutex_t *, clockid_t, const struct timespec *)
+REAL(cond_signal, "GLIBC_2.3.2", pthread_cond_t *)
+REAL(cond_broadcast, "GLIBC_2.3.2", pthread_cond_t *)
+REAL(cancel, "GLIBC_2.2.5", pthread_t)
+
+/* ---- Settings ---- */
+
+enum { USUAL_BURST = 1024, BURSTS = 65536 };
+
+static struct {
+    uint32_t kind, seats, burst;
+    char report[4096]; /* empty: nothing is counted */
+} settings;
+
+static inline int counts(void) { return settings.report[0] != 0; }
+
+static void refuse(const char *name, const char *value, const char *wanted) {
+    dprintf(STDERR_FILENO, "qolb: %s=%s is not %s\n", name, value, wanted);
+    _exit(2);
+}
+
+static void choose_kind(const char *name) {
+    static const qolb_lock usual = QOLB_LOCK_INIT_DEFAULT;
+    settings.kind = usual.kind;
+    settings.seats = usual.seats;
+    if (!name) return;
+    if (strcmp(name, "list") == 0) name = qolb_kind_name(QOLB_LINK); /* its former name */
+    settings.kind = 0;
+    while (settings.kind < QOLB_KINDS && strcmp(name, qolb_kind_name(settings.kind)) != 0) settings.kind++;
+    if (settings.kind == QOLB_KINDS) refuse("QOLB_KIND", name, "ring, link or ticket");
+    settings.seats = settings.kind == QOLB_TICKET ? 3 : 4;
+}
+
+/* The number that is written there, with digits alone; 65536 if it is another or greater. */
+static uint32_t number_in(const char *digits) {
+    uint32_t number = *digits ? 0 : BURSTS;
+    for (; *digits && number < BURSTS; digits++) number = *digits >= '0' && *digits <= '9' ? number * 10 + (uint32_t)(*digits - '0') : BURSTS;
+    return number < BURSTS ? number : BURSTS;
+}
+
+static void choose_burst(const char *digits) {
+    settings.burst = digits ? number_in(digits) : USUAL_BURST;
+    if (settings.burst == 1 || settings.burst == BURSTS) refuse("QOLB_BURST", digits, "0, for strict order, or a number from 2 to 65535");
+}
+
+/* A copy, as a program may write its title over its environment. */
+static void choose_report(const char *name) {
+    if (!name) return;
+    if (strlen(name) >= sizeof settings.report) refuse("QOLB_REPORT", name, "a name of less than 4,096 bytes");
+    strcpy(settings.report, name);
+}
+
+void qolb_begin_(void) {
+    choose_kind(getenv("QOLB_KIND"));
+    choose_burst(getenv("QOLB_BURST"));
+    choose_report(getenv("QOLB_REPORT"));
+}
+
+/* At the program's start, so that wrong settings end no program in its midst. */
+__attribute__((constructor)) static void begin(void) { qolb_process_(); }
+
+/* ---- Counters ---- */
+
+static atomic_ullong mutexes, grants, late, not_free, violations;
+static atomic_llong at_once, most_at_once;
+
+static void count(struct line *line, uint32_t got) {
+    if (got == QOLB_BUSY) not_free++;
+    if (got == QOLB_LATE) late++;
+    if (got != QOLB_GRANTED) return;
+    grants++;
+    if (atomic_fetch_add(&line->inside, 1) != 0) violations++;
+}
+
+static void count_leaving(struct line *line) {
+    if (counts()) atomic_fetch_sub(&line->inside, 1);
+}
+
+static void count_mutex(void) {
+    long long now = ++at_once, most = most_at_once;
+    mutexes++;
+    while (now > most && !atomic_compare_exchange_weak(&most_at_once, &most, now)) continue;
+}
+
+/* It may run in the midst of the program's own end: so it allocates nothing. */
+__attribute__((destructor)) static void report(void) {
+    char text[200];
+    qolb_process_();
+    int file = counts() ? open(settings.report, O_WRONLY | O_APPEND | O_CREAT | O_CLOEXEC, 0666) : -1;
+    if (file < 0) return;
+    int size = snprintf(text, sizeof text, "kind %u burst %u mutexes %llu at once %lld grants %llu late %llu not free %llu violations %llu\n", settings.kind,
+                        settings.burst, mutexes, most_at_once, grants, late, not_free, violations);
+    if (write(file, text, (size_t)size) != size) perror(settings.report);
+    close(file);
+}
+
+/* ---- A mutex's line ---- */
+
+/* A line that serves no mutex; NULL if there is no memory. */
+static struct line *take_line(void) {
+    static const qolb_bytes zeros;
+    struct line *line = qolb_take_spare_();
+    if (line) return line;
+    line = qolb_take_memory_(sizeof *line);
+    if (!line) return NULL;
+    *line = (struct line){0};
+    if (qolb_lock_open(&line->lock, settings.kind, 0, QOLB_SEATS(settings.seats, settings.burst), &zeros) == QOLB_DONE) return line;
+    qolb_give_memory_(line, sizeof *line);
+    return NULL;
+}
+
+/* Of this process. A thread that has left it may still be in that call. */
+static int is_free(struct line *line) {
+    if (atomic_load(&line->waiting) || qolb_lock_try(&line->lock) != QOLB_GRANTED) return 0;
+    qolb_lock_leave(&line->lock);
+    return 1;
+}
+
+/* A mutex of ours says so in two words, which the C library uses in robust mutexes alone: the line, and a number that is right for this mutex and line in this
+ * process only. So a mutex that is initialised again, also by assignment, says nothing; and nor does a copy, nor one that a child has of its parent.
+ * One that stays the C library's for want of memory says that, by LEFT and its address. */
+#define LINE_OF(mutex) ((mutex)->__data.__list.__next)
+#define SIGN_OF(mutex) ((mutex)->__data.__list.__prev)
+#define LEFT ((void *)1)
+
+static inline uintptr_t sign_of(const pthread_mutex_t *mutex, const struct line *line) {
+    return atomic_load_explicit(&qolb_cleared_.process, memory_order_relaxed) ^ (uintptr_t)mutex ^ (uintptr_t)line;
+}
+
+static void say(pthread_mutex_t *mutex, void *line, uintptr_t sign) {
+    __atomic_store_n(&LINE_OF(mutex), line, __ATOMIC_RELAXED);
+    __atomic_store_n(&SIGN_OF(mutex), (void *)sign, __ATOMIC_RELEASE);
+}
+
+static inline struct line *said(const pthread_mutex_t *mutex) {
+    uintptr_t sign = (uintptr_t)__atomic_load_n(&SIGN_OF(mutex), __ATOMIC_ACQUIRE);
+    struct line *line = (void *)__atomic_load_n(&LINE_OF(mutex), __ATOMIC_RELAXED);
+    return line && sign == sign_of(mutex, line) ? line : NULL;
+}
+
+static int says_nothing(const pthread_mutex_t *mutex) { return !LINE_OF(mutex) && !SIGN_OF(mutex); }
+
+static int is_left(const pthread_mutex_t *mutex) { return (void *)LINE_OF(mutex) == LEFT && (const void *)SIGN_OF(mutex) == mutex; }
+
+static inline int is_ordinary(const pthread_mutex_t *mutex) {
+    int kind = mutex->__data.__kind & ~(256 | 512); /* but for the flags on elision */
+    return kind == PTHREAD_MUTEX_NORMAL || kind == PTHREAD_MUTEX_ADAPTIVE_NP;
+}
+
+static int is_of_this_process(const struct entry *entry) { return entry->process == qolb_process_(); }
+
+/* Whether a thread held it, in the process in which it was last used. */
+static int is_held(const struct entry *entry) { return entry->line && qolb_lock_holder(&entry->line->lock); }
+
+/* The line that the mutex gets. One that was initialised again keeps its line, if that is free; and else the line is forgotten, and never used again. */
+static struct line *line_for(const struct entry *entry, const pthread_mutex_t *mutex) {
+    if (entry->line && is_of_this_process(entry) && (!says_nothing(mutex) || is_free(entry->line))) return entry->line;
+    return take_line();
+}
+
+static void remove_entry(struct entry *entry) {
+    if (entry->line && is_of_this_process(entry) && is_free(entry->line)) qolb_give_spare_(entry->line);
+    if (entry->line) at_once--;
+    entry->line = NULL;
+    __atomic_store_n(&entry->address, NULL, __ATOMIC_RELEASE);
+}
+
+/* The mutex stays the C library's. */
+static void leave(pthread_mutex_t *mutex, struct entry *entry, int held) {
+    if (entry) remove_entry(entry);
+    say(mutex, LEFT, (uintptr_t)mutex);
+    if (held) real_mutex_lock()(mutex);
+}
+
+/* Under the guard of its entry. */
+static struct line *decide_for(pthread_mutex_t *mutex) {
+    struct entry *entry = qolb_find_(MUTEXES, mutex);
+    int held = entry && !says_nothing(mutex) && !is_of_this_process(entry) && is_held(entry);
+    if (!entry) entry = qolb_add_(MUTEXES, mutex);
+    struct line *line = entry ? line_for(entry, mutex) : NULL;
+    if (!line) {
+        leave(mutex, entry, held);
+        return NULL;
+    }
+    if (!entry->line) count_mutex();
+    if (line != entry->line) atomic_store(&line->inside, held);
+    if (held && qolb_lock_enter_unasked_(&line->lock, FOR_EVER) != QOLB_GRANTED) return NULL;
+    entry->line = line;
+    entry->process = qolb_process_();
+    say(mutex, line, sign_of(mutex, line));
+    return line;
+}
+
+__attribute__((noinline)) static struct line *decide(pthread_mutex_t *mutex) {
+    atomic_uint *guard = qolb_guard_table_(MUTEXES, mutex);
+    struct line *line = said(mutex);
+    if (!line && !is_left(mutex)) line = decide_for(mutex);
+    return_guard(guard);
+    return line;
+}
+
+/* The mutex's line; NULL if it stays the C library's. */
+static inline struct line *line_of(pthread_mutex_t *mutex) {
+    struct line *line = said(mutex);
+    return line ? line : is_ordinary(mutex) ? decide(mutex) : NULL;
+}
+
+/* ---- Time ---- */
+
+static int is_time(const struct timespec *end) { return end->tv_nsec >= 0 && end->tv_nsec < 1000000000; }
+
+static int is_clock(clockid_t clock) { return clock == CLOCK_REALTIME || clock == CLOCK_MONOTONIC; }
+
+/* The nanoseconds until then; FOR_EVER for more than they can say, some 584 years. */
+static uint64_t until(clockid_t clock, const struct timespec *end) {
+    struct timespec now;
+    clock_gettime(clock, &now);
+    if (end->tv_sec < now.tv_sec || (end->tv_sec == now.tv_sec && end->tv_nsec <= now.tv_nsec)) return 0;
+    uint64_t seconds = (uint64_t)end->tv_sec - (uint64_t)now.tv_sec;
+    if (seconds > UINT64_MAX / 1000000000 - 1) return FOR_EVER;
+    return seconds * 1000000000 + (uint64_t)end->tv_nsec - (uint64_t)now.tv_nsec;
+}
+
+/* ---- Mutexes ---- */
+
+/* The answer of entering, as the C library returns it. */
+static inline int told(struct line *line, uint32_t got) {
+    if (counts()) count(line, got);
+    return got == QOLB_GRANTED ? 0 : got == QOLB_BUSY ? EBUSY : got == QOLB_LATE ? ETIMEDOUT : EINVAL;
+}
+
+/* After the leave another thread may destroy the mutex. */
+static inline int unlock(struct line *line) {
+    if (counts() && qolb_lock_holder(&line->lock)) count_leaving(line);
+    if (qolb_lock_leave(&line->lock) != QOLB_DONE) qolb_lock_leave_for_another_(&line->lock);
+    return 0;
+}
+
+/* As in the C library, a time that is none is an error only if the mutex is not free. */
+static int lock_until(struct line *line, clockid_t clock, const struct timespec *end) {
+    if (is_time(end)) return told(line, qolb_lock_enter_unasked_(&line->lock, until(clock, end)));
+    uint32_t got = qolb_lock_try(&line->lock);
+    return got == QOLB_GRANTED ? told(line, got) : EINVAL;
+}
+
+/* What the mutex was before is forgotten, at its next use. */
+int pthread_mutex_init(pthread_mutex_t *mutex, const pthread_mutexattr_t *attributes) {
+    int got = real_mutex_init()(mutex, attributes);
+    if (got == 0) say(mutex, NULL, 0);
+    return got;
+}
+
+int pthread_mutex_destroy(pthread_mutex_t *mutex) {
+    int ordinary = is_ordinary(mutex), busy = 0;
+    atomic_uint *guard = qolb_guard_table_(MUTEXES, mutex);
+    struct entry *entry = qolb_find_(MUTEXES, mutex);
+    if (entry && ordinary && !says_nothing(mutex)) busy = is_of_this_process(entry) ? !is_free(entry->line) : is_held(entry);
+    if (entry && !busy) remove_entry(entry);
+    return_guard(guard);
+    int got = busy ? EBUSY : real_mutex_destroy()(mutex);
+    if (got == 0 && ordinary) say(mutex, NULL, 0);
+    return got;
+}
+
+int pthread_mutex_lock(pthread_mutex_t *mutex) {
+    struct line *line = line_of(mutex);
+    return line ? told(line, qolb_lock_enter_unasked_(&line->lock, FOR_EVER)) : real_mutex_lock()(mutex);
+}
+
+int pthread_mutex_trylock(pthread_mutex_t *mutex) {
+    struct line *line = line_of(mutex);
+    return line ? told(line, qolb_lock_try(&line->lock)) : real_mutex_trylock()(mutex);
+}
+
+int pthread_mutex_timedlock(pthread_mutex_t *mutex, const struct timespec *end) {
+    struct line *line = line_of(mutex);
+    return line ? lock_until(line, CLOCK_REALTIME, end) : real_mutex_timedlock()(mutex, end);
+}
+
+int pthread_mutex_clocklock(pthread_mutex_t *mutex, clockid_t clock, const struct timespec *end) {
+    struct line *line = is_clock(clock) ? line_of(mutex) : NULL;
+    return line ? lock_until(line, clock, end) : real_mutex_clocklock()(mutex, clock, end);
+}
+
+int pthread_mutex_unlock(pthread_mutex_t *mutex) {
+    struct line *line = line_of(mutex);
+    return line ? unlock(line) : real_mutex_unlock()(mutex);
+}
+
+/* ---- Condition variables ---- */
+
+/* Where the thread waits with a line. */
+static BY_THREAD struct {
+    qolb_cond *at;
+    unsigned cancels; /* as they were before it looked whether it is cancelled */
+} own_wait;
+
+/* The number of threads that were cancelled. */
+static atomic_uint cancels;
+
+static int is_waited_at(const struct entry *entry) { return is_of_this_process(entry) && __atomic_load_n(&entry->cond.own, __ATOMIC_SEQ_CST); }
+
+/* Where threads wait with lines for this condition; NULL if there is no memory. Those that waited in the parent of this process are not here. */
+static qolb_cond *cond_of(const pthread_cond_t *condition) {
+    atomic_uint *guard = qolb_guard_table_(CONDITIONS, condition);
+    struct entry *entry = qolb_find_(CONDITIONS, condition);
+    if (!entry) entry = qolb_add_(CONDITIONS, condition);
+    if (entry && !is_of_this_process(entry)) {
+        entry->cond = (qolb_cond)QOLB_COND_INIT;
+        entry->process = qolb_process_();
+    }
+    return_guard(guard);
+    return entry ? &entry->cond : NULL;
+}
+
+/* Without memory it waits a moment, and returns for no reason. */
+static int wait_a_moment(struct line *line, uint64_t nanoseconds) {
+    enum { MOMENT = 1000000 };
+    atomic_uint word = 0;
+    unlock(line);
+    qolb_sleep_at_(&word, 0, nanoseconds < MOMENT ? nanoseconds : MOMENT);
+    told(line, qolb_lock_enter_unasked_(&line->lock, FOR_EVER));
+    pthread_testcancel();
+    return nanoseconds <= MOMENT ? ETIMEDOUT : 0;
+}
+
+/* Waits with a line at most this long, and has it again. A thread may be cancelled here, as where the C library waits, with the mutex locked. */
+static int wait_at(struct line *line, pthread_cond_t *condition, uint64_t nanoseconds) {
+    if (!qolb_lock_turn(&line->lock)) return EPERM;
+    own_wait.cancels = atomic_load(&cancels);
+    pthread_testcancel();
+    own_wait.at = cond_of(condition);
+    if (!own_wait.at) return wait_a_moment(line, nanoseconds);
+    count_leaving(line);
+    atomic_fetch_add(&line->waiting, 1);
+    uint32_t got = qolb_cond_wait_within(own_wait.at, &line->lock, nanoseconds);
+    own_wait.at = NULL;
+    atomic_fetch_sub(&line->waiting, 1);
+    told(line, QOLB_GRANTED);
+    pthread_testcancel();
+    return got == QOLB_LATE ? ETIMEDOUT : 0;
+}
+
+static int wait_until(struct line *line, pthread_cond_t *condition, clockid_t clock, const struct timespec *end) {
+    return is_time(end) ? wait_at(line, condition, until(clock, end)) : EINVAL;
+}
+
+int pthread_cond_wait(pthread_cond_t *condition, pthread_mutex_t *mutex) {
+    struct line *line = line_of(mutex);
+    return line ? wait_at(line, condition, FOR_EVER) : real_cond_wait()(condition, mutex);
+}
+
+int pthread_cond_timedwait(pthread_cond_t *condition, pthread_mutex_t *mutex, const struct timespec *end) {
+    struct line *line = line_of(mutex);
+    clockid_t clock = condition->__data.__wrefs & 2 ? CLOCK_MONOTONIC : CLOCK_REALTIME;
+    return line ? wait_until(line, condition, clock, end) : real_cond_timedwait()(condition, mutex, end);
+}
+
+int pthread_cond_clockwait(pthread_cond_t *condition, pthread_mutex_t *mutex, clockid_t clock, const struct timespec *end) {
+    struct line *line = is_clock(clock) ? line_of(mutex) : NULL;
+    return line ? wait_until(line, condition, clock, end) : real_cond_clockwait()(condition, mutex, clock, end);
+}
+
+/* Where threads wait with lines for this condition; NULL if none does. */
+static qolb_cond *waited_at(const pthread_cond_t *condition) {
+    atomic_uint *guard = qolb_guard_table_(CONDITIONS, condition);
+    struct entry *entry = qolb_find_(CONDITIONS, condition);
+    qolb_cond *cond = entry && is_waited_at(entry) ? &entry->cond : NULL;
+    return_guard(guard);
+    return cond;
+}
+
+/* The C library's condition is signalled, too: a thread may wait there with a mutex of the C library, and a signal may wake more than one. */
+int pthread_cond_signal(pthread_cond_t *condition) {
+    qolb_cond *cond = waited_at(condition);
+    if (cond) qolb_cond_signal(cond);
+    return real_cond_signal()(condition);
+}
+
+int pthread_cond_broadcast(pthread_cond_t *condition) {
+    qolb_cond *cond = waited_at(condition);
+    if (cond) qolb_cond_broadcast(cond);
+    return real_cond_broadcast()(condition);
+}
+
+int pthread_cond_destroy(pthread_cond_t *condition) {
+    atomic_uint *guard = qolb_guard_table_(CONDITIONS, condition);
+    struct entry *entry = qolb_find_(CONDITIONS, condition);
+    int waited = entry && is_waited_at(entry);
+    if (entry && !waited) __atomic_store_n(&entry->address, NULL, __ATOMIC_RELEASE);
+    return_guard(guard);
+    return waited ? EBUSY : real_cond_destroy()(condition);
+}
+
+/* ---- Cancelling ----
+ *
+ * A thread that is cancelled while it waits with a line has to return. So whoever cancels one wakes all that wait with lines, which may return for no reason.
+ * A waiter stands in its list before it sleeps, and then loads the number of those that were cancelled; who cancels adds to that number before it looks at
+ * the lists. So one of the two sees the other. */
+
+static void wake_all(struct entry *entry) {
+    if (is_waited_at(entry)) qolb_cond_broadcast(&entry->cond);
+}
+
+int pthread_cancel(pthread_t thread) {
+    int got = real_cancel()(thread);
+    atomic_fetch_add(&cancels, 1);
+    qolb_for_each_(CONDITIONS, wake_all);
+    return got;
+}
+
+/* The library's sleep, by the linker's option --wrap. At a condition a thread sleeps while its word is 0. */
+HIDDEN void __real_qolb_sleep_at_(atomic_uint *word, unsigned value, uint64_t nanoseconds);
+HIDDEN void __wrap_qolb_sleep_at_(atomic_uint *word, unsigned value, uint64_t nanoseconds);
+
+void __wrap_qolb_sleep_at_(atomic_uint *word, unsigned value, uint64_t nanoseconds) {
+    unsigned now = atomic_load(&cancels);
+    if (value == 0 && own_wait.at && own_wait.cancels != now) {
+        own_wait.cancels = now;
+        qolb_cond_broadcast(own_wait.at);
+    } else {
+        __real_qolb_sleep_at_(word, value, nanoseconds);
+    }
+}

@@ -1,0 +1,274 @@
+/* The calls on nodes, as the library exports them: each is the proved one, but for a node that a lock has lent (qolb_lock_turn). With a lent node its
+ * holder reads and writes the line, and every call that would change the node's state is misuse: its lock would not know of it. Only opening and
+ * closing write to a handle, so threads may have theirs side by side, as qolb_open writes them.
+ *
+ * The calls that wait for a turn are here, too, and those by which a node is told of its turn (notify.c). All that release a line ring its bells
+ * (bells.h). This is tested, not proved. So is the memory of an open line beside its table. */
+#define _GNU_SOURCE
+#include "bells.h"
+#include "probes.h"
+#include <errno.h>
+#include <sched.h>
+#include <unistd.h>
+#ifdef __linux__
+#include <sys/syscall.h>
+#endif
+
+/* The longest sleep of a busy node in nanoseconds: no call rings for it. */
+enum { NAP = 200000 };
+
+/* ---- Opening ---- */
+
+/* The number of nodes that sleep at bells or have a notice in a list, of any line that is no lock's. A release loads it, and nothing more while it is 0. */
+static struct {
+    _Alignas(APART) atomic_uint waiting;
+} anywhere;
+
+/* The first bells of lines that are opened one after another are far apart: the next is behind this one by the golden part of all bells. */
+enum { NEXT_BELLS = 633 };
+
+uint32_t qolb_open(uint32_t kind, uint64_t label, uint64_t nodes, uint64_t lease, const qolb_bytes *opening, qolb_node *out, size_t handles) {
+    static atomic_uint drawn;
+    uint32_t got = qolb_open_proved_(kind, label, nodes, lease, opening, out, handles);
+    if (got != QOLB_DONE) return got;
+    uint32_t bell = atomic_fetch_add(&drawn, NEXT_BELLS);
+    for (uint64_t k = 0; k < nodes; k++) {
+        *first_bell_of(&out[k]) = bell;
+        *notice_of(&out[k]) = (struct notice){.in_line = &qolb_bells_[bell % BELLS].in_line, .in_all = &anywhere.waiting};
+    }
+    return got;
+}
+
+/* ---- Releasing a line ---- */
+
+__attribute__((noinline)) static uint32_t rung(qolb_node *node, uint32_t got) {
+    ring_for(next_of(node));
+    return got;
+}
+
+/* The number of the line's nodes among those, and of nodes of the few lines that have the same first bell. */
+static inline atomic_uint *waiting_in_line(const qolb_node *node) { return notice_of(node)->in_line; }
+
+/* After a misuse there may be no node. */
+static inline int rings(const qolb_node *node, uint32_t got) { return got != QOLB_MISUSE && atomic_load(waiting_in_line(node)); }
+
+/* The answer of a call that released the line. The load is behind the release: the proved call hands the line over by an instruction that no load
+ * passes. */
+static inline uint32_t let_go(qolb_node *node, uint32_t got) { return atomic_load(&anywhere.waiting) && rings(node, got) ? rung(node, got) : got; }
+
+/* The answer of any other call. A node that is told that the line is closed has forwarded it. */
+static inline uint32_t told(qolb_node *node, uint32_t got) { return got == QOLB_CLOSED ? let_go(node, got) : got; }
+
+#define MOVES(call, then)                                                                          \
+    uint32_t call(qolb_node *node) {                                                               \
+        return qolb_is_lent_(node) ? (uint32_t)QOLB_MISUSE : then(node, call##_proved_(node));     \
+    }
+
+MOVES(qolb_enqolb, told)
+MOVES(qolb_poll, told)
+MOVES(qolb_withdraw, told)
+MOVES(qolb_prepend, told)
+MOVES(qolb_link, told)
+MOVES(qolb_deqolb, let_go)
+MOVES(qolb_shut, let_go)
+
+uint32_t qolb_wait(qolb_node *node, uint64_t polls) {
+    return qolb_is_lent_(node) ? (uint32_t)QOLB_MISUSE : told(node, qolb_wait_proved_(node, polls));
+}
+
+uint32_t qolb_clear(qolb_node *node) { return qolb_is_lent_(node) ? (uint32_t)QOLB_MISUSE : qolb_clear_proved_(node); }
+
+static int may_close(qolb_node *node) {
+    uint32_t state = qolb_state_proved_(node);
+    return state == QOLB_STATE_IDLE || state == QOLB_STATE_LEFT || state == QOLB_STATE_ROLLED || state == QOLB_STATE_SHUT;
+}
+
+/* Its notice is in the node's block. */
+uint32_t qolb_close(qolb_node *node) {
+    if (qolb_is_lent_(node)) return QOLB_MISUSE;
+    if (may_close(node)) qolb_notify_off(node);
+    return qolb_close_proved_(node);
+}
+
+/* ---- Waiting for a turn ---- */
+
+/* Polls for some 1.5 us, and yields the processor 16 times with a poll after each, while there is time: GRANTED, CLOSED, WAITING. */
+static uint32_t look_a_while(qolb_node *node, const struct limit *limit) {
+    uint32_t got = qolb_wait_proved_(node, qolb_looks_());
+    for (int k = 0; got == QOLB_WAITING && k < YIELDS && left(limit); k++) {
+        sched_yield();
+        got = qolb_poll_proved_(node);
+    }
+    return got;
+}
+
+/* The node's place does not change until it is granted the line. */
+static uint32_t sleep_at_bell(qolb_node *node, const struct limit *limit) {
+    struct bell *bell = bell_at(node, qolb_waits_at_proved_(node));
+    atomic_fetch_add(&bell->sleepers, 1);
+    atomic_fetch_add(waiting_in_line(node), 1);
+    atomic_fetch_add(&anywhere.waiting, 1);
+    unsigned word = atomic_load(&bell->word);
+    uint32_t got = qolb_poll_proved_(node);
+    uint64_t time = got == QOLB_WAITING ? left(limit) : 0;
+    if (time) {
+        PROBE(sleep, of_node(node));
+        qolb_sleep_at_(&bell->word, word, time);
+        PROBE(wake, of_node(node));
+    }
+    atomic_fetch_sub(&anywhere.waiting, 1);
+    atomic_fetch_sub(waiting_in_line(node), 1);
+    atomic_fetch_sub(&bell->sleepers, 1);
+    return got;
+}
+
+static uint32_t give_up(qolb_node *node) {
+    uint32_t got = qolb_withdraw_proved_(node);
+    return got == QOLB_WITHDRAWN ? (uint32_t)QOLB_LATE : got;
+}
+
+/* Waits until the request is at its turn: GRANTED, CLOSED, LATE. */
+static uint32_t await(qolb_node *node, const struct limit *limit) {
+    for (;;) {
+        uint32_t got = look_a_while(node, limit);
+        if (got == QOLB_WAITING && left(limit)) got = sleep_at_bell(node, limit);
+        if (got != QOLB_WAITING) return got;
+        if (left(limit) == 0) return give_up(node);
+    }
+}
+
+static void nap(uint64_t most) {
+    atomic_uint nobody_rings = 0;
+    qolb_sleep_at_(&nobody_rings, 0, most < NAP ? most : NAP);
+}
+
+/* Repeats the request while the node is busy: the final answer, or LATE. */
+static uint32_t ask_again(qolb_node *node, const struct limit *limit) {
+    uint32_t got = QOLB_BUSY;
+    for (unsigned k = 0; got == QOLB_BUSY; k++) {
+        uint64_t time = left(limit);
+        if (time == 0) return QOLB_LATE;
+        if (k < YIELDS) sched_yield();
+        else nap(time);
+        got = qolb_enqolb_proved_(node);
+    }
+    return got;
+}
+
+/* The wait of a node that is busy, or whose request waits: GRANTED, CLOSED, LATE. */
+static uint32_t waited(qolb_node *node, uint32_t got, const struct limit *limit) {
+    PROBE(wait, of_node(node));
+    if (got == QOLB_BUSY) got = ask_again(node, limit);
+    if (got == QOLB_QUEUED) got = await(node, limit);
+    PROBE_END(got, of_node(node));
+    return got;
+}
+
+/* The answer of a waiting call, for a node that made a request and was not granted the line at once. */
+__attribute__((noinline)) static uint32_t acquired(qolb_node *node, uint32_t got, struct limit limit) {
+    if (got == QOLB_BUSY || got == QOLB_QUEUED) got = waited(node, got, &limit);
+    return told(node, got);
+}
+
+static inline uint32_t acquire(qolb_node *node, uint64_t nanoseconds) {
+    if (qolb_is_lent_(node)) return QOLB_MISUSE;
+    struct limit limit = from_now(nanoseconds);
+    uint32_t got = qolb_enqolb_proved_(node);
+    return got == QOLB_GRANTED ? got : acquired(node, got, limit);
+}
+
+uint32_t qolb_acquire(qolb_node *node) { return acquire(node, FOR_EVER); }
+
+uint32_t qolb_acquire_within(qolb_node *node, uint64_t nanoseconds) { return acquire(node, nanoseconds); }
+
+/* ---- Being told of a turn (notify.c) ---- */
+
+uint32_t qolb_notify(qolb_node *node, void (*call)(void *), void *arg) {
+    if (qolb_is_lent_(node) || !call || qolb_state_proved_(node) != QOLB_STATE_QUEUED) return QOLB_MISUSE;
+    struct notice *notice = notice_of(node);
+    qolb_notify_off(node);
+    notice->call = call;
+    notice->arg = arg;
+    uint32_t got = qolb_listen_(notice, node);
+    if (got != QOLB_WAITING) notice->call = NULL;
+    return told(node, got);
+}
+
+uint32_t qolb_notify_off(qolb_node *node) {
+    if (qolb_is_lent_(node) || !node->own) return QOLB_MISUSE;
+    struct notice *notice = notice_of(node);
+    if (!notice->call) return QOLB_DONE;
+    uint32_t got = qolb_unlist_(notice);
+    notice->call = NULL;
+    return got;
+}
+
+/* By syscall, which is no cancellation point, as write is. The thread that releases the line keeps its errno. */
+void qolb_add_to_descriptor_(void *fd) {
+    uint64_t one = 1;
+    int error = errno;
+#ifdef __linux__
+    syscall(SYS_write, (int)(intptr_t)fd, &one, sizeof one);
+#else
+    (void)!write((int)(intptr_t)fd, &one, sizeof one);
+#endif
+    errno = error;
+}
+
+uint32_t qolb_notify_fd(qolb_node *node, int fd) { return qolb_notify(node, qolb_add_to_descriptor_, (void *)(intptr_t)fd); }
+
+/* ---- The others ---- */
+
+/* The node of a call: for a lent one the holder's, if the caller is the holder, else NULL. */
+static inline qolb_node *meant(qolb_node *node) { return qolb_is_lent_(node) ? qolb_lent_(node) : node; }
+
+uint32_t qolb_read(qolb_node *node, qolb_bytes *out) {
+    if (!(node = meant(node))) return QOLB_MISUSE;
+    return qolb_read_proved_(node, out);
+}
+
+uint32_t qolb_write(qolb_node *node, uint64_t mask, const qolb_bytes *bytes) {
+    if (!(node = meant(node))) return QOLB_MISUSE;
+    return qolb_write_proved_(node, mask, bytes);
+}
+
+uint32_t qolb_read_lane(qolb_node *node, uint64_t lane, uint64_t *out) {
+    if (!(node = meant(node))) return QOLB_MISUSE;
+    return qolb_read_lane_proved_(node, lane, out);
+}
+
+uint32_t qolb_write_lane(qolb_node *node, uint64_t lane, uint64_t value) {
+    if (!(node = meant(node))) return QOLB_MISUSE;
+    return qolb_write_lane_proved_(node, lane, value);
+}
+
+uint32_t qolb_add_lane(qolb_node *node, uint64_t lane, uint64_t by, uint64_t *was) {
+    if (!(node = meant(node))) return QOLB_MISUSE;
+    return qolb_add_lane_proved_(node, lane, by, was);
+}
+
+/* 0 for a node by which the caller does not hold, as for an empty handle. */
+#define SAYS(result, call)                                                                 \
+    result call(qolb_node *node) {                                                         \
+        if (!(node = meant(node))) return 0;                                               \
+        return call##_proved_(node);                                                       \
+    }
+
+SAYS(uint64_t, qolb_turns_left)
+SAYS(uint64_t, qolb_number)
+SAYS(uint64_t, qolb_label)
+SAYS(uint32_t, qolb_state)
+
+/* ---- Memory ----
+ *
+ * The bytes that an open line keeps, as its blocks are allocated (gaps.h). The proved part returns those of its table. The other blocks always
+ * have the same sizes, as c/tests/memory.c counts. Each is a multiple of 128 bytes, and 128 more are asked for so that it begins at one. */
+uint64_t qolb_memory(uint32_t kind, uint64_t nodes) {
+    uint64_t table = qolb_memory_proved_(kind, nodes);
+    if (table == 0) return 0;
+    uint64_t blocks = TABLE_BLOCKS + 1 + nodes;
+    return table + KEPT_BYTES(LINE_BYTES) + nodes * KEPT_BYTES(NODE_BYTES) + blocks * GAP_BYTES;
+}
+
+/* The version of the released library, with its parts in C: the proved part's is that of the last release that changed it. */
+uint32_t qolb_version(void) { return QOLB_VERSION; }

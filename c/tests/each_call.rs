@@ -1,0 +1,276 @@
+//! Each call of a node in each of its states, over a line of each kind: its answer, and the state after it; the text of nodes and answers; and that a
+//! thread that is cancelled while it waits goes on. Prints only errors.
+#[path = "../rust/qolb.rs"]
+mod qolb;
+
+use qolb::{Answer, Bytes, Guard, Kind, Node, State, Stopped};
+use std::error::Error;
+use std::os::unix::thread::JoinHandleExt;
+use std::sync::mpsc;
+use std::thread;
+use std::time::{Duration, Instant};
+
+const LABEL: u64 = 7;
+const LEASE: u64 = 9;
+const SHORT: Duration = Duration::from_micros(50);
+/// The states of a node, in the order of the columns below. Only a link line has `Linking` and `Left`.
+const STATES: [State; 7] = [State::Idle, State::Linking, State::Queued, State::Holding, State::Left, State::Rolled, State::Shut];
+
+/// A line of three nodes. `node` is the second, in the wanted state: if it waits or was withdrawn, the first holds the line, and if it has left, the
+/// third has not linked yet.
+struct Line {
+    node: Node,
+    first: Node,
+    third: Node,
+}
+
+impl Line {
+    fn new(kind: Kind, state: State) -> Line {
+        let mut nodes = qolb::open(kind, LABEL, 3, Some(LEASE), &Bytes([0; 64])).unwrap();
+        let (mut third, mut node, mut first) = (nodes.pop().unwrap(), nodes.pop().unwrap(), nodes.pop().unwrap());
+        match state {
+            State::Empty | State::Idle => {}
+            State::Linking => {
+                assert_eq!(first.acquire(), Answer::Granted);
+                assert_eq!(node.prepend(), Answer::Linking);
+            }
+            State::Queued => {
+                assert_eq!(first.acquire(), Answer::Granted);
+                assert_eq!(node.enqolb(), Answer::Queued);
+            }
+            State::Holding => assert_eq!(node.acquire(), Answer::Granted),
+            State::Left => {
+                assert_eq!(node.acquire(), Answer::Granted);
+                assert_eq!(third.prepend(), Answer::Linking);
+                assert_eq!(node.deqolb(), Answer::Done);
+            }
+            State::Rolled => {
+                assert_eq!(first.acquire(), Answer::Granted);
+                assert_eq!(node.enqolb(), Answer::Queued);
+                assert_eq!(node.withdraw(), Answer::Withdrawn);
+            }
+            State::Shut => {
+                assert_eq!(node.acquire(), Answer::Granted);
+                assert_eq!(node.shut(), Answer::Done);
+            }
+        }
+        assert_eq!(node.state(), state);
+        Line { node, first, third }
+    }
+
+    /// Makes the call while another thread releases the line, so that a call that waits as long as it takes does not wait for ever.
+    fn meanwhile<T>(&mut self, call: impl FnOnce(&mut Node) -> T) -> T {
+        let Line { node, first, third } = self;
+        thread::scope(|scope| {
+            scope.spawn(move || {
+                thread::sleep(Duration::from_millis(2));
+                let _ = third.link();
+                third.deqolb();
+                first.deqolb();
+            });
+            call(node)
+        })
+    }
+}
+
+/// The result of a call of a guard: whether there was one, or the cause.
+fn of_guard(told: Result<Option<Guard<'_>>, Stopped>) -> String {
+    match told {
+        Ok(Some(turn)) => format!("{turn:?}").contains("Holding").to_string(),
+        Ok(None) => "None".to_string(),
+        Err(stopped) => format!("{stopped:?}"),
+    }
+}
+
+/// A call, its answer in each state, as `Debug` writes it, and the state after it.
+type Row = (&'static str, fn(&mut Line) -> String, [&'static str; 7], [State; 7]);
+
+fn told(answer: Answer) -> String {
+    format!("{answer:?}")
+}
+
+use State::{Holding, Idle, Left, Linking, Queued, Rolled, Shut};
+
+const STAYS: [State; 7] = STATES;
+const NO: &str = "Misuse";
+
+#[rustfmt::skip]
+const ROWS: [Row; 28] = [
+    ("enqolb", |l| told(l.node.enqolb()), ["Granted", NO, NO, NO, "Busy", "Busy", "Closed"], [Holding, Linking, Queued, Holding, Left, Rolled, Shut]),
+    ("clear", |l| told(l.node.clear()), ["Done", NO, NO, NO, "Busy", "Busy", "Done"], STAYS),
+    ("poll", |l| told(l.node.poll()), [NO, NO, "Waiting", NO, NO, NO, NO], STAYS),
+    ("wait", |l| told(l.node.wait(3)), [NO, NO, "Waiting", NO, NO, NO, NO], STAYS),
+    ("wait for no poll", |l| told(l.node.wait(0)), [NO; 7], STAYS),
+    ("withdraw", |l| told(l.node.withdraw()), [NO, NO, "Withdrawn", NO, NO, NO, NO], [Idle, Linking, Rolled, Holding, Left, Rolled, Shut]),
+    ("link", |l| told(l.node.link()), [NO, "Queued", NO, NO, NO, NO, NO], [Idle, Queued, Queued, Holding, Left, Rolled, Shut]),
+    ("read", |l| l.node.read().is_some().to_string(), ["false", "false", "false", "true", "false", "false", "false"], STAYS),
+    ("write", |l| told(l.node.write(1, &Bytes([1; 64]))), [NO, NO, NO, "Done", NO, NO, NO], STAYS),
+    ("read_lane", |l| format!("{:?}", l.node.read_lane(7)), ["None", "None", "None", "Some(0)", "None", "None", "None"], STAYS),
+    ("read_lane of none", |l| format!("{:?}", l.node.read_lane(8)), ["None"; 7], STAYS),
+    ("write_lane", |l| told(l.node.write_lane(7, 1)), [NO, NO, NO, "Done", NO, NO, NO], STAYS),
+    ("write_lane of none", |l| told(l.node.write_lane(8, 1)), [NO; 7], STAYS),
+    ("add_lane", |l| format!("{:?}", l.node.add_lane(7, 1)), ["None", "None", "None", "Some(0)", "None", "None", "None"], STAYS),
+    ("add_lane of none", |l| format!("{:?}", l.node.add_lane(8, 1)), ["None"; 7], STAYS),
+    ("deqolb", |l| told(l.node.deqolb()), [NO, NO, NO, "Done", NO, NO, NO], [Idle, Linking, Queued, Idle, Left, Rolled, Shut]),
+    ("shut", |l| told(l.node.shut()), [NO, NO, NO, "Done", NO, NO, NO], [Idle, Linking, Queued, Shut, Left, Rolled, Shut]),
+    ("turns_left", |l| l.node.turns_left().to_string(), ["0", "0", "0", "9", "0", "0", "0"], STAYS),
+    ("number", |l| l.node.number().to_string(), ["2"; 7], STAYS),
+    ("label", |l| l.node.label().to_string(), ["7"; 7], STAYS),
+    ("acquire", |l| l.meanwhile(|node| told(node.acquire())), ["Granted", NO, NO, NO, "Granted", "Granted", "Closed"], [Holding, Linking, Queued, Holding, Holding, Holding, Shut]),
+    ("try_acquire", |l| told(l.node.try_acquire()), ["Granted", NO, NO, NO, "Busy", "Busy", "Closed"], [Holding, Linking, Queued, Holding, Left, Rolled, Shut]),
+    ("acquire_for", |l| told(l.node.acquire_for(SHORT)), ["Granted", NO, NO, NO, "Late", "Late", "Closed"], [Holding, Linking, Queued, Holding, Left, Rolled, Shut]),
+    ("lock", |l| l.meanwhile(|node| of_guard(node.lock().map(Some))), ["true", NO, NO, NO, "true", "true", "Closed"], [Idle, Linking, Queued, Holding, Idle, Idle, Shut]),
+    ("try_lock", |l| of_guard(l.node.try_lock()), ["true", NO, NO, NO, "None", "None", "Closed"], [Idle, Linking, Queued, Holding, Left, Rolled, Shut]),
+    ("try_lock_for", |l| of_guard(l.node.try_lock_for(SHORT)), ["true", NO, NO, NO, "None", "None", "Closed"], [Idle, Linking, Queued, Holding, Left, Rolled, Shut]),
+    ("try_lock_until", |l| of_guard(l.node.try_lock_until(Instant::now() + SHORT)), ["true", NO, NO, NO, "None", "None", "Closed"], [Idle, Linking, Queued, Holding, Left, Rolled, Shut]),
+    ("a move", |l| { let Line { node, .. } = l; let boxed = Box::new(node); format!("{:?}", boxed.state()) }, ["Idle", "Linking", "Queued", "Holding", "Left", "Rolled", "Shut"], STAYS),
+];
+
+fn prepends(line: &mut Line) -> String {
+    told(line.node.prepend())
+}
+
+/// A busy node is not busy any more.
+fn is_clear_then(line: &mut Line) -> String {
+    let _ = line.third.link();
+    line.third.deqolb();
+    line.first.deqolb();
+    told(line.node.clear())
+}
+
+/// Only a link line has the first half of a request, and the state of a node that is not busy any more.
+#[rustfmt::skip]
+const OF_LINK: [Row; 2] = [
+    ("prepend", prepends, ["Granted", NO, NO, NO, "Busy", "Busy", "Closed"], [Holding, Linking, Queued, Holding, Left, Rolled, Shut]),
+    ("clear, where the line has gone on", is_clear_then, ["Done", NO, NO, NO, "Done", "Done", "Done"], [Idle, Linking, Queued, Holding, Idle, Idle, Shut]),
+];
+const OF_OTHERS: [Row; 2] = [("prepend", prepends, [NO; 7], STAYS), ("clear, where the line has gone on", is_clear_then, ["Done", NO, NO, NO, NO, "Done", "Done"], STAYS)];
+
+fn holds(kind: Kind, state: State, row: &Row, column: usize) {
+    let (name, call, tells, then) = row;
+    let mut line = Line::new(kind, state);
+    let got = call(&mut line);
+    assert_eq!((got.as_str(), line.node.state()), (tells[column], then[column]), "{name} of a {kind:?} in the state {state:?}");
+}
+
+/// A node is closed if it neither waits nor holds, and is given back if it does.
+fn closes(kind: Kind, state: State) {
+    let line = Line::new(kind, state);
+    let may = matches!(state, Idle | Left | Rolled | Shut);
+    match line.node.close() {
+        Ok(()) => assert!(may, "a node was closed in the state {state:?}"),
+        Err(mut node) => assert!(!may && node.state() == state, "a node was not closed in the state {state:?}"),
+    }
+}
+
+fn each_call(kind: Kind) {
+    for (column, state) in STATES.into_iter().enumerate() {
+        if kind != Kind::Link && matches!(state, Linking | Left) {
+            continue;
+        }
+        let more = if kind == Kind::Link { &OF_LINK } else { &OF_OTHERS };
+        for row in ROWS.iter().chain(more) {
+            holds(kind, state, row, column);
+        }
+        closes(kind, state);
+    }
+}
+
+/// What each answer is called where it is printed, by `Display`.
+#[rustfmt::skip]
+const TEXTS: [(Answer, &str); 16] = [
+    (Answer::Done, "done"),
+    (Answer::Granted, "the node holds the line"),
+    (Answer::Queued, "the request waits"),
+    (Answer::Waiting, "the request waits still"),
+    (Answer::Linking, "the request stands behind another, and is not linked yet"),
+    (Answer::Withdrawn, "the request is withdrawn"),
+    (Answer::Closed, "the line is closed"),
+    (Answer::Busy, "the node's last request is not cleared away yet, or others have the line"),
+    (Answer::Misuse, "the node does not allow the call"),
+    (Answer::NoMemory, "out of memory"),
+    (Answer::BadNodes, "a line has 1 to 200 nodes"),
+    (Answer::BadLease, "a lease has at least one turn"),
+    (Answer::BadKind, "no such kind of line"),
+    (Answer::TooFew, "fewer handles than nodes"),
+    (Answer::Occupied, "one of the handles has a node"),
+    (Answer::Late, "the time is over, and the request is withdrawn"),
+];
+
+/// `?` takes what opening and a lock refuse, in a function whose error is any.
+fn asks(nodes: u64, shuts: bool) -> Result<u64, Box<dyn Error>> {
+    let mut opened = qolb::open(Kind::Ring, LABEL, nodes, None, &Bytes([0; 64]))?;
+    if shuts {
+        opened[0].lock()?.shut();
+    }
+    let mut turn = opened[0].lock()?;
+    turn.set_lane(0, 5);
+    Ok(turn.lane(0))
+}
+
+fn says() {
+    for (answer, text) in TEXTS {
+        assert_eq!(answer.to_string(), text);
+    }
+    assert_eq!(Stopped::Closed.to_string(), "the line is closed");
+    assert_eq!((Kind::DEFAULT, Kind::default()), (Kind::Ticket, Kind::Ticket));
+    assert_eq!(Kind::ALL.map(Kind::name), ["ring", "link", "ticket"]);
+    assert_eq!(Kind::Link.to_string(), "link");
+    assert!(matches!(Kind::Link, Kind::List)); // the former name
+    assert_eq!(asks(1, false).unwrap(), 5);
+    assert_eq!(asks(201, false).unwrap_err().to_string(), "a line has 1 to 200 nodes");
+    assert_eq!(asks(1, true).unwrap_err().to_string(), "the line is closed");
+    assert_eq!(Stopped::Misuse.to_string(), "the node waits or holds already, or the thread holds the lock");
+    assert_eq!(qolb::open(Kind::Link, 1, 2, Some(0), &Bytes([0; 64])).unwrap_err().to_string(), "a lease has at least one turn");
+    let line = Line::new(Kind::Ring, Queued);
+    assert_eq!(format!("{:?}", line.node), "Node { number: 2, label: 7, state: Queued }");
+    let mut held = Line::new(Kind::Ticket, Idle);
+    assert_eq!(format!("{:?}", held.node.lock().unwrap()), "Guard(Node { number: 2, label: 7, state: Holding })");
+    assert_eq!(held.node.lock().unwrap().turns_left(), Some(LEASE - 1));
+}
+
+/// What a link line of three nodes keeps: 256 bytes and 128 for each node, the line, three nodes, each a multiple of 128, and 128 more for each of
+/// six blocks.
+fn tells_memory() {
+    assert_eq!(qolb::memory(Kind::Link, 3), Some(256 + 3 * 128 + 128 + 3 * 256 + 6 * 128));
+    assert_eq!((qolb::memory(Kind::Link, 0), qolb::memory(Kind::Link, 201)), (None, None));
+}
+
+unsafe extern "C" {
+    safe fn alarm(seconds: u32) -> u32;
+    fn pthread_cancel(thread: std::os::unix::thread::RawPthread) -> i32;
+    fn pthread_setcancelstate(state: i32, old: &mut i32) -> i32;
+}
+
+/// A thread that is cancelled while it sleeps in a wait goes on waiting, and is granted the line.
+fn is_cancelled(kind: Kind) {
+    const DISABLE: i32 = 1;
+    let Line { mut node, mut first, .. } = Line::new(kind, Idle);
+    assert_eq!(first.acquire(), Answer::Granted);
+    let (tells, told) = mpsc::channel();
+    let waiter = thread::spawn(move || {
+        let got = node.acquire_for(Duration::from_secs(60));
+        let mut was = 0;
+        // SAFETY: it changes this thread's own state alone. Nothing before it since the wait is a cancellation point.
+        unsafe { pthread_setcancelstate(DISABLE, &mut was) };
+        tells.send((got, was, node.deqolb())).unwrap();
+    });
+    thread::sleep(Duration::from_millis(20));
+    // SAFETY: the thread is not joined yet.
+    assert_eq!(unsafe { pthread_cancel(waiter.as_pthread_t()) }, 0);
+    thread::sleep(Duration::from_millis(20));
+    assert_eq!(first.deqolb(), Answer::Done);
+    assert_eq!(told.recv().unwrap(), (Answer::Granted, 0, Answer::Done));
+    waiter.join().unwrap();
+    assert_eq!(first.acquire(), Answer::Granted);
+}
+
+fn main() {
+    alarm(300); // where a turn is lost, who waits for it does not end
+    says();
+    tells_memory();
+    for kind in Kind::ALL {
+        each_call(kind);
+        is_cancelled(kind);
+    }
+}

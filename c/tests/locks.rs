@@ -1,0 +1,400 @@
+//! The locks of qolb.rs by threads that come and go: a mutex, a condition, a value in the line; with time limits, shut, and by panics. Prints only
+//! errors.
+#[path = "../rust/qolb.rs"]
+mod qolb;
+
+use qolb::{Answer, Bytes, Condition, Kind, Lock, LockGuard, MappedMutexGuard, Mutex, MutexGuard, RawQolb, Stopped};
+use std::cell::Cell;
+use std::fmt;
+use std::panic::{self, RefUnwindSafe, UnwindSafe};
+use std::sync::mpsc;
+use std::thread::{self, ScopedJoinHandle};
+use std::time::{Duration, Instant};
+
+const THREADS: u64 = 8;
+const ROUNDS: u64 = 1_000;
+const MS: Duration = Duration::from_millis(1);
+
+static WORDS: Mutex<Vec<u64>> = Mutex::of_kind(Vec::new(), Kind::Link, 3);
+
+fn mutex_guards() {
+    for _wave in 0..2 {
+        thread::scope(|scope| {
+            for _ in 0..THREADS {
+                scope.spawn(|| {
+                    for k in 0..ROUNDS {
+                        WORDS.lock().unwrap().push(k);
+                    }
+                });
+            }
+        });
+    }
+    let words = WORDS.lock().unwrap();
+    assert_eq!(words.len() as u64, 2 * THREADS * ROUNDS);
+    assert_eq!(words.iter().sum::<u64>(), 2 * THREADS * (ROUNDS * (ROUNDS - 1) / 2));
+}
+
+fn mutex_answers() {
+    let mutex = Mutex::new(5);
+    assert_eq!(mutex.raw().holder(), None);
+    assert_eq!(mutex.raw().leave(), Answer::Misuse);
+    let held = mutex.lock().unwrap();
+    assert!(mutex.raw().holder().is_some());
+    assert_eq!(mutex.lock().err(), Some(Stopped::Misuse));
+    assert_eq!(mutex.try_lock_for(MS).err(), Some(Stopped::Misuse));
+    assert!(mutex.try_lock().unwrap().is_none());
+    thread::scope(|scope| {
+        scope.spawn(|| {
+            assert!(mutex.try_lock().unwrap().is_none());
+            let since = Instant::now();
+            assert!(mutex.try_lock_for(20 * MS).unwrap().is_none());
+            assert!(since.elapsed() >= 20 * MS);
+            let end = Instant::now() + 20 * MS;
+            assert!(mutex.try_lock_until(end).unwrap().is_none() && Instant::now() >= end);
+            assert!(mutex.try_lock_until(since).unwrap().is_none());
+            assert_eq!(mutex.raw().leave(), Answer::Misuse);
+        });
+    });
+    drop(held);
+    *mutex.try_lock().unwrap().unwrap() += 1;
+    *mutex.try_lock_until(Instant::now() + 1000 * MS).unwrap().unwrap() += 1;
+    let unwound = panic::catch_unwind(|| {
+        let mut held = mutex.lock().unwrap();
+        *held += 1;
+        panic!("in a turn");
+    });
+    assert!(unwound.is_err());
+    assert_eq!(*mutex.lock().unwrap(), 8);
+    mutex.lock().unwrap().shut();
+    assert_eq!(mutex.lock().err(), Some(Stopped::Closed));
+    assert_eq!(mutex.try_lock().err(), Some(Stopped::Closed));
+    assert_eq!(mutex.try_lock_for(MS).err(), Some(Stopped::Closed));
+    assert_eq!(mutex.try_lock_until(Instant::now() + MS).err(), Some(Stopped::Closed));
+    assert_eq!(format!("{mutex:?}"), "Mutex { data: <closed> }");
+    assert_eq!(mutex.into_inner(), 8);
+}
+
+fn prints(it: &impl fmt::Debug, text: &str) {
+    assert_eq!(format!("{it:?}"), text);
+}
+
+/// What a mutex, its guard and a condition have that those of the standard library have.
+fn are_as_others() {
+    assert_eq!(*Mutex::<u64>::default().lock().unwrap(), 0);
+    let mutex = Mutex::from((1u8, "two"));
+    prints(&mutex, "Mutex { data: (1, \"two\") }");
+    let mut held = mutex.lock().unwrap();
+    prints(&mutex, "Mutex { data: <locked> }");
+    prints(&held, "(1, \"two\")");
+    held.0 = 2;
+    drop(held);
+    prints(&mutex, "Mutex { data: (2, \"two\") }");
+    assert_eq!(Mutex::new(7).lock().unwrap().to_string(), "7");
+    let lock = Lock::<u32>::default();
+    prints(&lock, "Lock { data: 0 }");
+    let held = lock.try_lock_until(Instant::now() + 1000 * MS).unwrap().unwrap();
+    prints(&lock, "Lock { data: <locked> }");
+    assert_eq!((format!("{held:?}"), held.to_string()), ("0".to_string(), "0".to_string()));
+    held.shut();
+    prints(&lock, "Lock { data: <closed> }");
+    assert_eq!(lock.try_lock_until(Instant::now() + MS).err(), Some(Stopped::Closed));
+    prints(&Condition::new(), "Condition { .. }");
+    unwind_safe::<Mutex<Cell<u8>>>();
+    unwind_safe::<Lock<u8>>();
+    unwind_safe::<Condition>();
+}
+
+fn unwind_safe<T: UnwindSafe + RefUnwindSafe>() {}
+
+/// Of two impls of this for a type that is `Send`, no compiler takes one.
+trait Stays<Any> {
+    fn stays() {}
+}
+impl<T> Stays<()> for T {}
+impl<T: Send> Stays<u8> for T {}
+
+fn guards_of_parts() {
+    let mutex = Mutex::new((1, [2, 3]));
+    let part = MutexGuard::map(mutex.lock().unwrap(), |it| &mut it.1);
+    let mut last = MappedMutexGuard::map(part, |it| &mut it[1]);
+    assert_eq!((format!("{last:?}"), last.to_string()), ("3".to_string(), "3".to_string()));
+    *last += 1;
+    assert!(mutex.try_lock().unwrap().is_none());
+    drop(last);
+    assert_eq!(*mutex.lock().unwrap(), (1, [2, 4]));
+    let panics = panic::catch_unwind(|| MutexGuard::map(mutex.lock().unwrap(), |_| -> &mut u8 { panic!("in a turn") }).to_string());
+    assert!(panics.is_err() && mutex.try_lock().unwrap().is_some());
+    <MutexGuard<'_, u8> as Stays<_>>::stays();
+    <MappedMutexGuard<'_, u8> as Stays<_>>::stays();
+    <LockGuard<'_, u8> as Stays<_>>::stays();
+}
+
+/// A condition's waits by a predicate and with a time, as of `std::sync::Condvar`.
+fn waits_of_others() {
+    let (mutex, cond) = (Mutex::new(0), Condition::new());
+    thread::scope(|scope| {
+        let held = mutex.lock().unwrap();
+        scope.spawn(|| {
+            for _ in 0..4 {
+                *mutex.lock().unwrap() += 1; // so the other waits
+                cond.notify_one();
+                thread::sleep(MS);
+            }
+        });
+        let held = cond.wait_while(held, |it| *it < 2).unwrap();
+        assert!(*held >= 2);
+        let (held, told) = cond.wait_timeout_while(held, 60_000 * MS, |it| *it < 4).unwrap();
+        assert!(*held == 4 && !told.timed_out());
+    });
+    let (since, mut asked) = (Instant::now(), 0);
+    let (held, told) = cond.wait_timeout(mutex.lock().unwrap(), 10 * MS).unwrap();
+    assert!(told.timed_out() && since.elapsed() >= 10 * MS);
+    let (held, told) = cond.wait_timeout_while(held, 10 * MS, |_| true).unwrap();
+    assert!(told.timed_out() && since.elapsed() >= 20 * MS);
+    // The value has changed by the end of the time, without a signal.
+    let (held, told) = cond
+        .wait_timeout_while(held, 10 * MS, |_| {
+            asked += 1;
+            asked == 1
+        })
+        .unwrap();
+    assert!(!told.timed_out());
+    drop(held);
+    thread::scope(|scope| {
+        let held = mutex.lock().unwrap();
+        scope.spawn(|| mutex.lock().map(|_held| cond.notify_one()).unwrap());
+        assert!(!cond.wait_timeout(held, 60_000 * MS).unwrap().1.timed_out());
+    });
+}
+
+fn conditions() {
+    let (place, changed) = (Mutex::new(None::<u64>), Condition::new());
+    let sum = thread::scope(|scope| {
+        scope.spawn(|| {
+            for k in 1..=ROUNDS {
+                let mut held = place.lock().unwrap();
+                while held.is_some() {
+                    held = changed.wait(held).unwrap();
+                }
+                *held = Some(k);
+                changed.notify_one();
+            }
+        });
+        let taker = scope.spawn(|| {
+            let mut sum = 0;
+            for _ in 0..ROUNDS {
+                let mut held = place.lock().unwrap();
+                sum += loop {
+                    match held.take() {
+                        Some(value) => break value,
+                        None => held = changed.wait_for(held, MS).unwrap().0,
+                    }
+                };
+                changed.notify_all();
+            }
+            sum
+        });
+        taker.join().unwrap()
+    });
+    assert_eq!(sum, ROUNDS * (ROUNDS + 1) / 2);
+    let since = Instant::now();
+    let (held, told) = changed.wait_for(place.lock().unwrap(), 20 * MS).unwrap();
+    assert!(!told && since.elapsed() >= 20 * MS);
+    drop(held);
+    thread::scope(|scope| {
+        let held = place.lock().unwrap();
+        scope.spawn(|| {
+            drop(place.lock().unwrap()); // so the other waits
+            changed.notify_one();
+        });
+        let (_held, told) = changed.wait_for(held, 60_000 * MS).unwrap();
+        assert!(told);
+    });
+    let enters = std::sync::atomic::AtomicBool::new(false);
+    thread::scope(|scope| {
+        let waiter = scope.spawn(|| {
+            let held = place.lock().unwrap();
+            enters.store(true, std::sync::atomic::Ordering::SeqCst);
+            changed.wait(held).err()
+        });
+        while !enters.load(std::sync::atomic::Ordering::SeqCst) {
+            thread::yield_now();
+        }
+        place.lock().unwrap().shut();
+        assert_eq!(waiter.join().unwrap(), Some(Stopped::Closed));
+    });
+}
+
+#[derive(Clone, Copy)]
+struct Count {
+    hits: u64,
+    last: u8,
+}
+
+fn line_has_a_value() {
+    let lock = Lock::with_seats(Count { hits: 7, last: 0 }, 4).unwrap();
+    thread::scope(|scope| {
+        for thread in 0..THREADS {
+            let lock = &lock;
+            scope.spawn(move || {
+                for _ in 0..ROUNDS {
+                    let mut turn = lock.lock().unwrap();
+                    turn.hits += 1;
+                    turn.last = thread as u8;
+                }
+            });
+        }
+    });
+    let turn = lock.try_lock().unwrap().unwrap();
+    assert_eq!(turn.hits, 7 + THREADS * ROUNDS);
+    assert!(u64::from(turn.last) < THREADS);
+    assert!(lock.try_lock().unwrap().is_none());
+    drop(turn);
+    let mut turn = lock.try_lock_for(MS).unwrap().unwrap();
+    turn.hits = 1;
+    turn.shut();
+    assert_eq!(lock.lock().err(), Some(Stopped::Closed));
+    let whole = Lock::of_kind([3u64; 8], Kind::Ring, 2).unwrap();
+    whole.lock().unwrap()[7] = 4;
+    assert_eq!(*whole.lock().unwrap(), [3, 3, 3, 3, 3, 3, 3, 4]);
+}
+
+fn raw_answers() {
+    let raw = RawQolb::new(1);
+    assert_eq!(raw.enter(), Answer::Granted);
+    assert_eq!(raw.try_enter(), Answer::Busy);
+    assert_eq!(raw.enter_for(MS), Answer::Misuse);
+    thread::scope(|s| s.spawn(|| assert_eq!(raw.enter_for(MS), Answer::Late)).join().unwrap());
+    assert_eq!(raw.leave(), Answer::Done);
+    assert_eq!(raw.try_enter(), Answer::Granted);
+    assert_eq!(raw.shut(), Answer::Done);
+    assert_eq!(raw.enter_for(MS), Answer::Closed);
+    assert!(panic::catch_unwind(|| RawQolb::new(0)).is_err());
+    assert!(panic::catch_unwind(|| RawQolb::new(201)).is_err());
+}
+
+/// Times, and whether each is as long as it takes; else it is late at once.
+const TIMES: [(Duration, bool); 5] = [
+    (Duration::ZERO, false),
+    (Duration::from_nanos(1), false),
+    (Duration::from_nanos(u64::MAX), true),
+    (Duration::from_secs(u64::MAX), true),
+    (Duration::MAX, true),
+];
+
+/// Whether the waiter gets what is held. It is let go at the end, or soon, if it is waited for as long as it takes.
+fn gets<H>(held: H, waits: bool, waiter: ScopedJoinHandle<'_, bool>) -> bool {
+    if !waits {
+        let got = waiter.join().unwrap();
+        drop(held);
+        return got;
+    }
+    thread::sleep(2 * MS);
+    drop(held);
+    waiter.join().unwrap()
+}
+
+fn durations_never_overflow() {
+    for (time, waits) in TIMES {
+        let mut nodes = qolb::open(Kind::DEFAULT, 1, 2, None, &Bytes([0; 64])).unwrap();
+        let (mut second, mut first) = (nodes.pop().unwrap(), nodes.pop().unwrap());
+        let held = first.lock().unwrap();
+        let got = thread::scope(|s| gets(held, waits, s.spawn(|| second.try_lock_for(time).unwrap().is_some())));
+        assert_eq!(got, waits, "node, {time:?}");
+        let mutex = Mutex::new(());
+        let held = mutex.lock().unwrap();
+        let got = thread::scope(|s| gets(held, waits, s.spawn(|| mutex.try_lock_for(time).unwrap().is_some())));
+        assert_eq!(got, waits, "mutex, {time:?}");
+        let lock = Lock::new(0).unwrap();
+        let held = lock.lock().unwrap();
+        let got = thread::scope(|s| gets(held, waits, s.spawn(|| lock.try_lock_for(time).unwrap().is_some())));
+        assert_eq!(got, waits, "lock, {time:?}");
+        assert_eq!(is_signalled(time, waits), waits, "condition, {time:?}");
+    }
+}
+
+/// Whether a wait of this time at a condition ends by a signal, which another thread gives soon, or none.
+fn is_signalled(time: Duration, soon: bool) -> bool {
+    let (mutex, cond) = (Mutex::new(()), Condition::new());
+    let held = mutex.lock().unwrap();
+    thread::scope(|s| {
+        if soon {
+            s.spawn(|| mutex.lock().map(|_held| cond.notify_one()).unwrap());
+        }
+        cond.wait_for(held, time).unwrap().1
+    })
+}
+
+static IN_BURSTS: Mutex<u64> = Mutex::with_burst(0, 4, 64);
+
+/// Waits until the thread with this folder in /proc sleeps.
+fn until_asleep(folder: &std::path::Path) {
+    let stat = std::path::Path::new("/proc").join(folder).join("stat");
+    while !std::fs::read_to_string(&stat).unwrap().contains(") S ") {
+        thread::sleep(MS / 5);
+    }
+}
+
+/// While one waits, this thread locks again and again: at most `burst - 1` times.
+fn is_overtaken_within(burst: u32) {
+    let mutex = Mutex::with_burst(false, 2, burst);
+    let (tells, told) = mpsc::channel();
+    let mut later = 0;
+    thread::scope(|scope| {
+        let held = mutex.lock().unwrap();
+        scope.spawn(|| {
+            tells.send(std::fs::read_link("/proc/thread-self").unwrap()).unwrap();
+            *mutex.lock().unwrap() = true;
+        });
+        until_asleep(&told.recv().unwrap());
+        drop(held);
+        while !*mutex.lock().unwrap() {
+            later += 1;
+        }
+    });
+    assert!(later < burst, "{later} turns in a burst of {burst}");
+}
+
+fn bursts() {
+    for burst in [2, 16, 1024, 65535] {
+        is_overtaken_within(burst);
+    }
+    thread::scope(|scope| {
+        for _ in 0..THREADS {
+            scope.spawn(|| (0..ROUNDS).for_each(|_| *IN_BURSTS.lock().unwrap() += 1));
+        }
+    });
+    assert_eq!(*IN_BURSTS.lock().unwrap(), THREADS * ROUNDS);
+    let lock = Lock::with_burst(7u64, 4, 64).unwrap();
+    *lock.lock().unwrap() += 1;
+    assert_eq!(*lock.lock().unwrap(), 8);
+    let raw = RawQolb::of_kind_with_burst(Kind::Ring, 2, 2);
+    assert_eq!(raw.enter(), Answer::Granted);
+    assert_eq!(raw.leave(), Answer::Done);
+    let strict = RawQolb::with_burst(1, 0);
+    assert_eq!(strict.enter(), Answer::Granted);
+    assert_eq!(strict.leave(), Answer::Done);
+    for (seats, burst) in [(0, 2), (201, 2), (2, 1), (2, 65536), (1, 2)] {
+        assert!(panic::catch_unwind(|| RawQolb::with_burst(seats, burst)).is_err());
+    }
+}
+
+fn main() {
+    panic::set_hook(Box::new(|told| {
+        let said = told.payload_as_str().unwrap_or_default();
+        let refused = ["a lock has 1 to 200 seats", "a burst has 2 to 65,535 turns", "a lock with bursts has 2 seats or more"];
+        if said != "in a turn" && !refused.contains(&said) {
+            println!("{told}");
+        }
+    }));
+    mutex_guards();
+    mutex_answers();
+    are_as_others();
+    guards_of_parts();
+    conditions();
+    waits_of_others();
+    line_has_a_value();
+    raw_answers();
+    durations_never_overflow();
+    bursts();
+}

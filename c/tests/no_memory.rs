@@ -1,0 +1,65 @@
+//! Each allocation of an opening is refused in turn, of a line's and of a lock's, which its first use may open: the answer is `NoMemory`. Linked with
+//! --wrap for malloc. Prints only errors.
+#[path = "../rust/qolb.rs"]
+mod qolb;
+
+use qolb::{Answer, Bytes, Kind, Lock, RawQolb};
+use std::ffi::c_void;
+use std::ptr::null_mut;
+use std::sync::atomic::{AtomicU64, Ordering};
+
+/// The allocation to refuse, counted from now on; 0 for none.
+static REFUSED: AtomicU64 = AtomicU64::new(0);
+
+unsafe extern "C" {
+    fn __real_malloc(size: usize) -> *mut c_void;
+}
+
+#[unsafe(no_mangle)]
+extern "C" fn __wrap_malloc(size: usize) -> *mut c_void {
+    match REFUSED.load(Ordering::SeqCst) {
+        0 => {}
+        1 => {
+            REFUSED.store(0, Ordering::SeqCst);
+            return null_mut();
+        }
+        more => REFUSED.store(more - 1, Ordering::SeqCst),
+    }
+    // SAFETY: the caller's.
+    unsafe { __real_malloc(size) }
+}
+
+/// Opens with each allocation refused in turn, from this one on, until none is. Returns the number of refused ones.
+fn refused(first: u64, open: impl Fn() -> Option<Answer>) -> u64 {
+    for n in first.. {
+        REFUSED.store(n, Ordering::SeqCst);
+        let told = open();
+        if REFUSED.swap(0, Ordering::SeqCst) != 0 {
+            assert_eq!(told, None);
+            return n - first;
+        }
+        assert_eq!(told, Some(Answer::NoMemory), "allocation {n}");
+    }
+    unreachable!()
+}
+
+/// Enters and leaves. Returns nothing, or the cause why it could not.
+fn enters(raw: &RawQolb) -> Option<Answer> {
+    let told = raw.enter();
+    raw.leave();
+    Some(told).filter(|told| *told != Answer::Granted)
+}
+
+fn main() {
+    for kind in Kind::ALL {
+        // The first allocation is for the handles, in Rust.
+        assert!(refused(2, || qolb::open(kind, 1, 5, None, &Bytes([0; 64])).err()) >= 3);
+        assert!(refused(1, || Lock::of_kind(7u64, kind, 5).err()) >= 4);
+        assert!(refused(1, || enters(&RawQolb::of_kind(kind, 5))) >= 4);
+        let raw = RawQolb::of_kind(kind, 2);
+        REFUSED.store(1, Ordering::SeqCst);
+        assert_eq!(raw.try_enter(), Answer::NoMemory);
+        assert_eq!(raw.enter(), Answer::Granted);
+        assert_eq!(raw.leave(), Answer::Done);
+    }
+}

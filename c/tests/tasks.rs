@@ -1,0 +1,244 @@
+//! Futures of a node's turn, of a `Mutex` and of a `Lock`, over a small executor: what each gives, who may have the guards, and 10,000 tasks over four threads
+//! that give up or are dropped at any time. Prints only errors.
+//!
+//!   build/tasks_rs [TASKS [ROUNDS [SEED]]]
+
+#[path = "../rust/qolb.rs"]
+mod qolb;
+
+#[path = "executor.rs"]
+mod executor;
+
+use executor::{Pool, Task, block_on};
+use qolb::{Bytes, Kind, Lock, Mutex, Node, Stopped};
+use std::future::Future;
+use std::pin::Pin;
+use std::sync::Arc;
+use std::sync::atomic::{AtomicU64, Ordering::*};
+use std::task::{Context, Poll};
+use std::thread;
+use std::time::Duration;
+
+/// Yields once.
+struct Yield(bool);
+
+impl Future for Yield {
+    type Output = ();
+    fn poll(mut self: Pin<&mut Self>, context: &mut Context<'_>) -> Poll<()> {
+        if std::mem::replace(&mut self.0, true) {
+            return Poll::Ready(());
+        }
+        context.waker().wake_by_ref();
+        Poll::Pending
+    }
+}
+
+/// Polls at most so many times, with a wake of its own between two, and then drops the future.
+struct Within<F>(Option<F>, u32);
+
+impl<F: Future + Unpin> Future for Within<F> {
+    type Output = Option<F::Output>;
+    fn poll(mut self: Pin<&mut Self>, context: &mut Context<'_>) -> Poll<Self::Output> {
+        if let Poll::Ready(it) = Pin::new(self.0.as_mut().unwrap()).poll(context) {
+            return Poll::Ready(Some(it));
+        }
+        if self.1 == 0 {
+            self.0 = None;
+            return Poll::Ready(None);
+        }
+        self.1 -= 1;
+        context.waker().wake_by_ref();
+        Poll::Pending
+    }
+}
+
+struct Random(u64);
+
+impl Random {
+    fn below(&mut self, n: u64) -> u64 {
+        self.0 ^= self.0 << 13;
+        self.0 ^= self.0 >> 7;
+        self.0 ^= self.0 << 17;
+        (self.0 >> 20) % n
+    }
+}
+
+fn opens(kind: Kind, nodes: u64) -> Vec<Node> {
+    qolb::open(kind, 1, nodes, None, &Bytes([0; 64])).unwrap()
+}
+
+fn is_send<T: Send>(_: &T) {}
+
+/// A task waits beside a thread that holds, and is told of a grant and of a closing.
+fn one_waits() {
+    let mutex = Arc::new(Mutex::new(0u64));
+    let lock = Arc::new(Lock::new(0u64).unwrap());
+    let (held, value) = (mutex.lock().unwrap(), lock.lock().unwrap());
+    let other = thread::spawn({
+        let (mutex, lock) = (mutex.clone(), lock.clone());
+        move || block_on(async {
+            *mutex.lock_async().await.unwrap() += 1;
+            *lock.lock_async().await.unwrap() += 1;
+        })
+    });
+    thread::sleep(Duration::from_millis(5));
+    drop(held);
+    drop(value);
+    other.join().unwrap();
+    assert_eq!((*mutex.lock().unwrap(), *lock.lock().unwrap()), (1, 1));
+    block_on(async {
+        mutex.lock_async().await.unwrap().shut();
+        lock.lock_async().await.unwrap().shut();
+        assert_eq!(mutex.lock_async().await.err(), Some(Stopped::Closed));
+        assert_eq!(lock.lock_async().await.err(), Some(Stopped::Closed));
+    });
+}
+
+fn a_node_waits(kind: Kind) {
+    let mut nodes = opens(kind, 2);
+    let mut second = nodes.pop().unwrap();
+    let first = nodes[0].lock().unwrap();
+    let other = thread::spawn(move || {
+        block_on(async {
+            let future = second.turn();
+            is_send(&future);
+            future.await.unwrap().add_to_lane(0, 1);
+        });
+        block_on(async { second.turn().await.err() })
+    });
+    thread::sleep(Duration::from_millis(5));
+    drop(first);
+    while nodes[0].lock().unwrap().lane(0) == 0 {}
+    nodes[0].lock().unwrap().shut();
+    assert!(matches!(other.join().unwrap(), None | Some(Stopped::Closed)));
+}
+
+/// A guard that is dropped by another thread, and a future that is dropped while it waits, in the middle of the queue.
+fn guards_go() {
+    let mutex = Mutex::of_kind(0u64, Kind::Ticket, 1);
+    let mut guard = block_on(mutex.lock_async()).unwrap();
+    is_send(&guard);
+    *guard += 1;
+    let mut waits = [(); 3].map(|()| Box::pin(mutex.lock_async()));
+    let mut context = Context::from_waker(std::task::Waker::noop());
+    for it in &mut waits {
+        assert!(it.as_mut().poll(&mut context).is_pending());
+    }
+    let [mut first, middle, mut last] = waits;
+    drop(middle);
+    thread::scope(|scope| scope.spawn(move || drop(guard)).join().unwrap());
+    assert!(last.as_mut().poll(&mut context).is_pending());
+    let Poll::Ready(Ok(guard)) = first.as_mut().poll(&mut context) else { panic!("the first is granted it") };
+    drop(guard);
+    let Poll::Ready(Ok(guard)) = last.as_mut().poll(&mut context) else { panic!("the last is granted it") };
+    assert_eq!(*guard, 1);
+}
+
+#[derive(Default)]
+struct Counts {
+    added: AtomicU64,
+    given_up: AtomicU64,
+}
+
+async fn by_mutex(mutex: Arc<Mutex<u64>>, lock: Arc<Lock<u64>>, counts: Arc<Counts>, rounds: u32, mut random: Random) {
+    for round in 0..rounds {
+        let polls = if random.below(4) == 0 { random.below(3) as u32 } else { u32::MAX };
+        let yields = random.below(4) == 0;
+        let had = if round % 2 == 0 {
+            let got = if polls == u32::MAX { Some(mutex.lock_async().await) } else { Within(Some(Box::pin(mutex.lock_async())), polls).await };
+            add(got, yields).await
+        } else {
+            let got = if polls == u32::MAX { Some(lock.lock_async().await) } else { Within(Some(Box::pin(lock.lock_async())), polls).await };
+            add(got, yields).await
+        };
+        (if had { &counts.added } else { &counts.given_up }).fetch_add(1, Relaxed);
+    }
+}
+
+/// The guard may go to another thread meanwhile, or its task be dropped. Nothing comes between the addition and its count.
+async fn add<G: std::ops::DerefMut<Target = u64>>(guard: Option<Result<G, Stopped>>, yields: bool) -> bool {
+    let Some(guard) = guard else { return false };
+    let mut guard = guard.unwrap();
+    if yields {
+        Yield(false).await;
+    }
+    *guard += 1;
+    true
+}
+
+async fn by_node(mut node: Node, counts: Arc<Counts>, rounds: u32, mut random: Random) {
+    for _ in 0..rounds {
+        let got = if random.below(4) == 0 { Within(Some(Box::pin(node.turn())), random.below(3) as u32).await } else { Some(node.turn().await) };
+        match got {
+            Some(guard) => guard.unwrap().add_to_lane(0, 1),
+            None => counts.given_up.fetch_add(1, Relaxed),
+        };
+        Yield(false).await;
+    }
+}
+
+/// Drops some of the tasks, wherever they wait.
+fn aborts(tasks: &[Arc<Task>], mut random: Random) {
+    let mut k = 0;
+    while k < tasks.len() {
+        tasks[k].abort();
+        k += 1 + random.below(40) as usize;
+        if random.below(8) == 0 {
+            thread::sleep(Duration::from_micros(20));
+        }
+    }
+}
+
+fn many_tasks(count: u64, rounds: u32, seed: u64, kind: Kind, seats: u32) {
+    let (pool, counts) = (Arc::new(Pool::default()), Arc::new(Counts::default()));
+    let mutex = Arc::new(Mutex::of_kind(0u64, kind, seats));
+    let lock = Arc::new(Lock::of_kind(0u64, kind, seats).unwrap());
+    let tasks: Vec<_> = (0..count)
+        .map(|k| pool.spawn(by_mutex(mutex.clone(), lock.clone(), counts.clone(), rounds, Random(seed * 7919 + k * 104_729 + 1))))
+        .collect();
+    let by_thread = AtomicU64::new(0);
+    thread::scope(|scope| {
+        scope.spawn(|| aborts(&tasks, Random(seed + 77)));
+        scope.spawn(|| {
+            while pool.left() > 0 {
+                if let Some(mut it) = mutex.try_lock_for(Duration::from_micros(200)).unwrap() {
+                    *it += 1;
+                    by_thread.fetch_add(1, Relaxed);
+                }
+                thread::sleep(Duration::from_micros(300));
+            }
+        });
+        pool.run(4);
+    });
+    let (added, seen) = (counts.added.load(SeqCst) + by_thread.load(SeqCst), *mutex.lock().unwrap() + *lock.lock().unwrap());
+    assert_eq!(seen, added, "{kind:?}, {seats} seats");
+}
+
+fn many_nodes(count: u64, rounds: u32, seed: u64) {
+    let (pool, counts) = (Arc::new(Pool::default()), Arc::new(Counts::default()));
+    let mut tasks = Vec::new();
+    for line in 0..count.div_ceil(200) {
+        let nodes = opens([Kind::Ring, Kind::Link, Kind::Ticket][line as usize % 3], 200);
+        for (k, node) in nodes.into_iter().enumerate() {
+            tasks.push(pool.spawn(by_node(node, counts.clone(), rounds, Random(seed * 31 + line * 977 + k as u64 * 104_729 + 1))));
+        }
+    }
+    thread::scope(|scope| {
+        scope.spawn(|| aborts(&tasks, Random(seed + 78)));
+        pool.run(4);
+    });
+}
+
+fn main() {
+    let mut words = std::env::args().skip(1).map(|it| it.parse::<u64>().expect("a number"));
+    let (count, rounds, seed) = (words.next().unwrap_or(10_000), words.next().unwrap_or(4) as u32, words.next().unwrap_or(1));
+    one_waits();
+    guards_go();
+    for kind in [Kind::Ring, Kind::Link, Kind::Ticket] {
+        a_node_waits(kind);
+    }
+    for (seats, kind) in [(2, Kind::Link), (16, Kind::Ticket), (64, Kind::Ring)] {
+        many_tasks(count, rounds, seed, kind, seats);
+    }
+    many_nodes(count, rounds, seed);
+}
