@@ -101,7 +101,7 @@ FAULTS = {
     "who lets go rings at its own place": ("qolb_went_to_proved_(node)", "qolb_waits_at_proved_(node)"),
     "a seat is taken without a look at whether it is free": ("state != FREE || !atomic_compare_exchange_strong(&seat->state, &state, TAKEN)", "atomic_exchange(&seat->state, TAKEN) == LEAVING"),
     "the hall is found by a relaxed load": ("__atomic_load_n(&lock->own, __ATOMIC_ACQUIRE)", "__atomic_load_n(&lock->own, __ATOMIC_RELAXED)"),
-    "who is late keeps its seat": ("    } else {\n        qolb_give_back_(me->hall, me->seat, got);\n", "    } else if (got != QOLB_LATE) {\n        qolb_give_back_(me->hall, me->seat, got);\n"),
+    "who is late keeps its seat": ("    qolb_give_back_(me->hall, me->seat, got);\n", "    if (got != QOLB_LATE) qolb_give_back_(me->hall, me->seat, got);\n"),
     "who is late keeps its request": ("    uint32_t got = qolb_withdraw_proved_(&seat->node);\n", "    uint32_t got = QOLB_WITHDRAWN;\n"),
     "who tries asks for the last seat alone": ("    while (k > 0 && atomic_load(&hall->seat[k]->state) != FREE) k--;\n", ""),
     "a busy seat is asked no more": (RETURNS_BUSY, RETURNS_BUSY.replace("    atomic_store(&seat->state, FREE);\n", "")),
@@ -121,6 +121,10 @@ FAULTS = {
     "who was told stays in the lock's list": ("        stand_no_more_in(&me);\n", ""),
     "a shut reads behind one that it told": (SHUT, "".join(reversed(SHUT.splitlines(True)))),
     "a shut tells nobody": ("        tell(it, SHUT);\n", ""),
+    "a shut is not known to who gives up": ("    atomic_store(&hall->is_shut, 1);\n", ""),
+    "who was late with a seat does not look whether the lock is shut": ("got == QOLB_LATE ? closed_or(me->hall, got) : got", "got"),
+    "who was late at the door does not look whether the lock is shut": ("        if (got == QOLB_LATE) got = closed_or(me->hall, got);\n", ""),
+    "who tries does not look whether the lock is shut": ("qolb_lock_holder(lock)) return closed_or(hall, QOLB_BUSY);\n", "qolb_lock_holder(lock)) return QOLB_BUSY;\n"),
     "nodes: the sleeper does not count itself at its bell": (COUNT + ANYWHERE, ANYWHERE),
     "nodes: the sleeper does not count itself in its line": (COUNT + ANYWHERE, (COUNT + ANYWHERE).replace(IN_LINE, ""), "    atomic_fetch_sub(waiting_in_line(node), 1);\n", ""),
     "nodes: the sleeper does not count itself at any bell": (COUNT + ANYWHERE, COUNT + IN_LINE),
@@ -290,6 +294,7 @@ STANDS_LAST = "        qolb_stand_(hall, &me->at);\n        atomic_store(&me->st
 AT_THE_GATE = "    atomic_fetch_add(&hall->tasks, 1);\n    if (goes_in(hall)) {\n"
 COUNTED_OUT = "    count_at_door(hall, -1u);\n    atomic_store(&me->state, SEATED);\n    return GOES;\n"
 IS_DUE = "        due->calls++;\n        qolb_list_(&me->notice, due->key);\n"
+STOOD = "    if (atomic_load(&me->state) == AT_DOOR) {\n"
 GOES_AWAY = "        qolb_go_out_(hall, &me->at);\n        atomic_store(&me->state, IDLE);\n"
 GRANTED_TO = "        atomic_store_explicit(&seat->holder, BY_TASK, memory_order_release);\n        atomic_fetch_sub(&hall->tasks, 1);\n"
 FAULTS |= {
@@ -321,12 +326,12 @@ FAULTS |= {
     "tasks: a burst begins without a second look for tasks": ("waits_without_thread(hall) || (watcher", "(watcher"),
     "tasks: a task that holds counts as one that waits": (GRANTED_TO, GRANTED_TO.splitlines(True)[0]),
     "tasks: a task that went in counts as one that waits": ("        atomic_store(&me->state, HOLDS);\n        atomic_fetch_sub(&hall->tasks, 1);\n        return QOLB_GRANTED;\n", "        atomic_store(&me->state, HOLDS);\n        return QOLB_GRANTED;\n"),
-    "tasks: a task that gave up counts as one that waits": ("        atomic_store(&me->state, IDLE);\n        atomic_fetch_sub(&hall->tasks, 1);\n        qolb_give_back_", "        atomic_store(&me->state, IDLE);\n        qolb_give_back_"),
+    "tasks: a task that gave up counts as one that waits": ("    atomic_store(&me->state, IDLE);\n    atomic_fetch_sub(&hall->tasks, 1);\n    qolb_give_back_", "    atomic_store(&me->state, IDLE);\n    qolb_give_back_"),
     "tasks: a task that holds by a seat is not known": (GRANTED_TO, GRANTED_TO.splitlines(True)[1]),
-    "tasks: a task that gives up takes no guard": ("    take_guard(&hall->guard);\n    int stood = ", "    int stood = "),
+    "tasks: a task that gives up takes no guard": ("    take_guard(&hall->guard);\n" + STOOD, STOOD),
     "tasks: a task that gives up stays at the door": (GOES_AWAY, GOES_AWAY.splitlines(True)[1]),
     "tasks: a task that gives up at its turn keeps the line": ("    if (got != QOLB_GRANTED) return got;\n    qolb_task_leave(task);\n", "    if (got != QOLB_GRANTED) return got;\n"),
-    "tasks: who gives up leaves its notice": ("    qolb_unlist_(&me->notice);\n    uint32_t got = settle(me, me->got == QOLB_WAITING ? qolb_withdraw", "    uint32_t got = settle(me, me->got == QOLB_WAITING ? qolb_withdraw"),
+    "tasks: who gives up leaves its notice": ("    qolb_unlist_(&me->notice);\n    got = settle(me, me->got == QOLB_WAITING ? qolb_withdraw", "    got = settle(me, me->got == QOLB_WAITING ? qolb_withdraw"),
     "tasks: who polls leaves its notice": ("    qolb_unlist_(&me->notice);\n    return settle(me,", "    return settle(me,"),
     "tasks: who is told of a shut by its seat makes no call": ("    if (next.holder) call_for(next);\n", ""),
     "tasks: who leaves makes no call": (RINGS, RINGS.replace("    call_for(next);\n", "")),

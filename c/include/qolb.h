@@ -515,10 +515,10 @@ uint32_t qolb_lock_leave(qolb_lock *lock);
  * thread does not hold it. */
 uint32_t qolb_lock_shut(qolb_lock *lock);
 
-/* Frees the lock's memory: it is unopened again, and its next use opens it, with its kind and its seats, and with zeros. (qolb_lock_shut is the call
- * after which all that enter are told CLOSED.) The thread that was granted the lock last may close it while another is still in qolb_lock_leave.
- * DONE, also if it was unopened; MISUSE, and nothing changed, if a thread or a task holds it, or waits for it, or a thread
- * at a condition of it. */
+/* Frees the lock's memory: it is unopened again. Its next use opens it with zeros and the label 0, and with the kind, the seats and the burst that it had: after
+ * qolb_lock_open those of that call. (qolb_lock_shut is the call after which all that enter are told CLOSED.) The thread that was granted the lock last may
+ * close it while another is still in qolb_lock_leave. DONE, also if it was unopened; MISUSE, and nothing changed, if a thread or a task holds it, or waits for
+ * it, or a thread at a condition of it. */
 uint32_t qolb_lock_close(qolb_lock *lock);
 
 /* The holder's node, lent until the holder leaves, for qolb_read, qolb_write, qolb_read_lane, qolb_write_lane, qolb_add_lane, qolb_turns_left,
@@ -562,8 +562,8 @@ uint32_t qolb_task_enter_fd(qolb_task *task, qolb_lock *lock, int fd) QOLB_LOOK;
 /* Polls for a task that waits: GRANTED, and it holds the lock; CLOSED; WAITING, and the call comes, or comes again. MISUSE if it does not wait. */
 uint32_t qolb_task_poll(qolb_task *task) QOLB_LOOK;
 
-/* Gives up, for a task that waits: no call is made afterwards. WITHDRAWN, also if it was at its turn: it leaves then. CLOSED. DONE if it does not wait; MISUSE,
- * and nothing changed, if it was told that it holds the lock. */
+/* Gives up, for a task that waits: no call is made afterwards. WITHDRAWN, also if it was at its turn: it leaves then. CLOSED if the lock was shut. DONE if it
+ * does not wait; MISUSE, and nothing changed, if it was told that it holds the lock. */
 uint32_t qolb_task_cancel(qolb_task *task);
 
 /* Leaves for a task, in any thread. DONE; MISUSE if the task does not hold the lock, or was not told yet that it does. */

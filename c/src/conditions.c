@@ -135,8 +135,9 @@ uint32_t qolb_cond_signal(qolb_cond *cond) { return signal_some(cond, 0); }
 
 uint32_t qolb_cond_broadcast(qolb_cond *cond) { return signal_some(cond, 1); }
 
-/* A waiter that is told may end at once: its successor in the list is read before. */
+/* From here on the holder does nothing but shut the line. A waiter that is told may end at once: its successor in the list is read before. */
 void qolb_tell_shut_(struct hall *hall) {
+    atomic_store(&hall->is_shut, 1);
     for (struct waiter *it = hall->waits, *beside; it; it = beside) {
         beside = it->beside;
         tell(it, SHUT);

@@ -75,6 +75,7 @@ static void make(struct hall *hall, void *block, qolb_node *nodes, unsigned seat
     atomic_init(&hall->orders, 0);
     atomic_init(&hall->sleepers, 0);
     atomic_init(&hall->at_door, 0);
+    atomic_init(&hall->is_shut, 0);
     atomic_init(&hall->guests, 0);
     atomic_init(&hall->tasks, 0);
     atomic_init(&hall->guard, 0);
@@ -277,6 +278,7 @@ static uint32_t await(struct asking *me, uint64_t nanoseconds) {
     if (!me->seat) {
         atomic_fetch_add(&me->hall->guests, 1);
         got = qolb_wait_at_door_(me, &limit);
+        if (got == QOLB_LATE) got = closed_or(me->hall, got);
         atomic_fetch_sub(&me->hall->guests, 1);
     }
     if (me->seat && me->hall->burst) atomic_store_explicit(&me->seat->order, atomic_fetch_add(&me->hall->orders, 1), memory_order_relaxed);
@@ -291,17 +293,19 @@ static uint32_t await(struct asking *me, uint64_t nanoseconds) {
     return got;
 }
 
-/* Handles the answer of a request: the holder is known from here on, and any other thread returns its seat. */
+/* Handles the answer of a request: the holder is known from here on, and any other thread returns its seat. With the seat it still has, a thread that was late
+ * looks whether the lock was shut. */
 static inline uint32_t settle(struct asking *me, uint32_t got) {
     if (!me->seat) return got;
     if (got == QOLB_GRANTED) {
         me->seat->calm = me->late ? 0 : me->seat->calm + 1;
         qolb_own_.by_seat++;
         atomic_store_explicit(&me->seat->holder, own_number(), memory_order_release);
-    } else {
-        qolb_give_back_(me->hall, me->seat, got);
+        return got;
     }
-    return got;
+    uint32_t told = got == QOLB_LATE ? closed_or(me->hall, got) : got;
+    qolb_give_back_(me->hall, me->seat, got);
+    return told;
 }
 
 /* The waiting of a thread that was not granted the lock at once, by its last seat. */
@@ -368,12 +372,13 @@ uint32_t qolb_lock_try(qolb_lock *lock) {
     uint32_t got = qolb_hall_opened_(lock, &hall);
     if (got != QOLB_DONE) return got;
     if (goes_in(hall)) return QOLB_GRANTED;
-    if (atomic_load(&hall->gate) != QUEUED_UP || atomic_load(&hall->at_door) || qolb_lock_holder(lock)) return QOLB_BUSY;
+    if (atomic_load(&hall->gate) != QUEUED_UP || atomic_load(&hall->at_door) || qolb_lock_holder(lock)) return closed_or(hall, QOLB_BUSY);
     struct asking me = {.hall = hall, .seen = QUEUED_UP};
     unsigned k = hall->seats - 1;
     while (k > 0 && atomic_load(&hall->seat[k]->state) != FREE) k--;
     got = ask_at(&me, hall->seat[k]);
     got = settle(&me, got == QOLB_QUEUED ? give_up(me.seat) : got);
+    if (got == QOLB_BUSY) return closed_or(hall, QOLB_BUSY);
     return got == QOLB_LATE ? (uint32_t)QOLB_BUSY : got;
 }
 

@@ -65,6 +65,7 @@ struct hall {
     atomic_uint keepers;            /* the number of threads that look at the hall though they have opened its gate: it stays so long */
     atomic_uint orders;             /* the number of requests */
     uint64_t label;                 /* of the line; read by threads that wait */
+    atomic_uint is_shut;            /* set by the holder right before it closes the line: who gives up from then on is told CLOSED */
     /* Written once. */
     _Alignas(QOLB_NODE_ALIGN) void *block; /* what malloc gave */
     unsigned seats;
@@ -78,6 +79,9 @@ struct hall {
 static inline struct probed of_seat(const struct hall *hall, struct seat *seat) {
     return (struct probed){hall->label, seat ? qolb_number_proved_(&seat->node) : 0, *first_bell_of(&hall->seat[0]->node)};
 }
+
+/* The answer to who gives up, while it keeps the hall there. A shut closes the line, but who waits before it may not have forwarded that yet. */
+static inline uint32_t closed_or(struct hall *hall, uint32_t got) { return atomic_load(&hall->is_shut) ? (uint32_t)QOLB_CLOSED : got; }
 
 static inline struct hall *hall_of(const qolb_lock *lock) { return __atomic_load_n(&lock->own, __ATOMIC_ACQUIRE); }
 

@@ -1,7 +1,7 @@
 /* Probes of threads that wait: places in the library at which bpftrace, perf and gdb can look (USDT). One of the library's internal files.
  *
  * Their provider is qolb. `wait`: a thread begins to wait for its turn. `sleep` and `wake`: it sleeps meanwhile. Then one of `granted`, `withdrawn` (it was
- * late) and `closed`. The arguments of each are the line's label, the number of the node (0 while the thread has none), and a number by which lines
+ * late, also if it is told that the lock was shut) and `closed`. The arguments of each are the line's label, the number of the node (0 while the thread has none), and a number by which lines
  * of one label differ. A call that does not wait passes no probe. Where no tracer looks, a probe is an instruction that does nothing.
  *
  * They are there if the library is built with <sys/sdt.h> (Debian's systemtap-sdt-dev), and not with -DQOLB_NO_PROBES. */

@@ -104,12 +104,13 @@ static uint32_t settle(struct task *me, uint32_t got, int late) {
         atomic_store_explicit(&seat->holder, BY_TASK, memory_order_release);
         atomic_fetch_sub(&hall->tasks, 1);
         atomic_store(&me->state, HOLDS);
-    } else {
-        atomic_store(&me->state, IDLE);
-        atomic_fetch_sub(&hall->tasks, 1);
-        qolb_give_back_(hall, seat, got);
+        return got;
     }
-    return got;
+    uint32_t told = got == QOLB_WITHDRAWN ? closed_or(hall, got) : got;
+    atomic_store(&me->state, IDLE);
+    atomic_fetch_sub(&hall->tasks, 1);
+    qolb_give_back_(hall, seat, got);
+    return told;
 }
 
 static uint32_t enter(struct task *me) {
@@ -133,6 +134,7 @@ uint32_t qolb_task_enter(qolb_task *task, qolb_lock *lock, void (*call)(void *),
     if (!call || atomic_load(&me->state) != IDLE) return QOLB_MISUSE;
     uint32_t got = qolb_hall_opened_(lock, &hall);
     if (got != QOLB_DONE) return got;
+    if (atomic_load(&hall->is_shut)) return QOLB_CLOSED;
     me->lock = lock;
     me->hall = hall;
     me->seat = NULL;
@@ -193,19 +195,21 @@ uint32_t qolb_task_poll(qolb_task *task) {
 
 /* ---- Giving up ---- */
 
-/* Those behind it miss nothing: while it was the first, there was no seat for it, or who frees one waits for the guard. */
-static int goes_from_door(struct task *me) {
+/* WITHDRAWN or CLOSED; WAITING if it has a seat now. Those behind it miss nothing: while it was the first, there was no seat for it, or who frees one waits for the
+ * guard. */
+static uint32_t goes_from_door(struct task *me) {
     struct hall *hall = me->hall;
+    uint32_t got = QOLB_WAITING;
     take_guard(&hall->guard);
-    int stood = atomic_load(&me->state) == AT_DOOR;
-    if (stood) {
+    if (atomic_load(&me->state) == AT_DOOR) {
+        got = closed_or(hall, QOLB_WITHDRAWN);
         qolb_go_out_(hall, &me->at);
         atomic_store(&me->state, IDLE);
         atomic_fetch_sub(&hall->tasks, 1);
         count_at_door(hall, -1u);
     }
     return_guard(&hall->guard);
-    return stood;
+    return got;
 }
 
 uint32_t qolb_task_cancel(qolb_task *task) {
@@ -213,9 +217,10 @@ uint32_t qolb_task_cancel(qolb_task *task) {
     unsigned state = atomic_load(&me->state);
     if (state == IDLE) return QOLB_DONE;
     if (state == HOLDS) return QOLB_MISUSE;
-    if (state == AT_DOOR && goes_from_door(me)) return QOLB_WITHDRAWN;
+    uint32_t got = state == AT_DOOR ? goes_from_door(me) : (uint32_t)QOLB_WAITING;
+    if (got != QOLB_WAITING) return got;
     qolb_unlist_(&me->notice);
-    uint32_t got = settle(me, me->got == QOLB_WAITING ? qolb_withdraw_proved_(&me->seat->node) : me->got, 1);
+    got = settle(me, me->got == QOLB_WAITING ? qolb_withdraw_proved_(&me->seat->node) : me->got, 1);
     if (got != QOLB_GRANTED) return got;
     qolb_task_leave(task);
     return QOLB_WITHDRAWN;

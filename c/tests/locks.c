@@ -538,6 +538,37 @@ static int shut_tells_all(uint32_t kind) {
     return 0;
 }
 
+/* Once a shut has returned every call is told CLOSED, though who waits, for a turn or for a seat, may not have woken up yet. */
+static int shut_is_seen_at_once(uint32_t kind, uint32_t seats, uint32_t waiters, int way) {
+    qolb_lock lock = QOLB_LOCK_INIT_OF(kind, seats);
+    struct helper threads[4] = {{0}};
+    WANT(qolb_lock_enter(&lock), QOLB_GRANTED);
+    for (uint32_t k = 0; k < waiters; k++) {
+        threads[k].lock = &lock;
+        start(&threads[k], enters_once);
+        until_asleep(&threads[k].number);
+    }
+    WANT(qolb_lock_shut(&lock), QOLB_DONE);
+    if (way == 0) WANT(qolb_lock_try(&lock), QOLB_CLOSED);
+    WANT(qolb_lock_enter_within(&lock, 0), QOLB_CLOSED);
+    WANT(qolb_lock_try(&lock), QOLB_CLOSED);
+    for (uint32_t k = 0; k < waiters; k++) {
+        pthread_join(threads[k].id, NULL);
+        WANT(threads[k].got, QOLB_CLOSED);
+    }
+    WANT(qolb_lock_close(&lock), QOLB_DONE);
+    return 0;
+}
+
+static int shuts_seen_at_once(uint32_t kind) {
+    static const uint32_t seats_of[] = {1, 2, 4, 8, QOLB_SEATS(2, 2), QOLB_SEATS(4, 64), QOLB_SEATS(8, 1024)};
+    for (size_t k = 0; k < sizeof seats_of / sizeof seats_of[0]; k++)
+        for (uint32_t waiters = 1; waiters <= 4; waiters++)
+            for (int round = 0; round < 20; round++)
+                if (shut_is_seen_at_once(kind, seats_of[k], waiters, round % 2)) return 1;
+    return 0;
+}
+
 /* ---- Conditions ---- */
 
 static int served_by(qolb_lock *lock, int less) {
@@ -778,7 +809,7 @@ static int of_kind(uint32_t kind) {
     for (int is_kept = 0; is_kept < 2; is_kept++)
         if (in_order_at_the_door(kind, is_kept, 0) || in_order_at_the_door(kind, is_kept, 64)) return 1;
     if (of_the_holder(kind) || in_order(kind, 0) || in_order(kind, 64) || others_sleep_on(kind) || without_a_seat(kind)) return 1;
-    if (shut_tells_all(kind) || told_in_order(kind) || freed_by_the_last(kind, 0) || freed_by_the_last(kind, 2) || bursts(kind)) return 1;
+    if (shut_tells_all(kind) || shuts_seen_at_once(kind) || told_in_order(kind) || freed_by_the_last(kind, 0) || freed_by_the_last(kind, 2) || bursts(kind)) return 1;
     static const unsigned uses_of[][2] = {{2, 1},           {2, 2},                {8, 3},                {8, 20},                 {32, 5},                {32, 32},
                                           {200, 200},       {200, 16},             {2, QOLB_SEATS(2, 2)}, {8, QOLB_SEATS(3, 2)},   {8, QOLB_SEATS(20, 3)}, {32, QOLB_SEATS(2, 64)},
                                           {32, QOLB_SEATS(5, 1024)}, {200, QOLB_SEATS(4, 16)}, {200, QOLB_SEATS(200, 65535)}};

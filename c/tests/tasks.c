@@ -129,6 +129,22 @@ static int shuts(uint32_t kind, uint32_t seats, int by_task) {
     return 0;
 }
 
+/* Once a shut has returned no task waits for those before it, to be told: one that asks, the last in the line or at the door that gives up, and a thread. */
+static int shut_is_seen_at_once(uint32_t kind, uint32_t seats, int by_task) {
+    begin(kind, seats);
+    if (by_task) WANT(enters(0), QOLB_GRANTED);
+    else WANT(qolb_lock_enter(&lock), QOLB_GRANTED);
+    for (int k = 1; k < MANY - 1; k++) WANT(enters(k), QOLB_WAITING);
+    WANT(by_task ? qolb_task_shut(&task[0]) : qolb_lock_shut(&lock), QOLB_DONE);
+    WANT(enters(MANY - 1), QOLB_CLOSED);
+    WANT(qolb_lock_try(&lock), QOLB_CLOSED);
+    WANT(qolb_lock_enter_within(&lock, 0), QOLB_CLOSED);
+    for (int k = MANY - 2; k > 0; k--) WANT(qolb_task_cancel(&task[k]), QOLB_CLOSED);
+    WANT(qolb_task_poll(&task[MANY - 1]), QOLB_MISUSE);
+    WANT(qolb_lock_close(&lock), QOLB_DONE);
+    return 0;
+}
+
 static int tells_a_descriptor(uint32_t kind, uint32_t seats) {
     int fd = eventfd(0, EFD_NONBLOCK);
     uint64_t got = 0;
@@ -286,6 +302,7 @@ int main(void) {
             for (uint32_t burst = 0; burst < (seats > 1 ? 2 : 1); burst++) {
                 uint32_t all = seats + 65536 * 4 * burst;
                 if (refuses(kind, all) || in_order(kind, all) || has_the_bytes(kind, all) || shuts(kind, all, 0) || shuts(kind, all, 1)) return 1;
+                if (shut_is_seen_at_once(kind, all, 0) || shut_is_seen_at_once(kind, all, 1)) return 1;
                 if (tells_a_descriptor(kind, all) || nests_no_call(kind, all) || closes_in_a_call(kind, all)) return 1;
                 if (beside_threads(kind, all) || keeps_the_order(kind, all)) return 1;
             }

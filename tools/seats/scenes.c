@@ -167,6 +167,18 @@ static void shuts(int self) {
     MUST((self ? qolb_lock_leave : qolb_lock_shut)(&it.lock) == QOLB_DONE);
 }
 
+/* Once a shut has returned, each call is told so at once. */
+static void shuts_and_asks(int self) {
+    uint32_t got = qolb_lock_enter(&it.lock);
+    if (got == QOLB_CLOSED) return;
+    MUST(got == QOLB_GRANTED);
+    turn();
+    MUST((self ? qolb_lock_leave : qolb_lock_shut)(&it.lock) == QOLB_DONE);
+    if (self) return;
+    MUST(qolb_lock_try(&it.lock) == QOLB_CLOSED);
+    MUST(qolb_lock_enter_within(&it.lock, 0) == QOLB_CLOSED);
+}
+
 static void last_frees(int self) {
     (void)self;
     begins_call();
@@ -754,6 +766,8 @@ const struct scene scenes[] = {
     {"the last tries, and there is one seat", last_tries, QOLB_TICKET, 1, 3, BEFORE, 0},
     {"one shuts", shuts, QOLB_TICKET, 3, 3, BEFORE, 0},
     {"one shuts, and there is one seat", shuts, QOLB_TICKET, 1, 3, BEFORE, 0},
+    {"one shuts and asks", shuts_and_asks, QOLB_TICKET, 3, 3, BEFORE, 0},
+    {"one shuts and asks, and there is one seat", shuts_and_asks, QOLB_TICKET, 1, 3, BEFORE, 0},
     {"the last frees", last_frees, QOLB_TICKET, 2, 3, BEFORE, 0},
     {"the last frees, and there is one seat", last_frees, QOLB_TICKET, 1, 3, BEFORE, 0},
     {"the last frees after more", last_frees_after_more, QOLB_TICKET, 2, 2, BEFORE, 0},
@@ -800,6 +814,7 @@ const struct scene scenes[] = {
     {"bursts: one tries beside two", tries, QOLB_TICKET, 3, 3, BEFORE, 2},
     {"bursts: one is late beside one that yields", one_late_beside_one_that_yields, QOLB_TICKET, 3, 3, BEFORE, 2},
     {"bursts: one shuts", shuts, QOLB_TICKET, 2, 3, BEFORE, 2},
+    {"bursts: one shuts and asks", shuts_and_asks, QOLB_TICKET, 2, 3, BEFORE, 2},
     {"bursts: the last frees", last_frees, QOLB_TICKET, 2, 3, BEFORE, 2},
     {"bursts: one closes", one_closes, QOLB_TICKET, 2, 2, BEFORE, 2},
     {"bursts: one closes beside two", one_closes_beside_two, QOLB_TICKET, 3, 3, BEFORE, 2},
