@@ -465,6 +465,10 @@ static void wants_two_calls(int self) {
         it.told[self].calls = 0;
         atomic_store(&it.told[self].word, 0);
         while ((got = qolb_poll(&it.of[self].node)) == QOLB_WAITING) sched_yield();
+    } else {
+        /* The first call may have been made before the second one was wanted; it is not made any more. */
+        MUST(it.told[self].calls <= 1);
+        it.told[self].calls = 0;
     }
     MUST(got == QOLB_GRANTED);
     releases_turn(self);
