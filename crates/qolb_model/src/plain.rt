@@ -244,7 +244,12 @@ impl PlainLine {
     fn entry(&self, node: u64) -> Option<Waiter>
         ensures { result ≡ find (is_at node) self.now.waiting }
     {
-        self.waiting.iter().copied().find(|w| w.node == node)
+        for waiter in self.waiting.iter() {
+            if waiter.node == node {
+                return Some(*waiter);
+            }
+        }
+        None
     }
 
     /// Returns `true` if the node's request is the oldest.
