@@ -295,7 +295,6 @@ def largest_step_picture(program):
 ROOT = os.path.join(os.path.dirname(os.path.abspath(__file__)), "..")
 # The pictures of the pages that the program drew, with the arguments and the example of each.
 DRAWN = {
-    "hand_over": ["draw", "--svg"],
     "withdraw_and_close": ["draw", "--svg"],
     "late_linker": ["draw", "--steps", "--svg"],
 }

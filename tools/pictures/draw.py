@@ -4,21 +4,22 @@
     tools/pictures/draw.py            writes them
     tools/pictures/draw.py --check    writes nothing, and ends with 1 if one differs from what would be written
 
-To see one as an image: rsvg-convert --background-color white docs/figures/crates.svg > crates.png (Debian's package librsvg2-bin).
+To see one as an image: rsvg-convert --background-color white docs/figures/layers.svg > layers.png (Debian's package librsvg2-bin).
 """
 
 import pathlib
 import sys
 
-import graph
 import handovers
+import layers
 import states
+import turns
 
 FOLDER = pathlib.Path(__file__).resolve().parents[2] / "docs/figures"
 
 
 def main():
-    drawn = {**handovers.pictures(), **states.pictures(), **graph.pictures()}
+    drawn = {**handovers.pictures(), **layers.pictures(), **states.pictures(), **turns.pictures()}
     stale = []
     for name, picture in drawn.items():
         path = FOLDER / f"{name}.svg"

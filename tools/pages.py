@@ -1,0 +1,156 @@
+#!/usr/bin/env python3
+"""Checks the pages as a whole; docs/compare runs it.
+
+    tools/pages.py            words of each page, of three paths and of the manuals, each with its limit; links, names and figures
+    tools/pages.py --write    also writes the tables of figures in the pages anew, from c/bench/figures/*.tsv
+
+A word is what stands between blanks and has a letter or a digit. A name in code font must stand in a file that is no page, too. A ratio in a sentence
+is computed again from the table that it is of (`RATIOS`), and so is each table behind a line `<!-- figures: NAME -->`. It ends with 1 if a limit is
+passed, or something differs.
+"""
+
+import pathlib
+import re
+import subprocess
+import sys
+
+import figures
+
+ROOT = pathlib.Path(__file__).resolve().parent.parent
+LIMITS = {
+    "README.md": 900,
+    "docs/ARCHITECTURE.md": 1500,
+    "docs/PROVED.md": 3500,
+}
+ALL, CRATES, CRATE_LINES, CALL = 54000, 27000, 200, 140
+# Three readers: who needs a lock, who wants the theorems, who carries it on.
+PATHS = {
+    "lock user": (["README.md", "docs/USING.md"], 3000),
+    "verifier": (["README.md", "docs/PROVED.md"], 4500),
+    "carrier": (["README.md", "docs/ARCHITECTURE.md", "docs/CHANGING.md"], 6000),
+}
+# Names of other projects, of the system, and of what a reader makes.
+ELSEWHERE = {"ck_spinlock_mcs", "eh_frame", "my_program", "overcommit_memory", "queuing_mutex", "transparent_hugepage"}
+faults = []
+
+
+def tracked():
+    """The files of the repository."""
+    names = subprocess.run(["git", "ls-files", "--cached", "--others", "--exclude-standard"], cwd=ROOT, capture_output=True, text=True, check=True)
+    return [name for name in names.stdout.splitlines() if (ROOT / name).is_file()]
+
+
+def words(text):
+    """How many words the text has."""
+    return sum(bool(re.search(r"[^\W_]", it)) for it in text.split())
+
+
+def slug(title):
+    """The anchor of a heading, as GitHub makes it."""
+    return re.sub(r"[^\w\- ]", "", title.replace("`", "").lower()).replace(" ", "-")
+
+
+def sections(text):
+    """Each heading's anchor, with its text up to the next heading that is not below it."""
+    lines, found = text.split("\n"), {}
+    heads, fenced = [], False
+    for number, line in enumerate(lines):
+        fenced ^= line.startswith("```")
+        if not fenced and (match := re.match(r"(#+) (.*)", line)):
+            heads.append((number, len(match[1]), slug(match[2])))
+    for place, (number, level, anchor) in enumerate(heads):
+        end = next((it[0] for it in heads[place + 1 :] if it[1] <= level), len(lines))
+        found[anchor] = "\n".join(lines[number:end])
+    return found
+
+
+def part_of(name):
+    """The text of a page, or of its section behind `#`."""
+    page, _, anchor = name.partition("#")
+    text = (ROOT / page).read_text()
+    return sections(text)[anchor] if anchor else text
+
+
+def limit(name, count, most):
+    """One row of the table of words."""
+    print(f"{count:7,} of {most:6,}  {name}")
+    if count > most:
+        faults.append(f"{name} has {count} words, and may have {most}")
+
+
+def count_words(pages):
+    """The table of words."""
+    counts = {page: words((ROOT / page).read_text()) for page in pages}
+    for page, most in LIMITS.items():
+        limit(page, counts[page], most)
+    crates = [page for page in pages if page.startswith("crates/")]
+    limit("crates/*/README.md", sum(counts[page] for page in crates), CRATES)
+    limit("all pages but CHANGELOG.md", sum(counts[page] for page in pages if page != "CHANGELOG.md"), ALL)
+    for reader, (parts, most) in PATHS.items():
+        limit(f"{reader}: {', '.join(parts)}", sum(words(part_of(part)) for part in parts), most)
+    manual = (ROOT / "docs/man/qolb.3").read_text()
+    calls = manual.split("\n.SH NAME\n", 1)[1].split(" \\- ", 1)[0].count(",") + 1
+    limit("docs/man/qolb.3, a call", -(-words(re.sub(r"(?m)^\.[A-Z]+ ?", "", manual)) // calls), CALL)
+    for page in crates:
+        lines = (ROOT / page).read_text().count("\n")
+        if lines > CRATE_LINES:
+            faults.append(f"{page} has {lines} lines, and may have {CRATE_LINES}")
+
+
+def check_links(pages):
+    """Each link within a page, or to a section of another, leads to a heading."""
+    for page in pages:
+        text = (ROOT / page).read_text()
+        for target, anchor in re.findall(r"\]\(([^)#\s]*)#([^)\s]+)\)", text):
+            if target.startswith("http"):
+                continue
+            other = (ROOT / page).parent / target if target else ROOT / page
+            if not other.is_file() or anchor not in sections(other.read_text()):
+                faults.append(f"{page} leads to {target}#{anchor}, and there is no such heading")
+
+
+def check_names(pages, files):
+    """Each name in code font that is of a file, a test, a function or a definition stands in the sources."""
+    known = set(files) | {name.rsplit("/", 1)[-1] for name in files}
+    for name in files:
+        if not name.endswith((".md", ".svg")) and not name.startswith("docs/man/"):
+            known.update(re.findall(r"[^\W\d][\w]*", (ROOT / name).read_text(errors="replace")))
+    for page in pages:
+        text = re.sub(r"```.*?```", "", (ROOT / page).read_text(), flags=re.S)
+        for name in re.findall(r"`([^`\n]+)`", text) if page != "CHANGELOG.md" else []:
+            for word in re.findall(r"[^\W\d_]\w*", name) if re.fullmatch(r"[\w:.()&/ ,]+", name) else []:
+                if word not in known and word not in ELSEWHERE and not word.endswith("_") and (("_" in word) or re.match(r"[A-Z][a-z]+[A-Z]", word)):
+                    faults.append(f"{page} names `{word}`, which stands in no source")
+
+
+def check_figures(is_write):
+    """Each table of figures in a page is what the measurements say, and each ratio in a sentence."""
+    for page in sorted({"docs/LOCKS.md"} | {page for page, _, _ in figures.RATIOS}):
+        path = ROOT / page
+        text = path.read_text()
+        for name, table in figures.TABLES.items():
+            text = re.sub(rf"(<!-- figures: {name} -->\n\n).*?\n\n", lambda found: found[1] + table() + "\n\n", text, flags=re.S)
+        if is_write:
+            path.write_text(text)
+        elif text != path.read_text():
+            faults.append(f"{page} has a table that is not that of c/bench/figures: run tools/pages.py --write")
+        for of_page, sentence, numbers in figures.RATIOS:
+            said = sentence.format(*numbers())
+            if of_page == page and said not in " ".join(text.split()):
+                faults.append(f"{page} ought to say, by c/bench/figures: {said}")
+
+
+def main():
+    files = tracked()
+    pages = [name for name in files if name.endswith(".md")]
+    check_figures("--write" in sys.argv[1:])
+    count_words(pages)
+    check_links(pages)
+    check_names(pages, files)
+    for fault in faults:
+        print(fault, file=sys.stderr)
+    return 1 if faults else 0
+
+
+if __name__ == "__main__":
+    sys.exit(main())
