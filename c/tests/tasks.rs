@@ -6,7 +6,7 @@
 #[path = "../rust/qolb.rs"]
 mod qolb;
 
-#[path = "executor.rs"]
+#[path = "../examples/executor.rs"]
 mod executor;
 
 use executor::{Pool, Task, block_on};

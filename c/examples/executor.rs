@@ -1,4 +1,5 @@
 //! A small executor: `block_on` for one future, and a pool of threads for many. A program that has an executor takes that instead.
+#![allow(dead_code)] // a program takes the part that it needs
 
 use std::collections::VecDeque;
 use std::future::Future;

@@ -12,12 +12,23 @@
 #include <qolb.h>
 #include <arpa/inet.h>
 #include <errno.h>
-#include <string.h>
+#include <pthread.h>
+#include <stdatomic.h>
+#include <stdio.h>
+#include <stdlib.h>
 #include <sys/epoll.h>
 #include <sys/eventfd.h>
 #include <sys/socket.h>
+#include <unistd.h>
 
-#include "waiters.h"
+#define MUST(call, wanted)                                                                     \
+    do {                                                                                       \
+        long long got_ = (long long)(call);                                                    \
+        if (got_ != (long long)(wanted)) {                                                     \
+            printf("line %d: %s gave %lld\n", __LINE__, #call, got_);                          \
+            exit(1);                                                                           \
+        }                                                                                      \
+    } while (0)
 
 enum { MOST = 128, MOST_LOOPS = 4 };
 

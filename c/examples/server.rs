@@ -1,0 +1,209 @@
+//! A server on 127.0.0.1 whose connections take turns, as futures over a small executor of one thread and of four: to copy from.
+//!
+//! A client sends 'L' and gets 8 bytes, a number as it is when its connection has the turn; and sends 'U', which adds 1 and ends the turn. A client may go
+//! at any time: the future of its turn is dropped, which takes its request back. No thread of the executor ever waits for a turn.
+//!
+//!   build/server_rs [CONNECTIONS [ROUNDS]]
+//!
+//! The clients are in the same program. Prints only errors. A program that has an executor and sockets of its own needs `by_mutex` or `by_node` alone.
+
+#[path = "../rust/qolb.rs"]
+mod qolb;
+
+#[path = "executor.rs"]
+mod executor;
+
+use executor::Pool;
+use qolb::{Bytes, Kind, Mutex, Node};
+use std::collections::HashMap;
+use std::future::{Future, poll_fn};
+use std::io::{ErrorKind, Read, Write};
+use std::net::{Ipv4Addr, SocketAddr, TcpListener, TcpStream};
+use std::os::fd::{AsRawFd, RawFd};
+use std::os::unix::net::UnixStream;
+use std::pin::pin;
+use std::sync::Arc;
+use std::sync::atomic::{AtomicU64, Ordering::SeqCst};
+use std::task::{Context, Poll, Waker};
+use std::thread;
+
+// ---- The server ----
+
+/// By a mutex there may be any number of connections.
+async fn by_mutex(client: Client, number: Arc<Mutex<u64>>) {
+    while client.byte().await == Some(b'L') {
+        let Some(Ok(mut number)) = client.unless_it_goes(number.lock_async()).await else { return };
+        client.send(*number);
+        if client.byte().await != Some(b'U') {
+            return; // the guard ends the turn
+        }
+        *number += 1;
+    }
+}
+
+/// By a line each has a node of its own, and the number is in the line.
+async fn by_node(client: Client, mut node: Node) {
+    while client.byte().await == Some(b'L') {
+        let Some(Ok(mut turn)) = client.unless_it_goes(node.turn()).await else { return };
+        client.send(turn.lane(0));
+        if client.byte().await != Some(b'U') {
+            return;
+        }
+        turn.add_to_lane(0, 1);
+    }
+}
+
+struct Client {
+    socket: TcpStream,
+    sockets: Arc<Sockets>,
+}
+
+impl Client {
+    fn poll_byte(&self, context: &mut Context<'_>) -> Poll<Option<u8>> {
+        let mut byte = [0];
+        match (&self.socket).read(&mut byte) {
+            Ok(1) => Poll::Ready(Some(byte[0])),
+            Err(error) if error.kind() == ErrorKind::WouldBlock => {
+                self.sockets.wake_when_readable(&self.socket, context.waker());
+                Poll::Pending
+            }
+            _ => Poll::Ready(None),
+        }
+    }
+
+    /// The next byte; none once the client has gone.
+    async fn byte(&self) -> Option<u8> {
+        poll_fn(|context| self.poll_byte(context)).await
+    }
+
+    /// What the future gives; none if the client goes before that, or sends more.
+    async fn unless_it_goes<T>(&self, future: impl Future<Output = T>) -> Option<T> {
+        let mut future = pin!(future);
+        poll_fn(|context| match future.as_mut().poll(context) {
+            Poll::Ready(it) => Poll::Ready(Some(it)),
+            Poll::Pending => self.poll_byte(context).map(|_| None),
+        })
+        .await
+    }
+
+    /// If the client has gone, the next byte tells.
+    fn send(&self, number: u64) {
+        let _ = (&self.socket).write_all(&number.to_ne_bytes());
+    }
+}
+
+/// Wakes tasks when their sockets can be read, by a thread of its own.
+struct Sockets {
+    wanted: std::sync::Mutex<HashMap<RawFd, Waker>>,
+    bell: UnixStream, // a byte tells the thread to look at `wanted` again, and the end of it tells it to end
+}
+
+#[repr(C)]
+struct Watched {
+    fd: RawFd,
+    wanted: i16,
+    got: i16,
+}
+
+const POLLIN: i16 = 1;
+
+unsafe extern "C" {
+    fn poll(watched: *mut Watched, many: std::ffi::c_ulong, milliseconds: i32) -> i32;
+    safe fn alarm(seconds: u32) -> u32;
+}
+
+impl Sockets {
+    fn new() -> (Arc<Sockets>, UnixStream) {
+        let (bell, hears) = UnixStream::pair().unwrap();
+        (Arc::new(Sockets { wanted: Default::default(), bell }), hears)
+    }
+
+    fn wake_when_readable(&self, socket: &TcpStream, waker: &Waker) {
+        self.wanted.lock().unwrap().insert(socket.as_raw_fd(), waker.clone());
+        (&self.bell).write_all(&[0]).unwrap();
+    }
+
+    /// A socket that was closed meanwhile counts as one that can be read: its task is gone, and the waker does nothing.
+    fn run(&self, mut hears: UnixStream) {
+        let mut heard = [0; 64];
+        loop {
+            let fds: Vec<RawFd> = self.wanted.lock().unwrap().keys().copied().collect();
+            let mut watched: Vec<_> = [hears.as_raw_fd()].into_iter().chain(fds).map(|fd| Watched { fd, wanted: POLLIN, got: 0 }).collect();
+            // SAFETY: the array has so many entries.
+            unsafe { poll(watched.as_mut_ptr(), watched.len() as std::ffi::c_ulong, -1) };
+            if watched[0].got != 0 && hears.read(&mut heard).unwrap() == 0 {
+                return;
+            }
+            for it in watched[1..].iter().filter(|it| it.got != 0) {
+                let waker = self.wanted.lock().unwrap().remove(&it.fd);
+                if let Some(waker) = waker {
+                    waker.wake();
+                }
+            }
+        }
+    }
+
+    fn end(&self) {
+        self.bell.shutdown(std::net::Shutdown::Both).unwrap();
+    }
+}
+
+// ---- The clients ----
+
+/// Takes turns; the last connection goes while it waits, and the one before while it holds. Returns the number of its additions.
+fn is_client(address: SocketAddr, which: u64, rounds: u64) -> u64 {
+    let mut socket = TcpStream::connect(address).unwrap();
+    let mut number = [0; 8];
+    for round in 0..rounds {
+        socket.write_all(b"L").unwrap();
+        if which == 0 && round == rounds / 2 {
+            return round;
+        }
+        socket.read_exact(&mut number).unwrap();
+        if which == 1 && round == rounds / 2 {
+            return round;
+        }
+        socket.write_all(b"U").unwrap();
+    }
+    rounds
+}
+
+// ---- A run ----
+
+/// Serves each connection by a task that `serves` makes, by so many threads; returns the number of additions.
+fn run(threads: usize, connections: u64, rounds: u64, mut serves: impl FnMut(&Arc<Pool>, Client)) -> u64 {
+    let listener = TcpListener::bind((Ipv4Addr::LOCALHOST, 0)).unwrap();
+    let (address, added) = (listener.local_addr().unwrap(), AtomicU64::new(0));
+    let (pool, (sockets, hears)) = (Arc::new(Pool::default()), Sockets::new());
+    thread::scope(|scope| {
+        let added = &added;
+        for which in 0..connections {
+            scope.spawn(move || added.fetch_add(is_client(address, which, rounds), SeqCst));
+        }
+        scope.spawn(|| sockets.run(hears));
+        for _ in 0..connections {
+            let socket = listener.accept().unwrap().0;
+            socket.set_nonblocking(true).unwrap();
+            serves(&pool, Client { socket, sockets: sockets.clone() });
+        }
+        pool.run(threads);
+        sockets.end();
+    });
+    added.into_inner()
+}
+
+fn main() {
+    let mut words = std::env::args().skip(1).map(|it| it.parse::<u64>().expect("a number"));
+    let (connections, rounds) = (words.next().unwrap_or(40), words.next().unwrap_or(20));
+    assert!((2..200).contains(&connections), "2 to 199 connections, as a line has at most 200 nodes");
+    alarm(120);
+    for threads in [1, 4] {
+        let number = Arc::new(Mutex::new(0));
+        let added = run(threads, connections, rounds, |pool, client| drop(pool.spawn(by_mutex(client, number.clone()))));
+        assert_eq!(*number.lock().unwrap(), added);
+        let mut nodes = qolb::open(Kind::DEFAULT, 1, connections + 1, None, &Bytes([0; 64])).unwrap();
+        let mut last = nodes.pop().unwrap();
+        let added = run(threads, connections, rounds, |pool, client| drop(pool.spawn(by_node(client, nodes.pop().unwrap()))));
+        assert_eq!(last.lock().unwrap().lane(0), added);
+    }
+}
