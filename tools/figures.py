@@ -1,4 +1,131 @@
-"""The figures of c/bench/figures, as the pages have them: tables, and ratios in sentences."""
+"""The figures of c/bench/figures, as the pages have them: tables, and numbers in sentences."""
 
-TABLES = {}
-RATIOS = []
+import csv
+import pathlib
+import re
+
+ROOT = pathlib.Path(__file__).resolve().parent.parent
+LINES = ("ticket line", "link line", "ring")
+# The run of c/bench/compare that tables, sentences and the plot of rounds are of.
+ROUNDS = "from_c.tsv"
+
+
+def rows_of(name):
+    """The rows of a file of figures."""
+    lines = (ROOT / "c/bench/figures" / name).read_text().splitlines()
+    return list(csv.DictReader((line for line in lines if not line.startswith("#")), delimiter="\t"))
+
+
+def fact(name, key):
+    """What the line `# KEY TEXT` at the head of a file of figures says."""
+    return re.search(rf"(?m)^# {key} (.*)$", (ROOT / "c/bench/figures" / name).read_text())[1]
+
+
+def short(number):
+    """A number with three digits that count, or whole."""
+    return f"{number:,.0f}" if number >= 100 else f"{number:.3g}"
+
+
+def table(heads, rows):
+    """A table of a page."""
+    return "\n".join("| " + " | ".join(row) + " |" for row in (heads, ["---"] * len(heads), *rows))
+
+
+def medians():
+    """Nanoseconds of a round, by lock and number of threads, without those of an older commit and of an earlier run."""
+    return {(row["name"], row["threads"]): float(row["median"]) for row in rows_of(ROUNDS) if row["run"] != "earlier" and not row["name"].endswith("before")}
+
+
+def rounds():
+    """Nanoseconds of a round by the number of threads, of each lock that was timed."""
+    found = medians()
+    names = [name for name in (*LINES, *(f"{line} from C" for line in LINES), "MCS", "CLH", "ticket lock", "tbb::queuing_mutex") if (name, "1") in found]
+    threads = sorted({count for _, count in found}, key=int)
+    return table(["Threads", *names], [[count, *(short(found[name, count]) for name in names)] for count in threads])
+
+
+WAITS = {"ticket line": "ticket line, spins", "ticket line, asleep": "ticket line, sleeps", "C, nodes": "C, nodes", "C, qolb_lock": "C, `qolb_lock`", "mutex": "mutex", "MCS": "MCS"}
+
+
+def waits():
+    """Thousands of turns a second, and the longest wait in milliseconds."""
+    found = {(row["turn_us"], row["threads"], row["name"]): row for row in rows_of("waits.tsv")}
+
+    def cell(*key):
+        return f"{short(float(found[key]['turns_a_second']) / 1000)}; {short(float(found[key]['longest_us']) / 1000)}"
+
+    rows = [[turn, count, *(cell(turn, count, name) for name in WAITS)] for turn in ("0", "10", "1000") for count in ("4", "8", "32")]
+    return table(["Turn, us", "Threads", *WAITS.values()], rows)
+
+
+def c_memory(word):
+    """The header's table of bytes by the number of nodes or seats: by kind, and by number."""
+    header = (ROOT / "c/include/qolb.h").read_text()
+    head, *rows = re.search(rf" \*     {word} (.*)\n((?: \*     \w+ .*\n)+)", header)[0].splitlines()
+    counts = head.split()[2:]
+    return {row.split()[1]: dict(zip(counts, row.split()[2:])) for row in rows}
+
+
+def memory():
+    """The bytes of a line with its ports in Rattle, and of an open line and a lock from C."""
+    found = {(row["name"], row["nodes"]): int(row["table"]) + int(row["ports"]) for row in rows_of("memory.tsv")}
+    nodes, seats = c_memory("nodes"), c_memory("seats")
+    counts = list(nodes["ring"])
+    rows = [[f"{line}, Rattle", *(f"{found[line, count]:,}" for count in counts)] for line in LINES]
+    for line in LINES:
+        rows.append([f"{line}, C", *nodes[line.split()[0]].values()])
+    rows.append(["`qolb_lock`, link line", *seats["link"].values()])
+    return table(["Nodes or seats", *counts], rows)
+
+
+def of_mutex(count):
+    """How many times as many empty turns as a strict lock a mutex has with that many threads."""
+    found = {row["lock"]: float(row["turns_a_second"]) for row in rows_of("bursts.tsv") if (row["threads"], row["turn_us"]) == (count, "0")}
+    return found["mutex"] / found["default"]
+
+
+def times_of_mutex():
+    """The least and the most of these, with as many threads as processors and more."""
+    found = sorted(of_mutex(count) for count in ("4", "8", "32"))
+    return f"{found[0]:.0f}", f"{found[-1]:.0f}"
+
+
+def alone():
+    """Nanoseconds of a round by one thread: the lines in Rattle, and MCS."""
+    found = medians()
+    lines = [found[line, "1"] for line in LINES]
+    return f"{min(lines):.0f}", f"{max(lines):.0f}", f"{found['MCS', '1']:.0f}"
+
+
+def to_mcs():
+    """The time of a round by three threads as a ratio to that of MCS: ticket line, ring, link line."""
+    found = medians()
+    return tuple(f"{found[line, '3'] / found['MCS', '3']:.2f}" for line in ("ticket line", "ring", "link line"))
+
+
+def long_turns():
+    """With turns of a millisecond by 32 threads: the share of a mutex's turns, and the two longest waits in milliseconds."""
+    found = {row["name"]: row for row in rows_of("waits.tsv") if (row["turn_us"], row["threads"]) == ("1000", "32")}
+    ours, mutex = found["ticket line, asleep"], found["mutex"]
+    share = 100 * float(ours["turns_a_second"]) / float(mutex["turns_a_second"])
+    return f"{share:.0f}", f"{float(ours['longest_us']) / 1000:.0f}", f"{float(mutex['longest_us']) / 1000:,.0f}"
+
+
+def bursts():
+    """Of a lock with bursts of 1,024 turns beside a mutex: the least and the most of its empty turns; with turns of 10 us turns and longest wait at most."""
+    rows = [row for row in rows_of("bursts.tsv") if row["lock"].startswith("link:4+")]
+    empty = [float(row["of_mutex_turns"]) for row in rows if row["turn_us"] == "0"]
+    waited = [float(row["of_mutex_wait"]) for row in rows if row["turn_us"] == "10"]
+    return f"{min(empty):.1f}", f"{max(empty):.1f}", f"{1 / max(waited):.0f}"
+
+
+TABLES = {"rounds": rounds, "waits": waits, "memory": memory}
+# Of each sentence with figures: its page, the sentence with `{}` for each, and the figures.
+RATIOS = [
+    ("README.md", "A mutex has {} to {} times the turns of a strict queue lock", times_of_mutex),
+    ("README.md", "with three threads the ticket line takes {} times as long as MCS, the ring {}, the link line {}", to_mcs),
+    ("README.md", "With one thread a turn takes {} to {} ns, MCS's {}", alone),
+    ("docs/LOCKS.md", "a mutex has {} to {} times the turns of a strict lock", times_of_mutex),
+    ("docs/LOCKS.md", "{} % of a mutex's turns; its longest wait is {} ms, the mutex's {} ms", long_turns),
+    ("docs/LOCKS.md", "{} to {} times a mutex's empty turns; with turns of 10 us its longest wait is at most one {}th of a mutex's", bursts),
+]

@@ -1,5 +1,5 @@
 #!/usr/bin/env python3
-"""Runs the gate and prints its cost: processor minutes and the peak of memory by crate and kind of work, as a table for docs/CHANGING.md.
+"""Runs the gate and prints its cost: processor minutes and the peak of memory by crate and kind of work, as the table tools/gate_times.tsv.
 
     tools/gate_times.py [--anew] [--folder CHECKOUT] [--log FILE] [NAME ..]
     tools/gate_times.py --functions [--jobs N] [NAME ..]
