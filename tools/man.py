@@ -170,6 +170,11 @@ def check_memory(is_check):
         sys.exit("man.py: the tables of memory in c/include/qolb.h are not what c/build/tests/memory counts: run tools/man.py")
 
 
+def released(version):
+    """The date of a version, by the CHANGELOG."""
+    return re.search(rf"(?m)^## {re.escape(version.rsplit('.', 1)[0])} \((.*)\)$", (ROOT / "CHANGELOG.md").read_text())[1]
+
+
 def page_of_header():
     text = HEADER.read_text()
     head, rest = text.split("#ifndef QOLB_H", 1)
@@ -177,7 +182,7 @@ def page_of_header():
     version = ".".join(re.search(rf"QOLB_VERSION_{part} (\d+)", rest)[1] for part in ("MAJOR", "MINOR", "PATCH"))
     what, _, of_what = parts["DESCRIPTION"][0][0].partition(": ")
     name = ", ".join(sorted({re.search(r"(qolb_\w+)\(", made)[1] for told, _ in calls(rest) for made in told}))
-    out = [f'.TH QOLB 3 "" "qolb {version}"', f".SH NAME\n{escaped(name)} \\- {escaped(of_what.rstrip('.'))}"]
+    out = [f'.TH QOLB 3 "{released(version)}" "qolb {version}"', f".SH NAME\n{escaped(name)} \\- {escaped(of_what.rstrip('.'))}"]
     prototypes = [made for told, _ in calls(rest) for made in told]
     out.append(".SH SYNOPSIS\n.nf\n.B #include <qolb.h>\n.PP\n" + "\n".join(f".B {escaped(made)}" for made in prototypes) + "\n.PP\n" + escaped("cc prog.c $(pkg-config --cflags --libs qolb)") + "\n.fi")
     out.append(section("DESCRIPTION", parts.pop("DESCRIPTION")[1:]))
@@ -194,7 +199,7 @@ def page_of_header():
     out += [section(title, runs) for title, runs in parts.items()]
     out.append(section("EXAMPLE", example))
     out.append(".SH SEE ALSO\n.BR qolb (1),\n.BR pthread_mutex_lock (3)")
-    return "\n".join(out) + "\n"
+    return "\n".join(out).replace(".SH TYPES\n.PP\n", ".SH TYPES\n").replace(".SH CALLS\n.PP\n", ".SH CALLS\n") + "\n"
 
 
 def told_by(program, mark, *words):
@@ -217,7 +222,7 @@ def page_of_program(program):
     head = help_of(program)
     about = " ".join(head.split("\n\n", 1)[0].split()).rstrip(".")
     version = told_by(program, "kinds of lines", "--version")
-    out = [f'.TH QOLB 1 "" "{version.splitlines()[0]}"', f".SH NAME\nqolb \\- {escaped(about[:1].lower() + about[1:])}", f".SH DESCRIPTION\n{as_told(head)}"]
+    out = [f'.TH QOLB 1 "{released(version.splitlines()[0].split()[-1])}" "{version.splitlines()[0]}"', f".SH NAME\nqolb \\- {escaped(about[:1].lower() + about[1:])}", f".SH DESCRIPTION\n{as_told(head)}"]
     out += [f".SH QOLB {name.upper()}\n{as_told(help_of(program, name))}" for name in SUBCOMMANDS]
     out.append(f".SH QOLB \\-\\-VERSION\n{as_told(version)}")
     out.append(".SH SEE ALSO\n.BR qolb (3)")

@@ -1,7 +1,7 @@
 /* QOLB for C and C++: a queue lock that hands over 64 bytes with the lock.
  *
  * A line is 64 bytes that 1 to 200 nodes share. A node requests it, waits for its turn, reads and writes it, and releases it: lock and bytes are
- * handed to the oldest request. No request is overtaken. The library behind this header is proved; crates/qolb_c/README.md says what.
+ * handed to the oldest request. No request is overtaken. The library behind this header is proved; docs/PROVED.md says how far.
  *
  * EXAMPLE
  *
@@ -39,64 +39,59 @@
  *     table[key % SIZE] = value;
  *     qolb_lock_leave(&lock);
  *
- * So a pthread_mutex_t becomes a qolb_lock by its type, its initialiser, the names of its calls and the tests of their answers. Who enters must look
- * at the answer, and success is QOLB_GRANTED, which is not 0: `== 0` becomes `== QOLB_GRANTED`. A condition, qolb_cond, is for a lock what a
- * pthread_cond_t is for a mutex. Times are lengths in nanoseconds from the call on, not points in time. A lock in a struct, as in a bucket of a
- * table, starts as the same value:
+ * So a pthread_mutex_t becomes a qolb_lock by its type, its initialiser, the names of its calls and the tests of their answers: success is QOLB_GRANTED,
+ * which is not 0. A condition, qolb_cond, is for a lock what a pthread_cond_t is for a mutex. Times are lengths in nanoseconds from the call on, not points
+ * in time. A lock in a struct starts as the same value:
  *
  *     bucket->lock = (qolb_lock)QOLB_LOCK_INIT_DEFAULT;    // in C++ qolb_lock QOLB_LOCK_INIT_DEFAULT
  *
- * From its first use until qolb_lock_close a lock keeps the memory of its line and its seats: by default at most 3 kilobytes of heap. A lock that is never
- * used takes nothing. QOLB_LOCK_INIT and QOLB_LOCK_INIT_OF choose kind and seats; KINDS, below, has what they take.
+ * From its first use until qolb_lock_close a lock keeps the memory of its line and its seats: by default at most 3 kilobytes of heap (KINDS, below). A lock
+ * that is never used takes nothing. QOLB_LOCK_INIT and QOLB_LOCK_INIT_OF choose kind and seats.
  *
- * A lock has a seat for each of its line's nodes. A thread that enters takes a free seat and makes a request at once. A thread that finds no free seat
- * waits at the lock's door, and those there take the seats in the order in which they came: so a few seats serve any number of threads first come, first
- * served. A thread keeps its place from when it has made its request, or has come to the door: no thread whose call begins later is served before it,
- * unless it gives up. With a seat for each thread a waiter sleeps and wakes once for a turn, and at the door once more. A thread that was late leaves its
- * seat's node busy (BUSY, below): no other thread gets that seat until a release has passed the node.
+ * A thread that enters takes a free seat, which is a node of the lock's line, and makes a request. If no seat is free it waits at the lock's door, in order: so a
+ * few seats serve any number of threads first come, first served. No thread whose call begins later is served before one that has made its request or has
+ * come to the door, unless that one gives up. With a seat for each thread a waiter sleeps and wakes once for a turn, and at the door once more. The seat of
+ * a thread that was late stays busy (BUSY, below) until a release has passed its request.
  *
- * While no thread waits, a lock keeps its line for whoever enters next: entering and leaving are then one change of a word each, as of a mutex. Threads that
- * wait at a condition do not count.
+ * While no thread waits, a lock keeps its line for whoever enters next: entering and leaving are then one change of a word each. Threads that wait at a
+ * condition do not count.
  *
- * Such a lock is strict: each turn is handed to the thread that has waited longest, which takes time. If threads enter again and again, a mutex has many times as
- * many turns, as it lets its last holder in again; but it bounds no wait. A lock with bursts is between the two:
+ * Such a lock is strict: each turn is handed to the thread that has waited longest. If threads enter again and again, a mutex has many times as many turns, as it
+ * lets its last holder in again; but it bounds no wait. A lock with bursts is between the two:
  *
  *     static qolb_lock lock = QOLB_LOCK_INIT_BURSTS(QOLB_LINK, 4, 1024);   // 4 seats, bursts of at most 1024 turns
  *
- * Its holder leaves it open, though threads wait, for whoever enters next: that is one burst. Those that wait keep their order. While a thread waits, and p threads
- * wait before it, at most
+ * Its holder leaves it open, though threads wait, for whoever enters next: that is one burst. Those that wait keep their order. Before a thread with p threads
+ * before it there are at most
  *
  *     (p + 1) * (burst - 1)
  *
- * turns of calls that began later come before its own, whether it is awake or asleep. A call that began later is one to enter, to try, or the end of a wait at a
- * condition. That is the hard limit, from 2 to 65,535 turns. Mostly fewer come: one of the threads that wait watches. While it runs it ends the burst after the
- * sixteenth part of that limit, once 1 ms has passed since the burst began, and as soon as it finds the lock open and unused. A strict lock has a burst of 0.
- * There must be 2 seats or more.
+ * turns of calls that began later: to enter, to try, or the end of a wait at a condition. The hard limit, `burst`, is 2 to 65,535 turns. Usually fewer are
+ * made: one of the waiting threads watches, and while it runs ends the burst after a sixteenth of the limit, after 1 ms, and once it finds the lock open and
+ * unused. A strict lock has a burst of 0. There must be 2 seats or more.
  *
- * Only the thread that entered may leave. A thread that enters a lock which it holds is told MISUSE, and holds it as before. A thread that ends while it
- * holds a lock releases nothing, and all others wait; qolb_lock_holder returns its number, which on Linux is that of the system (gettid), as a debugger
- * shows it.
+ * Only the thread that entered may leave. A thread that enters a lock which it holds is told MISUSE. A thread that ends while it holds a lock releases nothing,
+ * and all others wait; qolb_lock_holder returns its number, on Linux that of the system (gettid).
  *
- * A static lock is opened at its first use, by the first thread that uses it. If there is no memory, each use is answered QOLB_NO_MEMORY and keeps
- * nothing, until there is some. Do not move or copy a lock or a condition once it is used.
+ * A static lock is opened at its first use. If there is no memory, each use is answered QOLB_NO_MEMORY, until there is some.
  *
  * The holder may use the line's 64 bytes too: qolb_lock_turn lends it the node, to read and to write the line. For every other call that node is
  * misuse, and after the holder has left it is misuse for all.
  *
- * The giving out of seats, and the sleeping of threads, is tested and not proved; every step on a line is a proved call.
+ * Seats and the sleeping of threads are tested and not proved; every step on a line is a proved call.
  *
  * WORDS
  *
  * node: one of the users of a line, numbered from 1. A thread that uses a line has a node of its own.
- * handle: a qolb_node, by which C has a node. A handle of zeros is empty: it has none.
+ * handle: a qolb_node, by which C has a node. A handle of zeros is empty.
  * turn: the time from the grant of the line to its release. The node at its turn holds the line, and is its holder.
  * lane: one of the line's eight numbers of 64 bits. Lane k is bytes 8k to 8k + 7, the lowest first.
  * lease: the number of turns of a line. At the end of the last one it closes.
  * closed: no later request is served, and each is answered CLOSED. A holder closes the line (qolb_shut), or its lease is used up.
  * predecessor, successor: the nodes whose requests are right before a node's own in the queue, and right behind.
  * withdrawn: taken back by its node, of a request. The release that reaches it passes it.
- * busy: not allowed to make a request yet, of a node whose last request is not cleared (BUSY, below).
- * label: a number that the caller chooses, and that qolb_label returns. Lines may have the same; the thread sanitizer takes such lines for one.
+ * busy: not allowed to make a request yet, of a node (BUSY, below).
+ * label: a number that the caller chooses, and that qolb_label returns.
  *
  * KINDS
  *
@@ -105,9 +100,8 @@
  * - QOLB_RING: a node takes a ticket and waits on a cell of its own. It takes at least 34 kilobytes, for any number of nodes.
  * - QOLB_LINK: a link line, whose queue is a linked list: a node links itself to its predecessor. Only this kind has requests in two calls,
  *   qolb_prepend and qolb_link, and a node that may be busy after its own release (BUSY, below). QOLB_LIST is its former name.
- * - QOLB_TICKET: a ticket line. It is a ring whose cells are granted by a number, and are never cleared. So a release that passes no withdrawn
- *   request takes one step on shared words, where a ring's takes two. Its answers are those of a ring. Take this one, by the name QOLB_DEFAULT,
- *   unless memory is short or you want requests in two calls.
+ * - QOLB_TICKET: a ticket line, a ring whose cells are granted by a number and never cleared. A release that passes no withdrawn request takes one step on
+ *   shared words, where a ring's takes two. Take this one, by the name QOLB_DEFAULT, unless memory is short or you want requests in two calls.
  *
  * Bytes of heap that an open line keeps, as the library asks malloc for them (qolb_memory, for any number of nodes). malloc takes some 16 more for
  * each of its blocks, which are the number of nodes and 3:
@@ -147,32 +141,27 @@
  * A line guards any data, as a mutex does. All that a thread wrote anywhere in memory before its node's release (qolb_deqolb, qolb_shut) is seen by
  * the thread whose node is granted the line next, and by those whose requests are answered CLOSED.
  *
- * For the line's own 64 bytes this is proved. For other memory it follows from the construction of the library: every step on a shared word is a
- * sequentially consistent atomic operation, and a release writes the word in which the next holder finds its grant after all that its holder wrote.
+ * For the line's own 64 bytes this is proved. For other memory it follows from the construction: every step on a shared word is a sequentially consistent
+ * atomic operation, and a release writes the word in which the next holder finds its grant after all that its holder wrote.
  *
  * WAITING
  *
- * Of the calls on a node two wait for other threads: qolb_acquire and qolb_acquire_within. They poll for some 1.5 us, with one pause of the
- * processor between two polls (the instruction `pause`; the first wait of a process counts how many that is, 16 to 512), yield the processor 16
- * times (sched_yield) with a poll after each, and then sleep (on Linux by a futex, and elsewhere for 200 us at a time) until the line is released;
- * then they poll anew. A thread that waits for a lock does the same. A thread that waits at a condition sleeps at once.
+ * Of the calls on a node two wait for other threads: qolb_acquire and qolb_acquire_within. They poll for some 1.5 us, with a pause of the processor between
+ * two polls, yield the processor 16 times with a poll after each, and then sleep (on Linux by a futex, elsewhere for 200 us at a time) until the line is
+ * released; then they poll anew. A thread that waits for a lock does the same. A thread that waits at a condition sleeps at once.
  *
- * A call that releases the line wakes at most two sleepers: the next holder, and the waiter behind it, which can wake up during the holder's turn.
- * That waiter polls, and sleeps again if its turn is not reached. The others sleep on. Such calls are qolb_deqolb, qolb_shut, and every call that
- * answers CLOSED. Each waiter sleeps at a bell that is chosen by its line and its place in the queue. Some lines share bells, whatever their labels,
- * and then may wake each other's waiters without effect.
+ * A call that releases the line wakes at most two sleepers: the next holder, and the waiter behind it, which can wake up during the holder's turn. Such calls are
+ * qolb_deqolb, qolb_shut, and every call that answers CLOSED. Leaving a lock also wakes the first two threads at its door; in a burst it wakes only the
+ * thread that watches. Some lines share bells, and may wake each other's waiters without effect.
  *
- * Leaving a lock does the same, and wakes the first thread at its door, and the one behind it. In a burst it wakes only the thread that watches.
- *
- * No call wakes the thread of a busy node, and no notification tells of its end. That thread makes its request again 16 times, yields the processor in between, and then every 200 us.
+ * No call wakes the thread of a busy node, and no notification tells of its end. That thread makes its request again 16 times, and then every 200 us.
  *
  * A granted line is its node's, even if the node has not polled: all nodes behind wait until its thread has woken up and had its turn.
  *
- * No turn is promised. A request reaches its turn once each earlier one was granted the line and has released it, or was withdrawn.
+ * No turn is promised: a request reaches its turn once each earlier one has ended.
  *
- * No wait is a cancellation point. A thread that is cancelled while it waits goes on waiting, is granted the line or is late, and ends at its next
- * cancellation point: so it leaves no request in the queue that would block the line. A thread that may be cancelled at any instruction
- * (PTHREAD_CANCEL_ASYNCHRONOUS) must make no call.
+ * No wait is a cancellation point. A thread that is cancelled while it waits is granted the line or is late, and ends at its next cancellation point. A thread
+ * that may be cancelled at any instruction (PTHREAD_CANCEL_ASYNCHRONOUS) must make no call.
  *
  * EVENT LOOPS
  *
@@ -188,91 +177,72 @@
  * A notification is one call, `call(arg)`. The thread that releases the line makes it, after the release and inside the call that released, under whatever locks
  * that thread holds. So:
  *
- * - The call passes the news on: it sets a flag, makes a task ready, writes to a descriptor. It does not wait for another thread. It does not throw, jump
- *   out or end the thread. The thread is not cancelled in it.
- * - The call may use any node that its thread may use, by calls that do not wait. A release in it makes its own calls later: after this one has returned, or,
- *   if 32 others are already put off, at once.
- * - qolb_notify, qolb_notify_fd, qolb_notify_off and qolb_close wait until a call of the same node that another thread is in has returned, or has said
- *   qolb_notify_done. So a call says that before it takes a lock under which such a call is made, before it resumes a coroutine, and before it makes one of
- *   these four calls itself.
+ * - The call passes the news on: it sets a flag, makes a task ready, writes to a descriptor. It does not wait for another thread, throw, jump out or end the
+ *   thread, which is not cancelled in it.
+ * - The call may use any node that its thread may use, by calls that do not wait. A release in it makes its own calls after this one has returned, or, if 32
+ *   are already put off, at once.
+ * - qolb_notify, qolb_notify_fd, qolb_notify_off and qolb_close wait for a call of the same node in another thread, until it has returned or has said
+ *   qolb_notify_done. A call says that before it takes a lock under which one of these four is made, before it resumes a coroutine, and before it makes one.
  * - A call may be early, though this is rare: then the request still waits. Call qolb_notify again, which polls and wants another call in one step.
- * - A call may be late: if the node was granted its turn by qolb_poll, the call is still made, until qolb_notify_off. Whatever `arg` is must last until then.
- * - A descriptor is taken off before it is closed, or the number of another file may be written to.
- * - Not from a signal handler. After a fork the child has the wish too: a release in the child writes to the parent's eventfd.
+ * - A call may be late: after a turn that qolb_poll granted it is still made, until qolb_notify_off. Whatever `arg` is must last until then.
+ * - Take a descriptor off before you close it. Call nothing from a signal handler. After a fork a release in the child writes to the parent's eventfd, too.
  *
- * A lock is entered by tasks, too, beside threads: qolb_task_enter asks for it, and tells by a call when the task has it. No thread owns the turn: any thread may
- * go on with the task, one call at a time, and leave for it. Tasks and threads stand in one queue, first come, first served; a task keeps its place from when
- * qolb_task_enter has returned.
+ * Tasks enter a lock, too, beside threads, in one queue: qolb_task_enter asks for it, and a call tells when the task has it. No thread owns the turn: any thread
+ * may go on with the task, one call at a time, and leave for it.
  *
- *     uint32_t got = qolb_task_enter(&task, &lock, make_ready, &task);   // WAITING: the call comes; then qolb_task_poll
+ *     uint32_t got = qolb_task_enter(&task, &lock, make_ready, &task);   // WAITING: the call will be made; then qolb_task_poll
  *     if (got == QOLB_GRANTED) work(), qolb_task_leave(&task);
  *
- * What is said above of qolb_notify holds for that call; qolb_task_poll, qolb_task_cancel and qolb_task_leave stand for the four calls that wait for one that
- * another thread is in. And:
+ * What is said above of qolb_notify holds for that call; qolb_task_poll, qolb_task_cancel and qolb_task_leave wait for one in another thread. And:
  *
- * - Every call by which a thread or a task enters, leaves, gives up or closes a lock may make calls of tasks that it lets through. While a task waits no burst
- *   begins, and one that goes on ends with the turn that is under way.
- * - qolb_task_enter, qolb_task_cancel and qolb_task_leave wait for the guard of the lock's door, and qolb_task_enter for a thread that is about to free a seat:
- *   for the end of their calls, and for no turn.
- * - A thread that waits in qolb_lock_enter for a lock which one of its own tasks holds waits until that task leaves, so for ever if it would have to do so itself.
- *   The library doesn't see that: it does not know which thread has which task. In an event loop let tasks enter, and never the loop's thread.
+ * - Every call by which a thread or a task enters, leaves, gives up or closes a lock may make calls of tasks. While a task waits no burst begins, and one that
+ *   goes on ends with its turn.
+ * - qolb_task_enter, qolb_task_cancel and qolb_task_leave wait for the end of other threads' calls at the door, and for no turn.
+ * - A thread that waits for a lock which one of its own tasks holds waits for ever, if it would have to leave for that task. In an event loop let tasks enter,
+ *   and never the loop's thread.
  * - qolb_cond_wait is for threads alone. A task may signal.
  *
- * A release that finds somebody registered may wait for the guard of a bell, for as long as another thread takes to change a list there: a few instructions,
- * unless that thread loses the processor. While nodes of other lines are registered, a release takes some ten instructions more.
- *
- * The sanitizer of threads is told that what was done before qolb_notify comes before the call, and the call before what follows qolb_notify_off.
+ * The thread sanitizer is told that what precedes qolb_notify precedes the call, and that the call precedes what follows qolb_notify_off.
  *
  * BUSY
  *
- * A withdrawn request stays in the queue until a release reaches it, and until then its node is busy. That release, of another node, passes it and
- * clears it. A node of a link line may also be busy after its own release: if its successor has made a request and has not linked yet, until it has,
- * which is the last step of the successor's qolb_enqolb. So ask again later. A node can be busy as long as the nodes before the withdrawn request keep the
- * line; if one never releases it, for ever. qolb_acquire and qolb_acquire_within ask again by themselves. qolb_clear tells if a node is busy, and
- * makes no request.
+ * A withdrawn request stays in the queue until another node's release passes it, and until then its node is busy. A node of a link line may also be busy after
+ * its own release, until its successor has linked. So ask again later; if a node before the withdrawn request never releases, for ever. qolb_acquire and
+ * qolb_acquire_within ask again by themselves. qolb_clear tells if a node is busy, and makes no request.
  *
- * While its node is busy a thread is in no queue. So a thread that gets a node which was late may be overtaken by all requests that other nodes make
- * before that node is clear. If threads take nodes from a pool, let them take a node for which qolb_clear answers DONE, if there is one.
+ * While its node is busy a thread is in no queue, and may be overtaken. If threads take nodes from a pool, prefer one for which qolb_clear answers DONE.
  *
  * THREADS THAT END
  *
- * A line knows nodes and not threads. A thread that ends while its node holds the line, or waits for it, releases and withdraws nothing: the line
- * reaches that node and stays there, and all nodes behind it wait. No call can take it over, and no thread is told. But any thread that has the
- * handle, and got it in one of the ways above, may go on with it: qolb_state tells the node's state.
+ * A thread that ends while its node holds the line, or waits for it, releases and withdraws nothing: the line stays with that node, and all nodes behind it
+ * wait. Any thread that has the handle, and got it in one of the ways above, may go on with it: qolb_state tells the node's state.
  *
  * PROCESSES
  *
- * A line is of one process. A fork copies it: parent and child then have a line each, both in the same state, and neither sees what the other does.
- * So a node that held the line holds it in both, and the line guards nothing that both share, as a file or shared memory. The child of a process with
- * one thread may go on with its copy, and close its nodes. In the child of a process with threads call nothing: a thread that was not copied may have
- * been in the midst of a call. What is opened after the fork is only the opener's.
+ * A line is of one process. A fork copies it: parent and child then have a line each, in the same state, which guards nothing that both share. The child of a
+ * process with one thread may go on with its copy, and close its nodes. In the child of a process with threads call nothing: a thread that was not
+ * copied may have been in the midst of a call.
  *
  * SPEED
  *
- * Only qolb_open, qolb_close and qolb_move write to a handle, so handles of different threads may be side by side, as qolb_open leaves them. The data
- * of their nodes are apart. But what a thread writes beside another's handle slows that one's calls down. So keep what each thread writes on its
- * stack, or QOLB_NODE_ALIGN bytes apart:
+ * Handles of different threads may be side by side: only qolb_open, qolb_close and qolb_move write to them. But what a thread writes beside another's handle
+ * slows that one's calls down. So keep what each thread writes on its stack, or QOLB_NODE_ALIGN bytes apart:
  *
  *     struct worker { _Alignas(QOLB_NODE_ALIGN) qolb_node node; long count; };
  *
- * A call that releases the line loads one word more, and calls the system only if a thread sleeps that it may have to wake.
+ * A release calls the system only if a thread sleeps that it may have to wake.
  *
  * Only qolb_open, qolb_close, qolb_lock_open, qolb_lock_close and the first use of a lock use the heap.
  *
  * SANITIZERS AND DEBUGGERS
  *
- * The sanitizers of addresses, leaks and undefined behaviour see the program and the heap, and nothing inside the library. With the thread sanitizer
- * (-fsanitize=thread) the calls below tell it of each grant and release, so data that a line guards is not reported, and data that no line guards is.
- * Lines of one label are one to it, and so are a few of different labels: between these it may miss a race. Each lock is separate, whatever its
- * label.
+ * The thread sanitizer (-fsanitize=thread) is told of each grant and release. Lines of one label are one to it, and so are a few of different labels: between
+ * these it may miss a race. Each lock is separate. Helgrind and drd of valgrind are told the same in files that are compiled with -DQOLB_HELGRIND or -DQOLB_DRD,
+ * and must suppress the library's own words: valgrind --tool=helgrind --suppressions=PREFIX/share/qolb/valgrind.supp. The library has no tables for
+ * unwinding, so a backtrace that begins inside one of its calls may end there.
  *
- * Helgrind and drd of valgrind are told the same in files that are compiled with -DQOLB_HELGRIND, or with -DQOLB_DRD, where valgrind's headers are there.
- * The library's own words must be suppressed: valgrind --tool=helgrind --suppressions=PREFIX/share/qolb/valgrind.supp. Else both report right programs.
- *
- * bpftrace, perf and gdb find probes where a thread waits (provider qolb: wait, sleep, wake, granted, withdrawn, closed), each with the line's label and the
- * node's number, if the library was built with <sys/sdt.h>.
- *
- * The library has no tables for unwinding, so a backtrace that begins inside one of its calls may end there.
+ * bpftrace, perf and gdb find probes where a thread waits (provider qolb: wait, sleep, wake, granted, withdrawn, closed), if the library was built with
+ * <sys/sdt.h>.
  *
  * PROCESSOR
  *
@@ -441,15 +411,14 @@ uint32_t qolb_deqolb(qolb_node *node);
 uint32_t qolb_shut(qolb_node *node);
 
 /* Has `call(arg)` called once, when the request is at its turn or the line is closed (EVENT LOOPS, above). In the state QUEUED: WAITING, and the call will be
- * made; GRANTED or CLOSED, as of qolb_poll, and it will not. Else MISUSE, also if `call` is null. A second wish of a node replaces the first. Waits
- * as qolb_notify_off does, and for nothing else. */
+ * made; GRANTED or CLOSED, as of qolb_poll, and it will not. Else MISUSE, also if `call` is null. A second wish of a node replaces the first. */
 uint32_t qolb_notify(qolb_node *node, void (*call)(void *arg), void *arg) QOLB_LOOK;
 
 /* Has 1 added once to the eventfd `fd`, when qolb_notify would make its call. The same answers. Take it off before you close `fd`. */
 uint32_t qolb_notify_fd(qolb_node *node, int fd) QOLB_LOOK;
 
-/* Takes the node's wish for a call back. The request stays. WITHDRAWN: the call was not made, and will not be. DONE: none was wanted, or it was made; it
- * waits until that call has returned, or has said qolb_notify_done, unless the calling thread is in it. MISUSE for an empty handle and for a lent node. */
+/* Takes the node's wish for a call back; the request stays. WITHDRAWN: the call will not be made. DONE: none was wanted, or it was made, and has returned or
+ * said qolb_notify_done, unless the calling thread is in it. MISUSE for an empty handle and for a lent node. */
 uint32_t qolb_notify_off(qolb_node *node);
 
 /* Says, in a notification's call, that from here on nobody has to wait for it: it does not touch its `arg` any more. Elsewhere it does nothing. */
@@ -468,9 +437,7 @@ uint64_t qolb_label(qolb_node *node);
 /* The state after the node's last call: a `qolb_node_state`. */
 uint32_t qolb_state(qolb_node *node);
 
-/* A lock. As its initialiser makes it, it is unopened, and has 64 bytes of zeros and 1 to 200 seats: by default the number and the kind that take at most
- * 3 kilobytes, and else this number, with the kind QOLB_DEFAULT or this one. It is strict, or has bursts of at most this many turns (LOCKS). Only these calls
- * read or change its contents. */
+/* A lock, unopened: 64 bytes of zeros, 1 to 200 seats, and bursts or none (LOCKS). Only these calls read or change its contents. */
 typedef struct qolb_lock {
     void *own;
     uint32_t kind, seats;
@@ -492,8 +459,7 @@ typedef struct qolb_cond {
 #define QOLB_COND_INIT {QOLB_NULL_}
 
 /* Opens an unopened lock with this kind, label, number of seats (or QOLB_SEATS) and these bytes; without this call the first use opens it.
- * DONE; else the first that applies of BAD_KIND, BAD_NODES (not 1 to 200 seats, a burst of 1 or of more than 65,535 turns, or a burst with 1 seat), NO_MEMORY, and
- * OCCUPIED: it is open. */
+ * DONE; else the first that applies of BAD_KIND, BAD_NODES (no such seats or burst), NO_MEMORY, and OCCUPIED: it is open. */
 uint32_t qolb_lock_open(qolb_lock *lock, uint32_t kind, uint64_t label, uint64_t seats, const qolb_bytes *opening) QOLB_LOOK;
 
 /* Enters the lock, and waits as long as it takes: GRANTED, CLOSED; MISUSE, and nothing changed, if the calling thread holds it. At the first use also
@@ -515,28 +481,25 @@ uint32_t qolb_lock_leave(qolb_lock *lock);
  * thread does not hold it. */
 uint32_t qolb_lock_shut(qolb_lock *lock);
 
-/* Frees the lock's memory: it is unopened again. Its next use opens it with zeros and the label 0, and with the kind, the seats and the burst that it had: after
- * qolb_lock_open those of that call. (qolb_lock_shut is the call after which all that enter are told CLOSED.) The thread that was granted the lock last may
- * close it while another is still in qolb_lock_leave. DONE, also if it was unopened; MISUSE, and nothing changed, if a thread or a task holds it, or waits for
- * it, or a thread at a condition of it. */
+/* Frees the lock's memory: it is unopened again. Its next use opens it with zeros, the label 0, and the kind, seats and burst that it had. The thread that
+ * was granted the lock last may close it while another is still in qolb_lock_leave. DONE, also if it was unopened; MISUSE, and nothing changed, if a
+ * thread or a task holds it or waits, also at a condition of it. */
 uint32_t qolb_lock_close(qolb_lock *lock);
 
 /* The holder's node, lent until the holder leaves, for qolb_read, qolb_write, qolb_read_lane, qolb_write_lane, qolb_add_lane, qolb_turns_left,
  * qolb_number, qolb_label and qolb_state. For every other call, and for any other thread, it is MISUSE. NULL if the calling thread does not hold the lock. */
 qolb_node *qolb_lock_turn(qolb_lock *lock);
 
-/* A number of the thread that holds the lock; UINT64_MAX if a task does; 0 if none does, and for the moment of a handoff. On Linux it is the system's, that the thread had when it
- * first entered a lock: in a forked child, that of the parent's thread. */
+/* A number of the thread that holds the lock; UINT64_MAX if a task does; 0 if none does, and for the moment of a handoff. On Linux it is the system's, which
+ * the thread had when it first entered a lock. */
 uint64_t qolb_lock_holder(const qolb_lock *lock);
 
-/* Leaves the lock, waits at the condition until a signal or a broadcast, and enters the lock again; no signal after the leave is missed. It ends
- * for no other reason, but the state that the caller waits for may have changed again: check it, and wait in a loop.
- * GRANTED, and it holds the lock; CLOSED, and it does not. MISUSE if the calling thread does not hold it. */
+/* Leaves the lock, waits at the condition until a signal or a broadcast, and enters the lock again; no signal after the leave is missed. Check the state that
+ * you wait for, and wait in a loop. GRANTED, and it holds the lock; CLOSED, and it does not. MISUSE if the calling thread does not hold it. */
 uint32_t qolb_cond_wait(qolb_cond *cond, qolb_lock *lock) QOLB_LOOK;
 
 /* Waits as qolb_cond_wait, but for a signal at most this many nanoseconds from the call on (UINT64_MAX: as long as it takes); then it enters the lock
- * again, as long as that takes. In a loop with one limit for all, subtract the time that has passed. GRANTED or LATE, and it holds the lock; CLOSED,
- * and it does not; MISUSE. */
+ * again, as long as that takes. GRANTED or LATE, and it holds the lock; CLOSED, and it does not; MISUSE. */
 uint32_t qolb_cond_wait_within(qolb_cond *cond, qolb_lock *lock, uint64_t nanoseconds) QOLB_LOOK;
 
 /* A signal wakes the thread that has waited longest at the condition, a broadcast all. The caller may hold the lock or not. DONE, also if no
@@ -551,22 +514,21 @@ typedef struct qolb_task {
 } qolb_task;
 #define QOLB_TASK_INIT {{QOLB_NULL_}}
 
-/* Asks for the lock for a task, and does not wait for a turn. GRANTED: the task holds it. WAITING: `call(arg)` will be called once, when the task has it or the lock is
- * shut (EVENT LOOPS, above); then qolb_task_poll tells which. CLOSED. MISUSE: the task waits or holds already, or `call` is null. At the first use of the
- * lock also NO_MEMORY, BAD_NODES, BAD_KIND. */
+/* Asks for the lock for a task, and does not wait for a turn. GRANTED: the task holds it. WAITING: `call(arg)` will be called once, when the task has it or the
+ * lock is shut; then qolb_task_poll tells which. CLOSED. MISUSE: the task waits or holds, or `call` is null. At the first use also NO_MEMORY, BAD_NODES, BAD_KIND. */
 uint32_t qolb_task_enter(qolb_task *task, qolb_lock *lock, void (*call)(void *arg), void *arg) QOLB_LOOK;
 
 /* The same, and 1 is added to the eventfd `fd` in place of a call. Close it only after the task's turn or qolb_task_cancel. */
 uint32_t qolb_task_enter_fd(qolb_task *task, qolb_lock *lock, int fd) QOLB_LOOK;
 
-/* Polls for a task that waits: GRANTED, and it holds the lock; CLOSED; WAITING, and the call comes, or comes again. MISUSE if it does not wait. */
+/* Polls for a task that waits: GRANTED, and it holds the lock; CLOSED; WAITING, and the call will be made, maybe again. MISUSE if it does not wait. */
 uint32_t qolb_task_poll(qolb_task *task) QOLB_LOOK;
 
 /* Gives up, for a task that waits: no call is made afterwards. WITHDRAWN, also if it was at its turn: it leaves then. CLOSED if the lock was shut. DONE if it
  * does not wait; MISUSE, and nothing changed, if it was told that it holds the lock. */
 uint32_t qolb_task_cancel(qolb_task *task);
 
-/* Leaves for a task, in any thread. DONE; MISUSE if the task does not hold the lock, or was not told yet that it does. */
+/* Leaves for a task, in any thread. DONE; MISUSE if the task does not hold the lock, or was not told so. */
 uint32_t qolb_task_leave(qolb_task *task);
 
 /* Leaves for a task, and closes the lock, as qolb_lock_shut does. DONE; MISUSE as of qolb_task_leave. */
@@ -707,7 +669,7 @@ static inline uint32_t qolb_task_shut_(qolb_task *task) { return qolb_task_leave
 /* ---- For callers again. ---- */
 
 /* Requests the line, and withdraws the request if it is not granted at once. If the node may ask: GRANTED, BUSY, CLOSED. Else MISUSE.
- * After BUSY the node gets no turn, and may ask again; each try answers BUSY until a release has passed the withdrawn request. */
+ * Each later try answers BUSY until a release has passed the withdrawn request. */
 QOLB_LOOK static inline uint32_t qolb_try(qolb_node *node) {
     uint32_t got = qolb_enqolb(node);
     if (got != QOLB_QUEUED) return got;
