@@ -528,7 +528,7 @@ uint32_t qolb_task_poll(qolb_task *task) QOLB_LOOK;
  * does not wait; MISUSE, and nothing changed, if it was told that it holds the lock. */
 uint32_t qolb_task_cancel(qolb_task *task);
 
-/* Leaves for a task, in any thread. DONE; MISUSE if the task does not hold the lock, or was not told so. */
+/* Leaves for a task, in any thread. DONE; MISUSE if the task does not hold the lock, or does not know it. */
 uint32_t qolb_task_leave(qolb_task *task);
 
 /* Leaves for a task, and closes the lock, as qolb_lock_shut does. DONE; MISUSE as of qolb_task_leave. */
