@@ -11,8 +11,8 @@ buffer, unseen by the others, or is seen from there before it must be. All runs 
 their order, and at the latest before the thread's next read-modify-write step or system call. What else a memory of C11 may do with
 sequentially consistent, releasing and acquiring steps is not tried. But two accesses race as C11 says, if neither happens before the other and one
 is plain: the accesses to what a lock keeps about its holder, its waiters and its seats, and to what it guards. The line is a model, each of whose calls
-takes one step, or two; that it does so is proved elsewhere. No scene has requests in halves, reads or writes of the line, leases, or two locks or lines
-that share a bell or a guard.
+takes one step, or two; that it does so is proved elsewhere. No scene has requests in halves, reads or writes of the line, leases, two locks that share a
+bell, or two lines that share a bell's guard.
 
 In no run may a thread sleep without being woken, two threads have the lock or the line at once, two threads call a node or one call it out of its order,
 freed memory be touched, an answer be wrong, or a thread that waits be overtaken by one whose call began later; with bursts, by more of them than they allow, or by
@@ -135,6 +135,7 @@ FAULTS = {
     "nodes: who is told that the line is closed rings no bell": ("got == QOLB_CLOSED ? let_go(node, got) : got", "(void)node, got"),
     "nodes: who is told so while it waits rings no bell": ("    return told(node, got);\n}\n\nstatic inline", "    return got;\n}\n\nstatic inline"),
     "nodes: who shuts the line rings no bell": ("MOVES(qolb_shut, let_go)", "MOVES(qolb_shut, told)"),
+    "nodes: a release wakes one sleeper of a bell": ("    qolb_wake_at_(&bell->word, INT32_MAX);\n", "    qolb_wake_at_(&bell->word, 1);\n"),
     "nodes: who is late does not withdraw": ("uint32_t got = qolb_withdraw_proved_(node);", "uint32_t got = QOLB_WITHDRAWN;"),
 }
 
@@ -296,6 +297,9 @@ COUNTED_OUT = "    count_at_door(hall, -1u);\n    atomic_store(&me->state, SEATE
 IS_DUE = "        due->calls++;\n        qolb_list_(&me->notice, due->key);\n"
 STOOD = "    if (atomic_load(&me->state) == AT_DOOR) {\n"
 GOES_AWAY = "        qolb_go_out_(hall, &me->at);\n        atomic_store(&me->state, IDLE);\n"
+SAYS_AT_DOOR = STANDS_LAST + "    }\n    return_guard(&hall->guard);\n    return waits;\n"
+WAITS_ON = "    if (got == QOLB_WAITING) return got;\n    struct hall *hall = me->hall;\n"
+POLLS = "    return settle(me, me->got == QOLB_WAITING ? listen(me) : me->got, 1);\n"
 GRANTED_TO = "        atomic_store_explicit(&seat->holder, BY_TASK, memory_order_release);\n        atomic_fetch_sub(&hall->tasks, 1);\n"
 FAULTS |= {
     "tasks: who frees a seat makes no request for a task": (SERVES, ""),
@@ -310,6 +314,11 @@ FAULTS |= {
     "tasks: a task at the door does not count among those that sleep": ("    atomic_fetch_add(&hall->sleepers, by);\n", ""),
     "tasks: a task at the door is not counted there": ("    atomic_fetch_add(&hall->at_door, by);\n", ""),
     "tasks: a task comes to the front": (STANDS_LAST, STANDS_LAST.splitlines(True)[0] + "        if (hall->first != &me->at) {\n            qolb_go_out_(hall, &me->at);\n            me->at.next = hall->first;\n            me->at.before = NULL;\n            hall->first->before = &me->at;\n            hall->first = &me->at;\n        }\n" + STANDS_LAST.splitlines(True)[1]),
+    "tasks: a task says behind the guard that it is at the door": (SAYS_AT_DOOR, "        qolb_stand_(hall, &me->at);\n    }\n    return_guard(&hall->guard);\n    if (*stands) atomic_store(&me->state, AT_DOOR);\n    return waits;\n"),
+    "tasks: a task that waits is read": (WAITS_ON, WAITS_ON.replace("return got;", "return me->hall ? got : (uint32_t)QOLB_MISUSE;")),
+    "tasks: a task at the door is no guest": ("    atomic_fetch_add(&hall->guests, by);\n", ""),
+    "tasks: who goes from the door waits for no seat that is about to be free": ("        met = told.met;\n", "        met = 0;\n"),
+    "tasks: who polls wants no other call": (POLLS, POLLS.replace("listen(me)", "qolb_poll_proved_(&me->seat->node)")),
     "tasks: who polls at the door does not wait for the guard": ("    if (state != AT_DOOR) return state;\n", "    return state;\n"),
     "tasks: who is due is not called": ("    for (unsigned k = 0; k < due.calls; k++)", "    for (unsigned k = 0; k < 0; k++)"),
     "tasks: who is due is called under the guard": (IS_DUE, IS_DUE + "        qolb_make_call_(bell_of_key(due->key), due->key);\n"),
@@ -369,6 +378,8 @@ IN_TWO_TURNS = {
     "tasks: a task that gives up at its turn keeps the line": "tasks: one gives up beside",
     "tasks: a lock is closed while its guard is taken": "tasks: the last frees, who polls, one seat",
     "tasks: who gives up leaves its notice": "tasks: one gives up, two seats",
+    "tasks: who goes from the door waits for no seat that is about to be free": "tasks: a thread is late or one waits, never kept",
+    "tasks: a task says behind the guard that it is at the door": "tasks: one and two threads, never kept",
     "tasks: a task counts itself behind its look for a seat": "tasks: two until one shuts, one seat",
     "the gate is set by a plain store": "two want two seats twice, and link",
     "who comes to the door does not look at the gate": "two of three yield, and there is one seat",
@@ -395,6 +406,8 @@ HARMLESS = {
     "the node of a kept turn is told after the gate is set": ("    hall->held_by = kept;\n    atomic_store_explicit(&kept->holder, 0, memory_order_release);\n    atomic_exchange(&hall->gate, own_number());\n", "    atomic_store_explicit(&kept->holder, 0, memory_order_release);\n    atomic_exchange(&hall->gate, own_number());\n    hall->held_by = kept;\n"),
     # Who goes with a seat tells the next when it frees that seat. Who goes without one has looked at all seats, and was told of those that were freed since.
     "who goes from the door tells of no seat": (GOES, GOES.replace("(is_told(my) || has_free_seat(hall))", "is_told(my)")),
+    # That task serves the next when it frees its seat, and nobody takes a seat before those at the door.
+    "behind a task that got a seat nobody is served": (SERVES, "    if (hall->first && hall->first->is_task) {\n        told.met = qolb_seat_first_(hall, &told.due) == MEETS;\n        return told;\n    }\n"),
     # Of what it was told, a seat is free, or its new thread tells the next when it leaves.
     "who goes from the door does not tell what it was told": (GOES, GOES.replace("(is_told(my) || has_free_seat(hall))", "has_free_seat(hall)")),
 }

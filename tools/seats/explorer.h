@@ -11,8 +11,9 @@ struct clock {
 };
 
 /* What these threads do at the same time, each by its number, over a lock of this kind with these seats and bursts, which is opened at its first use or before;
- * or with a node each of a line of this kind. The places of a line share one bell or none. */
-enum { AT_FIRST_USE, BEFORE, BEFORE_AT_ONE_BELL, WITH_NODES, AT_ONE_BELL };
+ * or with a node each of a line of this kind. The places of a line share one bell or none. A lock whose line is never kept has had fewer turns than that takes.
+ * Of two lines the places share their bells. */
+enum { AT_FIRST_USE, BEFORE, BEFORE_AT_ONE_BELL, NEVER_KEPT, WITH_NODES, AT_ONE_BELL, TWO_LINES };
 struct scene {
     const char *name;
     void (*does)(int self);

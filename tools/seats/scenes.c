@@ -7,7 +7,8 @@
 static struct { qolb_lock lock; qolb_cond cond; struct { _Alignas(QOLB_NODE_ALIGN) qolb_node node; } of[THREADS]; int turns, inside, users, has; atomic_int over;
     /* Of each task: whether its call was made, and how often since it wanted one. */
     struct { atomic_uint word; int calls; } told[THREADS + 1]; atomic_uint mutex; int depth;
-    qolb_task task[THREADS + 1]; } it;
+    qolb_task task[THREADS + 1];
+    struct { _Alignas(QOLB_NODE_ALIGN) qolb_node node; } other[2]; /* of a second line */ } it;
 
 BY_THREAD struct room qolb_room_;
 unsigned model_bells;
@@ -381,6 +382,18 @@ static void one_shuts(int self) { shuts_line(self, qolb_acquire(&it.of[self].nod
 
 static void one_shuts_and_one_looks_on(int self) { shuts_line(self, self == 1 ? looks_on(1) : qolb_acquire(&it.of[self].node)); }
 
+static void acquires_and_releases(qolb_node *node) { MUST(qolb_acquire(node) == QOLB_GRANTED && qolb_deqolb(node) == QOLB_DONE); }
+
+/* One holds two lines, at which the others wait, and releases one after the other. */
+static void one_holds_two_lines(int self) {
+    if (self) return acquires_and_releases(self == 1 ? &it.of[1].node : &it.other[1].node);
+    MUST(qolb_acquire(&it.of[0].node) == QOLB_GRANTED && qolb_acquire(&it.other[0].node) == QOLB_GRANTED);
+    for (int k = 0; k < 3; k++) sched_yield();
+    MUST(qolb_deqolb(&it.other[0].node) == QOLB_DONE);
+    sched_yield();
+    MUST(qolb_deqolb(&it.of[0].node) == QOLB_DONE);
+}
+
 /* ---- Tasks that have a node each, and want a call in place of a wait ---- */
 
 static void tells(void *task) {
@@ -622,6 +635,8 @@ static void a_thread_is_late_between_tasks(int self) { self == 1 ? is_late(self)
 
 static void a_thread_is_late_before_a_task(int self) { self == 2 ? by_task(self) : self == 1 ? is_late(self) : enters_with(3); }
 
+static void a_thread_is_late_or_a_task_waits(int self) { self == 2 ? by_task(self) : is_late(self); }
+
 static void both_give_up(int self) { self == 0 ? enters(self) : self == 1 ? by_task_or_gives_up(self) : is_late(self); }
 
 static void one_tries_beside_a_task(int self) { self == 2 ? by_task(self) : tries(self); }
@@ -692,6 +707,38 @@ static void last_that_polls_frees(int self) {
     int last = --it.users == 0;
     MUST(qolb_task_leave(&it.task[1]) == QOLB_DONE);
     if (last) MUST(qolb_lock_close(&it.lock) == QOLB_DONE);
+}
+
+/* The task polls once before it is called. */
+static void a_task_polls_early(int self) {
+    if (self != 1) return enters_with(self == 0 ? 3 : 0);
+    uint32_t got = task_asks(1);
+    if (got == QOLB_WAITING) got = qolb_task_poll(&it.task[1]);
+    if (got == QOLB_WAITING) got = task_waits(1, FOR_EVER);
+    MUST(got == QOLB_GRANTED && it.told[1].calls <= 1);
+    it.told[1].calls = 0;
+    task_turn(1);
+}
+
+/* One tries to close the lock once a task waits at the door, of whom the holder knows. */
+static void one_closes_beside_a_task(int self) {
+    if (self == 2) {
+        while (!atomic_load(&it.over)) sched_yield();
+        uint32_t got = qolb_lock_close(&it.lock);
+        MUST(got == QOLB_DONE || got == QOLB_MISUSE);
+    } else if (self == 1) {
+        while (qolb_lock_holder(&it.lock) != 100) sched_yield();
+        MUST(task_asks(1) == QOLB_WAITING);
+        atomic_fetch_add(&it.over, 1);
+        MUST(task_waits(1, FOR_EVER) == QOLB_GRANTED);
+        task_turn(1);
+    } else {
+        begins_call();
+        MUST(qolb_lock_enter(&it.lock) == QOLB_GRANTED);
+        turn();
+        while (!atomic_fetch_add(&it.over, 0)) sched_yield();
+        leave();
+    }
 }
 
 /* Who is in tries to close the lock while a thread and a task wait, or are about to. */
@@ -837,6 +884,7 @@ const struct scene scenes[] = {
     {"nodes: one shuts, and one looks on", one_shuts_and_one_looks_on, QOLB_TICKET, 3, 3, WITH_NODES, 0},
     {"nodes: three acquire at one bell", acquires_once, QOLB_TICKET, 3, 3, AT_ONE_BELL, 0},
     {"nodes: two acquire twice at one bell", acquires_twice, QOLB_TICKET, 2, 2, AT_ONE_BELL, 0},
+    {"nodes: one holds two lines", one_holds_two_lines, QOLB_TICKET, 3, 3, TWO_LINES, 0},
     {"notices: three", notified, QOLB_TICKET, 3, 3, WITH_NODES, 0},
     {"notices: three, who link", notified, QOLB_LINK, 3, 3, WITH_NODES, 0},
     {"notices: three at one bell", notified, QOLB_TICKET, 3, 3, AT_ONE_BELL, 0},
@@ -913,6 +961,12 @@ const struct scene scenes[] = {
     {"tasks: calls ask again, one seat", task_asks_again_in_call, QOLB_TICKET, 1, 3, BEFORE, 0},
     {"tasks: calls ask again, two seats", task_asks_again_in_call, QOLB_TICKET, 2, 3, BEFORE, 0},
     {"tasks: one tries beside one", one_tries_beside_a_task, QOLB_TICKET, 2, 3, BEFORE, 0},
+    {"tasks: one polls early, one seat", a_task_polls_early, QOLB_TICKET, 1, 3, BEFORE, 0},
+    {"tasks: one polls early, two seats", a_task_polls_early, QOLB_TICKET, 2, 3, BEFORE, 0},
+    {"tasks: one closes beside one at the door", one_closes_beside_a_task, QOLB_TICKET, 1, 3, BEFORE, 0},
+    {"tasks: one and two threads, never kept", a_task_beside_threads, QOLB_TICKET, 1, 3, NEVER_KEPT, 0},
+    {"tasks: two and a thread, never kept", tasks_beside_a_thread, QOLB_TICKET, 2, 3, NEVER_KEPT, 0},
+    {"tasks: a thread is late or one waits, never kept", a_thread_is_late_or_a_task_waits, QOLB_TICKET, 1, 3, NEVER_KEPT, 0},
     {"tasks: one signals", a_task_signals, QOLB_TICKET, 2, 3, BEFORE, 0},
     {"tasks, bursts: three", by_task, QOLB_TICKET, 2, 3, BEFORE, 2},
     {"tasks, bursts: one and two threads", a_task_beside_threads, QOLB_TICKET, 2, 3, BEFORE, 2},
@@ -924,6 +978,7 @@ const struct scene scenes[] = {
     {"tasks, bursts: one gives up and asks again", a_task_gives_up_and_asks_again, QOLB_TICKET, 2, 3, BEFORE, 2},
     {"tasks, bursts: both give up", both_give_up, QOLB_TICKET, 2, 3, BEFORE, 2},
     {"tasks, bursts: a thread is late between two", a_thread_is_late_between_tasks, QOLB_TICKET, 2, 3, BEFORE, 2},
+    {"tasks, bursts: one polls early", a_task_polls_early, QOLB_TICKET, 2, 3, BEFORE, 2},
     {"tasks, bursts: one tries", one_tries_beside_a_task, QOLB_TICKET, 2, 3, BEFORE, 2},
     {"tasks, bursts: one until one shuts", a_task_until_shut, QOLB_TICKET, 2, 3, BEFORE, 2},
     {"tasks, bursts: the last of both frees", last_of_both_frees, QOLB_TICKET, 2, 3, BEFORE, 2},
@@ -935,15 +990,20 @@ const struct scene scenes[] = {
 /* Before each run all is as at the start of the program. */
 void set_up(const struct scene *scene) {
     static const qolb_bytes zeros;
-    qolb_node nodes[THREADS] = {{0}};
+    qolb_node nodes[THREADS] = {{0}}, more[2] = {{0}};
     memset(qolb_bells_, 0, sizeof qolb_bells_), memset(&it, 0, sizeof it), memset(order, 0, sizeof order), memset(for_second, 0, sizeof for_second);
     qolb_own_ = (struct own){0, 0, 0}, time_of_order = 0;
-    model_bells = scene->opens == AT_ONE_BELL || scene->opens == BEFORE_AT_ONE_BELL ? 1 : BELLS;
+    model_bells = scene->opens == TWO_LINES ? 3 : scene->opens == AT_ONE_BELL || scene->opens == BEFORE_AT_ONE_BELL ? 1 : BELLS;
     it.lock.kind = scene->kind, it.lock.seats = scene->seats + BURST * scene->burst, it.users = scene->threads, it.has = scene->does == task_asks_again_in_call;
-    if (scene->opens == BEFORE || scene->opens == BEFORE_AT_ONE_BELL) MUST(qolb_lock_open(&it.lock, scene->kind, 0, it.lock.seats, &zeros) == QOLB_DONE);
+    if (scene->opens != AT_FIRST_USE && scene->opens < WITH_NODES) MUST(qolb_lock_open(&it.lock, scene->kind, 0, it.lock.seats, &zeros) == QOLB_DONE);
+    if (scene->opens == NEVER_KEPT) hall_of(&it.lock)->calm = UINT32_MAX;
     if (scene->opens < WITH_NODES) return;
     MUST(qolb_open(scene->kind, 0, (uint64_t)scene->threads, QOLB_NO_LEASE, &zeros, nodes, THREADS) == QOLB_DONE);
     for (int k = 0; k < scene->threads; k++) it.of[k].node = nodes[k];
+    if (scene->opens != TWO_LINES) return;
+    MUST(qolb_open(scene->kind, 0, 2, QOLB_NO_LEASE, &zeros, more, 2) == QOLB_DONE);
+    for (int k = 0; k < 2; k++) it.other[k].node = more[k];
+    MUST(bell_at(&more[0], PLACE_WORDS) == bell_at(&nodes[0], PLACE_WORDS));
 }
 
 static void check_hall(struct hall *hall) {
