@@ -4,6 +4,9 @@ import csv
 import pathlib
 import re
 
+from crates import read_crates
+from tests import takers_of_all, tests_of
+
 ROOT = pathlib.Path(__file__).resolve().parent.parent
 LINES = ("ticket line", "link line", "ring")
 # The run of c/bench/compare that tables, sentences and the plot of rounds are of.
@@ -119,12 +122,18 @@ def bursts():
     return f"{min(empty):.1f}", f"{max(empty):.1f}", f"{1 / max(waited):.0f}"
 
 
+def tests_with_a_proof():
+    """How many tests `./qolb --test` leaves out."""
+    return (str(sum(len(takers_of_all(crate) & set(tests_of(crate))) for crate in read_crates().values())),)
+
+
 TABLES = {"rounds": rounds, "waits": waits, "memory": memory}
 # Of each sentence with figures: its page, the sentence with `{}` for each, and the figures.
 RATIOS = [
     ("README.md", "A mutex has {} to {} times the turns of a strict queue lock", times_of_mutex),
     ("README.md", "with three threads the ticket line takes {} times as long as MCS, the ring {}, the link line {}", to_mcs),
     ("README.md", "With one thread a turn takes {} to {} ns, MCS's {}", alone),
+    ("README.md", "runs all tests but {} without a proof", tests_with_a_proof),
     ("docs/LOCKS.md", "a mutex has {} to {} times the turns of a strict lock", times_of_mutex),
     ("docs/LOCKS.md", "{} % of a mutex's turns; its longest wait is {} ms, the mutex's {} ms", long_turns),
     ("docs/LOCKS.md", "{} to {} times a mutex's empty turns; with turns of 10 us its longest wait is at most one {}th of a mutex's", bursts),

@@ -4,7 +4,7 @@ from dataclasses import dataclass
 
 from svg import Picture
 
-LANE, ROW, TOP, SIDE = 138, 42, 78, 150
+LANE, ROW, TOP, SIDE = 138, 42, 78, 160
 LEFT, RIGHT = "node 1", "node 2"
 
 
@@ -50,7 +50,7 @@ RING = Scene(
 )
 
 TICKET = Scene(
-    "The ticket line hands over by one step: a cell says 256 times the number of the ticket that it is granted to",
+    "The ticket line hands over by one step",
     {"ticket": "1", "cell 1": "0", "slot 1": "0000"},
     [
         Step(RIGHT, "ticket", "fetch_add 1", "2", "enqolb"),
@@ -62,6 +62,7 @@ TICKET = Scene(
     ],
     3,
     4,
+    "Ticket t has the number t + 1, and a cell that is granted to it has 256 times that: for ticket 1, 512.",
 )
 
 LINK = Scene(

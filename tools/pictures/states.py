@@ -30,7 +30,7 @@ def draw_states(picture):
         picture.text(99, y + 13, says, "small")
     state(picture, 460, 164, "Queued", "its request waits", "c")
     state(picture, 800, 164, "Holding", "has the line", "a")
-    state(picture, 460, 344, "Linking", "link line: not linked")
+    state(picture, 460, 344, "Linking", "not linked yet")
 
 
 def draw_calls(picture):
