@@ -81,6 +81,14 @@ def memory():
     return table(["Nodes or seats", *counts], rows)
 
 
+def for_two():
+    """Kilobytes for two nodes, in Rattle and from C: a link line, a ticket line, a ring."""
+    found = {row["name"]: int(row["table"]) + int(row["ports"]) for row in rows_of("memory.tsv") if row["nodes"] == "2"}
+    in_c = c_memory("nodes")
+    lines = [(found[line], int(in_c[line.split()[0]]["2"].replace(",", ""))) for line in ("link line", "ticket line", "ring")]
+    return tuple(f"{count / 1000:.{0 if count > 10000 else 1}f}" for pair in lines for count in pair)
+
+
 def of_mutex(count):
     """How many times as many empty turns as a strict lock a mutex has with that many threads."""
     found = {row["lock"]: float(row["turns_a_second"]) for row in rows_of("bursts.tsv") if (row["threads"], row["turn_us"]) == (count, "0")}
@@ -132,6 +140,7 @@ TABLES = {"rounds": rounds, "waits": waits, "memory": memory}
 RATIOS = [
     ("README.md", "A mutex has {} to {} times the turns of a strict queue lock", times_of_mutex),
     ("README.md", "with three threads the ticket line takes {} times as long as MCS, the ring {}, the link line {}", to_mcs),
+    ("README.md", "for two nodes {} and {} as a link line, {} and {} as a ticket line, {} and {} as a ring", for_two),
     ("README.md", "With one thread a turn takes {} to {} ns, MCS's {}", alone),
     ("README.md", "runs all tests but {} without a proof", tests_with_a_proof),
     ("docs/LOCKS.md", "a mutex has {} to {} times the turns of a strict lock", times_of_mutex),

@@ -66,8 +66,8 @@
  *
  *     (p + 1) * (burst - 1)
  *
- * turns of calls that began later: to enter, to try, or the end of a wait at a condition. The hard limit, `burst`, is 2 to 65,535 turns. Usually fewer are
- * made: one of the waiting threads watches, and while it runs ends the burst after a sixteenth of the limit, after 1 ms, and once it finds the lock open and
+ * turns of calls that began later: to enter, to try, or the end of a wait at a condition. The hard limit, `burst`, is 2 to 65,535 turns. Usually fewer are made:
+ * one of the waiting threads watches, and while it runs ends the burst after a sixteenth of the limit, after 1 ms, and once it finds the lock open and
  * unused. A strict lock has a burst of 0. There must be 2 seats or more.
  *
  * Only the thread that entered may leave. A thread that enters a lock which it holds is told MISUSE. A thread that ends while it holds a lock releases nothing,
