@@ -60,7 +60,7 @@ impl Measured {
     /// Returns an error if an addition was lost or no node had a turn. Each node asks at least once.
     fn check(&self) -> Result<(), RunError>
         ensures none_lost { IfOk result (λ _. self.now.added ≡ self.now.turns) }
-        ensures some { IfOk result (λ _. 1 ≤ self.now.turns) }
+        ensures not_zero { IfOk result (λ _. 1 ≤ self.now.turns) }
     {
         if self.added != self.turns {
             Err(RunError::Lost(self.lost()))

@@ -115,7 +115,7 @@ module _ {Port : Type 0} (view : Port → View) (counters : Port → Counters) (
     unlooked = still ∙ unlooked;
     asks = asks_from (view old) (view mid) (view asked) e same (q.asks (λ is. cc is));
     advances = extends_self (view asked);
-    few = some_node (view asked) config sound.config_is sound.first_node sound.last_node;
+    bounded_bypass = some_node (view asked) config sound.config_is sound.first_node sound.last_node;
   }
 
   -- granted after a wait
@@ -126,7 +126,7 @@ module _ {Port : Type 0} (view : Port → View) (counters : Port → Counters) (
     unlooked = still ∙ unlooked;
     asks = asks_from (view old) (view mid) (view asked) e same (q.asks (λ is. cc is));
     advances = c.extends;
-    few = few_turns (view asked) (view new) turn (q.queued refl) c.extends count c.history granted;
+    bounded_bypass = few_turns (view asked) (view new) turn (q.queued refl) c.extends count c.history granted;
   }
 
 -- the answers differ

@@ -20,7 +20,7 @@ pub record ComesSoon {Port : Type 0} (view : Port → View) (counters : Port →
   pub unlooked : (counters asked).poll_count ≡ (counters old).poll_count
   pub asks : Asks (view old) (view asked)
   pub advances : Extends (view asked) (view new)
-  pub few : length (view new).ends < length (view asked).ends + (view asked).config.nodes
+  pub bounded_bypass : length (view new).ends < length (view asked).ends + (view asked).config.nodes
 
 -- the port made one request, which was granted, or told that the line is closed
 pub record Acquires (allows : List ℕ → List ℕ → Type 0) (old new : View) (turn : Write) (got : Got) : Type 0 where

@@ -51,7 +51,7 @@ impl<K: Keep, L: LineSync<K>, S: PortSet<L::Port>> PortPool<K, L, S> {
     where
         L: Drop,
         L::Port: Drop,
-        requires some { 0 < vec_len ports }
+        requires not_empty { 0 < vec_len ports }
         requires set { IsPortSetOf (L.belongs line) L.view S.has }
         requires many { vec_len ports ≡ S.many }
         requires ports { All (MayAsk (L.belongs line) L.view) ports.items }
@@ -257,7 +257,7 @@ fn take_all<R: Wait, P: Drop, S: PortSet<P>>(
     own: P,
 ) -> Vec<P>
     requires many { many ≡ S.many }
-    requires some { 0 < many }
+    requires not_zero { 0 < many }
     requires own { S.has own }
     ensures own { Contains result.items own }
     ensures has { All S.has result.items }

@@ -52,7 +52,7 @@ impl Core {
           opening = opening;
           lease = None;
         } in IfSome result (λ c. Shows config c empty_queue) }
-        ensures some { IsSome result ↔ AreNodes nodes }
+        ensures valid { IsSome result ↔ AreNodes nodes }
     {
         Core::with_config(LineConfig {
             nodes,
@@ -75,7 +75,7 @@ impl Core {
           opening = opening;
           lease = Some lease;
         } in IfSome result (λ c. Shows config c empty_queue) }
-        ensures some { IsSome result ↔ (AreNodes nodes × (1 ≤ lease)) }
+        ensures valid { IsSome result ↔ (AreNodes nodes × (1 ≤ lease)) }
     {
         Core::with_config(LineConfig {
             nodes,
@@ -88,7 +88,7 @@ impl Core {
     pub fn with_config(config: LineConfig) -> Option<Core>
         ensures state { IfSome result (λ c. c ≡ first config) }
         ensures shows { IfSome result (λ c. Shows config c empty_queue) }
-        ensures some { IsSome result ↔ MayOpen config }
+        ensures valid { IsSome result ↔ MayOpen config }
     {
         match config.check() {
             Ok(()) => {

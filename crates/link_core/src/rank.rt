@@ -12,7 +12,7 @@ impl State {
     pub fn steps_left(&self, n: u64) -> u64
         requires fits { Fits self.now }
         requires node { IsNode self.now n }
-        ensures is { result ≡ steps_left self.now n }
+        ensures matches { result ≡ steps_left self.now n }
         ensures most { result ≤ 5 }
     {
         match self.point(n) {

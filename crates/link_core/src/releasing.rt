@@ -136,7 +136,7 @@ impl State {
     /// Takes the first passed node off the list of n's release. Returns it, and what is told when it is freed.
     pub fn next_freed(&mut self, n: u64) -> (u64, Told)
         requires node { n < PLACES }
-        requires some { (seat self.old n).passed ≢ [] }
+        requires not_empty { (seat self.old n).passed ≢ [] }
         ensures { (rest : List ℕ) × ((seat self.old n).passed ≡ result.0 ∷ rest)
             × (self.new ≡ put_seat n
             (seat_with rest (point_at_end (seat self.old n).reason) (seat self.old n).reason)

@@ -118,7 +118,7 @@ pub fn draw_line<A: Allocator + Copy>(
     ensures nodes { IfOk result (λ grid. grid.nodes ≤ MAX_NODES) }
     ensures size { IfOk result (λ grid. length grid.marks.items
         ≡ length grid.numbers.items * grid.nodes) }
-    ensures few { IfOk result (λ grid. length grid.numbers.items ≤ MAX_COMMANDS) }
+    ensures numbers { IfOk result (λ grid. length grid.numbers.items ≤ MAX_COMMANDS) }
 {
     let Ok(line) = PlainLine::with_config(LineConfig {
         nodes: schedule.nodes(),

@@ -126,7 +126,7 @@ fn push_blocks<A: Allocator>(
 ) -> Result<(), AllocError>
     requires nodes { All (λ n. (1 ≤ n) × (n ≤ grid.now.nodes)) shown.now }
     requires size { length grid.now.marks.items ≡ length grid.now.numbers.items * grid.now.nodes }
-    requires few { length grid.now.numbers.items ≤ MAX_COMMANDS }
+    requires numbers { length grid.now.numbers.items ≤ MAX_COMMANDS }
     ensures { OnOk result (text.new.items ≡ text.old.items
         ++ blocks_out_of grid.now.nodes grid.now.marks.items grid.now.numbers.items shown.now) }
 {
@@ -164,7 +164,7 @@ pub fn push_line<A: Allocator + Copy>(
     requires number { number < MAX_LINES }
     requires nodes { grid.now.nodes ≤ MAX_NODES }
     requires size { length grid.now.marks.items ≡ length grid.now.numbers.items * grid.now.nodes }
-    requires few { length grid.now.numbers.items ≤ MAX_COMMANDS }
+    requires numbers { length grid.now.numbers.items ≤ MAX_COMMANDS }
     ensures { OnOk result (text.new.items ≡ text.old.items
         ++ line_out_of number grid.now.nodes grid.now.numbers.items grid.now.callers.items
         grid.now.marks.items) }

@@ -60,7 +60,7 @@ fn push_bars<A: Allocator>(
     requires first { 1 ≤ node }
     requires last { node ≤ grid.now.nodes }
     requires size { length grid.now.marks.items ≡ length grid.now.numbers.items * grid.now.nodes }
-    requires few { length grid.now.numbers.items ≤ MAX_COMMANDS }
+    requires numbers { length grid.now.numbers.items ≤ MAX_COMMANDS }
     ensures { OnOk result (svg.new.items ≡ svg.old.items
         ++ texts (bars_out_of grid.now.nodes grid.now.marks.items
         (length grid.now.numbers.items) row node)) }
@@ -123,7 +123,7 @@ fn push_row<A: Allocator + Copy>(
     requires first { 1 ≤ node }
     requires last { node ≤ grid.now.nodes }
     requires size { length grid.now.marks.items ≡ length grid.now.numbers.items * grid.now.nodes }
-    requires few { length grid.now.numbers.items ≤ MAX_COMMANDS }
+    requires numbers { length grid.now.numbers.items ≤ MAX_COMMANDS }
     ensures { OnOk result (svg.new.items ≡ svg.old.items
         ++ texts (row_shapes_out_of shown.now grid.now.nodes grid.now.marks.items
         (length grid.now.numbers.items) node)) }
@@ -215,7 +215,7 @@ fn push_rows<A: Allocator + Copy>(
     requires shown { length shown.now ≤ MAX_NODES }
     requires nodes { All (λ n. (1 ≤ n) × (n ≤ grid.now.nodes)) shown.now }
     requires size { length grid.now.marks.items ≡ length grid.now.numbers.items * grid.now.nodes }
-    requires few { length grid.now.numbers.items ≤ MAX_COMMANDS }
+    requires numbers { length grid.now.numbers.items ≤ MAX_COMMANDS }
     ensures { OnOk result (svg.new.items ≡ svg.old.items
         ++ flat_map (λ n.
         texts (row_shapes_out_of shown.now grid.now.nodes grid.now.marks.items
@@ -235,7 +235,7 @@ fn push_columns<A: Allocator + Copy>(
     shown: &[u64],
 ) -> Result<(), AllocError>
     requires shown { length shown.now ≤ MAX_NODES }
-    requires few { length events.now ≤ MAX_COMMANDS }
+    requires events { length events.now ≤ MAX_COMMANDS }
     ensures { OnOk result (svg.new.items ≡ svg.old.items
         ++ flat_map (λ k.
         texts (spec.column_shapes shown.now k (slice_index_or events.now k spec.no_event)))
@@ -257,7 +257,7 @@ pub fn push_timeline<A: Allocator + Copy>(
 ) -> Result<u64, AllocError>
     requires nodes { grid.now.nodes ≤ MAX_NODES }
     requires size { length grid.now.marks.items ≡ length grid.now.numbers.items * grid.now.nodes }
-    requires few { length grid.now.numbers.items ≤ MAX_COMMANDS }
+    requires numbers { length grid.now.numbers.items ≤ MAX_COMMANDS }
     requires events { length grid.now.events.items ≤ MAX_COMMANDS }
     ensures svg { OnOk result (svg.new.items ≡ svg.old.items
         ++ line_svg_out_of top number grid.now.nodes
@@ -265,7 +265,7 @@ pub fn push_timeline<A: Allocator + Copy>(
         grid.now.marks.items) }
     ensures rows { IfOk result (λ rows.
         rows ≡ length (shown_out_of grid.now.nodes grid.now.callers.items)) }
-    ensures few { IfOk result (λ rows. rows ≤ MAX_NODES) }
+    ensures in_range { IfOk result (λ rows. rows ≤ MAX_NODES) }
 {
     let nodes = shown(alloc, grid)?;
     push_line_begin(svg, top, number)?;

@@ -46,8 +46,8 @@ fn entries_of<A: Allocator>(alloc: A, core: &Core) -> Result<Vec<Entry, A>, Allo
 /// Returns how many of these events precede the next one of the node.
 fn until(node: u64, rest: &[Event]) -> u32
     requires { length rest.now ≤ MAX_COMMANDS }
-    ensures is { result ≡ spec.until node rest.now }
-    ensures few { result ≤ length rest.now }
+    ensures matches { result ≡ spec.until node rest.now }
+    ensures in_range { result ≤ length rest.now }
 {
     for place in 0..rest.len() {
         if rest[place].node() == node {

@@ -111,8 +111,8 @@ pub fn push_place<A: Allocator>(text: &mut Vec<u8, A>, place: Place) -> Result<(
 
 /// Returns the row that shows a place: that of its node, or of the home word.
 pub fn row_of_place(place: Place) -> u64
-    ensures is { result ≡ spec.row_of_place place }
-    ensures few { result ≤ MAX_NODES }
+    ensures matches { result ≡ spec.row_of_place place }
+    ensures in_range { result ≤ MAX_NODES }
 {
     match place {
         Place::Home => 0,

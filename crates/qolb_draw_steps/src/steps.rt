@@ -85,7 +85,7 @@ fn timeline<A: Allocator + Copy>(alloc: A, steps: &Steps<A>) -> Result<Vec<u8, A
 /// Returns the core of a script before its first event.
 fn opened<A: Allocator>(steps: &Steps<A>) -> Core
     ensures core { result ≡ first (line_of steps.now) }
-    ensures few { result.nodes ≤ MAX_NODES }
+    ensures nodes { result.nodes ≤ MAX_NODES }
 {
     let config = LineConfig {
         nodes: steps.nodes(),

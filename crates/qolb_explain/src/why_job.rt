@@ -14,8 +14,8 @@ use qolb_script::readers::{
 
 /// Returns the fault of a job of this kind.
 pub fn why_job(kind: WorkKind, workers: u64, lines: u64, line: &[u8]) -> Reason
-    requires some { 1 ≤ lines }
-    requires few { lines ≤ MAX_LINES }
+    requires not_zero { 1 ≤ lines }
+    requires in_range { lines ≤ MAX_LINES }
     ensures { result ≡ spec.why_line (spec.why_job kind workers lines) line.now }
 {
     let Ok(mut words) = Words::of_line(line) else {
@@ -69,8 +69,8 @@ fn why_put(workers: u64, worker: &[u8], mut words: Words) -> Reason
 
 /// Returns the fault of a bank's job behind its first two words.
 fn why_bank_job(workers: u64, lines: u64, worker: &[u8], verb: &[u8], words: Words) -> Reason
-    requires some { 1 ≤ lines }
-    requires few { lines ≤ MAX_LINES }
+    requires not_zero { 1 ≤ lines }
+    requires in_range { lines ≤ MAX_LINES }
     ensures { result ≡ spec.why_bank_verb workers lines worker.now verb.now
         (words_left words.entry) }
 {
@@ -85,8 +85,8 @@ fn why_bank_job(workers: u64, lines: u64, worker: &[u8], verb: &[u8], words: Wor
 
 /// Returns the fault of a job behind `in` or `out`.
 fn why_payment(workers: u64, lines: u64, worker: &[u8], mut words: Words) -> Reason
-    requires some { 1 ≤ lines }
-    requires few { lines ≤ MAX_LINES }
+    requires not_zero { 1 ≤ lines }
+    requires in_range { lines ≤ MAX_LINES }
     ensures { result ≡ spec.why_payment workers lines worker.now (words_left words.entry) }
 {
     match (words.next(), words.next(), words.next()) {
@@ -99,8 +99,8 @@ fn why_payment(workers: u64, lines: u64, worker: &[u8], mut words: Words) -> Rea
 
 /// Returns the fault of a job behind `move`.
 fn why_move(workers: u64, lines: u64, worker: &[u8], mut words: Words) -> Reason
-    requires some { 1 ≤ lines }
-    requires few { lines ≤ MAX_LINES }
+    requires not_zero { 1 ≤ lines }
+    requires in_range { lines ≤ MAX_LINES }
     ensures { result ≡ spec.why_move workers lines worker.now (words_left words.entry) }
 {
     let last = ACCOUNTS_A_LINE * lines - 1;

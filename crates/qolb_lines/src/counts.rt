@@ -100,7 +100,7 @@ impl<R: ReplayLine> CountingLine<R> {
 
     /// Returns the summary of the line: its number, its counts, and how many of the nodes wait or hold.
     pub fn summary(&self, number: u64, nodes: u64) -> Said
-        requires few { nodes ≤ MAX_NODES }
+        requires in_range { nodes ≤ MAX_NODES }
         requires nodes { nodes ≤ R.nodes_of self.now.line }
         ensures { (r : Replay) → IsLineOf R.represents R.nodes_of nodes r number self.now
             → result ≡ summary_of nodes r number }
@@ -119,7 +119,7 @@ fn is_left(state: PortState) -> bool
 
 /// Returns how many of the nodes wait at the line or hold it.
 fn nodes_left_at<R: ReplayLine>(line: &R, nodes: u64) -> u64
-    requires few { nodes ≤ MAX_NODES }
+    requires in_range { nodes ≤ MAX_NODES }
     requires nodes { nodes ≤ R.nodes_of line.now }
     ensures { (s : OwnerState) → R.represents line.now s → result ≡ nodes_left nodes s }
 {

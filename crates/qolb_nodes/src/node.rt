@@ -117,7 +117,7 @@ impl<Q: Discipline<Free>> Node<LineFor<Q>> {
     /// Returns C's number of the turns left, with the holder's own: at least 1. 0 if the node does not hold the line.
     fn turns_left(&self) -> u64
         ensures turns { Holds self.now → result ≡ turns_of self.now }
-        ensures some { Holds self.now → 1 ≤ result }
+        ensures not_zero { Holds self.now → 1 ≤ result }
         ensures none { ¬ Holds self.now → result ≡ 0 }
     {
         if self.state() != PortState::Holding {
@@ -153,7 +153,7 @@ impl<Q: Discipline<Free>> Node<LineFor<Q>> {
         ensures label { result.label ≡ self.now.port.view.label }
         ensures state { result.state ≡ self.now.port.view.state }
         ensures turns { Holds self.now → result.turns_left ≡ turns_of self.now }
-        ensures some { Holds self.now → 1 ≤ result.turns_left }
+        ensures not_zero { Holds self.now → 1 ≤ result.turns_left }
         ensures none { ¬ Holds self.now → result.turns_left ≡ 0 }
         ensures word { result.wait_word ≡ word_of Q.wait_word self.now }
         ensures turn { Holds self.now → IsTurnWord Q.wake_word self.now result.wait_word }
@@ -312,7 +312,7 @@ fn poll_on<Q: Discipline<Free>>(
 ) -> Poll
     requires belongs { ⟦<LineFor<Q> as LineSync<Free>>⟧.belongs line.now port.old }
     requires state { port.old.view.state ≡ PortState.Queued }
-    requires some { 0 < polls }
+    requires not_zero { 0 < polls }
     ensures belongs { ⟦<LineFor<Q> as LineSync<Free>>⟧.belongs line.now port.new }
     ensures polls { Polls anything port.old.view port.new.view port.new.turn result }
     ensures within { PollsWithin polls port.old.counters.poll_count

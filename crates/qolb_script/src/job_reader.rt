@@ -133,8 +133,8 @@ fn read_board_job(workers: u64, text: &[u8]) -> Result<Job, LineFault>
 
 /// Reads the job on a line, at a bank of `lines` lines.
 fn read_bank_job(workers: u64, lines: u64, text: &[u8]) -> Result<Job, LineFault>
-    requires some { 1 ≤ lines }
-    requires few { lines ≤ MAX_LINES }
+    requires not_zero { 1 ≤ lines }
+    requires in_range { lines ≤ MAX_LINES }
     ensures job { result ≡ read_line (spec.bank_job workers lines) text.now }
     ensures range { IfOk result (λ job. (1 ≤ spec.worker_of job) × (spec.worker_of job ≤ workers)
         × spec.IsOfKind WorkKind.Bank lines job) }
@@ -166,8 +166,8 @@ fn read_payment_job(
     account: &[u8],
     amount: &[u8],
 ) -> Result<Job, LineFault>
-    requires some { 1 ≤ lines }
-    requires few { lines ≤ MAX_LINES }
+    requires not_zero { 1 ≤ lines }
+    requires in_range { lines ≤ MAX_LINES }
     ensures job { result ≡ spec.payment_job workers lines verb.now worker.now
         account.now amount.now }
     ensures range { IfOk result (λ job. (1 ≤ spec.worker_of job) × (spec.worker_of job ≤ workers)
@@ -201,8 +201,8 @@ fn read_payment(
     account: &[u8],
     amount: &[u8],
 ) -> Result<(u64, u64, u64), LineFault>
-    requires some { 1 ≤ lines }
-    requires few { lines ≤ MAX_LINES }
+    requires not_zero { 1 ≤ lines }
+    requires in_range { lines ≤ MAX_LINES }
     ensures payment { result ≡ spec.payment_of workers lines worker.now account.now amount.now }
     ensures range { IfOk result (λ p. (1 ≤ p.0) × (p.0 ≤ workers)
         × (p.1 < ACCOUNTS_A_LINE * lines)) }
@@ -222,8 +222,8 @@ fn read_move_job(
     target: &[u8],
     amount: &[u8],
 ) -> Result<Job, LineFault>
-    requires some { 1 ≤ lines }
-    requires few { lines ≤ MAX_LINES }
+    requires not_zero { 1 ≤ lines }
+    requires in_range { lines ≤ MAX_LINES }
     ensures job { result ≡ spec.move_job workers lines worker.now source.now target.now amount.now }
     ensures range { IfOk result (λ job. (1 ≤ spec.worker_of job) × (spec.worker_of job ≤ workers)
         × spec.IsOfKind WorkKind.Bank lines job) }
@@ -249,8 +249,8 @@ fn any_number(word: &[u8]) -> Result<u64, LineFault>
 
 /// Reads an account of one of `lines` lines.
 fn account_within(lines: u64, word: &[u8]) -> Result<u64, LineFault>
-    requires some { 1 ≤ lines }
-    requires few { lines ≤ MAX_LINES }
+    requires not_zero { 1 ≤ lines }
+    requires in_range { lines ≤ MAX_LINES }
     ensures account { result ≡ spec.account_within lines word.now }
     ensures range { IfOk result (λ a. a < ACCOUNTS_A_LINE * lines) }
 {

@@ -91,7 +91,7 @@ fn try_once<L: LineSync<AccountLaw>>(lines: &[L], desk: &mut Desk<L>, job: &Job)
 
 /// Returns what was paid in at all desks, and what was paid out.
 fn sum_up<L: LineSync<AccountLaw>>(desks: &[Desk<L>]) -> (u128, u128)
-    requires few { length desks.now ≤ MAX_NODES }
+    requires desks { length desks.now ≤ MAX_NODES }
     requires small { All (λ desk. ArePaid MAX_COMMANDS desk) desks.now }
     ensures { (result.0 ≡ all_paid_in desks.now) × (result.1 ≡ all_paid_out desks.now) }
 {

@@ -184,7 +184,7 @@ where
 
 /// Returns the sum of the counts of all workers.
 fn sum_up<P>(hands: &[BoardHand<P>]) -> BoardCounts
-    requires few { length hands.now ≤ MAX_NODES }
+    requires hands { length hands.now ≤ MAX_NODES }
     requires small { All (λ hand. AreWithin MAX_COMMANDS hand.counts) hands.now }
     ensures { AreSums hands.now result }
 {

@@ -151,7 +151,7 @@ where
 pub(crate) fn all_done<H: Drop>(joined: Joined<H>, room: Vec<H>) -> Result<Vec<H>, RunError>
     requires empty { room.items ≡ [] }
     requires room { vec_len joined.back ≤ vec_capacity room }
-    requires few { vec_len joined.back ≤ MAX_NODES }
+    requires in_range { vec_len joined.back ≤ MAX_NODES }
     ensures all { IfOk result (λ hands. map Some hands.items ≡ joined.back.items) }
     ensures stalled { IfErr result (IsFirstGone joined.back.items) }
 {

@@ -8,4 +8,4 @@ returns-clause-one_turn g c got =
     let soon = c.acquire.ensures.soon got in
     let sound = g.met.L.LineSync.sound c.args.line.now c.acquire.new.port c.acquire.ensures.belongs in
     let nodes = ap (λ (t : LineConfig). t.nodes) (sym soon.advances.config ∙ sound.config_is) ∙ c.requires.two in
-    (soon.asked, soon.unlooked, soon.asks, omega (arith, soon.few, nodes))
+    (soon.asked, soon.unlooked, soon.asks, omega (arith, soon.bounded_bypass, nodes))

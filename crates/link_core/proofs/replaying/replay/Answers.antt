@@ -16,7 +16,7 @@ loop-i-preserved c = run_step (config_of c.args.nodes c.args.opening) c.args.eve
 pub returns : goal.returns
 returns c =
     let r = run_end (config_of c.args.nodes c.args.opening) c.args.events.now c.loop-i.i c.loop-i.core c.loop-i-test.false c.loop-i.invariant in
-    record { ok = (c.in-Some.ensures.some.0 refl, r.0, r.1, r.2.legal, r.2); err = tt }
+    record { ok = (c.in-Some.ensures.valid.0 refl, r.0, r.1, r.2.legal, r.2); err = tt }
 
 pub returns-in-Err-clause-err : goal.returns-in-Err-clause-err
-returns-in-Err-clause-err c = inr (c.in-Some.ensures.some.0 refl, run_stops (config_of c.args.nodes c.args.opening) c.args.events.now c.loop-i.i _ c.loop-i.core c.in-Err.refusal c.loop-i-test.true c.loop-i.invariant c.in-Err.ensures.refused)
+returns-in-Err-clause-err c = inr (c.in-Some.ensures.valid.0 refl, run_stops (config_of c.args.nodes c.args.opening) c.args.events.now c.loop-i.i _ c.loop-i.core c.in-Err.refusal c.loop-i-test.true c.loop-i.invariant c.in-Err.ensures.refused)

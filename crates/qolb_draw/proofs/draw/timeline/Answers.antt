@@ -11,14 +11,14 @@ loop-number-init g c = no_lines c.args.schedule.now c.new-lines.result.items c.n
 pub push_timeline-requires-clause-events : goal.push_timeline-requires-clause-events
 push_timeline-requires-clause-events g c =
     let same = event_count _ _ _ _ _ _ _ c.in_ok-grid.ensures.grid in
-    omega (arith, same, c.in_ok-grid.ensures.few)
+    omega (arith, same, c.in_ok-grid.ensures.numbers)
 
 pub loop-number-preserved : goal.loop-number-preserved
 loop-number-preserved g c =
     let long : c.len.result ≡ length c.in_ok-grid.grid.numbers.items = omega (arith, c.len.ensures, c.in_ok-grid.grid.numbers.ok) in
     line_placed c.args.schedule.now c.loop-number.number c.loop-number.lines.items _ _ c.loop-number.top _ c.loop-number.width _ c.in_ok-rows.rows c.len.result c.loop-number.invariant
     c.in_ok-rows.ensures.svg (timeline_found c.args.schedule.now c.loop-number.number c.loop-number.top _ _ _ _ _ c.in_ok-grid.ensures.grid)
-    (c.in_ok-rows.ensures.rows ∙ rows_found c.args.schedule.now c.loop-number.number _ _ _ _ _ c.in_ok-grid.ensures.grid) c.in_ok-rows.ensures.few refl
+    (c.in_ok-rows.ensures.rows ∙ rows_found c.args.schedule.now c.loop-number.number _ _ _ _ _ c.in_ok-grid.ensures.grid) c.in_ok-rows.ensures.in_range refl
     (long ∙ columns_found c.args.schedule.now c.loop-number.number _ _ _ _ _ c.in_ok-grid.ensures.grid) c.wider-width.ensures
 
 pub returns : goal.returns

@@ -49,5 +49,5 @@ returns g c =
       grid = all;
       nodes = let rows : c.loop-command.grid.nodes ≡ c.args.schedule.now.nodes = all.rows_are in omega (arith, c.nodes.ensures.nodes, c.nodes.ensures.range.few);
       size = grid_size _ _ _ _ _ _ _ all;
-      few = let few : length c.loop-command.grid.numbers.items ≤ c.loop-command.command-index = c.loop-command.invariant.few in omega (arith, c.commands-command-items.ensures.most);
+      numbers = let few : length c.loop-command.grid.numbers.items ≤ c.loop-command.command-index = c.loop-command.invariant.few in omega (arith, c.commands-command-items.ensures.most);
     }

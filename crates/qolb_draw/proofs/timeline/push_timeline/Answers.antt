@@ -23,8 +23,8 @@ push_columns-requires-clause-shown g c =
     let few = length-shown c.args.grid.now.nodes c.args.grid.now.callers.items in
     subst (λ (xs : List ℕ). length xs ≤ MAX_NODES) (sym (c.deref-3.ensures.value ∙ c.in_ok-nodes.ensures)) (omega (arith, few, c.requires.nodes))
 
-pub returns-clause-few : goal.returns-clause-few
-returns-clause-few g c =
+pub returns-clause-in_range : goal.returns-clause-in_range
+returns-clause-in_range g c =
     let few = length-shown c.args.grid.now.nodes c.args.grid.now.callers.items in
     omega (arith, few, c.requires.nodes, ap length c.in_ok-nodes.ensures, c.len.ensures, c.in_ok-nodes.nodes.ok)
 

@@ -22,7 +22,7 @@ returns g c =
     onward c.args.svg.now.items p6 a7 (onward c.args.svg.now.items p5 a6 (onward c.args.svg.now.items p4 a5 (onward c.args.svg.now.items p3 a4 (onward c.args.svg.now.items p2 a3 (onward c.args.svg.now.items p1 a2 (c.in_ok-extend_from_slice.ensures.items)
     (rw c.class_of_place.ensures at c.in_ok-extend_from_slice-2.ensures.items))
     (rw c.step_x.ensures at c.in_ok-push_field.ensures))
-    (rw (c.step_y.ensures, c.row_of_place.ensures.is) at c.in_ok-push_field-2.ensures))
+    (rw (c.step_y.ensures, c.row_of_place.ensures.matches) at c.in_ok-push_field-2.ensures))
     (c.in_ok-extend_from_slice-3.ensures.items))
     (c.in_ok-push_place.ensures))
     (c.in_ok-extend_from_slice-4.ensures.items)

@@ -25,7 +25,7 @@ pub push_event_shapes-requires-clause-nodes : goal.push_event_shapes-requires-cl
 push_event_shapes-requires-clause-nodes g c =
     let kept : c.step.new.self.nodes ≡ c.loop-column.core.nodes = nodes_kept c.loop-column.core c.step.new.self (get_or c.events-events.result.now c.loop-column.column (Reset 0)) c.step.result c.step.ensures.step c.step.ensures.unchanged in
     let ours : c.step.new.self.nodes ≡ c.args.steps.now.nodes = kept ∙ c.loop-column.invariant.sees.nodes_are in
-    few c.step.new.self.nodes c.args.steps.now.nodes c.opened-core.result.nodes ours (ap (λ (core : State). core.nodes) c.opened-core.ensures.core) c.opened-core.ensures.few
+    few c.step.new.self.nodes c.args.steps.now.nodes c.opened-core.result.nodes ours (ap (λ (core : State). core.nodes) c.opened-core.ensures.core) c.opened-core.ensures.nodes
 
 pub push_event_shapes-requires-clause-size : goal.push_event_shapes-requires-clause-size
 push_event_shapes-requires-clause-size g c =

@@ -11,8 +11,8 @@ use Rattle.qolb_work.proofs.Summing.{all_within, in_turn, kept, puts, takes_are}
 use Rattle.qolb_work.proofs.Untold.{ports_belong, may_finish, done_at_last}
 use Rattle.qolb_work.proofs.board.finish.Goals as goal
 
-pub sum_up-counts-requires-clause-few : goal.sum_up-counts-requires-clause-few
-sum_up-counts-requires-clause-few g c = omega (arith, c.as_slice.ensures.len, c.requires.len, c.requires.limits.few)
+pub sum_up-counts-requires-clause-hands : goal.sum_up-counts-requires-clause-hands
+sum_up-counts-requires-clause-hands g c = omega (arith, c.as_slice.ensures.len, c.requires.len, c.requires.limits.few)
 
 pub sum_up-counts-requires-clause-small : goal.sum_up-counts-requires-clause-small
 sum_up-counts-requires-clause-small g c =

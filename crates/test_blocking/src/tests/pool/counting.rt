@@ -88,7 +88,7 @@ fn count_at<
 >(rt: &R, alloc: Global, line: L, ports: Vec<L::Port>, threads: usize, times: u64) -> Option<u64>
 where
     L::Port: Send + Drop,
-    requires some { 0 < vec_len ports }
+    requires not_empty { 0 < vec_len ports }
     requires set { IsPortSetOf (L.belongs line) L.view S.has }
     requires many { vec_len ports ≡ S.many }
     requires ports { All (MayAsk (L.belongs line) L.view) ports.items }

@@ -108,7 +108,7 @@ fn try_at<R: Wait + Clock + Abort, L: ParkingLine<Free> + Drop, S: PortSet<L::Po
 ) -> Option<()>
 where
     L::Port: Drop,
-    requires some { 0 < vec_len ports }
+    requires not_empty { 0 < vec_len ports }
     requires set { IsPortSetOf (L.belongs line) L.view S.has }
     requires many { vec_len ports ≡ S.many }
     requires ports { All (MayAsk (L.belongs line) L.view) ports.items }

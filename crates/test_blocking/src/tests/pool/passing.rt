@@ -92,7 +92,7 @@ fn two_at<
 >(rt: &R, alloc: Global, line: L, ports: Vec<L::Port>, seen: &Seen) -> Option<[u64; 2]>
 where
     L::Port: Send + Drop,
-    requires some { 0 < vec_len ports }
+    requires not_empty { 0 < vec_len ports }
     requires set { IsPortSetOf (L.belongs line) L.view S.has }
     requires many { vec_len ports ≡ S.many }
     requires ports { All (MayAsk (L.belongs line) L.view) ports.items }
@@ -116,7 +116,7 @@ fn two<R: Threads + Wait + Clock + Sync, L: ParkingLine<Free> + Sync + Drop>(
 ) -> Option<[u64; 2]>
 where
     L::Port: Send + Drop,
-    requires some { 0 < vec_len ports }
+    requires not_empty { 0 < vec_len ports }
     requires ports { All (MayAsk (L.belongs line) L.view) ports.items }
 {
     two_at::<R, L, Brand>(rt, alloc, line, ports, seen)
