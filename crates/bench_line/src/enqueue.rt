@@ -42,34 +42,29 @@ impl<L: LineSync<NonDecreasing>> EnqueueStrategy<L> for AtOnce {
     }
 }
 
-/// Requests on a list, by `enqolb` or by `prepend` and `link`. Between the two calls, other nodes release, ask and withdraw.
+/// Requests by `prepend` and `link`, on a link line. Between the two calls, other nodes release, ask and withdraw.
 #[derive(Drop)]
-pub struct OnList {
-    apart: bool,
+pub struct TwoCalls {
     late: AtomicU64,
 }
 
-impl OnList {
-    /// Requests by two calls if `apart`, else by one.
-    pub fn new(apart: bool) -> OnList {
-        OnList {
-            apart,
+impl TwoCalls {
+    /// Requests of which none has found the line waiting yet.
+    pub fn new() -> TwoCalls {
+        TwoCalls {
             late: AtomicU64::new(0),
         }
     }
 }
 
 impl<Q: SplitEnqueue<NonDecreasing>, W: WakePolicy> EnqueueStrategy<Line<NonDecreasing, Q, W>>
-    for OnList {
+    for TwoCalls {
     fn ask(
         &self,
         line: &Line<NonDecreasing, Q, W>,
         port: &mut Port<Q, W>,
         rng: &mut Xoshiro256PlusPlus,
     ) -> Enq {
-        if !self.apart {
-            return line.enqolb(port);
-        }
         match line.prepend(port) {
             Prep::Granted => Enq::Granted,
             Prep::Busy => Enq::Busy,

@@ -13,10 +13,10 @@ mod stress;
 mod workers;
 
 use clap::{Arg, ArgAction, ArgMatches, Command};
-use enqueue::{AtOnce, EnqueueStrategy, OnList};
+use enqueue::{AtOnce, EnqueueStrategy, TwoCalls};
 use law::NonDecreasing;
 use line_generic::{Discipline, Line};
-use line_kinds::{Lines, LinkLine, NAMES, RingQueue, TicketQueue};
+use line_kinds::{Lines, LinkLine, NAMES, for_kind};
 use line_lanes::lane;
 use pace::Pace;
 use qolb_model::{LineSync, OpenLine};
@@ -48,13 +48,13 @@ enum Wanted {
     Stress(u64),
 }
 
-/// The kind of line, and how a list's nodes ask under stress.
+/// The lock, and how its nodes ask under stress.
 #[derive(Clone, Copy)]
 enum Kind {
-    Ring,
-    /// A list. With `apart` its nodes ask by two calls.
-    List { apart: bool },
-    Ticket,
+    /// This lock. Its nodes ask by one call.
+    AtOnce(Lines),
+    /// The link line. Its nodes ask by two calls.
+    TwoCalls,
 }
 
 fn main(rt: HostRuntime) -> anyhow::Result<()> {
@@ -130,7 +130,7 @@ fn with_kind<'a>(alloc: Global, command: Command<'a>) -> Result<Command<'a>, All
     let kind = Arg::new(alloc, "kind")
         .long("kind")
         .value_name("KIND")
-        .help("The kind of line: a ring, where the words name none, a list, or a ticket line")
+        .help("The lock: a ring, where the words name none")
         .value_parser(NAMES.as_slice());
     command.arg(kind)
 }
@@ -139,7 +139,7 @@ fn with_kind<'a>(alloc: Global, command: Command<'a>) -> Result<Command<'a>, All
 fn with_apart<'a>(alloc: Global, command: Command<'a>) -> Result<Command<'a>, AllocError> {
     let apart = Arg::new(alloc, "apart")
         .long("apart")
-        .help("Under stress on a list, ask by two calls with a pause at random between them")
+        .help("Under stress on a link line, ask by two calls with a pause at random between them")
         .action(ArgAction::SetTrue)
         .requires_arg("stress")?;
     command.arg(apart)
@@ -157,21 +157,16 @@ fn wanted_of(matches: &ArgMatches) -> Wanted {
     }
 }
 
-/// The kind of line; a ring if `--kind` is not given.
+/// The lock, and how its nodes ask; a ring if `--kind` is not given.
 fn kind_of(matches: &ArgMatches) -> Kind {
     if matches.get_flag("apart") {
-        return Kind::List { apart: true };
+        return Kind::TwoCalls;
     }
-    match matches.get_str("kind").and_then(Lines::named) {
-        Some(Lines::Link) => Kind::List { apart: false },
-        Some(Lines::Ticket) => Kind::Ticket,
-        Some(Lines::Ring) | None => Kind::Ring,
-    }
+    let named = matches.get_str("kind").and_then(Lines::named);
+    Kind::AtOnce(named.unwrap_or(Lines::Ring))
 }
 
 /// Runs what the command line asks for, on a line of this kind.
-///
-/// The locks are named here alone, as the prover takes long for each naming of a line's type.
 fn run_kind<R: Threads + Wait + Clock + Print + Sync>(
     rt: &R,
     alloc: Global,
@@ -180,17 +175,18 @@ fn run_kind<R: Threads + Wait + Clock + Print + Sync>(
     wanted: Wanted,
 ) -> anyhow::Result<()> {
     match kind {
-        Kind::Ring => bench_at_once::<R, RingQueue>(rt, alloc, threads, wanted),
-        Kind::List { apart } => {
-            bench::<R, OnList, LinkLine<NonDecreasing>>(
+        Kind::AtOnce(lines) => {
+            for_kind!(lines, bench_at_once, [R], (rt, alloc, threads, wanted))
+        }
+        Kind::TwoCalls => {
+            bench::<R, TwoCalls, LinkLine<NonDecreasing>>(
                 rt,
                 alloc,
-                OnList::new(apart),
+                TwoCalls::new(),
                 threads,
                 wanted,
             )
         }
-        Kind::Ticket => bench_at_once::<R, TicketQueue>(rt, alloc, threads, wanted),
     }
 }
 

@@ -75,7 +75,7 @@ fn command<'a>(alloc: Global) -> Result<Command<'a>, AllocError> {
 
 /// Adds the option that names the kind of line.
 fn with_kind<'a>(alloc: Global, command: Command<'a>) -> Result<Command<'a>, AllocError> {
-    let help = "The kind of line: a ring, where the words name none, a list, or a ticket line";
+    let help = "The lock: a ring, where the words name none";
     command.arg(argument(alloc, "kind", "KIND", help)?.value_parser(NAMES.as_slice()))
 }
 

@@ -2,7 +2,8 @@
 ghost use Rattle.std.specs.Prelude.{◌≡◌, ◌↔◌, IsOk};
 
 use anyhow::{bail, ensure};
-use qolb_run::{AlwaysOpen, Kind, Lines, WaitMode, answer_work, run_schedule, run_steps};
+use line_kinds::ALL;
+use qolb_run::{AlwaysOpen, KINDS, Kind, Lines, WaitMode, answer_work, run_schedule, run_steps};
 use qolb_script::{Watched, WorkKind};
 use std::alloc::Global;
 use std::sync::Wait;
@@ -19,12 +20,6 @@ pub enum Form {
     Work(WorkKind),
 }
 
-/// The kinds of line that run a schedule.
-static KINDS: [Kind; 4] = [Kind::Plain, Kind::Ring, Kind::Link, Kind::Ticket];
-
-/// The kinds that workers share.
-static LINES: [Lines; 3] = [Lines::Ring, Lines::Link, Lines::Ticket];
-
 /// Runs the script in each way that there is for it, and compares.
 ///
 /// # Errors
@@ -39,7 +34,7 @@ pub fn compare<R: Threads + Wait + Sync>(
 ) -> anyhow::Result<()> {
     match form {
         Form::Schedule => {
-            for kind in KINDS {
+            for &kind in &KINDS {
                 let said = replay(alloc, script, kind)?;
                 expect(said.as_slice(), wanted)?;
             }
@@ -49,7 +44,7 @@ pub fn compare<R: Threads + Wait + Sync>(
             expect(said.as_slice(), wanted)?;
         }
         Form::Work(kind) => {
-            for lines in LINES {
+            for &lines in &ALL {
                 let said = report(rt, alloc, script, kind, lines)?;
                 expect(said.as_slice(), wanted)?;
             }

@@ -29,11 +29,23 @@ const WORD: u64 = size_of::<u64>() as u64;
 /// The number of bytes of a slot of a table.
 const SLOT: u64 = size_of::<Payload>() as u64;
 
+/// The number of locks.
+pub const LOCKS: usize = 3;
+
 /// All locks.
-pub static ALL: [Lines; 3] = [Lines::Ring, Lines::Link, Lines::Ticket];
+pub static ALL: [Lines; LOCKS] = [Lines::Ring, Lines::Link, Lines::Ticket];
+
+/// The locks' names on command lines, in the order of `ALL`, behind other texts: `lock_names!(array, "plain")` is an array of four names, and
+/// `lock_names!(text, "kinds: ")` a text in which commas part the locks' names.
+#[macro_export]
+macro_rules! lock_names {
+    (@array [$($before:literal),*] $($name:literal),*) => { [$($before,)* $($name),*] };
+    (@text [$($before:literal),*] $first:literal $(, $name:literal)*) => { concat!($($before,)* $first $(, ", ", $name)*) };
+    ($form:ident $(, $before:literal)*) => { $crate::lock_names!(@$form [$($before),*] "ring", "link", "ticket") };
+}
 
 /// The locks' names on command lines, in the order of `ALL`.
-pub static NAMES: [&str; 3] = ["ring", "link", "ticket"];
+pub static NAMES: [&str; LOCKS] = lock_names!(array);
 
 impl Lines {
     /// Returns the lock of this name, if there is one.

@@ -1,13 +1,16 @@
 -- What the words of a command line ask for. (What a command makes of words is defined by the library that reads them, clap.)
 use Rattle.std.specs.Prelude.{Bool, ◌≡◌, true, false, if◌then◌else◌, List, [], ◌∷◌, map, Option, Some, None, option_map, codes}
 use Rattle.std.specs.Borrow.{Bor}
+use Rattle.std.specs.Option.{unwrap_or}
 use Rattle.std.specs.Str.{bytes_eq}
 use Rattle.clap.specs.Words.{App, Row, Rule, Text, first_of, new_app, new_rule, subcommand_of, takes, with_rule, with_subcommand}
 use Rattle.clap.specs.declared.builder.ArgAction.TheVariants.{Set, SetTrue}
 use Rattle.clap.specs.declared.builder.value_parser.ValueParser.TheVariants as parser
 use Rattle.qolb_script.specs.declared.job.WorkKind.TheVariants.{Board, Bank}
+use Rattle.qolb_run.specs.Kinds.{kind_of}
 use Rattle.qolb_run.specs.declared.replay.Kind.{Kind}
 use Rattle.qolb_run.specs.declared.replay.Kind.TheVariants as kind
+use Rattle.line_kinds.specs.Names.{lock_named, lock_names}
 use Rattle.line_kinds.specs.declared.Lines.{Lines}
 use Rattle.line_kinds.specs.declared.Lines.TheVariants as lines
 use Rattle.qolb_shapes.specs.declared.form.Form.{Form}
@@ -32,8 +35,8 @@ AreNames names texts = map (λ (name : Bor Text). name.now) names.now ≡ texts
 pub record KindNames : Type 0 where
   pub replayed : Names
   pub shared : Names
-  pub replayed_are : AreNames replayed (codes "plain" ∷ codes "ring" ∷ codes "link" ∷ codes "ticket" ∷ [])
-  pub shared_are : AreNames shared (codes "ring" ∷ codes "link" ∷ codes "ticket" ∷ [])
+  pub replayed_are : AreNames replayed (codes "plain" ∷ lock_names)
+  pub shared_are : AreNames shared lock_names
 
 -- `--kind KIND`, with one of these names
 abbrev pub kind_rule : Names → Rule
@@ -98,11 +101,11 @@ the_command names = with_subcommand (any_answer names) draw_command.top
 -- the kind of this name
 abbrev pub kind_of_name : Option Text → Kind
 kind_of_name None = kind.Plain
-kind_of_name (Some name) = if bytes_eq name (codes "ring") then kind.Ring else if bytes_eq name (codes "link") then kind.Link else if bytes_eq name (codes "ticket") then kind.Ticket else kind.Plain
+kind_of_name (Some name) = unwrap_or (option_map kind_of (lock_named name)) kind.Plain
 
 abbrev pub lines_of_name : Option Text → Lines
 lines_of_name None = lines.Link
-lines_of_name (Some name) = if bytes_eq name (codes "ring") then lines.Ring else if bytes_eq name (codes "ticket") then lines.Ticket else lines.Link
+lines_of_name (Some name) = unwrap_or (lock_named name) lines.Link
 
 -- what is written of each event, by the value of `--rank`
 abbrev pub detail_of : Option Text → Detail

@@ -6,29 +6,26 @@ ghost use Rattle.qolb_args.specs.CommandLine.{KindNames, NamesFlag, NamesWish, I
 
 use clap::error::ErrorKind;
 use clap::{Arg, ArgAction, ArgMatches, Command, Error};
-use qolb_run::{Detail, Kind, Lines, Task, WaitMode};
+use line_kinds::{LOCKS, Lines, NAMES, lock_names};
+use qolb_run::{Detail, Kind, Task, WaitMode};
 use qolb_script::WorkKind;
 use qolb_shapes::Form;
 use std::alloc::{AllocError, Global};
 
 /// The names of the kinds of lines that replay a schedule.
-static REPLAYED: [&str; 4] = ["plain", "ring", "link", "ticket"];
-
-/// The names of the kinds of lines that workers share.
-static SHARED: [&str; 3] = ["ring", "link", "ticket"];
+static REPLAYED: [&str; LOCKS + 1] = lock_names!(array, "plain");
 
 const REPLAYED_HELP: &str =
-    "What represents the lines: the plain reference with one owner, or lines that nodes share: rings, lists or ticket lines";
+    "What represents the lines: the plain reference with one owner, or lines that nodes share, by the name of their lock";
 
-const SHARED_HELP: &str = "What represents the lines: rings, lists or ticket lines";
+const SHARED_HELP: &str = "The lock of the lines";
 
 const ABOUT: &str =
     "Queued line locks: nodes queue at a line of 64 bytes, and a release hands lock and\nline to the next";
 
 /// What `--version` says after the name: the version, which `tools/sources` compares, and the kinds of lines. A program can't know which kit
 /// built it, nor whether it was proved: the script `qolb` adds that.
-const VERSION: &str = "1.8.0
-kinds of lines: plain, ring, link, ticket";
+const VERSION: &str = lock_names!(text, "1.8.0\nkinds of lines: plain, ");
 
 const STATUSES: &str = "Exit statuses:
   0  done
@@ -271,11 +268,9 @@ fn task_of(name: &str, kind: Option<&str>, detail: Detail, waits: WaitMode) -> T
 fn kind_named(name: Option<&str>) -> Kind
     ensures { result ≡ spec.kind_of_name (option_map (λ n. n.now) name.entry) }
 {
-    match name {
-        Some("ring") => Kind::Ring,
-        Some("link") => Kind::Link,
-        Some("ticket") => Kind::Ticket,
-        _ => Kind::Plain,
+    match name.and_then(Lines::named) {
+        Some(lines) => Kind::of(lines),
+        None => Kind::Plain,
     }
 }
 
@@ -283,11 +278,7 @@ fn kind_named(name: Option<&str>) -> Kind
 fn lines_named(name: Option<&str>) -> Lines
     ensures { result ≡ spec.lines_of_name (option_map (λ n. n.now) name.entry) }
 {
-    match name {
-        Some("ring") => Lines::Ring,
-        Some("ticket") => Lines::Ticket,
-        _ => Lines::Link,
-    }
+    name.and_then(Lines::named).unwrap_or(Lines::Link)
 }
 
 /// Builds the program's command.
@@ -295,7 +286,7 @@ fn command<'a>(alloc: Global) -> Result<Command<'a>, AllocError>
     ensures { IfOk result (λ r. (names : KindNames) × (app_of r ≡ the_command names)) }
 {
     let replayed = REPLAYED.as_slice();
-    let shared = SHARED.as_slice();
+    let shared = NAMES.as_slice();
     with_work(alloc, scripts(alloc, replayed)?, shared)?.subcommand(draw(alloc)?)
 }
 

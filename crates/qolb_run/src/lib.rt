@@ -16,7 +16,7 @@ pub use qolb_replay::{
     run_schedule_over, run_steps, run_steps_with,
 };
 pub use qolb_work::{AlwaysOpen, Gate, MAX_REFUSALS, Progress, RunError, WaitMode, run_work_over};
-pub use replay::{Kind, answer_schedule, run_schedule};
+pub use replay::{KINDS, Kind, answer_schedule, run_schedule};
 pub use report::{TaskError, answer_work};
 pub use task::Task;
 pub use work::{KindSpec, Locks, run_work, run_work_with};

@@ -5,10 +5,11 @@ ghost use Rattle.qolb_script.specs.Watched.{inner_of, has_failed};
 ghost use Rattle.qolb_script.specs.Reply.{reply_to};
 ghost use Rattle.qolb_replay.specs.Outcome.{IsReply, HasNoReply};
 ghost use Rattle.qolb_run.specs.declared.task.Task.TheVariants as task;
+ghost use Rattle.qolb_run.specs.Kinds.{kind_of};
 ghost use Rattle.qolb_run.specs.Outcome.{MayFail};
 
 use line_generic::{Discipline, Line};
-use line_kinds::{Lines, for_kind};
+use line_kinds::{LOCKS, Lines, for_kind};
 use qolb_model::Free;
 use qolb_replay::{ReplayError, answered_over, answered_plainly, read_input};
 use qolb_script::{ScriptError, Watched};
@@ -30,13 +31,25 @@ pub enum Kind {
     Ticket,
 }
 
+/// All kinds: the plain reference, and the kind of each lock in the order of `line_kinds::ALL`.
+pub static KINDS: [Kind; LOCKS + 1] = [Kind::Plain, Kind::Ring, Kind::Link, Kind::Ticket];
+
 impl Kind {
-    /// Returns the shared lines of this kind, or `None` for the plain reference.
+    /// Returns the kind of lines that have this lock.
+    pub fn of(lines: Lines) -> Kind
+        ensures { result ≡ kind_of lines }
+    {
+        match lines {
+            Lines::Ring => Kind::Ring,
+            Lines::Link => Kind::Link,
+            Lines::Ticket => Kind::Ticket,
+        }
+    }
+
+    /// Returns the lock of this kind, or `None` for the plain reference.
     fn shared(self) -> Option<Lines>
-        ensures plain { self ≡ Kind.Plain → result ≡ None }
-        ensures ring { self ≡ Kind.Ring → result ≡ Some Lines.Ring }
-        ensures link { self ≡ Kind.Link → result ≡ Some Lines.Link }
-        ensures ticket { self ≡ Kind.Ticket → result ≡ Some Lines.Ticket }
+        ensures plain { result ≡ None ↔ self ≡ Kind.Plain }
+        ensures lock { IfSome result (λ lines. kind_of lines ≡ self) }
     {
         match self {
             Kind::Plain => None,

@@ -1,32 +1,21 @@
 //! Replays of scripts by lines of each kind.
 use crate::rows::{expect, expect_at};
-use line_kinds::{ALL, Lines, TicketLine};
+use line_kinds::{ALL, TicketLine};
 use linked_list_allocator::LocalHeap;
 use qolb_model::{Free, OpenLine};
-use qolb_run::{Kind, ReplayError, read_all, run_schedule, run_schedule_over};
+use qolb_run::{KINDS, Kind, ReplayError, read_all, run_schedule, run_schedule_over};
 use qolb_script::{ScriptError, Watched};
 use std::alloc::Global;
 use std::io;
 use std::io::{Read, Write};
 use std::test::Fail;
 
-pub(crate) static KINDS: [Kind; 4] = [Kind::Plain, Kind::Ring, Kind::Link, Kind::Ticket];
-
-/// The kind of line that has this lock.
-fn kind_of(lines: Lines) -> Kind {
-    match lines {
-        Lines::Ring => Kind::Ring,
-        Lines::Link => Kind::Link,
-        Lines::Ticket => Kind::Ticket,
-    }
-}
-
 #[test]
 fn kinds_are_the_plain_one_and_each_lock(rt: HostRuntime) -> Result<(), Fail> {
     expect(&rt, "kinds", KINDS.len(), ALL.len() + 1);
     expect(&rt, "the first", KINDS[0], Kind::Plain);
     for (lines, kind) in ALL.iter().zip(KINDS.iter().skip(1)) {
-        expect(&rt, "a lock's kind", *kind, kind_of(*lines));
+        expect(&rt, "a lock's kind", *kind, Kind::of(*lines));
     }
     Ok(())
 }

@@ -1,9 +1,8 @@
 //! Replays in a room of memory, which show that a replay opens lines of its kind or type.
-use crate::replays::KINDS;
 use crate::rows::{expect, expect_at};
 use line_kinds::TicketLine;
 use qolb_model::Free;
-use qolb_run::{Kind, ReplayError, run_schedule, run_schedule_over};
+use qolb_run::{KINDS, Kind, ReplayError, run_schedule, run_schedule_over};
 use qolb_script::Watched;
 use std::alloc::Global;
 use std::test::Fail;

@@ -1,5 +1,5 @@
 //! Runs of the program: words and script, with the status and the output.
-use line_kinds::{ALL, Lines};
+use line_kinds::{ALL, LOCKS, Lines, lock_names};
 use qolb_run::{ReplayError, Task, TaskError};
 use qolb_serve::{Subcommand, fail, parse_args, refuse_words, serve};
 use std::alloc::Global;
@@ -11,7 +11,7 @@ use std::test::Fail;
 use std::thread::Threads;
 
 /// The kinds of lines of a replay.
-pub static KINDS: [&str; 4] = ["plain", "ring", "link", "ticket"];
+pub static KINDS: [&str; LOCKS + 1] = lock_names!(array, "plain");
 
 /// Returns the status of a run on these words, and its standard error.
 pub fn run<T: Threads + Wait + Clock + Eprint + Sync, R: Read, W: Write>(

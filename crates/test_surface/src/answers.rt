@@ -2,10 +2,11 @@
 use crate::rows::expect_at;
 use line_accounts::Reply;
 use line_board::{Put, Take};
+use line_kinds::ALL;
 use link_core::Place;
 use link_line::Prep;
 use qolb_model::{Enq, Out, Poll, PortState};
-use qolb_run::{Got, Kind, Lines};
+use qolb_run::{Got, KINDS, Kind, Lines};
 use qolb_script::WorkKind;
 use std::fmt::Debug;
 use std::process::Abort;
@@ -215,10 +216,10 @@ fn variants_of_runs_are_declared_in_this_order(rt: HostRuntime) {
     for one in [Got::Granted, Got::Closed] {
         expect_at(&rt, &one, one as usize, one.place());
     }
-    for one in [Lines::Ring, Lines::Link, Lines::Ticket] {
+    for one in ALL {
         expect_at(&rt, &one, one as usize, one.place());
     }
-    for one in [Kind::Plain, Kind::Ring, Kind::Link, Kind::Ticket] {
+    for one in KINDS {
         expect_at(&rt, &one, one as usize, one.place());
     }
     for one in [WorkKind::Board, WorkKind::Bank] {

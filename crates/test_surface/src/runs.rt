@@ -2,7 +2,7 @@
 use crate::rows::{expect, expect_at};
 use qolb_model::{Free, LineSync, OpenLine};
 use qolb_run::{
-    AlwaysOpen, Gate, Got, Kind, Lines, ReplayError, RunError, WaitMode, acquire, read_all,
+    AlwaysOpen, Gate, Got, KINDS, Lines, ReplayError, RunError, WaitMode, acquire, read_all,
     run_schedule, run_steps, run_work,
 };
 use qolb_script::{Report, Watched, Work, WorkKind, read_work};
@@ -86,7 +86,7 @@ const NONE: &[u8] = b"line 0 served 0 withdrawn 0 told 0 left 0\n";
 
 #[test]
 fn a_schedule_is_replayed_by_each_kind(rt: HostRuntime) {
-    for kind in [Kind::Plain, Kind::Ring, Kind::Link] {
+    for kind in KINDS {
         let mut reader = Watched::new(b"nodes 1 lines 1".as_slice());
         let mut writer: Watched<Vec<u8>> = Watched::new(Vec::new(rt.alloc()));
         let done: Result<(), ReplayError> = run_schedule(
