@@ -1,7 +1,11 @@
 //! What the tests of this crate share.
 use line_lanes::Line64;
+use linked_list_allocator::LocalHeap;
+use qolb_script::ScriptError;
+use std::alloc::Global;
 use std::fmt::Debug;
 use std::process::Abort;
+use std::test::Fail;
 
 /// Expects that the value is the wanted one.
 pub(crate) fn expect<R: Abort, T: PartialEq + Debug + Drop>(
@@ -53,3 +57,38 @@ pub(crate) fn line_with(bytes: &[(usize, u8)]) -> Line64 {
 pub(crate) static SEVENS: Line64 = Line64 { bytes: [7; 64] };
 
 pub(crate) static FULL: Line64 = Line64 { bytes: [255; 64] };
+
+/// Reads `items` items on heaps that grow by 64 bytes. The reading is refused for want of memory more than `least` times, until a heap
+/// serves; each larger heap serves, too. Nothing stays allocated on a heap.
+pub(crate) fn expect_refusals<R: Abort, F: Fn(&LocalHeap) -> Result<usize, ScriptError>>(
+    rt: &R,
+    alloc: Global,
+    items: usize,
+    least: u32,
+    read: F,
+) -> Result<(), Fail>
+    requires { F.IsAlwaysCallable read }
+{
+    let mut refused = 0u32;
+    let mut served = false;
+    for step in 1..400usize {
+        let heap = LocalHeap::new(alloc, 64 * step)?;
+        let found = read(&heap);
+        served = served || found.is_ok();
+        let wanted = if served {
+            Ok(items)
+        } else {
+            refused = refused.saturating_add(1);
+            Err(ScriptError::Memory)
+        };
+        expect_at(rt, &step, (found, heap.used()), (wanted, 0));
+    }
+    let ends = (served, refused > least);
+    expect(
+        rt,
+        "served in the end, refused often enough",
+        ends,
+        (true, true),
+    );
+    Ok(())
+}
