@@ -9,8 +9,8 @@ use Rattle.qolb_replay.specs.declared.steps.Detail.TheVariants.{Words}
 use Rattle.qolb_run.specs.declared.task.Task.{Task}
 use Rattle.qolb_run.specs.declared.task.Task.TheVariants.{Replay, Steps}
 use Rattle.qolb_run.specs.Outcome.{MayFail, MayEnd, IsRefused}
-use Rattle.qolb_args.specs.declared.command_line.Subcommand.{Subcommand}
-use Rattle.qolb_args.specs.declared.command_line.Subcommand.TheVariants.{Answer, Draw, DrawSteps}
+use Rattle.qolb_serve.specs.declared.command_line.Subcommand.{Subcommand}
+use Rattle.qolb_serve.specs.declared.command_line.Subcommand.TheVariants.{Answer, Draw, DrawSteps}
 use Rattle.qolb_serve.specs.Subcommands.{IsDenied, MayDeny}
 use Rattle.qolb_serve.specs.Status.{replay_status, status_of}
 

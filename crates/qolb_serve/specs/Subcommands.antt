@@ -12,8 +12,8 @@ use Rattle.qolb_run.specs.declared.report.TaskError.{TaskError}
 use Rattle.qolb_run.specs.Outcome.{Answers, IsRefused, MayEnd}
 use Rattle.qolb_draw.specs.Pictures.{IsPicture}
 use Rattle.qolb_draw_steps.specs.StepPictures.{IsStepPicture}
-use Rattle.qolb_args.specs.declared.command_line.Subcommand.{Subcommand}
-use Rattle.qolb_args.specs.declared.command_line.Subcommand.TheVariants.{Answer, Draw, DrawSteps}
+use Rattle.qolb_serve.specs.declared.command_line.Subcommand.{Subcommand}
+use Rattle.qolb_serve.specs.declared.command_line.Subcommand.TheVariants.{Answer, Draw, DrawSteps}
 
 -- the text is the answer to the bytes, or their picture. Work was done over lines with this property of work and report
 abbrev pub Performs : (Lines → WorkScript → Report → Type 0) → Subcommand → List ℕ → List ℕ → Type 0

@@ -1,7 +1,8 @@
-//! The program behind its words: what is done, and the exit status.
+//! The program as a function: what the words of its command line ask for, what is done, and the exit status.
 #![tactic(auto)]
 
+mod command_line;
 mod program;
 
+pub use command_line::{Args, Subcommand, parse_args};
 pub use program::{fail, refuse_words, serve};
-pub use qolb_args::{Args, Subcommand, parse_args};

@@ -4,14 +4,14 @@ ghost use Rattle.std.specs.Io.KnownBytes.{Appends};
 ghost use Rattle.std.specs.IoError.{error_kind};
 ghost use Rattle.std.specs.declared.io.ErrorKind.TheVariants as io_kind;
 ghost use Rattle.qolb_replay.specs.declared.input.TheConstants.{MAX_BYTES};
-ghost use Rattle.qolb_args.specs.CommandLine.{NamesWish, IsNotTaken};
-ghost use Rattle.qolb_args.specs.declared.command_line.Subcommand.{Subcommand};
+ghost use Rattle.qolb_serve.specs.CommandLine.{NamesWish, IsNotTaken};
+ghost use Rattle.qolb_serve.specs.declared.command_line.Subcommand.{Subcommand};
 ghost use Rattle.qolb_run.specs.Outcome.{IsReplyOver, HasNoReport};
 ghost use Rattle.qolb_serve.specs.Subcommands.{Performs, IsDenied, MayDeny, complaint};
 ghost use Rattle.qolb_serve.specs.Status.{status_of};
 
+use crate::command_line::{Args, Subcommand, parse_args};
 use clap::error::ErrorKind;
-use qolb_args::{Args, Subcommand, parse_args};
 use qolb_draw::draw_schedule;
 use qolb_draw_steps::draw_steps;
 use qolb_explain::{Complaint, explain_schedule, explain_steps, explain_work};
