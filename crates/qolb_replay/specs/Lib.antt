@@ -1,2 +1,4 @@
+pub mod Calls
 pub mod Outcome
 pub mod StepRuns
+pub mod Tallies

@@ -7,13 +7,15 @@ ghost use Rattle.qolb_model.specs.Opening.{MayOpen};
 ghost use Rattle.qolb_model.specs.Plain.{PlainView, Agrees};
 ghost use Rattle.qolb_model.specs.OneOwner.{OwnerState};
 ghost use Rattle.qolb_model.specs.Whole.{ViewAndTurn, AreSynced};
-ghost use Rattle.qolb_lines.specs.Tallies.{AreLinesOf};
+ghost use Rattle.qolb_replay.specs.Tallies.{AreLinesOf};
 ghost use Rattle.qolb_replay.specs.declared.replay.ReplayError.TheVariants.{Memory, Write};
 ghost use Rattle.qolb_replay.specs.Outcome.{IsReply, ReplayMayFail, HasNoReply, as_replay_error, script_error};
 
+use crate::counts::CountingLine;
 use crate::input::{InputError, read_input};
+use crate::line::ReplayLine;
+use crate::ported_line::PortedLine;
 use line_lanes::Line64;
-use qolb_lines::{CountingLine, PortedLine, ReplayLine};
 use qolb_model::{Free, LineConfig, OpenLine, PlainLine};
 use qolb_script::{Fault, Schedule, ScriptError, Watched, push_said, read_schedule};
 use std::alloc::{AllocError, Allocator, Global};

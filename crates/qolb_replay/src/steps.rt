@@ -9,11 +9,11 @@ ghost use Rattle.qolb_replay.specs.declared.input.TheConstants.{MAX_BYTES};
 ghost use Rattle.qolb_replay.specs.declared.steps.Detail.TheVariants as detail;
 ghost use Rattle.qolb_replay.specs.StepRuns.{IsStepReply, IsStepReplyTo, Heard, heard_text, is_busy, nodes_busy};
 
+use crate::counts::Counts;
 use crate::input::read_input;
 use crate::replay::ReplayError;
 use line_lanes::Line64;
 use link_core::{Core, Point, Told};
-use qolb_lines::Counts;
 use qolb_model::LineConfig;
 use qolb_script::{Said, ScriptError, Steps, Watched, push_ranked, push_said, read_steps};
 use std::alloc::{AllocError, Allocator};

@@ -2,9 +2,9 @@ pub use Rattle.line_blocking.specs.Acquiring
 pub use Rattle.line_blocking.specs.Places
 pub use Rattle.line_blocking.specs.ViewAndTurn
 pub use Rattle.line_blocking.specs.Meetings
-pub use Rattle.qolb_lines.specs.Tallies
+pub use Rattle.qolb_replay.specs.Tallies
 pub use Rattle.qolb_replay.specs.StepRuns
-pub use Rattle.qolb_lines.specs.Calls
+pub use Rattle.qolb_replay.specs.Calls
 pub use Rattle.qolb_work.specs.Jobs
 pub use Rattle.qolb_work.specs.JustOpened
 pub use Rattle.qolb_work.specs.Workers

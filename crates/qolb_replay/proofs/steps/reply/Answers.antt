@@ -4,7 +4,7 @@ use Rattle.link_core.specs.declared.event.Event.TheVariants.{Reset}
 use Rattle.qolb_model.specs.declared.config.LineConfig.{LineConfig}
 use Rattle.link_core.specs.State.{first}
 use Rattle.qolb_replay.specs.StepRuns.{line_of}
-use Rattle.qolb_lines.specs.Tallies.{no_counts}
+use Rattle.qolb_replay.specs.Tallies.{no_counts}
 use Rattle.qolb_replay.proofs.StepsRun.{Reaches, start_of, reaches_start, step_done}
 use Rattle.qolb_replay.proofs.steps.reply.Goals as goal
 

@@ -22,8 +22,8 @@ use Rattle.qolb_script.specs.declared.reply_text.Said.TheVariants as said
 use Rattle.qolb_script.specs.Commands.{node_of}
 use Rattle.qolb_script.specs.Reply.{is_allowed, is_queued, is_holding, answered, after_allowed, said_of, after_command}
 use Rattle.line_blocking.specs.ViewAndTurn.{view_and_turn}
-use Rattle.qolb_lines.specs.Calls.{Promises, Calls, AnswersByPort, all_allowed}
-use Rattle.qolb_lines.proofs.Allowed.{queued_state, holding_state}
+use Rattle.qolb_replay.specs.Calls.{Promises, Calls, AnswersByPort, all_allowed}
+use Rattle.qolb_replay.proofs.Allowed.{queued_state, holding_state}
 use Rattle.line_blocking.proofs.Rounds.{get_of}
 
 -- a state and what is seen of it allow the same

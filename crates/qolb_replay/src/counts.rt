@@ -18,7 +18,7 @@ pub struct Counts {
 
 impl Counts {
     ghost use Rattle.std.specs.Prelude.{◌^◌, ◌-◌};
-    ghost use Rattle.qolb_lines.specs.Tallies.{AreWithin, Counted, no_counts};
+    ghost use Rattle.qolb_replay.specs.Tallies.{AreWithin, Counted, no_counts};
 
     /// Returns counts that are all 0.
     pub fn none() -> Counts
@@ -74,7 +74,7 @@ impl<R: ReplayLine> CountingLine<R> {
     ghost use Rattle.std.specs.Prelude.{◌≡◌, ℕ, ◌≤◌, ◌-◌, ◌^◌};
     ghost use Rattle.qolb_script.specs.Commands.{node_of};
     ghost use Rattle.qolb_script.specs.Reply.{Replay, summary_of};
-    ghost use Rattle.qolb_lines.specs.Tallies.{AreWithin, Does, IsLineOf, no_counts};
+    ghost use Rattle.qolb_replay.specs.Tallies.{AreWithin, Does, IsLineOf, no_counts};
 
     /// Wraps a line of a replay, with counts that are all 0.
     pub fn new(line: R) -> CountingLine<R>

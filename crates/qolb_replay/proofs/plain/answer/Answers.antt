@@ -5,8 +5,8 @@ use Rattle.qolb_model.specs.Plain.{Agrees}
 use Rattle.qolb_script.specs.declared.reply_text.Said.TheVariants as said
 use Rattle.qolb_script.specs.Commands.{node_of}
 use Rattle.qolb_script.specs.Reply.{is_allowed, answered, after_allowed}
-use Rattle.qolb_lines.proofs.Allowed.{allowed_said, allowed_after, refused_said, refused_after}
-use Rattle.qolb_lines.proofs.plain.answer.Goals as goal
+use Rattle.qolb_replay.proofs.Allowed.{allowed_said, allowed_after, refused_said, refused_after}
+use Rattle.qolb_replay.proofs.plain.answer.Goals as goal
 
 pub returns-then-not-allows-clause-said : goal.returns-then-not-allows-clause-said
 returns-then-not-allows-clause-said c s a =

@@ -5,7 +5,7 @@ ghost use Rattle.qolb_model.specs.Opening.{AreNew, MayOpen};
 ghost use Rattle.qolb_model.specs.Whole.{AreSynced};
 ghost use Rattle.qolb_script.specs.Commands.{node_of};
 ghost use Rattle.line_blocking.specs.ViewAndTurn.{view_and_turn};
-ghost use Rattle.qolb_lines.specs.Calls.{Calls, AnswersByPort};
+ghost use Rattle.qolb_replay.specs.Calls.{Calls, AnswersByPort};
 
 use crate::line::{ReplayLine, allows};
 use line_blocking::meet_others;
