@@ -14,5 +14,4 @@ pub use Rattle.qolb_work.specs.Reports
 pub use Rattle.qolb_work.specs.BankRuns
 pub use Rattle.qolb_work.specs.BankWork
 pub mod Outcome
-pub mod ByName
 pub mod Kinds

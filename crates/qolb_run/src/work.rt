@@ -5,7 +5,7 @@ ghost use Rattle.qolb_work.specs.Reports.{IsReportOf};
 ghost use Rattle.qolb_script.specs.declared.report.Report.{Report};
 ghost use Rattle.qolb_script.specs.WorkScript.{WorkScript};
 ghost use Rattle.line_kinds.specs.declared.Lines.{Lines};
-ghost use Rattle.qolb_run.specs.ByName.{by_name};
+ghost use Rattle.qolb_run.specs.Kinds.{by_name};
 ghost use Rattle.qolb_work.specs.BankWork.{IsBankedOver};
 ghost use Rattle.qolb_work.specs.BoardWork.{IsBoardedOver};
 
