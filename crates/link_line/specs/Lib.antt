@@ -4,4 +4,5 @@ pub mod BetweenCalls
 pub mod Links
 pub mod Steps
 pub mod Releases
+pub mod Calls
 pub mod Laws

@@ -2,19 +2,16 @@
 //!
 //! The releasing node's request ends at the step that gives the line up or passes a successor: a `home` that finds no successor, a `done`
 //! that finds no link, or the first `grant`.
-ghost use Rattle.std.specs.Prelude.{◌≡◌, ◌≢◌, ℕ, ◌+◌, ◌*◌, ◌<◌, ◌≤◌, [], ◌∷◌, length};
-ghost use Rattle.qolb_model.specs.declared.request.Request.{Request};
-ghost use Rattle.qolb_model.specs.Requests.{AreOfOthers};
+ghost use Rattle.std.specs.Prelude.{◌≡◌, ◌≢◌, ℕ, ◌+◌, ◌*◌, ◌<◌, ◌≤◌, [], length};
 ghost use Rattle.qolb_model.specs.declared.config.TheConstants.{MAX_NODES};
 ghost use Rattle.qolb_model.specs.PortStates as states;
-ghost use Rattle.link_core.specs.declared.point.Point.TheVariants.{Leaving, Freeing};
+ghost use Rattle.link_core.specs.declared.point.Point.TheVariants.{Freeing};
 ghost use Rattle.line_generic.specs.declared.table.Payload.{Payload};
-ghost use Rattle.line_generic.specs.Steps.{IsSameSeat, HasSlot, HasNoSlot};
-ghost use Rattle.link_line.specs.Links.{At};
-ghost use Rattle.link_line.specs.BetweenCalls.{release_steps, wake_word};
+ghost use Rattle.line_generic.specs.Steps.{IsSameSeat, HasSlot};
 ghost use Rattle.link_line.specs.Layout as layout;
-ghost use Rattle.link_line.specs.Steps.{IsSeatOf, IsAt, IsSeatOfNode, KnowsNodes, IsOfOneNode, ghost_of, Advances, SeatAdvances, MayHandOff};
-ghost use Rattle.link_line.specs.Releases.{HandsOff, granted_word, NamesWakeWord, ReleasesLine, FinishesWalk, AreNodesAt, FreesAll};
+ghost use Rattle.link_line.specs.Calls.{IsReleaser, HasReleased, MayWalk, HasWalked};
+ghost use Rattle.link_line.specs.Steps.{IsSeatOf, IsAt, KnowsNodes, IsOfOneNode, ghost_of, Advances, SeatAdvances, MayHandOff};
+ghost use Rattle.link_line.specs.Releases.{HandsOff, granted_word, NamesWakeWord, AreNodesAt, FreesAll};
 
 use crate::invariant::{LinkSeat, SharedTable};
 use crate::layout::{HOME, entry_or_home, entry_word};
@@ -98,22 +95,9 @@ pub(crate) fn release<K: Keep>(
     node: u64,
     closed: bool,
 ) -> Released
-    requires seat { IsSeatOfNode table.now.key.config.nodes table.now.table_id node seat.old }
-    requires of_one_node { IsOfOneNode seat.old.me }
-    requires none_passed { (ghost_of seat.old).own.passed ≡ [] }
-    requires nodes { (1 ≤ (ghost_of seat.old).view.config.nodes)
-        × ((ghost_of seat.old).view.config.nodes ≤ MAX_NODES) }
-    requires payload { (y : Payload) × HasSlot seat.old y
-        × MayHandOff K.allows (ghost_of seat.old) y node × (y.closed ≡ closed) }
-    ensures no_slot { HasNoSlot seat.new }
-    ensures advances { SeatAdvances K.allows seat.old seat.new result.steps }
-    ensures releases { (y : Payload) → HasSlot seat.old y
-        → ReleasesLine (ghost_of seat.old) y result.state (ghost_of seat.new) }
-    ensures steps { release_steps (length (ghost_of seat.old).view.ends)
-        (length (ghost_of seat.new).view.ends) result.steps }
-    ensures unpark { result.unpark.word < layout.word_count table.now.key.config.nodes }
-    ensures names_wake_word { result.unpark.word ≡ wake_word (ghost_of seat.new).view }
-    ensures bound { result.steps + 3 ≤ 4 * (ghost_of seat.old).view.config.nodes }
+    requires { IsReleaser K.allows table.now.key.config.nodes table.now.table_id node closed
+        seat.old }
+    ensures { HasReleased K.allows table.now.key.config.nodes seat.old seat.new result }
 {
     let mut steps = 0;
     let handoff = try_handoff(table, seat, &mut steps, node);
@@ -200,34 +184,8 @@ fn try_handoff<K: Keep>(
 #[cold]
 #[inline(never)]
 fn walk<K: Keep>(table: &SharedTable<K>, seat: &mut LinkSeat, steps: u64, first: u64) -> Walked
-    requires table { IsSeatOf table.now.key.config.nodes table.now.table_id seat.old }
-    requires point { IsAt (Leaving first) seat.old }
-    requires in_range { layout.IsWithin table.now.key.config.nodes first }
-    requires passed { (ghost_of seat.old).own.passed ≡ length (ghost_of seat.old).view.ends ∷ [] }
-    requires others { AreOfOthers (ghost_of seat.old).view.node (ghost_of seat.old).view.order
-        (ghost_of seat.old).own.passed }
-    requires first { (r : Request) × At (ghost_of seat.old).view.order
-        (length (ghost_of seat.old).view.ends) r × (r.node ≡ first) }
-    requires nodes { (2 ≤ (ghost_of seat.old).view.config.nodes)
-        × ((ghost_of seat.old).view.config.nodes ≤ MAX_NODES) }
-    requires knows_nodes { KnowsNodes table.now.key.config.nodes seat.old }
-    requires no_overflow { steps ≤ 6 }
-    requires payload { HasSlot seat.old (ghost_of seat.old).own.line }
-    requires state { (ghost_of seat.old).view.state ≡ states.state_after
-        (ghost_of seat.old).own.line.closed }
-    ensures seat { IsSameSeat seat.old seat.new }
-    ensures no_slot { HasNoSlot seat.new }
-    ensures advances { (n : ℕ) × (result.steps ≡ steps + n)
-        × Advances K.allows seat.old.me seat.new.me n }
-    ensures finishes_walk { FinishesWalk (ghost_of seat.old) (ghost_of seat.new) }
-    ensures steps { (n : ℕ) × (result.steps ≡ steps + n)
-        × (4 * length (ghost_of seat.new).view.ends
-        ≤ 4 * length (ghost_of seat.old).view.ends + n + 2)
-        × (n + 4 * length (ghost_of seat.old).view.ends
-        ≤ 4 * length (ghost_of seat.new).view.ends) }
-    ensures within { result.word < layout.word_count table.now.key.config.nodes }
-    ensures names_wake_word { result.word ≡ wake_word (ghost_of seat.new).view }
-    ensures bound { result.steps + 6 ≤ steps + 4 * (ghost_of seat.old).view.config.nodes }
+    requires { MayWalk table.now.key.config.nodes table.now.table_id steps first seat.old }
+    ensures { HasWalked K.allows table.now.key.config.nodes steps seat.old seat.new result }
 {
     let mut steps = steps;
     let mut passed = ArrayVec::<u64, MAX_PASSED>::new();

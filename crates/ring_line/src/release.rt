@@ -1,18 +1,13 @@
 //! The release of the line.
-ghost use Rattle.std.specs.Prelude.{◌≡◌, ◌≢◌, ◌+◌, ◌*◌, ◌≤◌, [], ◌∷◌, length};
-ghost use Rattle.qolb_model.specs.declared.request.Request.{Request};
-ghost use Rattle.qolb_model.specs.Requests.{AreOfOthers};
+ghost use Rattle.std.specs.Prelude.{◌≡◌, ◌≢◌, ◌+◌, [], length};
 ghost use Rattle.qolb_model.specs.declared.config.TheConstants.{MAX_NODES};
-ghost use Rattle.qolb_model.specs.PortStates.{state_after};
-ghost use Rattle.line_generic.specs.declared.table.Payload.{Payload};
-ghost use Rattle.line_generic.specs.Steps.{IsSeatOf, HasSlot, HasNoSlot};
+ghost use Rattle.line_generic.specs.Steps.{IsSeatOf};
 ghost use Rattle.ring_line.specs.Layout.{word_count};
-ghost use Rattle.line_cells.specs.Array.{At};
-ghost use Rattle.line_cells.specs.Steps.{IsAt, ghost_of, SeatAdvances, IsNextPayload};
-ghost use Rattle.line_cells.specs.Releases.{TriesReset, steps_to_reset, MatchesEnds, ReleasesLine, FinishesWalk, AreNodesAt, FreesAll};
-ghost use Rattle.ring_line.specs.Layout.{withdrawn_by};
-ghost use Rattle.ring_line.specs.Steps.{IsSeatOfNode, turn_cell};
-ghost use Rattle.line_cells.specs.declared.local.Point.TheVariants.{Idle, Holding, Passing, Freeing, Rolled};
+ghost use Rattle.line_cells.specs.Steps.{IsAt, ghost_of, SeatAdvances};
+ghost use Rattle.line_cells.specs.Releases.{TriesReset, steps_to_reset, AreNodesAt, FreesAll};
+ghost use Rattle.ring_line.specs.Calls.{IsReleaser, HasReleased, MayWalk, HasWalked};
+ghost use Rattle.ring_line.specs.Steps.{IsSeatOfNode};
+ghost use Rattle.line_cells.specs.declared.local.Point.TheVariants.{Idle, Freeing, Rolled};
 
 use crate::invariant::{RingSeat, SharedTable};
 use crate::layout::{cell_after, is_withdrawn, withdrawn_by};
@@ -69,21 +64,8 @@ pub(crate) fn try_reset<K: Keep>(
 /// Two word steps, and three more for each passed request. Does not block.
 #[inline]
 pub(crate) fn release<K: Keep>(table: &SharedTable<K>, seat: &mut RingSeat, cell: u64) -> Handoff
-    requires table { IsSeatOf word_count table.now.table_id seat.old }
-    requires point { IsAt Holding seat.old }
-    requires none_passed { (ghost_of seat.old).own.passed ≡ [] }
-    requires cell { cell ≡ turn_cell seat.old }
-    requires nodes { 1 ≤ (ghost_of seat.old).view.config.nodes }
-    requires payload { (y : Payload) × HasSlot seat.old y
-        × IsNextPayload K.allows (ghost_of seat.old) y }
-    ensures no_slot { HasNoSlot seat.new }
-    ensures advances { SeatAdvances K.allows seat.old seat.new result.steps }
-    ensures releases { (y : Payload) → HasSlot seat.old y
-        → ReleasesLine (ghost_of seat.old) y (ghost_of seat.new) }
-    ensures granted { result.cell ≡ turn_cell seat.new }
-    ensures steps { result.steps + 1 + 3 * length (ghost_of seat.old).view.ends
-        ≡ 3 * length (ghost_of seat.new).view.ends }
-    ensures bound { result.steps + 1 ≤ 3 * (ghost_of seat.old).view.config.nodes }
+    requires { IsReleaser K.allows table.now.table_id cell seat.old }
+    ensures { HasReleased K.allows seat.old seat.new result }
 {
     // Cleared before the next cell is granted: after the grant a later ticket may come round to this cell.
     clear(table, seat, cell);
@@ -108,27 +90,8 @@ pub(crate) fn release<K: Keep>(table: &SharedTable<K>, seat: &mut RingSeat, cell
 #[cold]
 #[inline(never)]
 fn walk<K: Keep>(table: &SharedTable<K>, seat: &mut RingSeat, cell: u64, found: u64) -> Handoff
-    requires table { IsSeatOf word_count table.now.table_id seat.old }
-    requires point { IsAt Passing seat.old }
-    requires cell { cell ≡ turn_cell seat.old }
-    requires found { found ≢ 0 }
-    requires passed { (ghost_of seat.old).own.passed ≡ length (ghost_of seat.old).view.ends ∷ [] }
-    requires others { AreOfOthers (ghost_of seat.old).view.node (ghost_of seat.old).view.order
-        (ghost_of seat.old).own.passed }
-    requires first { (r : Request) × At (ghost_of seat.old).view.order
-        (length (ghost_of seat.old).view.ends) r × (r.node ≡ withdrawn_by found)
-        × (r.node ≤ (ghost_of seat.old).view.config.nodes) }
-    requires nodes { (2 ≤ (ghost_of seat.old).view.config.nodes)
-        × ((ghost_of seat.old).view.config.nodes ≤ MAX_NODES) }
-    requires payload { (y : Payload) × HasSlot seat.old y × MatchesEnds (ghost_of seat.old) y
-        × ((ghost_of seat.old).view.state ≡ state_after y.closed) }
-    ensures no_slot { HasNoSlot seat.new }
-    ensures advances { SeatAdvances K.allows seat.old seat.new result.steps }
-    ensures finishes_walk { FinishesWalk (ghost_of seat.old) (ghost_of seat.new) }
-    ensures granted { result.cell ≡ turn_cell seat.new }
-    ensures steps { result.steps + 3 * length (ghost_of seat.old).view.ends
-        ≡ 3 * length (ghost_of seat.new).view.ends }
-    ensures bound { result.steps + 3 ≤ 3 * (ghost_of seat.old).view.config.nodes }
+    requires { MayWalk table.now.table_id cell found seat.old }
+    ensures { HasWalked K.allows seat.old seat.new result }
 {
     let mut passed = ArrayVec::<u64, MAX_PASSED>::new();
     let mut cell = cell;
