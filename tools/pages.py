@@ -23,7 +23,7 @@ LIMITS = {
     "docs/USING.md": 2500,
     "docs/LOCKS.md": 1200,
     "docs/PROVED.md": 3500,
-    "docs/CHANGING.md": 2200,
+    "docs/CHANGING.md": 2000,
     "docs/DECISIONS.md": 2500,
     "docs/SCRIPTS.md": 2000,
     "CHANGELOG.md": 1500,
