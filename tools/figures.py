@@ -9,8 +9,8 @@ from tests import takers_of_all, tests_of
 
 ROOT = pathlib.Path(__file__).resolve().parent.parent
 LINES = ("ticket line", "link line", "ring")
-# The run of c/bench/compare that tables, sentences and the plot of rounds are of.
-ROUNDS = "from_c.tsv"
+# The run of c/bench/compare that tables, sentences and the plot of rounds are of: the last that also timed nodes from C (--library).
+ROUNDS = "rounds.tsv" if " from C\t" in (ROOT / "c/bench/figures/rounds.tsv").read_text() else "from_c.tsv"
 
 
 def rows_of(name):
