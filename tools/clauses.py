@@ -24,7 +24,7 @@ BODY = "crates/line_generic/src/"
 
 # The functions from the C call to the atomic step, by file. A name that a commit does not have counts as nothing.
 RELEASE = {
-    "crates/qolb_c/src/lib.rt": ["qolb_deqolb", "number"],
+    "crates/qolb_c/src/lib.rt": ["qolb_deqolb_proved_", "qolb_deqolb", "number"],
     "crates/qolb_c/src/handle.rt": ["get_mut"],
     "crates/qolb_c/src/any_node.rt": ["release"],
     "crates/qolb_c/src/answer.rt": ["of_done", "number"],

@@ -131,10 +131,10 @@ FAULTS = {
     "nodes: the word is read after the second look": (NODE_LOOK, "".join(reversed(NODE_LOOK.splitlines(True)))),
     "nodes: there is no second look": (NODE_LOOK, NODE_LOOK.replace("qolb_poll_proved_(node)", "QOLB_WAITING")),
     "nodes: the second look comes before the count": (COUNT + ANYWHERE + NODE_LOOK, NODE_LOOK.split("\n", 1)[1] + COUNT + ANYWHERE + NODE_LOOK.split("\n", 1)[0] + "\n"),
-    "nodes: who releases rings no bell": ("MOVES(qolb_deqolb, let_go)", "MOVES(qolb_deqolb, told)"),
+    "nodes: who releases rings no bell": ("let_go(node, qolb_deqolb_proved_(node))", "told(node, qolb_deqolb_proved_(node))"),
     "nodes: who is told that the line is closed rings no bell": ("got == QOLB_CLOSED ? let_go(node, got) : got", "(void)node, got"),
     "nodes: who is told so while it waits rings no bell": ("    return told(node, got);\n}\n\nstatic inline", "    return got;\n}\n\nstatic inline"),
-    "nodes: who shuts the line rings no bell": ("MOVES(qolb_shut, let_go)", "MOVES(qolb_shut, told)"),
+    "nodes: who shuts the line rings no bell": ("let_go(node, qolb_shut_proved_(node))", "told(node, qolb_shut_proved_(node))"),
     "nodes: a release wakes one sleeper of a bell": ("    qolb_wake_at_(&bell->word, INT32_MAX);\n", "    qolb_wake_at_(&bell->word, 1);\n"),
     "nodes: who is late does not withdraw": ("uint32_t got = qolb_withdraw_proved_(node);", "uint32_t got = QOLB_WITHDRAWN;"),
 }

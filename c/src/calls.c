@@ -59,24 +59,50 @@ static inline uint32_t let_go(qolb_node *node, uint32_t got) { return atomic_loa
 /* The answer of any other call. A node that is told that the line is closed has forwarded it. */
 static inline uint32_t told(qolb_node *node, uint32_t got) { return got == QOLB_CLOSED ? let_go(node, got) : got; }
 
-#define MOVES(call, then)                                                                          \
-    uint32_t call(qolb_node *node) {                                                               \
-        return qolb_is_lent_(node) ? (uint32_t)QOLB_MISUSE : then(node, call##_proved_(node));     \
-    }
-
-MOVES(qolb_enqolb, told)
-MOVES(qolb_poll, told)
-MOVES(qolb_withdraw, told)
-MOVES(qolb_prepend, told)
-MOVES(qolb_link, told)
-MOVES(qolb_deqolb, let_go)
-MOVES(qolb_shut, let_go)
-
-uint32_t qolb_wait(qolb_node *node, uint64_t polls) {
-    return qolb_is_lent_(node) ? (uint32_t)QOLB_MISUSE : told(node, qolb_wait_proved_(node, polls));
+uint32_t qolb_enqolb(qolb_node *node) {
+    if (qolb_is_lent_(node)) return QOLB_MISUSE;
+    return told(node, qolb_enqolb_proved_(node));
 }
 
-uint32_t qolb_clear(qolb_node *node) { return qolb_is_lent_(node) ? (uint32_t)QOLB_MISUSE : qolb_clear_proved_(node); }
+uint32_t qolb_poll(qolb_node *node) {
+    if (qolb_is_lent_(node)) return QOLB_MISUSE;
+    return told(node, qolb_poll_proved_(node));
+}
+
+uint32_t qolb_withdraw(qolb_node *node) {
+    if (qolb_is_lent_(node)) return QOLB_MISUSE;
+    return told(node, qolb_withdraw_proved_(node));
+}
+
+uint32_t qolb_prepend(qolb_node *node) {
+    if (qolb_is_lent_(node)) return QOLB_MISUSE;
+    return told(node, qolb_prepend_proved_(node));
+}
+
+uint32_t qolb_link(qolb_node *node) {
+    if (qolb_is_lent_(node)) return QOLB_MISUSE;
+    return told(node, qolb_link_proved_(node));
+}
+
+uint32_t qolb_deqolb(qolb_node *node) {
+    if (qolb_is_lent_(node)) return QOLB_MISUSE;
+    return let_go(node, qolb_deqolb_proved_(node));
+}
+
+uint32_t qolb_shut(qolb_node *node) {
+    if (qolb_is_lent_(node)) return QOLB_MISUSE;
+    return let_go(node, qolb_shut_proved_(node));
+}
+
+uint32_t qolb_wait(qolb_node *node, uint64_t polls) {
+    if (qolb_is_lent_(node)) return QOLB_MISUSE;
+    return told(node, qolb_wait_proved_(node, polls));
+}
+
+uint32_t qolb_clear(qolb_node *node) {
+    if (qolb_is_lent_(node)) return QOLB_MISUSE;
+    return qolb_clear_proved_(node);
+}
 
 static int may_close(qolb_node *node) {
     uint32_t state = qolb_state_proved_(node);
@@ -248,16 +274,25 @@ uint32_t qolb_add_lane(qolb_node *node, uint64_t lane, uint64_t by, uint64_t *wa
 }
 
 /* 0 for a node by which the caller does not hold, as for an empty handle. */
-#define SAYS(result, call)                                                                 \
-    result call(qolb_node *node) {                                                         \
-        if (!(node = meant(node))) return 0;                                               \
-        return call##_proved_(node);                                                       \
-    }
+uint64_t qolb_turns_left(qolb_node *node) {
+    if (!(node = meant(node))) return 0;
+    return qolb_turns_left_proved_(node);
+}
 
-SAYS(uint64_t, qolb_turns_left)
-SAYS(uint64_t, qolb_number)
-SAYS(uint64_t, qolb_label)
-SAYS(uint32_t, qolb_state)
+uint64_t qolb_number(qolb_node *node) {
+    if (!(node = meant(node))) return 0;
+    return qolb_number_proved_(node);
+}
+
+uint64_t qolb_label(qolb_node *node) {
+    if (!(node = meant(node))) return 0;
+    return qolb_label_proved_(node);
+}
+
+uint32_t qolb_state(qolb_node *node) {
+    if (!(node = meant(node))) return 0;
+    return qolb_state_proved_(node);
+}
 
 /* ---- Memory ----
  *

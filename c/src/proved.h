@@ -1,5 +1,5 @@
-/* For the library's internal files, and preload.c: the proved calls by their names in the archive beside calls.c and the lock (Makefile,
- * proved.syms). */
+/* For the library's internal files, and preload.c: the proved calls, as crates/qolb_c/src/lib.rt exports them. A call of qolb.h has the same name
+ * without _proved_, and is in calls.c. */
 #ifndef QOLB_PROVED_H
 #define QOLB_PROVED_H
 

@@ -1,4 +1,4 @@
-//! The lock for C: a static library. The header `qolb.h` declares these calls.
+//! The lock for C: a static library. `c/src/proved.h` declares these calls, and `c/src` calls them by these names.
 //!
 //! C has a node by a handle, a struct of one pointer that is null if there is no node. Each call is made of the handle's node. If the node's
 //! state does not allow a call, the answer is `Misuse` and nothing changes.
@@ -68,7 +68,7 @@ macro_rules! told {
 /// Its first holder finds the bytes of `opening`. `kind` is 0 for a ring, 1 for a list, 2 for a ticket line. The line closes at the lease's
 /// last turn; a lease of 2^64 - 1 is none.
 #[unsafe(no_mangle)]
-pub extern "C" fn qolb_open(
+pub extern "C" fn qolb_open_proved_(
     alloc: Global,
     kind: u32,
     label: u64,
@@ -92,9 +92,9 @@ pub extern "C" fn qolb_open(
 
 /// Returns the number of bytes of the table of such a line. Does not allocate.
 ///
-/// 0 if `qolb_open` would refuse this kind or number of nodes.
+/// 0 if `qolb_open_proved_` would refuse this kind or number of nodes.
 #[unsafe(no_mangle)]
-pub extern "C" fn qolb_memory(kind: u32, nodes: u64) -> u64
+pub extern "C" fn qolb_memory_proved_(kind: u32, nodes: u64) -> u64
     ensures { TellsMemory kind nodes result }
 {
     qolb_nodes::memory(kind, nodes)
@@ -102,7 +102,7 @@ pub extern "C" fn qolb_memory(kind: u32, nodes: u64) -> u64
 
 /// Requests the line, and answers at once. Does not block.
 #[unsafe(no_mangle)]
-pub extern "C" fn qolb_enqolb(node: &mut Handle) -> u32
+pub extern "C" fn qolb_enqolb_proved_(node: &mut Handle) -> u32
     ensures { Calls Enqolbs node.old.held node.new.held result }
 {
     told!(node, called => called.enqolb())
@@ -110,7 +110,7 @@ pub extern "C" fn qolb_enqolb(node: &mut Handle) -> u32
 
 /// Polls whether the request is at its turn. Does not block.
 #[unsafe(no_mangle)]
-pub extern "C" fn qolb_poll(node: &mut Handle) -> u32
+pub extern "C" fn qolb_poll_proved_(node: &mut Handle) -> u32
     ensures { Calls Polls node.old.held node.new.held result }
 {
     told!(node, called => called.poll())
@@ -118,7 +118,7 @@ pub extern "C" fn qolb_poll(node: &mut Handle) -> u32
 
 /// Polls at most `polls` times whether the request is at its turn, with a pause between two.
 #[unsafe(no_mangle)]
-pub extern "C" fn qolb_wait(node: &mut Handle, polls: u64) -> u32
+pub extern "C" fn qolb_wait_proved_(node: &mut Handle, polls: u64) -> u32
     ensures { Calls (Waits polls) node.old.held node.new.held result }
 {
     told!(node, called => called.wait(polls))
@@ -126,7 +126,7 @@ pub extern "C" fn qolb_wait(node: &mut Handle, polls: u64) -> u32
 
 /// Makes a request and leaves it to be linked to its predecessor's; only of a list.
 #[unsafe(no_mangle)]
-pub extern "C" fn qolb_prepend(node: &mut Handle) -> u32
+pub extern "C" fn qolb_prepend_proved_(node: &mut Handle) -> u32
     ensures { Calls Prepends node.old.held node.new.held result }
 {
     told!(node, called => called.prepend())
@@ -134,7 +134,7 @@ pub extern "C" fn qolb_prepend(node: &mut Handle) -> u32
 
 /// Links the request to its predecessor's; only of a list.
 #[unsafe(no_mangle)]
-pub extern "C" fn qolb_link(node: &mut Handle) -> u32
+pub extern "C" fn qolb_link_proved_(node: &mut Handle) -> u32
     ensures { Calls LinksUp node.old.held node.new.held result }
 {
     told!(node, called => called.link())
@@ -142,7 +142,7 @@ pub extern "C" fn qolb_link(node: &mut Handle) -> u32
 
 /// Withdraws the request, unless it is at its turn.
 #[unsafe(no_mangle)]
-pub extern "C" fn qolb_withdraw(node: &mut Handle) -> u32
+pub extern "C" fn qolb_withdraw_proved_(node: &mut Handle) -> u32
     ensures { Calls Withdraws node.old.held node.new.held result }
 {
     told!(node, called => called.withdraw())
@@ -150,7 +150,7 @@ pub extern "C" fn qolb_withdraw(node: &mut Handle) -> u32
 
 /// Polls whether the node may ask and would not be busy. Makes no request.
 #[unsafe(no_mangle)]
-pub extern "C" fn qolb_clear(node: &mut Handle) -> u32
+pub extern "C" fn qolb_clear_proved_(node: &mut Handle) -> u32
     ensures { Calls LooksIfClear node.old.held node.new.held result }
 {
     told!(node, called => called.is_clear())
@@ -158,7 +158,7 @@ pub extern "C" fn qolb_clear(node: &mut Handle) -> u32
 
 /// Copies the holder's line to `out`.
 #[unsafe(no_mangle)]
-pub extern "C" fn qolb_read(node: &mut Handle, out: &mut Bytes) -> u32
+pub extern "C" fn qolb_read_proved_(node: &mut Handle, out: &mut Bytes) -> u32
     ensures calls { Calls (Reads out.old.bytes out.new.bytes) node.old.held node.new.held result }
     ensures empty { node.old.held ≡ None → out.new.bytes ≡ out.old.bytes }
 {
@@ -167,7 +167,7 @@ pub extern "C" fn qolb_read(node: &mut Handle, out: &mut Bytes) -> u32
 
 /// Writes the bytes of the mask for the holder: byte k if bit k is set.
 #[unsafe(no_mangle)]
-pub extern "C" fn qolb_write(node: &mut Handle, mask: u64, bytes: &Bytes) -> u32
+pub extern "C" fn qolb_write_proved_(node: &mut Handle, mask: u64, bytes: &Bytes) -> u32
     ensures { Calls (Writes mask bytes.now.bytes) node.old.held node.new.held result }
 {
     let line = Line64 { bytes: bytes.bytes };
@@ -176,7 +176,7 @@ pub extern "C" fn qolb_write(node: &mut Handle, mask: u64, bytes: &Bytes) -> u32
 
 /// Reads one of the eight lanes, for the holder.
 #[unsafe(no_mangle)]
-pub extern "C" fn qolb_read_lane(node: &mut Handle, lane: u64, out: &mut u64) -> u32
+pub extern "C" fn qolb_read_lane_proved_(node: &mut Handle, lane: u64, out: &mut u64) -> u32
     ensures calls { Calls (ReadsLane lane out.old out.new) node.old.held node.new.held result }
     ensures empty { node.old.held ≡ None → out.new ≡ out.old }
 {
@@ -185,7 +185,7 @@ pub extern "C" fn qolb_read_lane(node: &mut Handle, lane: u64, out: &mut u64) ->
 
 /// Writes one of the eight lanes, for the holder.
 #[unsafe(no_mangle)]
-pub extern "C" fn qolb_write_lane(node: &mut Handle, lane: u64, value: u64) -> u32
+pub extern "C" fn qolb_write_lane_proved_(node: &mut Handle, lane: u64, value: u64) -> u32
     ensures { Calls (WritesLane lane value) node.old.held node.new.held result }
 {
     told!(node, called => called.write_lane(lane, value))
@@ -193,7 +193,7 @@ pub extern "C" fn qolb_write_lane(node: &mut Handle, lane: u64, value: u64) -> u
 
 /// Adds `by` modulo 2^64 to one of the eight lanes, for the holder. `was` gets what the lane had before.
 #[unsafe(no_mangle)]
-pub extern "C" fn qolb_add_lane(node: &mut Handle, lane: u64, by: u64, was: &mut u64) -> u32
+pub extern "C" fn qolb_add_lane_proved_(node: &mut Handle, lane: u64, by: u64, was: &mut u64) -> u32
     ensures calls { Calls (AddsLane lane by was.old was.new) node.old.held node.new.held result }
     ensures empty { node.old.held ≡ None → was.new ≡ was.old }
 {
@@ -202,7 +202,7 @@ pub extern "C" fn qolb_add_lane(node: &mut Handle, lane: u64, by: u64, was: &mut
 
 /// Returns the number of turns left, with the holder's own: 2^64 - 1 without a lease; 0 if the node does not hold the line.
 #[unsafe(no_mangle)]
-pub extern "C" fn qolb_turns_left(node: &mut Handle) -> u64
+pub extern "C" fn qolb_turns_left_proved_(node: &mut Handle) -> u64
     ensures held { node.new.held ≡ node.old.held }
     ensures turns { TurnsLeft node.old.held result }
 {
@@ -214,7 +214,7 @@ pub extern "C" fn qolb_turns_left(node: &mut Handle) -> u64
 
 /// Releases the line.
 #[unsafe(no_mangle)]
-pub extern "C" fn qolb_deqolb(node: &mut Handle) -> u32
+pub extern "C" fn qolb_deqolb_proved_(node: &mut Handle) -> u32
     ensures { Calls (Releases false) node.old.held node.new.held result }
 {
     told!(node, called => called.release(false))
@@ -222,7 +222,7 @@ pub extern "C" fn qolb_deqolb(node: &mut Handle) -> u32
 
 /// Releases the line, and closes it.
 #[unsafe(no_mangle)]
-pub extern "C" fn qolb_shut(node: &mut Handle) -> u32
+pub extern "C" fn qolb_shut_proved_(node: &mut Handle) -> u32
     ensures { Calls (Releases true) node.old.held node.new.held result }
 {
     told!(node, called => called.release(true))
@@ -232,7 +232,7 @@ pub extern "C" fn qolb_shut(node: &mut Handle) -> u32
 ///
 /// 2^64 - 1, which is no word, if there is no node.
 #[unsafe(no_mangle)]
-pub extern "C" fn qolb_waits_at(node: &mut Handle) -> u64
+pub extern "C" fn qolb_waits_at_proved_(node: &mut Handle) -> u64
     ensures held { node.new.held ≡ node.old.held }
     ensures word { WaitsAt node.old.held result }
 {
@@ -246,7 +246,7 @@ pub extern "C" fn qolb_waits_at(node: &mut Handle) -> u64
 ///
 /// 2^64 - 1 if there is none.
 #[unsafe(no_mangle)]
-pub extern "C" fn qolb_went_to(node: &mut Handle) -> u64
+pub extern "C" fn qolb_went_to_proved_(node: &mut Handle) -> u64
     ensures held { node.new.held ≡ node.old.held }
     ensures went_to { WentTo node.old.held result }
 {
@@ -260,7 +260,7 @@ pub extern "C" fn qolb_went_to(node: &mut Handle) -> u64
 ///
 /// If there is none, a number on which no node waits.
 #[unsafe(no_mangle)]
-pub extern "C" fn qolb_went_ahead(node: &mut Handle) -> u64
+pub extern "C" fn qolb_went_ahead_proved_(node: &mut Handle) -> u64
     ensures held { node.new.held ≡ node.old.held }
     ensures empty { node.old.held ≡ None → result ≡ nowhere }
 {
@@ -272,7 +272,7 @@ pub extern "C" fn qolb_went_ahead(node: &mut Handle) -> u64
 
 /// Frees a node that neither waits nor holds. The last node of a line frees the line.
 #[unsafe(no_mangle)]
-pub extern "C" fn qolb_close(alloc: Global, node: &mut Handle) -> u32
+pub extern "C" fn qolb_close_proved_(alloc: Global, node: &mut Handle) -> u32
     ensures { Closes node.old.held node.new.held result }
 {
     number(node.close(alloc))
@@ -280,7 +280,7 @@ pub extern "C" fn qolb_close(alloc: Global, node: &mut Handle) -> u32
 
 /// Returns the node's number, from 1; 0 if there is no node.
 #[unsafe(no_mangle)]
-pub extern "C" fn qolb_number(node: &mut Handle) -> u64
+pub extern "C" fn qolb_number_proved_(node: &mut Handle) -> u64
     ensures held { node.new.held ≡ node.old.held }
     ensures number { result ≡ node_number node.old.held }
 {
@@ -292,7 +292,7 @@ pub extern "C" fn qolb_number(node: &mut Handle) -> u64
 
 /// Returns the label of the node's line; 0 if there is no node.
 #[unsafe(no_mangle)]
-pub extern "C" fn qolb_label(node: &mut Handle) -> u64
+pub extern "C" fn qolb_label_proved_(node: &mut Handle) -> u64
     ensures held { node.new.held ≡ node.old.held }
     ensures label { result ≡ label_told node.old.held }
 {
@@ -304,7 +304,7 @@ pub extern "C" fn qolb_label(node: &mut Handle) -> u64
 
 /// Returns the number of the node's state, from 1; 0 if there is no node.
 #[unsafe(no_mangle)]
-pub extern "C" fn qolb_state(node: &mut Handle) -> u32
+pub extern "C" fn qolb_state_proved_(node: &mut Handle) -> u32
     ensures held { node.new.held ≡ node.old.held }
     ensures state { result ≡ state_told node.old.held }
 {
@@ -316,7 +316,7 @@ pub extern "C" fn qolb_state(node: &mut Handle) -> u32
 
 /// Returns the library's version.
 #[unsafe(no_mangle)]
-pub extern "C" fn qolb_version() -> u32
+pub extern "C" fn qolb_version_proved_() -> u32
     ensures { result ≡ 10700 }
 {
     VERSION
