@@ -2,11 +2,18 @@
 #![tactic(auto)]
 
 mod enter;
+mod gated;
+mod gated_enter;
+mod gated_port;
+mod gated_turn;
 mod pool;
 mod ports;
 mod turn;
 
 pub use enter::EnterError;
+pub use gated::GatedPool;
+pub use gated_port::{Chains, GateSet};
+pub use gated_turn::GateTurn;
 pub use pool::{Late, PortPool};
 pub use ports::{Borrowed, PortSet};
 pub use turn::Turn;

@@ -1,0 +1,125 @@
+//! A pool with a gate: a port keeps the line between turns, so that a caller who is alone enters and leaves by one atomic step each.
+ghost use Rattle.std.specs.Prelude.{◌≡◌, ◌<◌, List, All, Contains, None, IfOk, IfErr, vec_len, map};
+ghost use Rattle.qolb_model.specs.Finishing.{MayRefuse, IsFinished};
+ghost use Rattle.line_pool.specs.Lending.{MayAsk, IsPortSetOf};
+ghost use Rattle.line_pool.specs.Gated.{IsKeptSetOf};
+
+use crate::gated_port::{Chains, Gate, GateSet};
+use crate::pool::PortPool;
+use crate::ports::Borrowed;
+use line_lanes::Line64;
+use qolb_model::{LineSync, Unfinished};
+use std::alloc::{AllocError, Global};
+use std::marker::Model;
+use std::sync::atomic::AtomicU64;
+use std::sync::{Mutex, Wait};
+
+/// A line with its free ports and a gate. Contracts see it as the line.
+///
+/// A caller who leaves while nobody waits does not release the line: its port keeps it and lies in the gate, where the next caller takes it
+/// up. A caller who has to wait asks for the line by a port of its own, and the port of the gate is then released. So between two releases
+/// there may be many turns, which are one turn of the line: its law has to chain, and it has no lease.
+#[derive(Drop)]
+pub struct GatedPool<K: Chains, L: LineSync<K>, S: GateSet<L::Port>> {
+    pub(crate) pool: PortPool<K, L, S>,
+    /// The port that keeps the line between turns. A caller who is in by the gate keeps the lock.
+    pub(crate) gate: Mutex<Gate<L::Port, S>>,
+    /// The number of callers that have not entered by the gate, and wait.
+    pub(crate) waiting: AtomicU64,
+    /// The number of callers that sleep until a port is free, and a number that changes when one is given back.
+    pub(crate) sleepers: AtomicU64,
+    pub(crate) freed: AtomicU64,
+}
+
+impl<K: Chains, L: LineSync<K>, S: GateSet<L::Port>> Model for GatedPool<K, L, S> {
+    ghost use Rattle.std.specs.Prelude.{◌≡◌, None};
+    ghost use Rattle.line_pool.specs.Gated.{IsKeptSetOf};
+
+    ghost Value = { L };
+
+    ghost view = { λ it. it.pool };
+
+    ghost invariant = { λ it. IsKeptSetOf K.allows (L.belongs it.pool) L.view L.turn S.keeps
+        × ((L.config_of it.pool).lease ≡ None) };
+}
+
+impl<K: Chains, L: LineSync<K>, S: GateSet<L::Port>> GatedPool<K, L, S> {
+    /// Makes a pool of a line without a lease and its ports, all of them free, with an empty gate. Allocates as `PortPool::new` does.
+    ///
+    /// # Errors
+    ///
+    /// If memory was refused.
+    pub fn new(
+        alloc: Global,
+        line: L,
+        ports: Vec<L::Port>,
+    ) -> Result<GatedPool<K, L, S>, AllocError>
+    where
+        L: Drop,
+        L::Port: Drop,
+        requires not_empty { 0 < vec_len ports }
+        requires set { IsPortSetOf (L.belongs line) L.view S.has }
+        requires many { vec_len ports ≡ S.many }
+        requires keeps { IsKeptSetOf K.allows (L.belongs line) L.view L.turn S.keeps }
+        requires lease { (L.config_of line).lease ≡ None }
+        requires ports { All (MayAsk (L.belongs line) L.view) ports.items }
+        ensures { IfOk result (λ pool. pool ≡ line) }
+    {
+        let pool = PortPool::new(alloc, line, ports)?;
+        Ok(GatedPool {
+            pool,
+            gate: Mutex::new(Gate::new()),
+            waiting: AtomicU64::new(0),
+            sleepers: AtomicU64::new(0),
+            freed: AtomicU64::new(0),
+        })
+    }
+
+    /// Returns the line.
+    pub fn line(&self) -> &L
+        ensures { result.now ≡ self.now }
+    {
+        self.pool.line()
+    }
+
+    /// Finishes the line with all ports: `own`, which the caller has borrowed, that of the gate, whose turn it ends, and the others, for
+    /// which it waits while they are lent. Since it owns the pool, nobody is in; a port that is lent now is never given back, and `finish`
+    /// waits for ever.
+    ///
+    /// If it is refused it returns the line and all ports, with the cause.
+    pub fn finish<R: Wait>(
+        self,
+        rt: &R,
+        alloc: Global,
+        own: Borrowed<L::Port>,
+    ) -> Result<Line64, Unfinished<L, L::Port>>
+    where
+        L::Port: Drop,
+        requires own { MayAsk (L.belongs self) L.view own.port }
+        ensures finished { IfOk result (λ last. (ports : List L.Port)
+            × All (MayAsk (L.belongs self) L.view) ports × Contains ports own.port
+            × IsFinished K.good K.allows (L.label_of self) (L.config_of self)
+            (map L.view ports) last.bytes) }
+        ensures why { IfErr result (λ back.
+            MayRefuse (L.label_of self) (L.config_of self).nodes
+            (map L.view back.ports.items) back.why) }
+        ensures line { IfErr result (λ back. back.line ≡ self) }
+        ensures ports { IfErr result (λ back.
+            All (MayAsk (L.belongs self) L.view) back.ports.items) }
+        ensures all { IfErr result (λ back. vec_len back.ports ≡ S.many) }
+    {
+        let GatedPool {
+            pool,
+            gate,
+            waiting: _,
+            sleepers: _,
+            freed: _,
+        } = self;
+        if let Some(port) = gate.into_inner().take_out() {
+            let mut port = port;
+            pool.line().deqolb(&mut port);
+            pool.give_back(rt, Borrowed::of(port));
+        }
+        pool.finish(rt, alloc, own)
+    }
+}
