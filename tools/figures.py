@@ -91,7 +91,8 @@ def for_two():
 
 def of_mutex(count):
     """How many times as many empty turns as a strict lock a mutex has with that many threads."""
-    found = {row["lock"]: float(row["turns_a_second"]) for row in rows_of("bursts.tsv") if (row["threads"], row["turn_us"]) == (count, "0")}
+    rows = [row for row in rows_of("locks.tsv") if (row["measure"], row["library"], row["threads"], row["turn_us"]) == ("turns", "now", count, "0")]
+    found = {row["lock"]: float(row["figure"]) for row in rows}
     return found["mutex"] / found["default"]
 
 
