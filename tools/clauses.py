@@ -6,6 +6,8 @@
 It prints, in this order: the words of clauses and ghost members of a shared line's interface and its one body; the clauses, the functions and
 the files that a release of a ticket line goes through from the C call to the atomic step; the number of clauses, and of those wider
 than 100 columns; and by crate the lines of source, specs and proofs. Run it before and after a change that removes repetition.
+
+In the checkout it also counts the walks, which are listed below, and ends with 1 if one names a function that its file does not have.
 """
 
 import re
@@ -45,6 +47,32 @@ RELEASE = {
     "crates/ticket_line/src/steps.rt": ["grant", "free"],
     "crates/ticket_line/src/layout.rt": ["slot_of", "cell_word", "ticket_after", "number", "granted", "withdrawn_by"],
     "crates/line_cells/src/layout.rt": ["cell_word", "node_word"],
+}
+
+# What a reader walks through: the function that takes the step, and the functions down to it in the order in which they are entered, each with its
+# depth. The kit's are not counted. A turn back enters a file that the walk has left.
+WALKS = {
+    "a node's release from C, to the swap of a ticket line": ("grant", [
+        (1, "c/src/calls.c", "qolb_deqolb"),
+        (2, "c/src/proved.h", "qolb_is_lent_"),
+        (2, "crates/qolb_c/src/lib.rt", "qolb_deqolb_proved_"),
+        (3, "crates/qolb_nodes/src/handle.rt", "get_mut"),
+        (3, "crates/qolb_nodes/src/any_node.rt", "release"),
+        (4, "crates/qolb_nodes/src/node.rt", "release"),
+        (5, "crates/qolb_nodes/src/node.rt", "state"),
+        (6, "crates/line_generic/src/calls.rt", "state"),
+        (5, "crates/line_generic/src/calls.rt", "deqolb"),
+        (6, "crates/line_generic/src/calls.rt", "release_with"),
+        (7, "crates/ticket_line/src/discipline.rt", "put"),
+        (8, "crates/ticket_line/src/layout.rt", "slot_of"),
+        (8, "crates/line_generic/src/turn_mask.rt", "same"),
+        (7, "crates/ticket_line/src/discipline.rt", "release"),
+        (8, "crates/ticket_line/src/release.rt", "release"),
+        (9, "crates/ticket_line/src/steps.rt", "grant"),
+        (10, "crates/ticket_line/src/layout.rt", "granted_word"),
+        (10, "crates/ticket_line/src/layout.rt", "cell_word"),
+        (11, "crates/line_cells/src/layout.rt", "cell_word"),
+    ]),
 }
 
 
@@ -95,6 +123,27 @@ def contract_of(text, name):
     return found
 
 
+def defines(text, name):
+    """Whether a file of Rattle or of C has the body of this function."""
+    return re.search(rf"\bfn {name}\b|^[a-z].*\b{name}\(.*{{", text, re.M) is not None
+
+
+def walked(tree, step, functions):
+    """What there is to say of a walk, and the functions that are not there."""
+    files = [file for at, (_, file, _) in enumerate(functions) if at == 0 or file != functions[at - 1][1]]
+    deep = next(depth for depth, _, name in functions if name == step)
+    missing = [f"{file} has no {name}" for _, file, name in functions if not defines(tree.text(file), name)]
+    return f"{len(set(files))} files, {len(functions)} functions, the step {deep} deep, {len(files) - len(set(files))} turns back", missing
+
+
+def count_walks(tree):
+    """Prints the walks; returns whether all their functions are there."""
+    found = [(name, *walked(tree, *walk)) for name, walk in WALKS.items()]
+    for name, said, missing in found:
+        print(f"{name}: {said}", *missing, sep="\n  ")
+    return not any(missing for _, _, missing in found)
+
+
 def main(commit):
     tree = Tree(commit)
     sources = tree.under("crates/", ".rt")
@@ -116,7 +165,8 @@ def main(commit):
         parts = [sum(len(tree.text(name).splitlines()) for name in tree.under(f"crates/{crate}/{part}/", ending))
                  for part, ending in (("src", ".rt"), ("specs", ".antt"), ("proofs", ".antt"))]
         print(f"{crate:16}" + "".join(f"{part:>8,}" for part in parts))
+    return 0 if commit is not None or count_walks(tree) else 1
 
 
 if __name__ == "__main__":
-    main(*(sys.argv[1:] or [None]))
+    sys.exit(main(*(sys.argv[1:] or [None])))
