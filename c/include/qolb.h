@@ -87,7 +87,7 @@
  * turn: the time from the grant of the line to its release. The node at its turn holds the line, and is its holder.
  * lane: one of the line's eight numbers of 64 bits. Lane k is bytes 8k to 8k + 7, the lowest first.
  * lease: the number of turns of a line. At the end of the last one it closes.
- * closed: no later request is served, and each is answered CLOSED. A holder closes the line (qolb_shut), or its lease is used up.
+ * closed: no later request is served, and each is answered CLOSED, in their order. A holder closes the line (qolb_shut), or its lease is used up.
  * predecessor, successor: the nodes whose requests are right before a node's own in the queue, and right behind.
  * withdrawn: taken back by its node, of a request. The release that reaches it passes it.
  * busy: not allowed to make a request yet, of a node (BUSY, below).
@@ -152,7 +152,7 @@
  *
  * A call that releases the line wakes at most two sleepers: the next holder, and the waiter behind it, which can wake up during the holder's turn. Such calls are
  * qolb_deqolb, qolb_shut, and every call that answers CLOSED. Leaving a lock also wakes the first two threads at its door; in a burst it wakes only the
- * thread that watches. Some lines share bells, and may wake each other's waiters without effect.
+ * thread that watches. Lines may share bells, and wake each other's waiters without effect.
  *
  * No call wakes the thread of a busy node, and no notification tells of its end. That thread makes its request again 16 times, and then every 200 us.
  *
@@ -184,6 +184,7 @@
  * - qolb_notify, qolb_notify_fd, qolb_notify_off and qolb_close wait for a call of the same node in another thread, until it has returned or has said
  *   qolb_notify_done. A call says that before it takes a lock under which one of these four is made, before it resumes a coroutine, and before it makes one.
  * - A call may be early, though this is rare: then the request still waits. Call qolb_notify again, which polls and wants another call in one step.
+ * - Poll after the call: all behind wait for it, also after a shut: each is told CLOSED once the one before has polled.
  * - A call may be late: after a turn that qolb_poll granted it is still made, until qolb_notify_off. Whatever `arg` is must last until then.
  * - Take a descriptor off before you close it. Call nothing from a signal handler. After a fork a release in the child writes to the parent's eventfd, too.
  *

@@ -1286,10 +1286,17 @@ impl<T: Copy + Send + 'static> Drop for LockGuard<'_, T> {
 struct Slot(std::sync::Mutex<Option<Waker>>, PhantomPinned);
 
 impl Slot {
+    fn lock(&self) -> std::sync::MutexGuard<'_, Option<Waker>> {
+        self.0.lock().unwrap_or_else(PoisonError::into_inner)
+    }
+
+    /// A waker's clone and drop are its owner's code, which may wake this very task: neither runs while the slot is locked.
     fn set(&self, waker: &Waker) {
-        let mut slot = self.0.lock().unwrap_or_else(PoisonError::into_inner);
-        if !slot.as_ref().is_some_and(|it| it.will_wake(waker)) {
-            *slot = Some(waker.clone());
+        let is_set = self.lock().as_ref().is_some_and(|it| it.will_wake(waker));
+        if !is_set {
+            let new = waker.clone();
+            let old = self.lock().replace(new);
+            drop(old);
         }
     }
 
@@ -1301,7 +1308,7 @@ impl Slot {
 /// Takes the waker out, lets the slot go, and wakes: so the task may be dropped while it is woken, also under a lock that waking takes.
 unsafe extern "C" fn wake(slot: *mut c_void) {
     // SAFETY: the slot is there until `qolb_notify_off` or `qolb_task_cancel` has returned, which waits for `qolb_notify_done`.
-    let waker = unsafe { &*slot.cast::<Slot>() }.0.lock().unwrap_or_else(PoisonError::into_inner).take();
+    let waker = unsafe { &*slot.cast::<Slot>() }.lock().take();
     qolb_notify_done();
     if let Some(waker) = waker {
         waker.wake();

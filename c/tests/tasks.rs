@@ -178,6 +178,35 @@ async fn by_node(mut node: Node, counts: Arc<Counts>, rounds: u32, mut random: R
 }
 
 /// Drops some of the tasks, wherever they wait.
+/// A waker that is the last owner of a turn: when it is dropped, the turn ends.
+struct Owner<T>(#[allow(dead_code)] std::sync::Mutex<T>);
+
+impl<T: Send> std::task::Wake for Owner<T> {
+    fn wake(self: Arc<Self>) {}
+}
+
+fn owner<T: Send + 'static>(turn: T) -> std::task::Waker {
+    Arc::new(Owner(std::sync::Mutex::new(turn))).into()
+}
+
+/// A future that waits is polled by another waker, whose predecessor ends the turn that it waits for: its call comes within that poll.
+fn wakers_own_turns() {
+    static LOCK: Mutex<u64> = Mutex::new(0);
+    let other = owner(());
+    let mut first = Box::pin(LOCK.lock_async());
+    let Poll::Ready(Ok(guard)) = first.as_mut().poll(&mut Context::from_waker(&other)) else { panic!("a free mutex was not entered") };
+    let mut waits = Box::pin(LOCK.lock_async());
+    assert!(waits.as_mut().poll(&mut Context::from_waker(&owner(guard))).is_pending());
+    assert!(waits.as_mut().poll(&mut Context::from_waker(&other)).is_ready());
+
+    let mut nodes = opens(Kind::DEFAULT, 2);
+    let (mut a, mut b) = (nodes.pop().unwrap(), nodes.pop().unwrap());
+    assert_eq!(a.acquire(), qolb::Answer::Granted);
+    let mut waits = Box::pin(b.turn());
+    assert!(waits.as_mut().poll(&mut Context::from_waker(&owner(a))).is_pending());
+    assert!(waits.as_mut().poll(&mut Context::from_waker(&other)).is_ready());
+}
+
 fn aborts(tasks: &[Arc<Task>], mut random: Random) {
     let mut k = 0;
     while k < tasks.len() {
@@ -234,6 +263,7 @@ fn main() {
     let (count, rounds, seed) = (words.next().unwrap_or(10_000), words.next().unwrap_or(4) as u32, words.next().unwrap_or(1));
     one_waits();
     guards_go();
+    wakers_own_turns();
     for kind in [Kind::Ring, Kind::Link, Kind::Ticket] {
         a_node_waits(kind);
     }
