@@ -141,14 +141,14 @@
  * A line guards any data, as a mutex does. All that a thread wrote anywhere in memory before its node's release (qolb_deqolb, qolb_shut) is seen by
  * the thread whose node is granted the line next, and by those whose requests are answered CLOSED.
  *
- * For the line's own 64 bytes this is proved. For other memory it follows from the construction: every step on a shared word is a sequentially consistent
- * atomic operation, and a release writes the word in which the next holder finds its grant after all that its holder wrote.
+ * For the line's own 64 bytes this is proved. For other memory it follows: every step on a shared word is sequentially consistent, and a release writes the
+ * next holder's word after all that its holder wrote.
  *
  * WAITING
  *
  * Of the calls on a node two wait for other threads: qolb_acquire and qolb_acquire_within. They poll for some 1.5 us, with a pause of the processor between
  * two polls, yield the processor 16 times with a poll after each, and then sleep (on Linux by a futex, elsewhere for 200 us at a time) until the line is
- * released; then they poll anew. A thread that waits for a lock does the same. A thread that waits at a condition sleeps at once.
+ * released; then they poll anew. So does a thread that waits for a lock. At a condition it sleeps at once.
  *
  * A call that releases the line wakes at most two sleepers: the next holder, and the waiter behind it, which can wake up during the holder's turn. Such calls are
  * qolb_deqolb, qolb_shut, and every call that answers CLOSED. Leaving a lock also wakes the first two threads at its door; in a burst it wakes only the
@@ -211,7 +211,7 @@
  * its own release, until its successor has linked. So ask again later; if a node before the withdrawn request never releases, for ever. qolb_acquire and
  * qolb_acquire_within ask again by themselves. qolb_clear tells if a node is busy, and makes no request.
  *
- * While its node is busy a thread is in no queue, and may be overtaken. If threads take nodes from a pool, prefer one for which qolb_clear answers DONE.
+ * A thread whose node is busy is in no queue, and may be overtaken. Of a pool, take a node for which qolb_clear answers DONE.
  *
  * THREADS THAT END
  *
@@ -226,8 +226,8 @@
  *
  * SPEED
  *
- * Handles of different threads may be side by side: only qolb_open, qolb_close and qolb_move write to them. But what a thread writes beside another's handle
- * slows that one's calls down. So keep what each thread writes on its stack, or QOLB_NODE_ALIGN bytes apart:
+ * Handles of different threads may be side by side: only qolb_open, qolb_close and qolb_move write to them. But what a thread writes beside
+ * another's handle slows its calls. So keep what each thread writes on its stack, or QOLB_NODE_ALIGN bytes apart:
  *
  *     struct worker { _Alignas(QOLB_NODE_ALIGN) qolb_node node; long count; };
  *
