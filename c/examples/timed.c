@@ -1,0 +1,37 @@
+/* A thread waits at most 1 ms for a lock. If it is late it does other work, and asks again. Prints 1. */
+#include <pthread.h>
+#include <qolb.h>
+#include <sched.h>
+#include <stdatomic.h>
+#include <stdio.h>
+#include <stdlib.h>
+
+enum { AT_MOST = 1000000 }; /* nanoseconds */
+
+static qolb_lock lock = QOLB_LOCK_INIT_DEFAULT;
+static long turns; /* guarded by the lock */
+static atomic_long other_work;
+
+static void *work(void *unused) {
+    for (;;) {
+        uint32_t got = qolb_lock_enter_within(&lock, AT_MOST);
+        if (got == QOLB_GRANTED) break;
+        if (got != QOLB_LATE) abort();
+        atomic_fetch_add(&other_work, 1); /* the request is withdrawn: nobody waits for this thread */
+    }
+    turns++;
+    qolb_lock_leave(&lock);
+    return unused;
+}
+
+int main(void) {
+    pthread_t thread;
+    if (qolb_lock_enter(&lock) != QOLB_GRANTED) return 1;
+    if (pthread_create(&thread, NULL, work, NULL) != 0) return 1;
+    while (!atomic_load(&other_work)) sched_yield(); /* a turn that takes long */
+    qolb_lock_leave(&lock);
+    pthread_join(thread, NULL);
+    qolb_lock_close(&lock);
+    printf("%ld\n", turns);
+    return turns != 1;
+}
