@@ -1,7 +1,9 @@
-// Coroutines over four loops, a thread each, that share lines and a lock; some are destroyed while they wait. And without a loop, each in the thread that
-// releases. Prints only errors.
+// Ten thousand coroutines over four loops, a thread each, that share lines and a lock; some are destroyed while they wait. And without a loop, each in the
+// thread that releases. Prints only errors.
 //
-//   build/coroutines_cpp [SEED]
+//   build/coroutines_cpp [COROUTINES [ROUNDS [SEED [SECONDS]]]]
+//
+// Another seed follows while there is time.
 #include <qolb.hpp>
 
 #include <algorithm>
@@ -75,7 +77,7 @@ template <class L> struct Later : qolb::Ready {
 
 static std::atomic<long> added_nodes, added_lock, destroyed, suspended;
 static long guarded;
-static long counts[64];
+static long counts[64]; // of each line
 
 Job by_node(qolb::Node node, int line, int rounds, Loop &loop, int &left) {
     while (rounds > 0) {
@@ -97,23 +99,56 @@ Job by_lock(qolb::Lock &lock, int rounds, Loop &loop, int &left) {
     left--;
 }
 
-static void work(std::vector<qolb::Node> &nodes, qolb::Lock &lock, int each, unsigned seed) {
+struct Share {
+    qolb::Node node;
+    int line;
+};
+
+static void work(std::vector<Share> &shares, qolb::Lock &lock, int each, int rounds, unsigned seed) {
     Loop loop;
     std::mt19937 random(seed);
     std::vector<Job> jobs;
     int left = 0;
-    for (std::size_t k = 0; k < nodes.size(); k++, left++) jobs.push_back(by_node(std::move(nodes[k]), (int)k % 3, 100, loop, left));
-    for (int k = 0; k < each; k++, left++) jobs.push_back(by_lock(lock, 100, loop, left));
+    for (Share &it : shares) jobs.push_back(by_node(std::move(it.node), it.line, rounds, loop, left)), left++;
+    for (int k = 0; k < each; k++, left++) jobs.push_back(by_lock(lock, rounds, loop, left));
     for (Job &job : jobs) job.handle.resume();
     while (left > 0) {
         loop.one(std::chrono::microseconds(200));
-        if (random() % 200 == 0) {
+        if (random() % 50 == 0) {
             Job &job = jobs[random() % jobs.size()];
             if (job.handle && !job.handle.done()) job.handle.destroy(), job.handle = nullptr, left--, destroyed++;
         }
     }
     for (Job &job : jobs)
         if (job.handle) job.handle.destroy();
+}
+
+enum { THREADS = 4, NODES = 160, MOST_LINES = 64 };
+
+// Half of the coroutines have a node each, as far as there are lines, and the others the lock.
+static int many(int coroutines, int rounds, unsigned seed) {
+    int lines = std::min<int>(MOST_LINES, (coroutines / 2 + NODES - 1) / NODES), at_lock = std::max(0, coroutines - lines * NODES);
+    qolb::Lock lock(8);
+    std::vector<std::vector<Share>> shares(THREADS);
+    std::vector<qolb::Node> last;
+    added_nodes = added_lock = guarded = 0;
+    for (int line = 0; line < lines; line++) {
+        counts[line] = 0;
+        auto [opened, nodes] = qolb::Node::open(static_cast<qolb_kind>(line % 3), 1, NODES + 1, qolb_bytes{});
+        if (opened != QOLB_DONE) return 1;
+        last.push_back(std::move(nodes[NODES]));
+        for (int k = 0; k < NODES; k++) shares[k % THREADS].push_back({std::move(nodes[k]), line});
+    }
+    std::vector<std::thread> threads;
+    for (int k = 0; k < THREADS; k++) threads.emplace_back(work, std::ref(shares[k]), std::ref(lock), at_lock / THREADS, rounds, seed * THREADS + (unsigned)k);
+    for (auto &it : threads) it.join();
+    long sum = 0;
+    for (int line = 0; line < lines; line++) {
+        qolb::Guard turn(last[line]);
+        if ((long)turn.lane(0) != counts[line]) return 2;
+        sum += counts[line];
+    }
+    return sum != added_nodes || guarded != added_lock ? 3 : 0;
 }
 
 // In the thread that releases: a chain of coroutines over one line, without a loop, each of which releases inline.
@@ -128,46 +163,28 @@ static Job chain(qolb::Node &node, int rounds, qolb::Inline &now, int &depth, in
     }
 }
 
+// One release begins 300,000 turns, each inline.
+static int chains() {
+    auto [opened, nodes] = qolb::Node::open(QOLB_TICKET, 1, 4, qolb_bytes{});
+    if (opened != QOLB_DONE || nodes[3].acquire() != qolb::Got::granted) return 1;
+    qolb::Inline now;
+    int depth = 0, deepest = 0;
+    long turns = 0;
+    std::vector<Job> jobs;
+    for (int k = 0; k < 3; k++) jobs.push_back(chain(nodes[k], 100000, now, depth, deepest, turns));
+    for (Job &job : jobs) job.handle.resume();
+    nodes[3].deqolb();
+    for (Job &job : jobs) job.handle.destroy();
+    return turns != 300000 || deepest > 1;
+}
+
 int main(int argc, char **argv) {
-    unsigned seed = argc > 1 ? (unsigned)std::atoi(argv[1]) : 1;
-    alarm(120);
-    {
-        auto [opened, nodes] = qolb::Node::open(QOLB_TICKET, 1, 4, qolb_bytes{});
-        if (opened != QOLB_DONE || nodes[3].acquire() != qolb::Got::granted) return 1;
-        qolb::Inline now;
-        int depth = 0, deepest = 0;
-        long turns = 0;
-        std::vector<Job> jobs;
-        for (int k = 0; k < 3; k++) jobs.push_back(chain(nodes[k], 100000, now, depth, deepest, turns));
-        for (Job &job : jobs) job.handle.resume();
-        nodes[3].deqolb();
-        if (turns != 300000 || deepest > 1) return 1;
-        for (Job &job : jobs) job.handle.destroy();
-    }
-    qolb::Lock lock(8);
-    std::vector<std::vector<qolb::Node>> shares(4);
-    std::vector<qolb::Node> last;
-    for (int line = 0; line < 3; line++) {
-        auto [opened, nodes] = qolb::Node::open(static_cast<qolb_kind>(line), 1, 161, qolb_bytes{});
-        if (opened != QOLB_DONE) return 1;
-        last.push_back(std::move(nodes[160]));
-        for (int k = 0; k < 160; k++) shares[k % 4].push_back(std::move(nodes[k]));
-    }
-    // The line of share[j] is by its index modulo 3.
-    for (auto &share : shares) {
-        std::vector<qolb::Node> mixed;
-        for (int k = 0; k < 40; k++)
-            for (int line = 0; line < 3; line++) mixed.push_back(std::move(share[(std::size_t)(line * 40 + k)]));
-        share = std::move(mixed);
-    }
-    std::vector<std::thread> threads;
-    for (int k = 0; k < 4; k++) threads.emplace_back(work, std::ref(shares[k]), std::ref(lock), 500, seed * 4 + k);
-    for (auto &it : threads) it.join();
-    long sum = 0;
-    for (int line = 0; line < 3; line++) {
-        qolb::Guard turn(last[line]);
-        if ((long)turn.lane(0) != counts[line]) return 2;
-        sum += counts[line];
-    }
-    if (sum != added_nodes || guarded != added_lock) return 3;
+    int coroutines = argc > 1 ? std::atoi(argv[1]) : 10000, rounds = argc > 2 ? std::atoi(argv[2]) : 20, seconds = argc > 4 ? std::atoi(argv[4]) : 0;
+    unsigned seed = argc > 3 ? (unsigned)std::atoi(argv[3]) : 1;
+    auto since = std::chrono::steady_clock::now();
+    alarm((unsigned)seconds + 600);
+    if (chains()) return 1;
+    do {
+        if (int error = many(coroutines, rounds, seed++)) return error;
+    } while (std::chrono::steady_clock::now() - since < std::chrono::seconds(seconds));
 }

@@ -1,7 +1,9 @@
 /* Ten thousand tasks over four threads: half with a node each, half at a lock that threads enter, too. They are woken for no reason, and give up at random.
  * Prints only errors.
  *
- *   build/many_tasks_c [TASKS [ROUNDS [SEED [SEATS]]]] */
+ *   build/many_tasks_c [TASKS [ROUNDS [SEED [SEATS [SECONDS]]]]]
+ *
+ * Another seed follows while there is time. */
 #define _GNU_SOURCE
 #include <qolb.h>
 #include <pthread.h>
@@ -167,39 +169,57 @@ static void *enters(void *seed) {
     }
     return NULL;
 }
-int main(int argc, char **argv) {
-    int workers = 4, rounds = argc > 2 ? atoi(argv[2]) : 5, seats = argc > 4 ? atoi(argv[4]) : 4;
-    many = argc > 1 ? atoi(argv[1]) : 10000;
-    uint64_t seed = argc > 3 ? strtoull(argv[3], NULL, 10) : 1;
-    alarm(240);
-    qolb_bytes zeros = {{0}};
+static struct line *lines;
+
+static void opens(int of_nodes, int rounds, uint64_t seed, int seats) {
+    static const qolb_bytes zeros;
     lock = (qolb_lock)QOLB_LOCK_INIT_OF((uint32_t)(seed % 3), (uint32_t)seats);
-    int of_nodes = many / 2, lines = (of_nodes + 39) / 40;
-    struct line *line = aligned_alloc(128, (size_t)lines * sizeof *line);
-    tasks = aligned_alloc(128, (size_t)many * sizeof *tasks);
-    for (int k = 0; k < lines; k++) {
-        line[k] = (struct line){0};
-        MUST(qolb_open((uint32_t)k % 3, 1, 40, QOLB_NO_LEASE, &zeros, line[k].nodes, 40) == QOLB_DONE);
+    guarded = 0;
+    for (int k = 0; k < (of_nodes + 39) / 40; k++) {
+        lines[k] = (struct line){0};
+        MUST(qolb_open((uint32_t)k % 3, 1, 40, QOLB_NO_LEASE, &zeros, lines[k].nodes, 40) == QOLB_DONE);
     }
     for (int k = 0; k < many; k++) {
         tasks[k] = (struct task){.random = seed * 7919 + (uint64_t)k * 104729 + 1, .rounds = rounds};
-        if (k < of_nodes) tasks[k].line = &line[k / 40], tasks[k].node = &line[k / 40].nodes[k % 40];
+        if (k < of_nodes) tasks[k].line = &lines[k / 40], tasks[k].node = &lines[k / 40].nodes[k % 40];
     }
+}
+
+static void closes(int of_nodes, int rounds, long by_others) {
+    long all = 0;
+    for (int k = 0; k < (of_nodes + 39) / 40; k++) {
+        all += lines[k].count;
+        for (int j = 0; j < 40; j++) MUST(qolb_close(&lines[k].nodes[j]) == QOLB_DONE);
+    }
+    MUST(all == (long)of_nodes * rounds && guarded == (long)(many - of_nodes) * rounds + by_others);
+    MUST(qolb_lock_close(&lock) == QOLB_DONE);
+}
+
+static void run(int rounds, uint64_t seed, int seats) {
+    enum { WORKERS = 4, ALL = WORKERS + 3 };
+    pthread_t thread[ALL];
+    int of_nodes = many / 2;
+    long before = atomic_load(&by_threads);
+    opens(of_nodes, rounds, seed, seats);
     atomic_store(&left, many);
     for (int k = 0; k < many; k++) wake(&tasks[k]);
-    pthread_t t[64];
-    int n = 0;
-    for (; n < workers; n++) pthread_create(&t[n], NULL, work, NULL);
-    pthread_create(&t[n++], NULL, nudge, NULL);
-    pthread_create(&t[n++], NULL, enters, (void *)1);
-    pthread_create(&t[n++], NULL, enters, (void *)2);
-    for (int k = 0; k < n; k++) pthread_join(t[k], NULL);
-    long all = 0;
-    for (int k = 0; k < lines; k++) {
-        all += line[k].count;
-        for (int j = 0; j < 40; j++) MUST(qolb_close(&line[k].nodes[j]) == QOLB_DONE);
+    for (int k = 0; k < ALL; k++) {
+        void *(*does)(void *) = k < WORKERS ? work : k == WORKERS ? nudge : enters;
+        MUST(pthread_create(&thread[k], NULL, does, (void *)(uintptr_t)(k - WORKERS)) == 0);
     }
-    MUST(all == (long)of_nodes * rounds && guarded == (long)(many - of_nodes) * rounds + by_threads);
-    MUST(qolb_lock_close(&lock) == QOLB_DONE);
+    for (int k = 0; k < ALL; k++) pthread_join(thread[k], NULL);
+    closes(of_nodes, rounds, atomic_load(&by_threads) - before);
+}
+
+int main(int argc, char **argv) {
+    many = argc > 1 ? atoi(argv[1]) : 10000;
+    int rounds = argc > 2 ? atoi(argv[2]) : 5, seats = argc > 4 ? atoi(argv[4]) : 4, seconds = argc > 5 ? atoi(argv[5]) : 0;
+    uint64_t seed = argc > 3 ? strtoull(argv[3], NULL, 10) : 1;
+    time_t since = time(NULL);
+    alarm((unsigned)seconds + 600);
+    lines = aligned_alloc(128, ((size_t)many / 2 + 39) / 40 * sizeof *lines);
+    tasks = aligned_alloc(128, (size_t)many * sizeof *tasks);
+    MUST(lines && tasks);
+    do run(rounds, seed++, seats); while (time(NULL) - since < seconds);
     return 0;
 }

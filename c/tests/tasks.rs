@@ -1,7 +1,9 @@
 //! Futures of a node's turn, of a `Mutex` and of a `Lock`, over a small executor: what each gives, who may have the guards, and 10,000 tasks over four threads
 //! that give up or are dropped at any time. Prints only errors.
 //!
-//!   build/tasks_rs [TASKS [ROUNDS [SEED]]]
+//!   build/tasks_rs [TASKS [ROUNDS [SEED [SECONDS]]]]
+//!
+//! Another seed follows while there is time.
 
 #[path = "../rust/qolb.rs"]
 mod qolb;
@@ -17,7 +19,7 @@ use std::sync::Arc;
 use std::sync::atomic::{AtomicU64, Ordering::*};
 use std::task::{Context, Poll};
 use std::thread;
-use std::time::Duration;
+use std::time::{Duration, Instant};
 
 /// Yields once.
 struct Yield(bool);
@@ -261,14 +263,20 @@ fn many_nodes(count: u64, rounds: u32, seed: u64) {
 fn main() {
     let mut words = std::env::args().skip(1).map(|it| it.parse::<u64>().expect("a number"));
     let (count, rounds, seed) = (words.next().unwrap_or(10_000), words.next().unwrap_or(4) as u32, words.next().unwrap_or(1));
+    let (time, since) = (Duration::from_secs(words.next().unwrap_or(0)), Instant::now());
     one_waits();
     guards_go();
     wakers_own_turns();
     for kind in [Kind::Ring, Kind::Link, Kind::Ticket] {
         a_node_waits(kind);
     }
-    for (seats, kind) in [(2, Kind::Link), (16, Kind::Ticket), (64, Kind::Ring)] {
-        many_tasks(count, rounds, seed, kind, seats);
+    for seed in seed.. {
+        for (seats, kind) in [(2, Kind::Link), (16, Kind::Ticket), (64, Kind::Ring)] {
+            many_tasks(count, rounds, seed, kind, seats);
+        }
+        many_nodes(count, rounds, seed);
+        if since.elapsed() >= time {
+            break;
+        }
     }
-    many_nodes(count, rounds, seed);
 }
