@@ -1,5 +1,5 @@
 // Ten thousand coroutines over four loops, a thread each, that share lines and a lock; some are destroyed while they wait. And without a loop, each in the
-// thread that releases. Prints only errors.
+// thread that releases, and what it is told that may not ask, gives up, or finds its line closed. Prints only errors.
 //
 //   build/coroutines_cpp [COROUTINES [ROUNDS [SEED [SECONDS]]]]
 //
@@ -163,6 +163,84 @@ static Job chain(qolb::Node &node, int rounds, qolb::Inline &now, int &depth, in
     }
 }
 
+// What one is told that asks for a turn, by whether it may.
+struct Asker {
+    qolb::Inline now;
+    qolb::Got got{};
+    int answers = 0;
+
+    Job asks(qolb::Node &node) {
+        got = co_await qolb::turn(node, now);
+        answers++;
+    }
+    // Whether it has so many answers now, of which the last is this.
+    bool has(int many, qolb::Got last) const { return answers == many && got == last; }
+};
+
+static int turns_are_told() {
+    auto [opened, nodes] = qolb::Node::open(QOLB_LINK, 1, 3, qolb_bytes{});
+    if (opened != QOLB_DONE) return 1;
+    Asker me;
+    std::vector<Job> jobs;
+    auto ask = [&](qolb::Node &node) {
+        jobs.push_back(me.asks(node));
+        jobs.back().handle.resume();
+    };
+    if (ask(nodes[0]); !me.has(1, qolb::Got::granted)) return 1;
+    if (ask(nodes[0]); !me.has(2, qolb::Got::misuse)) return 1; // it holds
+    if (ask(nodes[1]); me.answers != 2) return 1;
+    if (ask(nodes[1]); !me.has(3, qolb::Got::misuse)) return 1; // it waits
+    if (ask(nodes[2]); me.answers != 3) return 1;
+    jobs.back().handle.destroy(), jobs.pop_back();
+    if (nodes[2].state() != QOLB_STATE_ROLLED) return 1;
+    if (ask(nodes[2]); !me.has(4, qolb::Got::busy)) return 1;
+    if (nodes[0].deqolb(); !me.has(5, qolb::Got::granted)) return 1;
+    if (nodes[1].shut(), ask(nodes[0]); !me.has(6, qolb::Got::closed)) return 1;
+    for (Job &job : jobs) job.handle.destroy();
+    return 0;
+}
+
+// Of wishes that are no coroutine's: a second one replaces the first, and a node that is closed has none.
+static int wishes_end() {
+    auto [opened, nodes] = qolb::Node::open(QOLB_TICKET, 1, 3, qolb_bytes{});
+    if (opened != QOLB_DONE || nodes[0].acquire() != qolb::Got::granted) return 1;
+    int first = 0, second = 0, of_closed = 0;
+    auto adds = [](void *count) { ++*static_cast<int *>(count); };
+    qolb_node *waits = nodes[1].native_handle(), *closes = nodes[2].native_handle();
+    if (qolb_notify(waits, adds, &first) != QOLB_MISUSE || qolb_notify_off(waits) != QOLB_DONE) return 1;
+    if (qolb_enqolb(waits) != QOLB_QUEUED || qolb_enqolb(closes) != QOLB_QUEUED) return 1;
+    if (qolb_notify(waits, adds, &first) != QOLB_WAITING || qolb_notify(waits, adds, &second) != QOLB_WAITING) return 1;
+    if (qolb_notify(closes, adds, &of_closed) != QOLB_WAITING || qolb_withdraw(closes) != QOLB_WITHDRAWN) return 1;
+    nodes.pop_back();
+    nodes[0].deqolb();
+    if (first != 0 || second != 1 || qolb_poll(waits) != QOLB_GRANTED) return 1;
+    nodes[1].deqolb();
+    return of_closed;
+}
+
+static Job enters(qolb::Lock &lock, qolb::Inline &now, std::vector<qolb_answer> &told, bool stays) {
+    qolb::Entered turn = co_await qolb::enter(lock, now);
+    told.push_back(turn.answer());
+    if (turn && stays) co_await std::suspend_always();
+}
+
+static int entering_is_told() {
+    qolb::Lock lock(1);
+    qolb::Inline now;
+    std::vector<qolb_answer> told;
+    std::vector<Job> jobs;
+    if (lock.enter() != QOLB_GRANTED) return 1;
+    for (int k = 0; k < 3; k++) jobs.push_back(enters(lock, now, told, k == 1)), jobs.back().handle.resume();
+    jobs[0].handle.destroy(); // it gives up
+    lock.leave();
+    if (told != std::vector<qolb_answer>{QOLB_GRANTED}) return 1;
+    jobs[1].handle.destroy(); // it leaves
+    if (told != std::vector<qolb_answer>{QOLB_GRANTED, QOLB_GRANTED} || lock.enter() != QOLB_GRANTED || lock.shut() != QOLB_DONE) return 1;
+    jobs[1] = enters(lock, now, told, false), jobs[1].handle.resume();
+    jobs[1].handle.destroy(), jobs[2].handle.destroy();
+    return told.size() != 3 || told[2] != QOLB_CLOSED;
+}
+
 // One release begins 300,000 turns, each inline.
 static int chains() {
     auto [opened, nodes] = qolb::Node::open(QOLB_TICKET, 1, 4, qolb_bytes{});
@@ -183,7 +261,7 @@ int main(int argc, char **argv) {
     unsigned seed = argc > 3 ? (unsigned)std::atoi(argv[3]) : 1;
     auto since = std::chrono::steady_clock::now();
     alarm((unsigned)seconds + 600);
-    if (chains()) return 1;
+    if (turns_are_told() || wishes_end() || entering_is_told() || chains()) return 1;
     do {
         if (int error = many(coroutines, rounds, seed++)) return error;
     } while (std::chrono::steady_clock::now() - since < std::chrono::seconds(seconds));

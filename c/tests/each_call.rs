@@ -1,12 +1,18 @@
-//! Each call of a node in each of its states, over a line of each kind: its answer, and the state after it; the text of nodes and answers; and that a
-//! thread that is cancelled while it waits goes on. Prints only errors.
+//! Each call of a node in each of its states, over a line of each kind: its answer, and the state after it; each future of a mutex and of a lock that is free,
+//! held or shut; the text of nodes and answers; and that a thread that is cancelled while it waits goes on. Prints only errors.
 #[path = "../rust/qolb.rs"]
 mod qolb;
 
-use qolb::{Answer, Bytes, Guard, Kind, Node, State, Stopped};
+use qolb::{Answer, Bytes, Guard, Kind, Lock, Mutex, Node, State, Stopped};
 use std::error::Error;
+use std::future::Future;
+use std::io::{ErrorKind, Read};
+use std::os::fd::AsFd;
+use std::os::unix::net::UnixStream;
 use std::os::unix::thread::JoinHandleExt;
+use std::pin::pin;
 use std::sync::mpsc;
+use std::task::{Context, Poll, Waker};
 use std::thread;
 use std::time::{Duration, Instant};
 
@@ -82,6 +88,21 @@ fn of_guard(told: Result<Option<Guard<'_>>, Stopped>) -> String {
     }
 }
 
+/// What a future is ready with, of one poll; then it is dropped.
+fn polled<T>(future: impl Future<Output = Result<T, Stopped>>) -> String {
+    match pin!(future).poll(&mut Context::from_waker(Waker::noop())) {
+        Poll::Ready(Ok(_)) => "Ready".to_string(),
+        Poll::Ready(Err(stopped)) => format!("{stopped:?}"),
+        Poll::Pending => "Pending".to_string(),
+    }
+}
+
+/// A wish, and what takes it back, twice.
+fn wants_and_wants_no_more(node: &mut Node) -> String {
+    let (end, _other) = UnixStream::pair().unwrap();
+    format!("{:?} {:?} {:?}", node.notify_fd(end.as_fd()), node.notify_off(), node.notify_off())
+}
+
 /// A call, its answer in each state, as `Debug` writes it, and the state after it.
 type Row = (&'static str, fn(&mut Line) -> String, [&'static str; 7], [State; 7]);
 
@@ -93,9 +114,10 @@ use State::{Holding, Idle, Left, Linking, Queued, Rolled, Shut};
 
 const STAYS: [State; 7] = STATES;
 const NO: &str = "Misuse";
+const NO_WISH: &str = "Misuse Done Done";
 
 #[rustfmt::skip]
-const ROWS: [Row; 28] = [
+const ROWS: [Row; 31] = [
     ("enqolb", |l| told(l.node.enqolb()), ["Granted", NO, NO, NO, "Busy", "Busy", "Closed"], [Holding, Linking, Queued, Holding, Left, Rolled, Shut]),
     ("clear", |l| told(l.node.clear()), ["Done", NO, NO, NO, "Busy", "Busy", "Done"], STAYS),
     ("poll", |l| told(l.node.poll()), [NO, NO, "Waiting", NO, NO, NO, NO], STAYS),
@@ -123,6 +145,9 @@ const ROWS: [Row; 28] = [
     ("try_lock", |l| of_guard(l.node.try_lock()), ["true", NO, NO, NO, "None", "None", "Closed"], [Idle, Linking, Queued, Holding, Left, Rolled, Shut]),
     ("try_lock_for", |l| of_guard(l.node.try_lock_for(SHORT)), ["true", NO, NO, NO, "None", "None", "Closed"], [Idle, Linking, Queued, Holding, Left, Rolled, Shut]),
     ("try_lock_until", |l| of_guard(l.node.try_lock_until(Instant::now() + SHORT)), ["true", NO, NO, NO, "None", "None", "Closed"], [Idle, Linking, Queued, Holding, Left, Rolled, Shut]),
+    ("notify_off", |l| told(l.node.notify_off()), ["Done"; 7], STAYS),
+    ("notify_fd", |l| wants_and_wants_no_more(&mut l.node), [NO_WISH, NO_WISH, "Waiting Withdrawn Done", NO_WISH, NO_WISH, NO_WISH, NO_WISH], STAYS),
+    ("turn", |l| polled(l.node.turn()), ["Ready", NO, NO, NO, "Pending", "Pending", "Closed"], STAYS),
     ("a move", |l| { let Line { node, .. } = l; let boxed = Box::new(node); format!("{:?}", boxed.state()) }, ["Idle", "Linking", "Queued", "Holding", "Left", "Rolled", "Shut"], STAYS),
 ];
 
@@ -174,6 +199,60 @@ fn each_call(kind: Kind) {
         }
         closes(kind, state);
     }
+}
+
+// ---- Wishes to be told, and futures ----
+
+/// Whether the descriptor was told, by the 8 bytes that an eventfd takes.
+fn is_told(mut end: &UnixStream) -> bool {
+    end.set_nonblocking(true).unwrap();
+    match end.read(&mut [0; 16]) {
+        Ok(got) => got == 8,
+        Err(error) => error.kind() != ErrorKind::WouldBlock,
+    }
+}
+
+/// A second wish replaces the first, and closing takes a wish back.
+fn wishes_end(kind: Kind) {
+    let [(first, told_first), (second, told_second), (third, told_third)] = [(); 3].map(|()| UnixStream::pair().unwrap());
+    let Line { mut node, first: mut holder, third: mut last } = Line::new(kind, Queued);
+    assert_eq!((node.notify_fd(first.as_fd()), node.notify_fd(second.as_fd())), (Answer::Waiting, Answer::Waiting));
+    assert_eq!((last.enqolb(), last.notify_fd(third.as_fd()), last.withdraw()), (Answer::Queued, Answer::Waiting, Answer::Withdrawn));
+    assert!(last.close().is_ok());
+    assert_eq!(holder.deqolb(), Answer::Done);
+    assert_eq!((is_told(&told_first), is_told(&told_second)), (false, true));
+    assert_eq!((node.poll(), node.notify_off(), node.deqolb()), (Answer::Granted, Answer::Done, Answer::Done));
+    assert_eq!((is_told(&told_second), is_told(&told_third)), (false, false));
+}
+
+/// A future that is dropped while it waits takes its request back.
+fn a_dropped_future_withdraws(kind: Kind) {
+    let Line { mut node, mut first, .. } = Line::new(kind, Idle);
+    assert_eq!(first.acquire(), Answer::Granted);
+    assert_eq!((polled(node.turn()).as_str(), node.state()), ("Pending", Rolled));
+    assert_eq!((first.deqolb(), first.try_acquire()), (Answer::Done, Answer::Granted));
+}
+
+/// Of a mutex and of a lock: free, held by a thread, held by a task, free again though a future gave up, and shut.
+fn each_future(kind: Kind) {
+    let (mutex, lock) = (Mutex::of_kind(0, kind, 1), Lock::of_kind(0, kind, 1).unwrap());
+    let both = || (polled(mutex.lock_async()), polled(lock.lock_async()));
+    let all = |told: &str| (told.to_string(), told.to_string());
+    let mut context = Context::from_waker(Waker::noop());
+    assert_eq!(both(), all("Ready"));
+    let by_thread = (mutex.lock().unwrap(), lock.lock().unwrap());
+    assert_eq!(both(), all("Pending"));
+    drop(by_thread);
+    let (Poll::Ready(Ok(by_task)), Poll::Ready(Ok(by_other))) = (pin!(mutex.lock_async()).poll(&mut context), pin!(lock.lock_async()).poll(&mut context)) else {
+        panic!("nobody waits")
+    };
+    assert_eq!(both(), all("Pending"));
+    assert!(mutex.try_lock().unwrap().is_none() && lock.try_lock().unwrap().is_none());
+    drop((by_task, by_other));
+    assert_eq!(both(), all("Ready"));
+    mutex.lock().unwrap().shut();
+    lock.lock().unwrap().shut();
+    assert_eq!(both(), all("Closed"));
 }
 
 /// What each answer is called where it is printed, by `Display`.
@@ -271,6 +350,9 @@ fn main() {
     tells_memory();
     for kind in Kind::ALL {
         each_call(kind);
+        wishes_end(kind);
+        a_dropped_future_withdraws(kind);
+        each_future(kind);
         is_cancelled(kind);
     }
 }

@@ -1,4 +1,4 @@
-/* Data that a lock guards, and data that is used in some wrong way, for the thread sanitizer, and for valgrind's helgrind and drd: they must be quiet about
+/* Data that a lock guards, for threads and for a task, or a line whose waiter is told by an eventfd; and data that is used in some wrong way, for the thread sanitizer, and for valgrind's helgrind and drd: they must be quiet about
  * the first and report each other.
  *
  *   build/races WAY     its number below
@@ -7,13 +7,15 @@
 #define _GNU_SOURCE
 #include <qolb.h>
 #include <stdlib.h>
+#include <sys/eventfd.h>
 
 #include "waiters.h"
 
-enum { GUARDED, BY_TWO_LOCKS, AFTER_LEAVING, AFTER_BUSY, AFTER_LATE, AFTER_A_SIGNAL, WAYS };
+enum { GUARDED, BY_A_TASK, BY_A_NODE, BY_TWO_LOCKS, AFTER_LEAVING, AFTER_BUSY, AFTER_LATE, AFTER_A_SIGNAL, WAYS };
 
 static qolb_lock lock = QOLB_LOCK_INIT(4), other = QOLB_LOCK_INIT(4);
 static qolb_cond cond = QOLB_COND_INIT;
+static qolb_node nodes[2];
 static int way, is_ready, data;
 /* Set once the first thread has done its part. Relaxed, so that it orders nothing. */
 static atomic_int done;
@@ -25,13 +27,21 @@ static void until_done(void) {
 static void enter(qolb_lock *it) { MUST(qolb_lock_enter(it), QOLB_GRANTED); }
 static void leave(qolb_lock *it) { MUST(qolb_lock_leave(it), QOLB_DONE); }
 
-/* It keeps the lock for a while if the second is to be answered BUSY or LATE. */
+/* It keeps the lock for a while if the second is to wait, or to be answered BUSY or LATE. */
 static void *first(void *unused) {
+    if (way == BY_A_NODE) {
+        MUST(qolb_acquire(&nodes[0]), QOLB_GRANTED);
+        data++;
+        atomic_store_explicit(&done, 1, memory_order_relaxed);
+        usleep(200000);
+        MUST(qolb_deqolb(&nodes[0]), QOLB_DONE);
+        return unused;
+    }
     enter(&lock);
     if (way != AFTER_LEAVING && way != AFTER_A_SIGNAL) data++;
     is_ready = 1;
     if (way == GUARDED || way == AFTER_A_SIGNAL) MUST(qolb_cond_signal(&cond), QOLB_DONE);
-    if (way == AFTER_BUSY || way == AFTER_LATE) {
+    if (way == BY_A_TASK || way == AFTER_BUSY || way == AFTER_LATE) {
         atomic_store_explicit(&done, 1, memory_order_relaxed);
         usleep(200000);
     }
@@ -41,8 +51,44 @@ static void *first(void *unused) {
     return unused;
 }
 
+/* Both wait at an eventfd, by which the tools are told nothing. */
+static void task_adds(int fd) {
+    static qolb_task task;
+    eventfd_t count;
+    uint32_t got = qolb_task_enter_fd(&task, &lock, fd);
+    while (got == QOLB_WAITING) {
+        MUST(eventfd_read(fd, &count), 0);
+        got = qolb_task_poll(&task);
+    }
+    MUST(got, QOLB_GRANTED);
+    data++;
+    MUST(qolb_task_leave(&task), QOLB_DONE);
+}
+
+static void node_adds(int fd) {
+    eventfd_t count;
+    uint32_t got = qolb_enqolb(&nodes[1]);
+    if (got == QOLB_QUEUED) got = qolb_notify_fd(&nodes[1], fd);
+    while (got == QOLB_WAITING) {
+        MUST(eventfd_read(fd, &count), 0);
+        got = qolb_poll(&nodes[1]);
+    }
+    MUST(got, QOLB_GRANTED);
+    data++;
+    MUST(qolb_notify_off(&nodes[1]), QOLB_DONE);
+    MUST(qolb_deqolb(&nodes[1]), QOLB_DONE);
+}
+
 static void *second(void *unused) {
+    int fd;
     switch (way) {
+    case BY_A_TASK:
+    case BY_A_NODE:
+        fd = eventfd(0, 0);
+        until_done();
+        (way == BY_A_TASK ? task_adds : node_adds)(fd);
+        close(fd);
+        break;
     case GUARDED:
     case AFTER_A_SIGNAL:
         enter(&lock);
@@ -80,6 +126,7 @@ static void *second(void *unused) {
 }
 
 int main(int argc, char **argv) {
+    static const qolb_bytes zeros;
     pthread_t ids[2];
     way = argc > 1 ? atoi(argv[1]) : GUARDED;
     if (way < GUARDED || way >= WAYS) return 2;
@@ -87,11 +134,13 @@ int main(int argc, char **argv) {
     ANNOTATE_BENIGN_RACE_SIZED(&done, sizeof done, "no atomic to valgrind");
 #endif
     alarm(600);
+    MUST(qolb_open(QOLB_DEFAULT, 1, 2, QOLB_NO_LEASE, &zeros, nodes, 2), QOLB_DONE);
     MUST(pthread_create(&ids[0], NULL, second, NULL), 0);
     MUST(pthread_create(&ids[1], NULL, first, NULL), 0);
     for (int k = 0; k < 2; k++) pthread_join(ids[k], NULL);
     WANT(data, 2);
     WANT(qolb_lock_close(&lock), QOLB_DONE);
     WANT(qolb_lock_close(&other), QOLB_DONE);
+    for (int k = 0; k < 2; k++) WANT(qolb_close(&nodes[k]), QOLB_DONE);
     return 0;
 }
