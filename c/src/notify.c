@@ -143,7 +143,7 @@ void qolb_notify_done(void) {
     if (me->awaited) qolb_wake_at_(&bell->ended, INT32_MAX);
 }
 
-static void make_call(struct bell *bell, uint64_t key) {
+static void make_noted_call(struct bell *bell, uint64_t key) {
     struct running me = {NULL, NULL, &in_call, 0};
     take_guard(&bell->guard);
     struct notice *notice = of_key(bell, key);
@@ -182,8 +182,8 @@ void qolb_make_call_(struct bell *bell, uint64_t key) {
     me.made = me.wanted = 0;
     pthread_setcancelstate(PTHREAD_CANCEL_DISABLE, &cancels);
     in_call = &me;
-    make_call(bell, key);
-    for (; me.made != me.wanted; me.made++) make_call(me.put_off[me.made % PUT_OFF].bell, me.put_off[me.made % PUT_OFF].key);
+    make_noted_call(bell, key);
+    for (; me.made != me.wanted; me.made++) make_noted_call(me.put_off[me.made % PUT_OFF].bell, me.put_off[me.made % PUT_OFF].key);
     in_call = outer;
     pthread_setcancelstate(cancels, &cancels);
 }
