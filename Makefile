@@ -2,7 +2,7 @@
 #
 #   make test       all tests of the crates, without a proof (./qolb --test)
 #   make prove      proves and builds the program (./qolb --prove)
-#   make gate       the gate (.ci/run)
+#   make gate       the gate (tools/gate), which .ci/run calls
 #   make check      the tests of the C library (make -C c check)
 #   make fmt        formats the crates' sources (rt fmt)
 #   make install    the library for C, C++ and Rust (make -C c install, with its PREFIX, LIBDIR and DESTDIR)
@@ -12,9 +12,10 @@ WANT_RT = $(if $(shell command -v rt 2>/dev/null),,$(error rt, the command of th
 test prove:
 	./qolb --$@
 
+# .ci/run asks what the gate ended with.
 gate:
 	$(WANT_RT)
-	.ci/run
+	tools/gate $(if $(ENDED),; echo $$? > "$(ENDED)")
 
 check install:
 	$(MAKE) -C c $@

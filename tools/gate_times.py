@@ -4,7 +4,7 @@
     tools/gate_times.py [--anew] [--folder CHECKOUT] [--log FILE] [NAME ..]
     tools/gate_times.py --functions [--jobs N] [NAME ..]
 
-It starts `rt ci` (with the names, if given) in the checkout, with RT_JOBS as .ci/run sets it, and samples its processes in /proc twice a second.
+It starts `rt ci` (with the names, if given) in the checkout, with RT_JOBS as tools/gate sets it, and samples its processes in /proc twice a second.
 With `--anew` it reuses nothing of earlier runs: a toolchain that keeps what passed is told so, and any other keeps nothing. The kinds are the crate's
 proof; that of its tests; the seed, a check with which its mutants begin, if the toolchain makes one; the mutants. A check that ends loses
 what it took since the last sample; the total is the system's own count. The longest chain is of checks each of which waits for the one before, in
