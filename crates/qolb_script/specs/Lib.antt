@@ -22,3 +22,4 @@ pub mod StepReply
 pub mod Jobs
 pub mod WorkScript
 pub mod Reports
+pub mod Errors

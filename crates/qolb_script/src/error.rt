@@ -1,23 +1,20 @@
 //! Why a script is refused.
 ghost use Rattle.std.specs.Prelude.{◌≡◌, ℕ};
 
-use thiserror::Error;
+use std::error::Error;
+use std::fmt;
 
 /// Why a script is refused. Line numbers count from 1; lines without words count, too.
-#[derive(Clone, Copy, Debug, PartialEq, Eq, Error)]
+#[derive(Clone, Copy, Debug, PartialEq, Eq)]
 pub enum ScriptError {
     /// A growth of memory was refused.
-    #[error("out of memory")]
     Memory,
     /// The line has a byte that no script has, an unknown first word, a wrong number of words, a wrong fixed word, or hex that is
     /// none or does not fit.
-    #[error("bad line {0}")]
     BadLine(u64),
     /// A word of the line is no number, or out of its range.
-    #[error("bad line {0}")]
     Number(u64),
     /// The line is the first command past the largest number that a script may have.
-    #[error("bad line {0}")]
     TooMany(u64),
 }
 
@@ -37,3 +34,21 @@ impl ScriptError {
         }
     }
 }
+
+impl fmt::Display for ScriptError {
+    ghost use Rattle.std.specs.Prelude.{Some};
+    ghost use Rattle.qolb_script.specs.Errors.{error_text};
+
+    ghost output = { λ error. Some (error_text error) };
+
+    fn fmt<W: fmt::Write>(&self, f: &mut fmt::Formatter<W>) -> fmt::Result {
+        match *self {
+            ScriptError::Memory => f.write_str("out of memory"),
+            ScriptError::BadLine(line) => write!(f, "bad line {line}"),
+            ScriptError::Number(line) => write!(f, "bad line {line}"),
+            ScriptError::TooMany(line) => write!(f, "bad line {line}"),
+        }
+    }
+}
+
+impl Error for ScriptError {}

@@ -1,0 +1,11 @@
+-- What an error says. (Of this project.)
+use Rattle.std.specs.Prelude.{ℕ, List, ◌++◌, codes, decimal}
+use Rattle.qolb_script.specs.declared.error.ScriptError.{ScriptError}
+use Rattle.qolb_script.specs.declared.error.ScriptError.TheVariants.{Memory, BadLine, Number, TooMany}
+
+-- the fault, with the number of its line
+abbrev pub error_text : ScriptError → List ℕ
+error_text Memory = codes "out of memory"
+error_text (BadLine line) = codes "bad line " ++ decimal line
+error_text (Number line) = codes "bad line " ++ decimal line
+error_text (TooMany line) = codes "bad line " ++ decimal line
