@@ -1,5 +1,5 @@
 #!/usr/bin/env python3
-"""Runs the gate and prints its cost: processor minutes and the peak of memory by crate and kind of work, as the table tools/gate_times.tsv.
+"""Runs the gate and prints its cost: processor minutes and the peak of memory by crate and kind of work, as the rows of tools/gate_times.tsv.
 
     tools/gate_times.py [--anew] [--folder CHECKOUT] [--log FILE] [NAME ..]
     tools/gate_times.py --functions [--jobs N] [NAME ..]
@@ -127,7 +127,7 @@ def longest_chain(crates, tasks):
 def table(crates, watch):
     """The rows, by crate, in processor minutes."""
     tasks = watch.tasks
-    rows = ["| Crate | Proof | Tests | Seed | Mutants | In all | Most memory of a check, GB |", "|---|---|---|---|---|---|---|"]
+    rows = ["\t".join(["crate", *KINDS, "all", "GB"])]
     sums = collections.Counter()
     for name in crates:
         mine = {kind: tasks[name, kind] for kind in KINDS if (name, kind) in tasks}
@@ -136,9 +136,9 @@ def table(crates, watch):
         minutes = {kind: task.seconds / 60 for kind, task in mine.items()}
         sums.update(minutes)
         cells = [f"{minutes[kind]:.1f}" if kind in minutes else "" for kind in KINDS]
-        rows.append(f"| {' | '.join([name, *cells])} | {sum(minutes.values()):.1f} | {max(it.most for it in mine.values()):.1f} |")
+        rows.append("\t".join([name, *cells, f"{sum(minutes.values()):.1f}", f"{max(it.most for it in mine.values()):.1f}"]))
     cells = [f"{sums[kind]:.1f}" for kind in KINDS]
-    rows.append(f"| {' | '.join(['all', *cells])} | {sum(sums.values()):.1f} | {watch.most:.1f} at a time |")
+    rows.append("\t".join(["all", *cells, f"{sum(sums.values()):.1f}", f"{watch.most:.1f}"]))
     return rows
 
 
