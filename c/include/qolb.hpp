@@ -546,8 +546,8 @@ class Ready {
     ~Ready() = default;
 };
 
-// Runs at once what is posted, in the thread that releases the line, behind its release; a release in what runs there nests nothing. Coroutines that
-// wait must not be destroyed while another thread may release the line.
+// Runs at once what is posted, in the thread that releases the line, behind its release. A release in what runs there makes its own calls after that has
+// returned, or, if 32 are put off, at once. Coroutines that wait must not be destroyed while another thread may release the line.
 struct Inline {
     void post(Ready &it) {
         qolb_notify_done();
@@ -657,7 +657,8 @@ template <class Loop> class Enter final : public detail::Waits<Loop> {
         this->got_ = got;
         return false;
     }
-    Entered await_resume() { return Entered(this->got_, task_); }
+    // The turn has the task from here on, so the next co_await enters with another.
+    Entered await_resume() { return Entered(this->got_, std::exchange(task_, qolb_task QOLB_TASK_INIT)); }
     void run() override {
         std::uint32_t got = qolb_task_poll(&task_);
         if (got == QOLB_WAITING) return;

@@ -241,6 +241,27 @@ static int entering_is_told() {
     return told.size() != 3 || told[2] != QOLB_CLOSED;
 }
 
+static Job enters_again(qolb::Lock &lock, qolb::Inline &now, int &turns) {
+    auto entering = qolb::enter(lock, now);
+    for (int k = 0; k < 3; k++) {
+        qolb::Entered turn = co_await entering;
+        turns += bool(turn);
+    }
+}
+
+// One object is awaited again and again, the first time while another thread would wait.
+static int an_enter_lasts() {
+    qolb::Lock lock(1);
+    qolb::Inline now;
+    int turns = 0;
+    if (lock.enter() != QOLB_GRANTED) return 1;
+    Job job = enters_again(lock, now, turns);
+    job.handle.resume();
+    lock.leave();
+    job.handle.destroy();
+    return turns != 3;
+}
+
 // One release begins 300,000 turns, each inline.
 static int chains() {
     auto [opened, nodes] = qolb::Node::open(QOLB_TICKET, 1, 4, qolb_bytes{});
@@ -261,7 +282,7 @@ int main(int argc, char **argv) {
     unsigned seed = argc > 3 ? (unsigned)std::atoi(argv[3]) : 1;
     auto since = std::chrono::steady_clock::now();
     alarm((unsigned)seconds + 600);
-    if (turns_are_told() || wishes_end() || entering_is_told() || chains()) return 1;
+    if (turns_are_told() || wishes_end() || entering_is_told() || an_enter_lasts() || chains()) return 1;
     do {
         if (int error = many(coroutines, rounds, seed++)) return error;
     } while (std::chrono::steady_clock::now() - since < std::chrono::seconds(seconds));
