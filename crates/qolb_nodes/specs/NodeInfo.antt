@@ -1,5 +1,5 @@
--- What a node of any kind of line is and promises, as definitions see it: the one match over the kinds. (Of this project.)
-use Rattle.std.specs.Prelude.{ℕ}
+-- What a node of any kind of line is and promises, as definitions see it: the one match over the kinds, and their list. (Of this project.)
+use Rattle.std.specs.Prelude.{ℕ, List, [], ◌∷◌}
 use Rattle.qolb_model.specs.declared.view.View.{View}
 use Rattle.line_generic.specs.declared.discipline.Discipline as discipline
 use Rattle.line_generic.specs.declared.discipline.DisciplineSpec as spec
@@ -43,3 +43,7 @@ abbrev pub info_of : AnyNode → NodeInfo
 info_of (any.Ring node) = info_by lines.Ring ring.ghosts any.Ring node
 info_of (any.List node) = info_by lines.Link link.ghosts any.List node
 info_of (any.Ticket node) = info_by lines.Ticket ticket.ghosts any.Ticket node
+
+-- the kinds of line, in the order of C's numbers
+abbrev pub c_kinds : List Lines
+c_kinds = lines.Ring ∷ lines.Link ∷ lines.Ticket ∷ []

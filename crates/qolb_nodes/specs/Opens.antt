@@ -8,17 +8,13 @@ use Rattle.qolb_model.specs.declared.config.TheConstants.{MAX_NODES}
 use Rattle.qolb_model.specs.declared.view.View.{View}
 use Rattle.qolb_model.specs.Opening.{AreNew, AreNodes, MayOpen}
 use Rattle.line_kinds.specs.declared.Lines.{Lines}
-use Rattle.line_kinds.specs.declared.Lines.TheVariants as lines
 use Rattle.qolb_nodes.specs.declared.answer.Answer.{Answer}
 use Rattle.qolb_nodes.specs.declared.answer.Answer.TheVariants as answer
 use Rattle.qolb_nodes.specs.declared.any_node.AnyNode.{AnyNode}
 use Rattle.qolb_nodes.specs.declared.handle.Handle.{Handle}
 use Rattle.qolb_nodes.specs.Calls.{view_of, kind_of, AreOfOneLine}
+use Rattle.qolb_nodes.specs.NodeInfo.{c_kinds}
 use Rattle.qolb_nodes.specs.Nodes.{NodeOf}
-
--- the kinds of line, in the order of C's numbers
-abbrev pub c_kinds : List Lines
-c_kinds = lines.Ring ∷ lines.Link ∷ lines.Ticket ∷ []
 
 -- the kind of line of this number
 abbrev pub lines_at : ℕ → Option Lines

@@ -1,17 +1,32 @@
 //! A node of a line of any kind.
-ghost use Rattle.std.specs.Prelude.{◌≡◌, ◌<◌, Some, MatchOption};
+ghost use Rattle.std.specs.Prelude.{◌≡◌, ◌<◌, Some, MatchOption, map, IfOk, IfErr};
+ghost use Rattle.qolb_model.specs.Opening.{MayNotOpen};
 ghost use Rattle.qolb_nodes.specs.Calls.{view_of, state_of, Enqolbs, Polls, Waits, Prepends, LinksUp, Withdraws, LooksIfClear, Reads, ReadsLane, Writes, WritesLane, WritesLaneAt, AddsLane, Releases, TellsTurns, TellsWord};
+ghost use Rattle.qolb_nodes.specs.Opens.{AreNewNodes};
 ghost use Rattle.qolb_nodes.specs.HolderBytes.{Holds, HasBytes, HasLane, IsLane};
 ghost use Rattle.qolb_nodes.specs.Waits.{went_to_of};
 ghost use Rattle.qolb_nodes.specs.declared.any_node.AnyNode.{AnyNode};
 
 use crate::answer::Answer;
-use crate::kinds::{List, Ring, Ticket};
 use crate::node::{Node, Shown};
+use crate::opening::{boxed, new_nodes};
+use line_generic::SleepersElsewhere;
+use line_kinds::{Lines, LinkLine, RingLine, TicketLine};
 use line_lanes::{Line64, Mask, lane};
+use qolb_model::{Free, LineConfig, OpenError};
+use std::alloc::Global;
 
 /// The number of lanes of a line.
 const LANES: u64 = 8;
+
+/// A ring.
+type Ring = RingLine<Free, SleepersElsewhere>;
+
+/// A link line.
+pub(crate) type List = LinkLine<Free, SleepersElsewhere>;
+
+/// A ticket line.
+type Ticket = TicketLine<Free, SleepersElsewhere>;
 
 /// A node of a line of any kind.
 #[derive(Drop)]
@@ -80,8 +95,8 @@ impl AnyNode {
         ensures { Prepends self.old self.new result }
     {
         match self {
-            AnyNode::Ring(_) | AnyNode::Ticket(_) => Answer::Misuse,
             AnyNode::List(node) => node.prepend(),
+            _ => Answer::Misuse,
         }
     }
 
@@ -90,8 +105,8 @@ impl AnyNode {
         ensures { LinksUp self.old self.new result }
     {
         match self {
-            AnyNode::Ring(_) | AnyNode::Ticket(_) => Answer::Misuse,
             AnyNode::List(node) => node.link(),
+            _ => Answer::Misuse,
         }
     }
 
@@ -270,5 +285,27 @@ impl IntoAny for Node<Ticket> {
 
     fn into_any(self) -> AnyNode {
         AnyNode::Ticket(self)
+    }
+}
+
+/// Opens a line of this kind, and returns its nodes, each in its own box.
+///
+/// # Errors
+///
+/// Those of `OpenLine::open_with`.
+pub(crate) fn nodes_of_kind(
+    alloc: Global,
+    lines: Lines,
+    label: u64,
+    config: LineConfig,
+) -> Result<Vec<Box<AnyNode>>, OpenError>
+    ensures nodes { IfOk result (λ boxes.
+        AreNewNodes lines label config (map (λ node. node.value) boxes.items)) }
+    ensures why { IfErr result (λ error. MayNotOpen config error) }
+{
+    match lines {
+        Lines::Ring => boxed(alloc, new_nodes::<Ring>(alloc, label, config)?),
+        Lines::Link => boxed(alloc, new_nodes::<List>(alloc, label, config)?),
+        Lines::Ticket => boxed(alloc, new_nodes::<Ticket>(alloc, label, config)?),
     }
 }

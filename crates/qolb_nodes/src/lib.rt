@@ -7,13 +7,11 @@
 mod answer;
 mod any_node;
 mod handle;
-mod kinds;
 mod node;
 mod opening;
 
 pub use answer::Answer;
 pub use any_node::AnyNode;
 pub use handle::Handle;
-pub use kinds::{LineFor, List, Ring, Ticket};
-pub use node::{NO_LEASE, Node, Shown};
+pub use node::{LineFor, NO_LEASE, Node, Shown};
 pub use opening::{memory, open};

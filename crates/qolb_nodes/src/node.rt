@@ -7,14 +7,20 @@ ghost use Rattle.qolb_nodes.specs.NodeCalls.{IsMisuse, Meets, MayAsk, IsLinking,
 ghost use Rattle.qolb_nodes.specs.Nodes.{anything, PollsWithin};
 
 use crate::answer::Answer;
-use crate::kinds::{LineFor, List};
-use line_generic::{Discipline, Port, SleepersElsewhere};
+use crate::any_node::List;
+use line_generic::{Discipline, Line, Port, SleepersElsewhere};
 use line_lanes::{Line64, Mask};
 use qolb_model::{Enq, Free, LineSync, Out, Poll, PortState, Prep};
 use std::alloc::Global;
 use std::hint::spin_loop;
 use std::marker::Model;
 use std::sync::Arc;
+
+// The wake policy of these lines: no release wakes a thread, as a static library has no system call that waits or wakes. In C, waiters
+// sleep at bells, and these calls return the words on which they wait.
+
+/// A line by the discipline `Q`.
+pub type LineFor<Q> = Line<Free, Q, SleepersElsewhere>;
 
 /// C's number for no lease.
 pub const NO_LEASE: u64 = u64::MAX;

@@ -1,15 +1,14 @@
 //! Opening a line for C.
 ghost use Rattle.std.specs.Prelude.{◌≡◌, ◌≢◌, ◌≤◌, ◌++◌, ℕ, true, false, length, map, drop, Some, None, IsTrue, IfOk, IfErr};
 ghost use Rattle.qolb_model.specs.Opening.{MayOpen, MayNotOpen};
-ghost use Rattle.qolb_nodes.specs.Opens.{AreOfLine, AreNewNodes, held_by, AreEmpty, HasNode, AreOpened, WhyRefused, refused_by};
+ghost use Rattle.qolb_nodes.specs.Opens.{AreOfLine, held_by, AreEmpty, HasNode, AreOpened, WhyRefused, refused_by};
 ghost use Rattle.qolb_nodes.specs.Memory.{TellsMemory};
 
 use crate::answer::Answer;
-use crate::any_node::{AnyNode, IntoAny};
+use crate::any_node::{AnyNode, IntoAny, nodes_of_kind};
 use crate::handle::Handle;
-use crate::kinds::{List, Ring, Ticket};
 use crate::node::Node;
-use line_kinds::{ALL, Lines};
+use line_kinds::ALL;
 use qolb_model::{Free, LineConfig, MAX_NODES, OpenError, OpenLine};
 use std::alloc::Global;
 use std::sync::Arc;
@@ -80,34 +79,12 @@ fn are_empty(handles: &mut [Handle], many: usize) -> bool
     true
 }
 
-/// Opens a line of this kind, and returns its nodes, each in its own box.
-///
-/// # Errors
-///
-/// Those of `OpenLine::open_with`.
-fn nodes_of_kind(
-    alloc: Global,
-    lines: Lines,
-    label: u64,
-    config: LineConfig,
-) -> Result<Vec<Box<AnyNode>>, OpenError>
-    ensures nodes { IfOk result (λ boxes.
-        AreNewNodes lines label config (map (λ node. node.value) boxes.items)) }
-    ensures why { IfErr result (λ error. MayNotOpen config error) }
-{
-    match lines {
-        Lines::Ring => boxed(alloc, new_nodes::<Ring>(alloc, label, config)?),
-        Lines::Link => boxed(alloc, new_nodes::<List>(alloc, label, config)?),
-        Lines::Ticket => boxed(alloc, new_nodes::<Ticket>(alloc, label, config)?),
-    }
-}
-
 /// Opens a line, and returns its nodes.
 ///
 /// # Errors
 ///
 /// Those of `OpenLine::open_with`.
-fn new_nodes<L: OpenLine<Free> + Drop>(
+pub(crate) fn new_nodes<L: OpenLine<Free> + Drop>(
     alloc: Global,
     label: u64,
     config: LineConfig,
@@ -141,7 +118,10 @@ where
 /// # Errors
 ///
 /// `Memory` if the allocator returns none.
-fn boxed<N: IntoAny>(alloc: Global, nodes: Vec<N>) -> Result<Vec<Box<AnyNode>>, OpenError>
+pub(crate) fn boxed<N: IntoAny>(
+    alloc: Global,
+    nodes: Vec<N>,
+) -> Result<Vec<Box<AnyNode>>, OpenError>
     ensures nodes { IfOk result (λ boxes.
         map (λ node. node.value) boxes.items ≡ map N.as_any nodes.items) }
     ensures why { IfErr result (λ error. error ≡ OpenError.Memory) }

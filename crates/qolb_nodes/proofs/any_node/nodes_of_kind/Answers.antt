@@ -1,7 +1,7 @@
 use Rattle.std.proofs.Common.{refl, sym}
 use Rattle.qolb_nodes.specs.declared.any_node.AnyNode.TheVariants as any
 use Rattle.qolb_nodes.proofs.Opened.{if_ok_then, new_nodes_of}
-use Rattle.qolb_nodes.proofs.opening.nodes_of_kind.Goals as goal
+use Rattle.qolb_nodes.proofs.any_node.nodes_of_kind.Goals as goal
 
 pub returns-in_ok-new_nodes-in-Ring-clause-nodes : goal.returns-in_ok-new_nodes-in-Ring-clause-nodes
 returns-in_ok-new_nodes-in-Ring-clause-nodes c =
