@@ -11,6 +11,7 @@ import pathlib
 import re
 import subprocess
 import sys
+import textwrap
 
 ROOT = pathlib.Path(__file__).resolve().parent.parent
 HEADER = ROOT / "c/include/qolb.h"
@@ -23,6 +24,11 @@ def escaped(text):
     """Escapes text for troff: a dash becomes a minus, and no line begins as a request does."""
     text = text.replace("\\", "\\e").replace("-", "\\-")
     return "\n".join("\\&" + line if line.startswith((".", "'")) else line for line in text.split("\n"))
+
+
+def filled(text):
+    """Running text for troff, in lines of a page's source."""
+    return escaped("\n".join(textwrap.wrap(text, 72, break_long_words=False, break_on_hyphens=False)))
 
 
 def uncommented(comment):
@@ -50,7 +56,7 @@ def running(lines):
 
     def flush():
         if text:
-            out.append(escaped(" ".join(text)))
+            out.append(filled(" ".join(text)))
             text.clear()
 
     if not re.match(r"- |[\w, ]+: ", lines[0]):
@@ -143,7 +149,7 @@ def values(text, name):
 
 
 def tagged(tag, text):
-    return f".TP\n.B {escaped(tag)}\n{escaped(text) if text else ''}"
+    return f".TP\n.B {escaped(tag)}\n{filled(text) if text else ''}"
 
 
 def with_memory(text):
@@ -190,10 +196,10 @@ def page_of_header():
     out.append(section("WORDS", parts.pop("WORDS")))
     out.append(".SH TYPES")
     for told, said in types(rest):
-        out.append(".PP\n.nf\n" + "\n".join(map(declared, told)) + "\n.fi\n.RS 4\n" + "\n".join(escaped(line) for line in said) + "\n.RE")
+        out.append(".PP\n.nf\n" + "\n".join(map(declared, told)) + "\n.fi\n.RS 4\n" + filled(" ".join(said)) + "\n.RE")
     out.append(".SH CALLS")
     for told, said in calls(rest):
-        out.append(".PP\n.nf\n" + "\n".join(f".B {escaped(made)}" for made in told) + "\n.fi\n.RS 4\n" + "\n".join(escaped(line) for line in said) + "\n.RE")
+        out.append(".PP\n.nf\n" + "\n".join(f".B {escaped(made)}" for made in told) + "\n.fi\n.RS 4\n" + filled(" ".join(said)) + "\n.RE")
     out.append(".SH ANSWERS\n" + "\n".join(tagged(f"{name} ({number})", said) for name, number, said in values(rest, "qolb_answer")))
     out.append(".SH STATES\n" + "\n".join(tagged(f"{name} ({number})", said) for name, number, said in values(rest, "qolb_node_state")))
     out += [section(title, runs) for title, runs in parts.items()]
