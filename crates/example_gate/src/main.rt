@@ -1,5 +1,5 @@
-//! Threads come and go to a line with a gate: each enters for a turn, adds 1 to the first lane, and leaves. By the line's law the first
-//! lane never falls.
+//! Threads come and go to a line with a gate: each enters for a turn, adds 1 to the first lane, and leaves. Then one thread is alone, enters
+//! twice by the gate, and shuts the line. By the line's law the first lane never falls.
 #![tactic(auto)]
 
 ghost use Rattle.std.specs.Prelude.{◌≡◌, ◌<◌, None, All, vec_len};
@@ -38,6 +38,32 @@ fn raise<L: LineSync<NeverFalls>, S: GateSet<L::Port>>(turn: &mut GateTurn<'_, N
     }
 }
 
+/// Adds 1 in a turn of the line. Returns the turn's node; `None` if the line is closed.
+fn visit<R: Wait, L: ParkingLine<NeverFalls>, S: GateSet<L::Port>>(
+    rt: &R,
+    pool: &GatedPool<NeverFalls, L, S>,
+) -> Option<u64> {
+    let mut turn = pool.enter(rt)?;
+    raise(&mut turn);
+    let node = turn.node();
+    pool.leave(rt, turn);
+    Some(node)
+}
+
+/// Takes two turns, and shuts the line in a third. Returns `true` if all were by one port, and the line then is closed.
+fn shut_alone<R: Wait, L: ParkingLine<NeverFalls>, S: GateSet<L::Port>>(
+    rt: &R,
+    pool: &GatedPool<NeverFalls, L, S>,
+) -> Option<bool> {
+    let first = visit(rt, pool)?;
+    let second = visit(rt, pool)?;
+    let mut turn = pool.enter(rt)?;
+    raise(&mut turn);
+    let third = turn.node();
+    pool.shut(rt, turn);
+    Some(first == second && second == third && visit(rt, pool).is_none())
+}
+
 /// The task of each thread: `visits` turns of the line.
 #[derive(Drop)]
 struct Visits {
@@ -57,21 +83,27 @@ impl<R: Wait, L: ParkingLine<NeverFalls>, S: GateSet<L::Port>> ScopedTask<
 
     fn work(&self, rt: &R, pool: &GatedPool<NeverFalls, L, S>, _place: usize, _part: ()) {
         for _ in 0..self.visits {
-            let Some(mut turn) = pool.enter(rt) else {
+            if visit(rt, pool).is_none() {
                 return;
-            };
-            raise(&mut turn);
-            pool.leave(rt, turn);
+            }
         }
     }
 }
 
-/// Runs `threads` threads over the line, and returns its first lane at the end; `None` if memory or a thread is refused.
+/// Runs `threads` threads over the line, then one alone. Returns its first lane at the end, and whether the last thread was by one port;
+/// `None` if memory or a thread is refused.
 fn count_at<
     R: Threads + Wait + Sync,
     L: ParkingLine<NeverFalls> + Sync + Drop,
     S: GateSet<L::Port> + Sync + Send,
->(rt: &R, alloc: Global, line: L, ports: Vec<L::Port>, threads: usize, visits: u64) -> Option<u64>
+>(
+    rt: &R,
+    alloc: Global,
+    line: L,
+    ports: Vec<L::Port>,
+    threads: usize,
+    visits: u64,
+) -> Option<(u64, bool)>
 where
     L::Port: Send + Drop,
     requires not_empty { 0 < vec_len ports }
@@ -84,20 +116,20 @@ where
     let pool: GatedPool<NeverFalls, L, S> = GatedPool::new(alloc, line, ports).ok()?;
     let parts = Vec::from_elem(alloc, (), threads).ok()?;
     run_scoped(rt, alloc, &Visits { visits }, &pool, parts)?;
+    let by_one = shut_alone(rt, &pool)?;
     let own = pool.borrow(rt);
     let last = pool.finish(rt, alloc, own).ok()?;
-    Some(lane(&last, 0))
+    Some((lane(&last, 0), by_one))
 }
 
-/// Opens a line with `nodes` ports for `threads` threads, and returns its first lane at the end; `None` if the line, memory or a thread is
-/// refused.
+/// Opens a line with `nodes` ports for `threads` threads, and returns what `count_at` does; `None` also if the line is refused.
 fn count<R: Threads + Wait + Sync, L: OpenLine<NeverFalls> + ParkingLine<NeverFalls> + Sync + Drop>(
     rt: &R,
     alloc: Global,
     nodes: u64,
     threads: usize,
     visits: u64,
-) -> Option<u64>
+) -> Option<(u64, bool)>
 where
     L::Port: Send + Drop,
 {
@@ -111,8 +143,11 @@ where
 }
 
 fn main(rt: HostRuntime) -> anyhow::Result<()> {
-    let number = count::<HostRuntime, TicketLine<NeverFalls>>(&rt, rt.alloc(), 3, 12, 500);
-    let number = number.context("no memory or no thread")?;
-    println!(rt; "12 threads came 500 times each, to a line with a gate: {number}")?;
+    let found = count::<HostRuntime, TicketLine<NeverFalls>>(&rt, rt.alloc(), 3, 12, 500);
+    let (number, by_one) = found.context("no memory or no thread")?;
+    println!(rt;
+        "12 threads came 500 times each, to a line with a gate; then one came 3 times: {number}"
+    )?;
+    println!(rt; "alone it entered by one port, and shut the line: {by_one}")?;
     Ok(())
 }
