@@ -459,6 +459,20 @@ static void notified_in_time_and_again(int self) {
     if (got == QOLB_GRANTED) releases_turn(1);
 }
 
+/* One wants a call while the other holds the line and lets it go on once, and takes that back at once. */
+static void one_takes_back(int self) {
+    if (self == 0) {
+        MUST(qolb_acquire(&it.of[0].node) == QOLB_GRANTED);
+        turn_with(1);
+        MUST(qolb_deqolb(&it.of[0].node) == QOLB_DONE);
+        return;
+    }
+    uint32_t got = qolb_enqolb(&it.of[1].node);
+    if (got == QOLB_QUEUED) got = wants_call(1, tells);
+    if (got == QOLB_WAITING) sched_yield(), got = takes_back(1);
+    if (got == QOLB_GRANTED) releases_turn(1);
+}
+
 static void one_notified_shuts(int self) { shuts_line(self, is_notified(self, FOR_EVER)); }
 
 static void one_notified_beside_threads(int self) {
@@ -893,6 +907,7 @@ const struct scene scenes[] = {
     {"notices: one gives up", notified_in_time, QOLB_TICKET, 3, 3, WITH_NODES, 0},
     {"notices: one gives up at one bell", notified_in_time, QOLB_TICKET, 3, 3, AT_ONE_BELL, 0},
     {"notices: one gives up and asks again", notified_in_time_and_again, QOLB_TICKET, 2, 2, WITH_NODES, 0},
+    {"notices: one takes back at once", one_takes_back, QOLB_TICKET, 2, 2, WITH_NODES, 0},
     {"notices: one shuts", one_notified_shuts, QOLB_TICKET, 3, 3, WITH_NODES, 0},
     {"notices: one beside threads", one_notified_beside_threads, QOLB_TICKET, 3, 3, WITH_NODES, 0},
     {"notices: each wants two calls", wants_two_calls, QOLB_TICKET, 2, 2, WITH_NODES, 0},
