@@ -71,7 +71,7 @@
  * unused. A strict lock has a burst of 0. There must be 2 seats or more.
  *
  * Only the thread that entered may leave. A thread that enters a lock which it holds is told MISUSE. A thread that ends while it holds a lock releases nothing,
- * and all others wait; qolb_lock_holder returns its number, on Linux that of the system (gettid).
+ * and all others wait; qolb_lock_holder returns its number, on Linux gettid's.
  *
  * A static lock is opened at its first use. If there is no memory, each use is answered QOLB_NO_MEMORY, until there is some.
  *
@@ -138,7 +138,7 @@
  *
  * MEMORY ORDER
  *
- * A line guards any data, as a mutex does. All that a thread wrote anywhere in memory before its node's release (qolb_deqolb, qolb_shut) is seen by
+ * A line guards any data, as a mutex does. All that a thread wrote anywhere in memory before its node's release is seen by
  * the thread whose node is granted the line next, and by those whose requests are answered CLOSED.
  *
  * For the line's own 64 bytes this is proved. For other memory it follows: every step on a shared word is sequentially consistent, and a release writes the
@@ -415,7 +415,7 @@ uint32_t qolb_shut(qolb_node *node);
  * made; GRANTED or CLOSED, as of qolb_poll, and it will not. Else MISUSE, also if `call` is null. A second wish of a node replaces the first. */
 uint32_t qolb_notify(qolb_node *node, void (*call)(void *arg), void *arg) QOLB_LOOK;
 
-/* Has 1 added once to the eventfd `fd`, when qolb_notify would make its call. The same answers. Take it off before you close `fd`. */
+/* Has 1 added once to the eventfd `fd`, when qolb_notify would make its call. The same answers; MISUSE if `fd` is negative. */
 uint32_t qolb_notify_fd(qolb_node *node, int fd) QOLB_LOOK;
 
 /* Takes the node's wish for a call back; the request stays. WITHDRAWN: the call will not be made. DONE: none was wanted, or it was made, and has returned or
@@ -519,7 +519,7 @@ typedef struct qolb_task {
  * lock is shut; then qolb_task_poll tells which. CLOSED. MISUSE: the task waits or holds, or `call` is null. At the first use also NO_MEMORY, BAD_NODES, BAD_KIND. */
 uint32_t qolb_task_enter(qolb_task *task, qolb_lock *lock, void (*call)(void *arg), void *arg) QOLB_LOOK;
 
-/* The same, and 1 is added to the eventfd `fd` in place of a call. Close it only after the task's turn or qolb_task_cancel. */
+/* The same, and 1 is added to the eventfd `fd`, which is not negative, in place of a call. Close it only after the task's turn or qolb_task_cancel. */
 uint32_t qolb_task_enter_fd(qolb_task *task, qolb_lock *lock, int fd) QOLB_LOOK;
 
 /* Polls for a task that waits: GRANTED, and it holds the lock; CLOSED; WAITING, and the call will be made, maybe again. MISUSE if it does not wait. */

@@ -686,7 +686,7 @@ impl RawQolb {
         told(unsafe { qolb_lock_shut(self.0.get()) })
     }
 
-    /// Returns a number of the holding thread (`gettid` on Linux); `None` if no thread holds it.
+    /// Returns a number of the holding thread (`gettid` on Linux), or `u64::MAX` if a task holds it; `None` if nobody does, and for the moment of a handoff.
     pub fn holder(&self) -> Option<u64> {
         Some(unsafe { qolb_lock_holder(self.0.get()) }).filter(|number| *number != 0)
     }

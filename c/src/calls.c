@@ -241,7 +241,9 @@ void qolb_add_to_descriptor_(void *fd) {
     errno = error;
 }
 
-uint32_t qolb_notify_fd(qolb_node *node, int fd) { return qolb_notify(node, qolb_add_to_descriptor_, (void *)(intptr_t)fd); }
+uint32_t qolb_notify_fd(qolb_node *node, int fd) {
+    return fd < 0 ? (uint32_t)QOLB_MISUSE : qolb_notify(node, qolb_add_to_descriptor_, (void *)(intptr_t)fd);
+}
 
 /* ---- The others ---- */
 

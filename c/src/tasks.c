@@ -145,7 +145,9 @@ uint32_t qolb_task_enter(qolb_task *task, qolb_lock *lock, void (*call)(void *),
     return enter(me);
 }
 
-uint32_t qolb_task_enter_fd(qolb_task *task, qolb_lock *lock, int fd) { return qolb_task_enter(task, lock, qolb_add_to_descriptor_, (void *)(intptr_t)fd); }
+uint32_t qolb_task_enter_fd(qolb_task *task, qolb_lock *lock, int fd) {
+    return fd < 0 ? (uint32_t)QOLB_MISUSE : qolb_task_enter(task, lock, qolb_add_to_descriptor_, (void *)(intptr_t)fd);
+}
 
 /* ---- At the door ---- */
 

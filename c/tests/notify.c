@@ -55,6 +55,7 @@ static int refuses(uint32_t kind) {
     WANT(qolb_notify_fd(&n[0], 0), QOLB_MISUSE);
     WANT(qolb_enqolb(&n[1]), QOLB_QUEUED);
     WANT(qolb_notify(&n[1], NULL, NULL), QOLB_MISUSE);
+    WANT(qolb_notify_fd(&n[1], -1), QOLB_MISUSE);
     WANT(qolb_withdraw(&n[1]), QOLB_WITHDRAWN);
     WANT(qolb_notify(&n[1], count, NULL), QOLB_MISUSE);
     if (kind == QOLB_LINK) {

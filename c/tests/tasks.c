@@ -41,6 +41,7 @@ static int refuses(uint32_t kind, uint32_t seats) {
     WANT(qolb_task_cancel(&task[0]), QOLB_DONE);
     WANT(qolb_task_turn(&task[0]) == NULL, 1);
     WANT(qolb_task_enter(&task[0], &lock, NULL, NULL), QOLB_MISUSE);
+    WANT(qolb_task_enter_fd(&task[0], &lock, -1), QOLB_MISUSE);
     WANT(enters(0), QOLB_GRANTED);
     WANT(enters(0), QOLB_MISUSE);
     WANT(qolb_task_poll(&task[0]), QOLB_MISUSE);
