@@ -1,8 +1,8 @@
 use Rattle.std.proofs.Common.{vec_len}
 use Rattle.line_pool.specs.Lending.{MayAsk}
 use Rattle.line_pool.specs.Gated.{IsKept}
-use Rattle.example_gate.specs.NeverFalls.{IsNotBelow}
-use Rattle.example_gate.proofs.count.Given as goal
+use Rattle.example_pool.specs.NeverFalls.{IsNotBelow}
+use Rattle.example_pool.proofs.gate.count.Given as goal
 
 -- the lent ports are ports of the line that may ask
 abbrev pub ghosts-count_at-S-PortSet : goal.ghosts-count_at-S-PortSet

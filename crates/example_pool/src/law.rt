@@ -1,7 +1,7 @@
 //! The law of the line.
 ghost use Rattle.line_lanes.specs.Lane.{lane_of};
 ghost use Rattle.std.proofs.Math.Nat.{le_refl, le_trans};
-ghost use Rattle.example_gate.specs.NeverFalls.{IsNotBelow};
+ghost use Rattle.example_pool.specs.NeverFalls.{IsNotBelow};
 
 use line_pool::Chains;
 use qolb_model::Keep;

@@ -1,16 +1,12 @@
 //! Threads come and go to a line with a gate: each enters for a turn, adds 1 to the first lane, and leaves. Then one thread is alone, enters
 //! twice by the gate, and shuts the line. By the line's law the first lane never falls.
-#![tactic(auto)]
 
 ghost use Rattle.std.specs.Prelude.{◌≡◌, ◌<◌, None, All, vec_len};
 ghost use Rattle.line_pool.specs.Lending.{MayAsk, IsPortSetOf};
 ghost use Rattle.line_pool.specs.Gated.{IsKeptSetOf};
-ghost use Rattle.example_gate.specs.NeverFalls.{IsNotBelow};
+ghost use Rattle.example_pool.specs.NeverFalls.{IsNotBelow};
 
-mod law;
-
-use anyhow::Context;
-use law::NeverFalls;
+use crate::law::NeverFalls;
 use line_blocking::scoped::{ScopedTask, run_scoped};
 use line_lanes::{Line64, Mask, lane, with_lane};
 use line_pool::{GateSet, GateTurn, GatedPool};
@@ -19,7 +15,6 @@ use std::alloc::Global;
 use std::marker::Brand;
 use std::sync::Wait;
 use std::thread::Threads;
-use ticket_line::TicketLine;
 
 /// All bytes of a line.
 const WHOLE: Mask = Mask(0xffff_ffff_ffff_ffff);
@@ -123,13 +118,10 @@ where
 }
 
 /// Opens a line with `nodes` ports for `threads` threads, and returns what `count_at` does; `None` also if the line is refused.
-fn count<R: Threads + Wait + Sync, L: OpenLine<NeverFalls> + ParkingLine<NeverFalls> + Sync + Drop>(
-    rt: &R,
-    alloc: Global,
-    nodes: u64,
-    threads: usize,
-    visits: u64,
-) -> Option<(u64, bool)>
+pub fn count<
+    R: Threads + Wait + Sync,
+    L: OpenLine<NeverFalls> + ParkingLine<NeverFalls> + Sync + Drop,
+>(rt: &R, alloc: Global, nodes: u64, threads: usize, visits: u64) -> Option<(u64, bool)>
 where
     L::Port: Send + Drop,
 {
@@ -140,14 +132,4 @@ where
     };
     let (line, ports) = L::open_with(alloc, 1, config).ok()?;
     count_at::<R, L, Brand>(rt, alloc, line, ports, threads, visits)
-}
-
-fn main(rt: HostRuntime) -> anyhow::Result<()> {
-    let found = count::<HostRuntime, TicketLine<NeverFalls>>(&rt, rt.alloc(), 3, 12, 500);
-    let (number, by_one) = found.context("no memory or no thread")?;
-    println!(rt;
-        "12 threads came 500 times each, to a line with a gate; then one came 3 times: {number}"
-    )?;
-    println!(rt; "alone it entered by one port, and shut the line: {by_one}")?;
-    Ok(())
 }

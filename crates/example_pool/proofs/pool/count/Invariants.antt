@@ -1,6 +1,6 @@
 use Rattle.std.proofs.Common.{vec_len}
 use Rattle.line_pool.specs.Lending.{MayAsk}
-use Rattle.example_pool.proofs.count.Given as goal
+use Rattle.example_pool.proofs.pool.count.Given as goal
 
 -- the lent ports are ports of the line that may ask
 abbrev pub ghosts-count_at : goal.ghosts-count_at
