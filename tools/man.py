@@ -59,7 +59,8 @@ def running(lines):
             out.append(filled(" ".join(text)))
             text.clear()
 
-    if not re.match(r"- |[\w, ]+: ", lines[0]):
+    of_words = re.match(r"[\w, ]+: ", lines[0])
+    if not of_words and not lines[0].startswith("- "):
         out.append(".PP")
     for line in lines:
         line = line.strip()
@@ -67,7 +68,7 @@ def running(lines):
             flush()
             out.append(".IP \\(bu 2")
             text.append(line[2:])
-        elif re.match(r"[a-z]+(, [a-z]+)?: ", line):
+        elif of_words and re.match(r"[a-z]+(, [a-z]+)?: ", line):
             flush()
             word, rest = line.split(": ", 1)
             out.append(f".TP\n.B {word}")
@@ -124,7 +125,8 @@ def prototype(line):
 def calls(text):
     """Each group of declarations with the comment above it."""
     for match in re.finditer(r"(/\*(?:(?!\*/).)*\*/)\n((?:(?!/\*)[^\n]+\n)+)", text, re.S):
-        told = [made for made in map(prototype, match[2].split("\n")) if made]
+        lines = re.sub(r",\n +", ", ", match[2]).split("\n")
+        told = [made for made in map(prototype, lines) if made]
         if told:
             yield told, uncommented(match[1])
 

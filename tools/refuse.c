@@ -1,7 +1,8 @@
-/* A library to preload that makes one call of a program fail. REFUSE names the kind and number of the call, as memory:3, thread:1, read:2 or write:5;
-   with SHORT set each read and write of several bytes moves one, and with INTERRUPT set each read and write is interrupted once before it
-   is done. If a call was made to fail, a byte is written to the file descriptor REFUSE_TELL. At the program's end the bytes of memory that it asked
-   for in all are written to TAKEN_TELL. For Linux with glibc. */
+/* A library to preload that makes one call of a program fail. REFUSE names the kind and number of the call, as
+ * memory:3, thread:1, read:2 or write:5; with SHORT set each read and write of several bytes moves one, and with
+ * INTERRUPT set each read and write is interrupted once before it is done. If a call was made to fail, a byte is
+ * written to the file descriptor REFUSE_TELL. At the program's end the bytes of memory that it asked for in all are
+ * written to TAKEN_TELL. For Linux with glibc. */
 #define _GNU_SOURCE
 #include <dlfcn.h>
 #include <errno.h>
@@ -29,48 +30,48 @@ static int interrupts = 0;
 static atomic_ulong taken = 0;
 
 __attribute__((constructor)) static void set_up(void) {
-  static const char *const names[] = {"", "memory:", "thread:", "read:", "write:"};
-  const char *told = getenv("REFUSE_TELL");
-  tell = told ? atoi(told) : -1;
-  is_short = getenv("SHORT") != NULL;
-  interrupts = getenv("INTERRUPT") != NULL;
-  const char *what = getenv("REFUSE");
-  for (int k = MEMORY; what && k <= WRITE; k++) {
-    size_t length = strlen(names[k]);
-    if (strncmp(what, names[k], length) == 0) {
-      at = atol(what + length);
-      kind = (enum kind)k;
+    static const char *const names[] = {"", "memory:", "thread:", "read:", "write:"};
+    const char *told = getenv("REFUSE_TELL");
+    tell = told ? atoi(told) : -1;
+    is_short = getenv("SHORT") != NULL;
+    interrupts = getenv("INTERRUPT") != NULL;
+    const char *what = getenv("REFUSE");
+    for (int k = MEMORY; what && k <= WRITE; k++) {
+        size_t length = strlen(names[k]);
+        if (strncmp(what, names[k], length) == 0) {
+            at = atol(what + length);
+            kind = (enum kind)k;
+        }
     }
-  }
 }
 
 static int is_refused(enum kind of) {
-  if (of != kind || atomic_fetch_add(&calls, 1) + 1 != at) {
-    return 0;
-  }
-  syscall(SYS_write, tell, "x", 1);
-  return 1;
+    if (of != kind || atomic_fetch_add(&calls, 1) + 1 != at) {
+        return 0;
+    }
+    syscall(SYS_write, tell, "x", 1);
+    return 1;
 }
 
 /* Ends the program. */
 void _exit(int status) {
-  const char *told = getenv("TAKEN_TELL");
-  if (told) {
-    dprintf(atoi(told), "%lu", atomic_load(&taken));
-  }
-  for (;;) {
-    syscall(SYS_exit_group, status);
-  }
+    const char *told = getenv("TAKEN_TELL");
+    if (told) {
+        dprintf(atoi(told), "%lu", atomic_load(&taken));
+    }
+    for (;;) {
+        syscall(SYS_exit_group, status);
+    }
 }
 
 static void *no_memory(void) {
-  errno = ENOMEM;
-  return NULL;
+    errno = ENOMEM;
+    return NULL;
 }
 
 static int is_taken(size_t size) {
-  atomic_fetch_add(&taken, size);
-  return !is_refused(MEMORY);
+    atomic_fetch_add(&taken, size);
+    return !is_refused(MEMORY);
 }
 
 void *malloc(size_t size) { return is_taken(size) ? __libc_malloc(size) : no_memory(); }
@@ -82,41 +83,41 @@ void *realloc(void *block, size_t size) { return is_taken(size) ? __libc_realloc
 void *aligned_alloc(size_t align, size_t size) { return is_taken(size) ? __libc_memalign(align, size) : no_memory(); }
 
 int posix_memalign(void **block, size_t align, size_t size) {
-  *block = is_taken(size) ? __libc_memalign(align, size) : NULL;
-  return *block ? 0 : ENOMEM;
+    *block = is_taken(size) ? __libc_memalign(align, size) : NULL;
+    return *block ? 0 : ENOMEM;
 }
 
 int pthread_create(pthread_t *thread, const pthread_attr_t *attributes, void *(*body)(void *), void *argument) {
-  if (is_refused(THREAD)) {
-    return EAGAIN;
-  }
-  int (*create)(pthread_t *, const pthread_attr_t *, void *(*)(void *), void *) = dlsym(RTLD_NEXT, "pthread_create");
-  return create(thread, attributes, body, argument);
+    if (is_refused(THREAD)) {
+        return EAGAIN;
+    }
+    int (*create)(pthread_t *, const pthread_attr_t *, void *(*)(void *), void *) = dlsym(RTLD_NEXT, "pthread_create");
+    return create(thread, attributes, body, argument);
 }
 
 static int is_interrupted(void) {
-  static int was = 0;
-  was = interrupts && !was;
-  return was;
+    static int was = 0;
+    was = interrupts && !was;
+    return was;
 }
 
 static ssize_t moved(enum kind of, long call, int file, void *bytes, size_t size) {
-  if (is_interrupted()) {
-    errno = EINTR;
-    return -1;
-  }
-  if (is_refused(of)) {
-    errno = EIO;
-    return -1;
-  }
-  return syscall(call, file, bytes, is_short && size > 1 ? 1 : size);
+    if (is_interrupted()) {
+        errno = EINTR;
+        return -1;
+    }
+    if (is_refused(of)) {
+        errno = EIO;
+        return -1;
+    }
+    return syscall(call, file, bytes, is_short && size > 1 ? 1 : size);
 }
 
 ssize_t read(int file, void *bytes, size_t size) { return moved(READ, SYS_read, file, bytes, size); }
 
 /* What the program writes to standard error is left alone. */
 ssize_t write(int file, const void *bytes, size_t size) {
-  return file == 2 ? syscall(SYS_write, file, bytes, size) : moved(WRITE, SYS_write, file, (void *)bytes, size);
+    return file == 2 ? syscall(SYS_write, file, bytes, size) : moved(WRITE, SYS_write, file, (void *)bytes, size);
 }
 
 ssize_t __write(int file, const void *bytes, size_t size) { return write(file, bytes, size); }

@@ -124,7 +124,7 @@ FAULTS = {
     "a shut is not known to who gives up": ("    atomic_store(&hall->is_shut, 1);\n", ""),
     "who was late with a seat does not look whether the lock is shut": ("got == QOLB_LATE ? closed_or(me->hall, got) : got", "got"),
     "who was late at the door does not look whether the lock is shut": ("        if (got == QOLB_LATE) got = closed_or(me->hall, got);\n", ""),
-    "who tries does not look whether the lock is shut": ("qolb_lock_holder(lock)) return closed_or(hall, QOLB_BUSY);\n", "qolb_lock_holder(lock)) return QOLB_BUSY;\n"),
+    "who tries does not look whether the lock is shut": ("qolb_lock_holder(lock))\n        return closed_or(hall, QOLB_BUSY);\n", "qolb_lock_holder(lock))\n        return QOLB_BUSY;\n"),
     "nodes: the sleeper does not count itself at its bell": (COUNT + ANYWHERE, ANYWHERE),
     "nodes: the sleeper does not count itself in its line": (COUNT + ANYWHERE, (COUNT + ANYWHERE).replace(IN_LINE, ""), "    atomic_fetch_sub(waiting_in_line(node), 1);\n", ""),
     "nodes: the sleeper does not count itself at any bell": (COUNT + ANYWHERE, COUNT + IN_LINE),
@@ -181,10 +181,10 @@ BEFORE_GATE = "    go_in_by(hall, kept);\n" + KEEPS
 ENDS_KEPT = "    atomic_store(&hall->gate, QUEUED_UP);\n    qolb_end_turn_(hall, hall->held_by, release);\n"
 GOES_IN = "    return gate & OPEN && atomic_compare_exchange_strong(&hall->gate, &gate, own_number() + (gate ^ OPEN));\n"
 GOES_IN_AT_ONCE = "    return gate & OPEN && atomic_compare_exchange_strong(&hall->gate, &gate, me + (gate ^ OPEN));\n"
-TAKES_BACK = "    if (atomic_compare_exchange_strong(&hall->gate, &gate, QUEUED_UP)) qolb_end_turn_(hall, hall->held_by, qolb_deqolb_proved_);\n"
+TAKES_BACK = "    if (atomic_compare_exchange_strong(&hall->gate, &gate, QUEUED_UP))\n        qolb_end_turn_(hall, hall->held_by, qolb_deqolb_proved_);\n"
 OPENS = "    if (!(*gate & ASLEEP)) return atomic_compare_exchange_strong(&hall->gate, gate, open);\n"
 ENDS_SO = "release == qolb_deqolb_proved_ && !(gate & CALLED) && !is_last(hall, gate)"
-LEAVES_AT_ONCE = "    if (atomic_load_explicit(&hall->gate, memory_order_relaxed) == gate && atomic_compare_exchange_strong(&hall->gate, &gate, OPEN)) return QOLB_DONE;\n"
+LEAVES_AT_ONCE = "    if (atomic_load_explicit(&hall->gate, memory_order_relaxed) == gate &&\n        atomic_compare_exchange_strong(&hall->gate, &gate, OPEN))\n        return QOLB_DONE;\n"
 FAULTS |= {
     "the gate is opened without a second look": (KEEPS, "    qolb_leave_gate_(hall, atomic_load(&hall->gate), qolb_deqolb_proved_);\n"),
     "the gate is opened before the second look": (BEFORE_GATE, "    go_in_by(hall, kept);\n    atomic_store(&hall->gate, OPEN);\n    if (!is_alone(hall, kept)) qolb_take_back_(hall, OPEN);\n"),
@@ -329,7 +329,7 @@ FAULTS |= {
     "tasks: a lock is closed while its guard is taken": ("    take_guard(&hall->guard); /* who served the last task returns it first */\n", ""),
     "tasks: a task counts itself behind its look at the gate": (AT_THE_GATE, "    int is_in = goes_in(hall);\n    atomic_fetch_add(&hall->tasks, 1);\n    if (is_in) {\n"),
     "tasks: a task does not call who is in": ("    while (gate != QUEUED_UP && !(gate & CALLED)) {\n        int opens", "    while (gate & OPEN) {\n        int opens"),
-    "tasks: two go in by one gate": ("        if (atomic_compare_exchange_strong(&hall->gate, &gate, opens ? BY_TASK + (gate ^ OPEN) : gate | CALLED)) return opens;\n", "        atomic_store(&hall->gate, opens ? BY_TASK + (gate ^ OPEN) : gate | CALLED);\n        return opens;\n"),
+    "tasks: two go in by one gate": ("        if (atomic_compare_exchange_strong(&hall->gate, &gate, opens ? BY_TASK + (gate ^ OPEN) : gate | CALLED))\n            return opens;\n", "        atomic_store(&hall->gate, opens ? BY_TASK + (gate ^ OPEN) : gate | CALLED);\n        return opens;\n"),
     "tasks: who keeps its turn looks for no task": ("atomic_load(&hall->at_door) || waits_without_thread(hall)", "atomic_load(&hall->at_door)"),
     "tasks: a burst begins without a look for tasks": ("waits_without_thread(hall) || (watcher", "(watcher", "    else if (waits_without_thread(hall)) qolb_end_turn_(hall, kept, qolb_deqolb_proved_);\n", ""),
     "tasks: a burst begins without a second look for tasks": ("waits_without_thread(hall) || (watcher", "(watcher"),

@@ -1,8 +1,15 @@
-// The words of the ring and the ticket line: a ticket, cells, and a word for each node. The words that nodes poll are apart, so that they share no cache
-// line.
+// The words of the ring and the ticket line: a ticket, cells, and a word for each node. The words that nodes poll are
+// apart, so that they share no cache line.
 #include "line.h"
 
-enum { CELLS = 256, NODE_STRIDE = 16, CELL_STRIDE = 8, TICKET = NODE_STRIDE, FIRST_CELL = NODE_STRIDE * (MAX_NODES + 2), WORDS = FIRST_CELL + CELLS * CELL_STRIDE };
+enum {
+    CELLS = 256,
+    NODE_STRIDE = 16,
+    CELL_STRIDE = 8,
+    TICKET = NODE_STRIDE,
+    FIRST_CELL = NODE_STRIDE * (MAX_NODES + 2),
+    WORDS = FIRST_CELL + CELLS * CELL_STRIDE
+};
 
 static _Alignas(128) _Atomic uint64_t words[WORDS];
 

@@ -1,12 +1,14 @@
-/* Times entering and leaving a lock that no other thread wants, by one thread: a qolb_lock beside a node of the same line (qolb_acquire and
- * qolb_deqolb); a lock as it is by default, also while a thread waits at its condition; one with bursts; a pthread_mutex, and with -DMCS, which needs Debian's package
- * libck-dev, Concurrency Kit's MCS lock. The program has a second thread. With an older library there is no default lock.
+/* Times entering and leaving a lock that no other thread wants, by one thread: a qolb_lock beside a node of the same
+ * line (qolb_acquire and qolb_deqolb); a lock as it is by default, also while a thread waits at its condition; one with
+ * bursts; a pthread_mutex, and with -DMCS, which needs Debian's package libck-dev, Concurrency Kit's MCS lock. The
+ * program has a second thread. With an older library there is no default lock.
  *
  *   cc -std=c11 -O2 -pthread -Ic/include c/bench/enter.c c/build/libqolb.a -o enter && ./enter [BATCHES]
  *
- * Prints nanoseconds a round: the least and the median of BATCHES batches (101), in which the ways take turns, as multiples of the mutex's, too, and
- * each lock's as a multiple of those of its node. The least is the figure to take if the machine has other work. With a second argument, ./enter 1 "qolb_lock,
- * ticket", it does 10,000 rounds of that way alone, to be counted by valgrind --tool=callgrind --toggle-collect='rounds_of*'. */
+ * Prints nanoseconds a round: the least and the median of BATCHES batches (101), in which the ways take turns, as
+ * multiples of the mutex's, too, and each lock's as a multiple of those of its node. The least is the figure to take if
+ * the machine has other work. With a second argument, ./enter 1 "qolb_lock, ticket", it does 10,000 rounds of that way
+ * alone, to be counted by valgrind --tool=callgrind --toggle-collect='rounds_of*'. */
 #define _DEFAULT_SOURCE
 #include "kinds.h"
 #include <pthread.h>
@@ -30,13 +32,13 @@ static _Alignas(QOLB_NODE_ALIGN) qolb_lock locks[LOCKS];
 static qolb_cond cond = QOLB_COND_INIT;
 static pthread_mutex_t mutex = PTHREAD_MUTEX_INITIALIZER;
 
-#define ROUNDS_OF(name, enters, leaves)                                                \
-    static void rounds_of_##name(uint32_t kind) {                                      \
-        (void)kind;                                                                    \
-        for (int k = 0; k < ROUNDS; k++) {                                             \
-            if (enters) abort();                                                       \
-            if (leaves) abort();                                                       \
-        }                                                                              \
+#define ROUNDS_OF(name, enters, leaves)           \
+    static void rounds_of_##name(uint32_t kind) { \
+        (void)kind;                               \
+        for (int k = 0; k < ROUNDS; k++) {        \
+            if (enters) abort();                  \
+            if (leaves) abort();                  \
+        }                                         \
     }
 
 ROUNDS_OF(node, qolb_acquire(&nodes[kind]) != QOLB_GRANTED, qolb_deqolb(&nodes[kind]) != QOLB_DONE)
@@ -114,7 +116,8 @@ static void opens(void) {
 /* In a process of one thread the C library's mutex takes no locked instruction. */
 static void *sleeps(void *unused) {
 #ifdef QOLB_LOCK_INIT_DEFAULT
-    if (qolb_lock_enter(&locks[WAITED]) != QOLB_GRANTED || qolb_cond_wait(&cond, &locks[WAITED]) != QOLB_GRANTED) abort();
+    if (qolb_lock_enter(&locks[WAITED]) != QOLB_GRANTED || qolb_cond_wait(&cond, &locks[WAITED]) != QOLB_GRANTED)
+        abort();
 #else
     pause();
 #endif
@@ -153,8 +156,10 @@ int main(int argc, char **argv) {
     }
     for (int k = 0; k < count; k++) {
         const double *it = took[k], *before = took[k - 1 + (k == 0)];
-        printf("%-18s least %5.1f median %5.1f   %.2f and %.2f of the mutex's", ways[k].name, it[0], it[batches / 2], it[0] / mutexes[0], it[batches / 2] / mutexes[batches / 2]);
-        if (ways[k].rounds == rounds_of_lock && ways[k].kind < QOLB_KINDS) printf("   %.2f and %.2f of the node's", it[0] / before[0], it[batches / 2] / before[batches / 2]);
+        printf("%-18s least %5.1f median %5.1f   %.2f and %.2f of the mutex's", ways[k].name, it[0], it[batches / 2],
+               it[0] / mutexes[0], it[batches / 2] / mutexes[batches / 2]);
+        if (ways[k].rounds == rounds_of_lock && ways[k].kind < QOLB_KINDS)
+            printf("   %.2f and %.2f of the node's", it[0] / before[0], it[batches / 2] / before[batches / 2]);
         puts("");
     }
     return 0;

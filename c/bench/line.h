@@ -16,8 +16,8 @@ struct payload {
     uint8_t closed;
 };
 
-// With -DCOPIES the line is copied out and in as in a program whose turn may do anything with it. Else clang sees through both copies:
-// it adds to lane 0 in the slot, and copies nothing.
+// With -DCOPIES the line is copied out and in as in a program whose turn may do anything with it. Else clang sees
+// through both copies: it adds to lane 0 in the slot, and copies nothing.
 #ifdef COPIES
 #define USED(held) __asm__ volatile("" : : "r"(held) : "memory")
 #else
@@ -33,7 +33,8 @@ static void take(struct payload *held, const struct payload *slot) {
     USED(held);
 }
 
-// Stores the line in a slot at the end of a turn: its bytes, the turns left under a lease, and the closed mark once it is set.
+// Stores the line in a slot at the end of a turn: its bytes, the turns left under a lease, and the closed mark once it
+// is set.
 static void put(const struct payload *held, struct payload *slot) {
     USED(held);
     memcpy(slot->bytes, held->bytes, 64);
@@ -44,8 +45,7 @@ static void put(const struct payload *held, struct payload *slot) {
 static void write_masked(struct payload *held, uint64_t mask, const uint8_t bytes[64]) {
     for (int lane = 0; lane < 8; lane++) {
         uint64_t part = mask >> (8 * lane) & 0xff;
-        if (part == 0xff)
-            memcpy(held->bytes + 8 * lane, bytes + 8 * lane, 8);
+        if (part == 0xff) memcpy(held->bytes + 8 * lane, bytes + 8 * lane, 8);
         else
             for (int k = 8 * lane; part; k++, part >>= 1)
                 if (part & 1) held->bytes[k] = bytes[k];
@@ -64,8 +64,6 @@ static void add_one(struct payload *held) {
 
 // Pauses between two polls: a single pause at first, and then a yield.
 static void pause_or_yield(unsigned *looks) {
-    if (++*looks <= SPINS)
-        __builtin_ia32_pause();
-    else
-        sched_yield();
+    if (++*looks <= SPINS) __builtin_ia32_pause();
+    else sched_yield();
 }

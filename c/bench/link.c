@@ -62,11 +62,11 @@ static void deqolb(struct port *p) {
     p->steps = 2;
     uint64_t next = atomic_fetch_add(entry_word(p->node), DONE) / LINK;
     if (next == 0) {
-        p->state = LEFT;  // for a late linker
+        p->state = LEFT; // for a late linker
         return;
     }
     p->steps = 3;
-    if (atomic_fetch_add(entry_word(next), GRANTED) & ROLLED) abort();  // no node withdraws here
+    if (atomic_fetch_add(entry_word(next), GRANTED) & ROLLED) abort(); // no node withdraws here
 }
 
 static void open_line(void) {}

@@ -1,12 +1,14 @@
-/* Turns at one lock, by threads that each want it again and again: how many a second, and the longest wait. And a table of locks that one thread enters at random.
+/* Turns at one lock, by threads that each want it again and again: how many a second, and the longest wait. And a table
+ * of locks that one thread enters at random.
  *
  *   cc -std=c11 -O2 -pthread -Ic/include c/bench/lock.c c/build/libqolb.a -o lock
  *   ./lock NAME THREADS MICROSECONDS[s] SECONDS    prints turns a second and the longest wait in microseconds
  *   ./lock NAME table LOCKS ROUNDS                 prints nanoseconds a round, and bytes of heap of each lock
  *
- * NAME is default, ring, link or ticket with a number of seats (link:4) and perhaps of turns of a burst (link:4+1024), node:ring, node:link or node:ticket, with a
- * node for each thread, mutex, or with -DMCS, which needs Debian's package libck-dev, mcs. The holder keeps its processor busy for MICROSECONDS, or with an s
- * sleeps so long, and adds 1 to a number. With an older library there is no default, and no burst. c/bench/locks and c/bench/bursts run it. */
+ * NAME is default, ring, link or ticket with a number of seats (link:4) and perhaps of turns of a burst (link:4+1024),
+ * node:ring, node:link or node:ticket, with a node for each thread, mutex, or with -DMCS, which needs Debian's package
+ * libck-dev, mcs. The holder keeps its processor busy for MICROSECONDS, or with an s sleeps so long, and adds 1 to a
+ * number. With an older library there is no default, and no burst. c/bench/locks and c/bench/bursts run it. */
 #define _DEFAULT_SOURCE
 #include "kinds.h"
 #include <malloc.h>
@@ -113,7 +115,8 @@ static int take_lock(const char *name) {
     for (uint32_t kind = 0; kind < QOLB_KINDS; kind++) {
         const char *named = qolb_kind_name(kind);
         size_t length = strlen(named);
-        if (strncmp(name, named, length) == 0 && name[length] == ':') return as = (qolb_lock)QOLB_LOCK_INIT_OF(kind, seats_of(name + length + 1)), 1;
+        if (strncmp(name, named, length) == 0 && name[length] == ':')
+            return as = (qolb_lock)QOLB_LOCK_INIT_OF(kind, seats_of(name + length + 1)), 1;
         as.kind = kind;
         if (strncmp(name, "node:", 5) == 0 && strcmp(name + 5, named) == 0) return way = BY_NODE, 1;
     }
@@ -135,7 +138,8 @@ static int turns(int threads, double seconds) {
     qolb_node nodes[MOST] = {{0}};
     uint64_t sum = 0, longest = 0;
     make(&only.object);
-    if (way == BY_NODE && qolb_open(as.kind, 1, (uint64_t)threads, QOLB_NO_LEASE, &zeros, nodes, MOST) != QOLB_DONE) return 1;
+    if (way == BY_NODE && qolb_open(as.kind, 1, (uint64_t)threads, QOLB_NO_LEASE, &zeros, nodes, MOST) != QOLB_DONE)
+        return 1;
     for (int k = 0; k < threads; k++) {
         workers[k].node = qolb_move(&nodes[k]);
         if (pthread_create(&workers[k].id, NULL, works, &workers[k]) != 0) return 1;
@@ -169,7 +173,8 @@ static int of_a_table(size_t locks, size_t rounds) {
     size_t before = mallinfo2().uordblks;
     for (size_t k = 0; k < locks; k++) enter(&table[k], &workers[0]), leave(&table[k], &workers[0]);
     size_t bytes = mallinfo2().uordblks - before;
-    for (size_t k = 0; k < 20 * locks; k++) enter(&table[k % locks], &workers[0]), leave(&table[k % locks], &workers[0]);
+    for (size_t k = 0; k < 20 * locks; k++)
+        enter(&table[k % locks], &workers[0]), leave(&table[k % locks], &workers[0]);
     uint64_t since = now();
     for (size_t k = 0; k < rounds; k++) {
         drawn = drawn * 6364136223846793005 + 1442695040888963407;
@@ -182,7 +187,8 @@ static int of_a_table(size_t locks, size_t rounds) {
 }
 
 int main(int argc, char **argv) {
-    if (argc != 5 || !take_lock(argv[1])) return fputs("lock NAME THREADS MICROSECONDS SECONDS, or lock NAME table LOCKS ROUNDS\n", stderr), 2;
+    if (argc != 5 || !take_lock(argv[1]))
+        return fputs("lock NAME THREADS MICROSECONDS SECONDS, or lock NAME table LOCKS ROUNDS\n", stderr), 2;
     if (strcmp(argv[2], "table") == 0) return of_a_table((size_t)atol(argv[3]), (size_t)atol(argv[4]));
     int threads = atoi(argv[2]);
     if (threads < 1 || threads > MOST) return 2;

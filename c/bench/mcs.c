@@ -2,8 +2,8 @@
 //
 //   clang -O3 -march=x86-64-v2 -pthread -o mcs c/bench/mcs.c && ./mcs THREADS ROUNDS
 //
-// A waiter pauses and yields as the waiters of the ring and the link line do; the kit's own waiter would only pause. The holder adds to the lane in
-// place: an MCS lock does not hand the line over, so nothing is copied.
+// A waiter pauses and yields as the waiters of the ring and the link line do; the kit's own waiter would only pause.
+// The holder adds to the lane in place: an MCS lock does not hand the line over, so nothing is copied.
 #include "line.h"
 
 #include <ck_pr.h>

@@ -2,8 +2,9 @@
 //
 //   notified WAY ROUNDS IDLE
 //
-// WAY is acquire (it sleeps in the library), eventfd, epoll, call (that sets a flag, at which the waiter looks), coroutine, or poll. Before each release the waiter
-// has waited for IDLE microseconds. Prints nanoseconds: the median, and the time that nine of ten rounds take at most.
+// WAY is acquire (it sleeps in the library), eventfd, epoll, call (that sets a flag, at which the waiter looks),
+// coroutine, or poll. Before each release the waiter has waited for IDLE microseconds. Prints nanoseconds: the median,
+// and the time that nine of ten rounds take at most.
 #include <qolb.hpp>
 
 #include <algorithm>
@@ -25,7 +26,8 @@ static std::uint64_t released_at; // by the holder, who then hands over the line
 static std::vector<std::uint64_t> times;
 
 static std::uint64_t now() {
-    return static_cast<std::uint64_t>(std::chrono::steady_clock::now().time_since_epoch() / std::chrono::nanoseconds(1));
+    return static_cast<std::uint64_t>(std::chrono::steady_clock::now().time_since_epoch() /
+                                      std::chrono::nanoseconds(1));
 }
 
 static void must(std::uint32_t got, std::uint32_t wanted) {
@@ -72,7 +74,9 @@ static void call() {
     static std::atomic<int> is_called;
     is_called = 0;
     must(qolb_enqolb(&nodes[1]), QOLB_QUEUED);
-    must(qolb_notify(&nodes[1], [](void *) { is_called = 1; }, nullptr), QOLB_WAITING);
+    must(qolb_notify(
+             &nodes[1], [](void *) { is_called = 1; }, nullptr),
+         QOLB_WAITING);
     while (!is_called) {}
     must(qolb_poll(&nodes[1]), QOLB_GRANTED);
 }
@@ -98,7 +102,8 @@ static void by_epoll() {
     must(qolb_poll(&nodes[1]), QOLB_GRANTED);
 }
 
-// A loop whose thread sleeps at a condition variable while nothing is posted. At most one is, as there is one coroutine.
+// A loop whose thread sleeps at a condition variable while nothing is posted. At most one is, as there is one
+// coroutine.
 class Loop {
   public:
     void post(qolb::Ready &it) {
@@ -143,7 +148,8 @@ static Job coroutine(Loop &loop, long rounds) {
 static const struct {
     const char *name;
     void (*waits)();
-} ways[] = {{"acquire", acquire}, {"eventfd", by_eventfd}, {"epoll", by_epoll}, {"call", call}, {"poll", poll}, {"coroutine", nullptr}};
+} ways[] = {{"acquire", acquire}, {"eventfd", by_eventfd}, {"epoll", by_epoll},
+            {"call", call},       {"poll", poll},          {"coroutine", nullptr}};
 
 static void waits(const char *name, long rounds) {
     for (auto &way : ways) {
@@ -167,5 +173,6 @@ int main(int argc, char **argv) {
     waits(argv[1], rounds);
     holder.join();
     std::sort(times.begin(), times.end());
-    std::printf("%llu %llu\n", static_cast<unsigned long long>(times[times.size() / 2]), static_cast<unsigned long long>(times[times.size() * 9 / 10]));
+    std::printf("%llu %llu\n", static_cast<unsigned long long>(times[times.size() / 2]),
+                static_cast<unsigned long long>(times[times.size() * 9 / 10]));
 }

@@ -32,7 +32,7 @@ static void deqolb(struct port *p) {
     p->steps = 2;
     atomic_store(cell_word(p->cell), 0);
     uint64_t old = atomic_fetch_add(cell_word(p->cell + 1), 1);
-    if (old >> 8) abort();  // no node withdraws here
+    if (old >> 8) abort(); // no node withdraws here
 }
 
 static void open_line(void) { atomic_store(cell_word(0), 1); }

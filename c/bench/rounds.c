@@ -1,9 +1,10 @@
-/* Times rounds from C, to be compared with those of bench: each thread requests the line, adds 1 to lane 0 and releases.
+/* Times rounds from C, to be compared with those of bench: each thread requests the line, adds 1 to lane 0 and
+ * releases.
  *
  *   make -C c/tests rounds && c/build/tests/rounds THREADS ROUNDS [ticket|ring|link] [lanes|lines] [apart|dense]
  *
- * Prints the lane sum, and nanoseconds a round over all threads. `lines` reads and writes whole lines instead of a lane. Handles are apart, or
- * with `dense` side by side as qolb_open writes them. */
+ * Prints the lane sum, and nanoseconds a round over all threads. `lines` reads and writes whole lines instead of a
+ * lane. Handles are apart, or with `dense` side by side as qolb_open writes them. */
 #define _POSIX_C_SOURCE 200809L
 #include <pthread.h>
 #include <qolb.h>

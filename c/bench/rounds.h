@@ -4,8 +4,8 @@
 //   static void one_round(struct port *p);                    asks, waits, adds 1 to lane 0 of the line, releases
 //   static const struct payload *last_line(uint64_t rounds);   the place of the line after these rounds of all threads
 //
-// A program is called as NAME THREADS ROUNDS. It prints the lane sum, and nanoseconds a round and rounds a second over all threads, from before the
-// first thread is started until the last has ended.
+// A program is called as NAME THREADS ROUNDS. It prints the lane sum, and nanoseconds a round and rounds a second over
+// all threads, from before the first thread is started until the last has ended.
 #include <pthread.h>
 #include <time.h>
 
@@ -34,6 +34,7 @@ int main(int argc, char **argv) {
     double ns = (to.tv_sec - from.tv_sec) * 1e9 + (to.tv_nsec - from.tv_nsec), all = (double)threads * rounds;
     uint64_t sum;
     memcpy(&sum, last_line(threads * rounds)->bytes, 8);
-    printf("threads %d rounds %.0f lane sum %llu ns a round %.1f rounds a second %.0f\n", threads, all, (unsigned long long)sum, ns / all, all / ns * 1e9);
+    printf("threads %d rounds %.0f lane sum %llu ns a round %.1f rounds a second %.0f\n", threads, all,
+           (unsigned long long)sum, ns / all, all / ns * 1e9);
     return sum == (uint64_t)threads * rounds ? 0 : 1;
 }

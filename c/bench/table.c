@@ -1,12 +1,15 @@
-/* A hash table with a lock for each bucket, used by threads for SECONDS seconds: lookups, additions and removals of random keys, some
- * of which are used much more often than others. Prints the operations a second, how evenly they fell to the threads (the least and the most
- * that a thread did, as shares of the mean), the longest time from one operation to the next of its thread, and how many each thread did.
+/* A hash table with a lock for each bucket, used by threads for SECONDS seconds: lookups, additions and removals of
+ * random keys, some of which are used much more often than others. Prints the operations a second, how evenly they fell
+ * to the threads (the least and the most that a thread did, as shares of the mean), the longest time from one operation
+ * to the next of its thread, and how many each thread did.
  *
- *   cc -std=c11 -O2 -pthread -Ic/include c/bench/table.c c/build/libqolb.a -o table && ./table LOCK THREADS BUCKETS SECONDS
+ *   cc -std=c11 -O2 -pthread -Ic/include c/bench/table.c c/build/libqolb.a -o table
+ *   ./table LOCK THREADS BUCKETS SECONDS
  *
- * LOCK is ticket, link or ring, a qolb_lock of that kind, or mutex, a pthread_mutex; with -DMCS, which needs Debian's package libck-dev, also MCS,
- * Concurrency Kit's, whose waiters poll 256 times and then yield between two polls. Before it ends it counts the entries, and compares
- * their number with the additions and removals that were done. c/bench/tables runs it with each. */
+ * LOCK is ticket, link or ring, a qolb_lock of that kind, or mutex, a pthread_mutex; with -DMCS, which needs Debian's
+ * package libck-dev, also MCS, Concurrency Kit's, whose waiters poll 256 times and then yield between two polls. Before
+ * it ends it counts the entries, and compares their number with the additions and removals that were done.
+ * c/bench/tables runs it with each. */
 #define _DEFAULT_SOURCE
 #include <pthread.h>
 #include <qolb.h>
@@ -176,8 +179,9 @@ static int tell(const char *lock, unsigned threads, double seconds) {
         if (it->longest > longest) longest = it->longest;
     }
     double mean = (double)sum / threads;
-    printf("%s %u threads %u buckets: %.0f operations a second, least %.2f, most %.2f, longest us %llu\nby thread:", lock, threads, buckets,
-           (double)sum / seconds, (double)least / mean, (double)most / mean, (unsigned long long)longest / 1000);
+    printf("%s %u threads %u buckets: %.0f operations a second, least %.2f, most %.2f, longest us %llu\nby thread:",
+           lock, threads, buckets, (double)sum / seconds, (double)least / mean, (double)most / mean,
+           (unsigned long long)longest / 1000);
     for (unsigned k = 0; k < threads; k++) printf(" %llu", (unsigned long long)workers[k].done);
     puts("");
     return entries() == wanted;

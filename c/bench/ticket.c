@@ -1,4 +1,5 @@
-// The ticket line in plain C, for comparison with the proved one: the same words, the same slots, the same steps and the same pauses.
+// The ticket line in plain C, for comparison with the proved one: the same words, the same slots, the same steps and
+// the same pauses.
 //
 //   clang -O3 -march=x86-64-v2 -pthread -o ticket c/bench/ticket.c && ./ticket THREADS ROUNDS
 //
@@ -18,7 +19,8 @@ struct port {
     uint64_t steps;
 };
 
-// The content of a cell that is granted to a ticket: its number modulo 2^56, above the eight bits of a node that withdrew.
+// The content of a cell that is granted to a ticket: its number modulo 2^56, above the eight bits of a node that
+// withdrew.
 static uint64_t granted(uint64_t ticket) { return (ticket + 1) << 8; }
 
 static int look(struct port *p) {
@@ -38,7 +40,7 @@ static void deqolb(struct port *p) {
     put(&p->payload, slot_of(p->ticket + 1));
     p->steps = 1;
     uint64_t next = p->ticket + 1, old = atomic_exchange(cell_word(next), granted(next));
-    if (old >> 8 == granted(next) >> 8) abort();  // no node withdraws here
+    if (old >> 8 == granted(next) >> 8) abort(); // no node withdraws here
 }
 
 static void open_line(void) { atomic_store(cell_word(0), granted(0)); }

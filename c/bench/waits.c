@@ -1,16 +1,17 @@
-// Threads take turns of one length at a lock for some time, and note how long they wait, as crates/bench_waits does at a line. The lock is a
-// pthread_mutex, or with -DMCS Concurrency Kit's MCS lock, which needs Debian's package libck-dev:
+// Threads take turns of one length at a lock for some time, and note how long they wait, as crates/bench_waits does at
+// a line. The lock is a pthread_mutex, or with -DMCS Concurrency Kit's MCS lock, which needs Debian's package
+// libck-dev:
 //
 //   clang -O3 -march=x86-64-v2 -pthread -o waits c/bench/waits.c && ./waits THREADS MICROSECONDS SECONDS
 //
-// With -DNODES it is a line of the C library whose threads have a node each (qolb_acquire), and with -DLOCK a qolb_lock, or with -DBURSTS=TURNS too one with bursts.
-// Both sleep at the library's bells:
+// With -DNODES it is a line of the C library whose threads have a node each (qolb_acquire), and with -DLOCK a
+// qolb_lock, or with -DBURSTS=TURNS too one with bursts. Both sleep at the library's bells:
 //
 //   make -C c
 //   clang -O3 -march=x86-64-v2 -pthread -DLOCK -Ic/include -o waits c/bench/waits.c c/build/libqolb.a
 //
-// The holder keeps its processor busy for MICROSECONDS, and adds 1 to a lane: with -DNODES to a lane of the line, which is handed
-// over, and else in place, so that nothing is copied.
+// The holder keeps its processor busy for MICROSECONDS, and adds 1 to a lane: with -DNODES to a lane of the line, which
+// is handed over, and else in place, so that nothing is copied.
 #include "line.h"
 
 #include <pthread.h>
@@ -156,7 +157,8 @@ int main(int argc, char **argv) {
     for (int k = 0; k < threads; k++) pthread_join(ids[k], NULL);
     double nanos = now_nanos() - start;
     uint64_t turns = all_turns, added = last_lane(), lost = turns > added ? turns - added : added - turns;
-    printf("threads %d us a turn %llu turns %llu lost %llu turns a second %.0f longest wait us %llu\n", threads, (unsigned long long)micros,
-           (unsigned long long)turns, (unsigned long long)lost, turns / nanos * 1e9, (unsigned long long)(longest_nanos / 1000));
+    printf("threads %d us a turn %llu turns %llu lost %llu turns a second %.0f longest wait us %llu\n", threads,
+           (unsigned long long)micros, (unsigned long long)turns, (unsigned long long)lost, turns / nanos * 1e9,
+           (unsigned long long)(longest_nanos / 1000));
     return lost ? 1 : 0;
 }

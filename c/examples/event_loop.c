@@ -1,4 +1,5 @@
-/* One thread serves four jobs that take turns at a lock, and waits in poll alone; another thread wants the same lock. Prints 5000. */
+/* One thread serves four jobs that take turns at a lock, and waits in poll alone; another thread wants the same lock.
+ * Prints 5000. */
 #define _GNU_SOURCE
 #include <poll.h>
 #include <pthread.h>

@@ -1,7 +1,8 @@
 /* A server on 127.0.0.1 whose connections take turns, by epoll with one loop and with four: to copy from.
  *
- * A client sends 'L' and gets 8 bytes, a number as it is when its connection has the turn; and sends 'U', which adds 1 and ends the turn. A client may go at any
- * time. No loop ever waits for a turn: it watches an eventfd of each connection beside its socket.
+ * A client sends 'L' and gets 8 bytes, a number as it is when its connection has the turn; and sends 'U', which adds 1
+ * and ends the turn. A client may go at any time. No loop ever waits for a turn: it watches an eventfd of each
+ * connection beside its socket.
  *
  * By a line each connection has a node of its own; by a lock a task, of which there may be any number.
  *
@@ -21,13 +22,13 @@
 #include <sys/socket.h>
 #include <unistd.h>
 
-#define MUST(call, wanted)                                                                     \
-    do {                                                                                       \
-        long long got_ = (long long)(call);                                                    \
-        if (got_ != (long long)(wanted)) {                                                     \
-            printf("line %d: %s gave %lld\n", __LINE__, #call, got_);                          \
-            exit(1);                                                                           \
-        }                                                                                      \
+#define MUST(call, wanted)                                            \
+    do {                                                              \
+        long long got_ = (long long)(call);                           \
+        if (got_ != (long long)(wanted)) {                            \
+            printf("line %d: %s gave %lld\n", __LINE__, #call, got_); \
+            exit(1);                                                  \
+        }                                                             \
     } while (0)
 
 enum { MOST = 128, MOST_LOOPS = 4 };
@@ -79,7 +80,8 @@ static void end_turn(struct connection *it) {
     }
 }
 
-/* GRANTED or WAITING. A node may be busy from a request that it gave up: this server gives up only as a connection goes, and its node with it. */
+/* GRANTED or WAITING. A node may be busy from a request that it gave up: this server gives up only as a connection
+ * goes, and its node with it. */
 static uint32_t ask(struct connection *it) {
     if (by_lock) return qolb_task_enter_fd(&it->task, &lock, it->event);
     uint32_t got = qolb_enqolb(it->node);
@@ -87,7 +89,9 @@ static uint32_t ask(struct connection *it) {
 }
 
 /* If the descriptor was told too early, it will be told again. */
-static uint32_t look(struct connection *it) { return by_lock ? qolb_task_poll(&it->task) : qolb_notify_fd(it->node, it->event); }
+static uint32_t look(struct connection *it) {
+    return by_lock ? qolb_task_poll(&it->task) : qolb_notify_fd(it->node, it->event);
+}
 
 static void answered(struct connection *it, uint32_t got) {
     if (got == QOLB_GRANTED) return begin_turn(it);
@@ -131,7 +135,8 @@ static void free_gone(struct loop *loop) {
     for (struct connection *it; (it = loop->gone); free(it)) loop->gone = it->next_gone;
 }
 
-/* One event at a time: a second one may be of a connection that the first has ended. The lowest bit of a pointer says that it is the eventfd. */
+/* One event at a time: a second one may be of a connection that the first has ended. The lowest bit of a pointer says
+ * that it is the eventfd. */
 static void *runs(void *argument) {
     struct loop *loop = argument;
     struct epoll_event event;

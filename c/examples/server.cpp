@@ -1,11 +1,13 @@
 // A server on 127.0.0.1 whose connections take turns, as C++20 coroutines over one loop and over four: to copy from.
 //
-// A client sends 'L' and gets 8 bytes, a number as it is when its connection has the turn; and sends 'U', which adds 1 and ends the turn. A client may go at
-// any time: its coroutine is destroyed, which takes its request back. No loop ever waits for a turn.
+// A client sends 'L' and gets 8 bytes, a number as it is when its connection has the turn; and sends 'U', which adds 1
+// and ends the turn. A client may go at any time: its coroutine is destroyed, which takes its request back. No loop
+// ever waits for a turn.
 //
 //   build/server_cpp [CONNECTIONS [ROUNDS]]
 //
-// The clients are in the same program. Prints only errors. A program that has a loop and coroutines of its own needs by_lock or by_node, and post and unpost.
+// The clients are in the same program. Prints only errors. A program that has a loop and coroutines of its own needs
+// by_lock or by_node, and post and unpost.
 #include <qolb.hpp>
 
 #include <arpa/inet.h>
@@ -171,7 +173,8 @@ static Job by_node(Loop &loop, int socket, qolb::Node node) {
 
 // ---- The clients ----
 
-// Takes turns; the last connection goes while it waits, and the one before while it holds. Returns the number of its additions.
+// Takes turns; the last connection goes while it waits, and the one before while it holds. Returns the number of its
+// additions.
 static int is_client(const sockaddr_in &address, int which, int rounds) {
     int fd = socket(AF_INET, SOCK_STREAM, 0), round = 0;
     must(connect(fd, reinterpret_cast<const sockaddr *>(&address), sizeof address) == 0, "connect");
@@ -225,9 +228,11 @@ int main(int argc, char **argv) {
     for (int many : {1, 4}) {
         qolb::Lock lock;
         std::uint64_t number = 0;
-        long added = run(many, connections, rounds, [&](Loop &loop, int socket) { by_lock(loop, socket, lock, number); });
+        long added = run(many, connections, rounds,
+                         [&](Loop &loop, int socket) { by_lock(loop, socket, lock, number); });
         if (static_cast<long>(number) != added) return 1;
-        auto [opened, nodes] = qolb::Node::open(QOLB_DEFAULT, 1, static_cast<std::uint64_t>(connections) + 1, qolb_bytes{});
+        auto [opened, nodes] = qolb::Node::open(QOLB_DEFAULT, 1, static_cast<std::uint64_t>(connections) + 1,
+                                                qolb_bytes{});
         if (opened != QOLB_DONE) return 1;
         std::vector<qolb::Node> &left = nodes; // a structured binding is captured by no lambda of older compilers
         added = run(many, connections, rounds, [&left](Loop &loop, int socket) {

@@ -1,7 +1,8 @@
 /* QOLB for C and C++: a queue lock that hands over 64 bytes with the lock.
  *
- * A line is 64 bytes that 1 to 200 nodes share. A node requests it, waits for its turn, reads and writes it, and releases it: lock and bytes are
- * handed to the oldest request. No request is overtaken. The library behind this header is proved; docs/PROVED.md says how far.
+ * A line is 64 bytes that 1 to 200 nodes share. A node requests it, waits for its turn, reads and writes it, and
+ * releases it: lock and bytes are handed to the oldest request. No request is overtaken. The library behind this header
+ * is proved; docs/PROVED.md says how far.
  *
  * EXAMPLE
  *
@@ -14,7 +15,7 @@
  *         if (qolb_open(QOLB_DEFAULT, 1, 2, QOLB_NO_LEASE, &zeros, node, 2) != QOLB_DONE) return 1;
  *
  *         // each thread has a node of its own: qolb_move(&node[0]), qolb_move(&node[1])
- *         uint32_t got = qolb_acquire_within(&node[0], 1000000);   // at most 1 ms; qolb_acquire waits as long as it takes
+ *         uint32_t got = qolb_acquire_within(&node[0], 1000000);   // at most 1 ms; qolb_acquire has no limit
  *         if (got == QOLB_GRANTED) {
  *             uint64_t was;
  *             qolb_add_lane(&node[0], 0, 1, &was);                 // what the last holder left, and one more
@@ -27,56 +28,64 @@
  *         return 0;
  *     }
  *
- *     cc prog.c $(pkg-config --cflags --libs qolb)         // or, with the archive alone: cc -IFOLDER_OF_qolb.h prog.c libqolb.a -pthread
+ *     cc prog.c $(pkg-config --cflags --libs qolb)
+ *     cc -IFOLDER_OF_qolb.h prog.c libqolb.a -pthread      // with the archive alone
  *
  * LOCKS
  *
- * If threads come and go, take a lock instead of nodes. A lock is a line and its nodes in one object, which any thread may enter and leave:
+ * If threads come and go, take a lock instead of nodes. A lock is a line and its nodes in one object, which any thread
+ * may enter and leave:
  *
  *     static qolb_lock lock = QOLB_LOCK_INIT_DEFAULT;      // for any number of threads, first come, first served
  *
- *     if (qolb_lock_enter(&lock) != QOLB_GRANTED) abort(); // waits; QOLB_NO_MEMORY at the first use, QOLB_CLOSED after a shut
+ *     if (qolb_lock_enter(&lock) != QOLB_GRANTED) abort(); // or NO_MEMORY at the first use, CLOSED after a shut
  *     table[key % SIZE] = value;
  *     qolb_lock_leave(&lock);
  *
- * So a pthread_mutex_t becomes a qolb_lock by its type, its initialiser, the names of its calls and the tests of their answers: success is QOLB_GRANTED,
- * which is not 0. A condition, qolb_cond, is for a lock what a pthread_cond_t is for a mutex. Times are lengths in nanoseconds from the call on, not points
- * in time. A lock in a struct starts as the same value:
+ * So a pthread_mutex_t becomes a qolb_lock by its type, its initialiser, the names of its calls and the tests of their
+ * answers: success is QOLB_GRANTED, which is not 0. A condition, qolb_cond, is for a lock what a pthread_cond_t is for
+ * a mutex. Times are lengths in nanoseconds from the call on, not points in time. A lock in a struct starts as the same
+ * value:
  *
  *     bucket->lock = (qolb_lock)QOLB_LOCK_INIT_DEFAULT;    // in C++ qolb_lock QOLB_LOCK_INIT_DEFAULT
  *
- * From its first use until qolb_lock_close a lock keeps the memory of its line and its seats: by default at most 3 kilobytes of heap (KINDS, below). A lock
- * that is never used takes nothing. QOLB_LOCK_INIT and QOLB_LOCK_INIT_OF choose kind and seats.
+ * From its first use until qolb_lock_close a lock keeps the memory of its line and its seats: by default at most 3
+ * kilobytes of heap (KINDS, below). A lock that is never used takes nothing. QOLB_LOCK_INIT and QOLB_LOCK_INIT_OF
+ * choose kind and seats.
  *
- * A thread that enters takes a free seat, which is a node of the lock's line, and makes a request. If no seat is free it waits at the lock's door, in order: so a
- * few seats serve any number of threads first come, first served. No thread whose call begins later is served before one that has made its request or has
- * come to the door, unless that one gives up. With a seat for each thread a waiter sleeps and wakes once for a turn, and at the door once more. The seat of
- * a thread that was late stays busy (BUSY, below) until a release has passed its request.
+ * A thread that enters takes a free seat, which is a node of the lock's line, and makes a request. If no seat is free
+ * it waits at the lock's door, in order: so a few seats serve any number of threads first come, first served. No thread
+ * whose call begins later is served before one that has made its request or has come to the door, unless that one gives
+ * up. With a seat for each thread a waiter sleeps and wakes once for a turn, and at the door once more. The seat of a
+ * thread that was late stays busy (BUSY, below) until a release has passed its request.
  *
- * While no thread waits, a lock keeps its line for whoever enters next: entering and leaving are then one change of a word each. Threads that wait at a
- * condition do not count.
+ * While no thread waits, a lock keeps its line for whoever enters next: entering and leaving are then one change of a
+ * word each. Threads that wait at a condition do not count.
  *
- * Such a lock is strict: each turn is handed to the thread that has waited longest. If threads enter again and again, a mutex has many times as many turns, as it
- * lets its last holder in again; but it bounds no wait. A lock with bursts is between the two:
+ * Such a lock is strict: each turn is handed to the thread that has waited longest. If threads enter again and again, a
+ * mutex has many times as many turns, as it lets its last holder in again; but it bounds no wait. A lock with bursts is
+ * between the two:
  *
  *     static qolb_lock lock = QOLB_LOCK_INIT_BURSTS(QOLB_LINK, 4, 1024);   // 4 seats, bursts of at most 1024 turns
  *
- * Its holder leaves it open, though threads wait, for whoever enters next: that is one burst. Those that wait keep their order. Before a thread with p threads
- * before it there are at most
+ * Its holder leaves it open, though threads wait, for whoever enters next: that is one burst. Those that wait keep
+ * their order. Before a thread with p threads before it there are at most
  *
  *     (p + 1) * (burst - 1)
  *
- * turns of calls that began later: to enter, to try, or the end of a wait at a condition. The hard limit, `burst`, is 2 to 65,535 turns. Usually fewer are made:
- * one of the waiting threads watches, and while it runs ends the burst after a sixteenth of the limit, after 1 ms, and once it finds the lock open and
- * unused. A strict lock has a burst of 0. There must be 2 seats or more.
+ * turns of calls that began later: to enter, to try, or the end of a wait at a condition. The hard limit, `burst`, is 2
+ * to 65,535 turns. Usually fewer are made: one of the waiting threads watches, and while it runs ends the burst after a
+ * sixteenth of the limit, after 1 ms, and once it finds the lock open and unused. A strict lock has a burst of 0. There
+ * must be 2 seats or more.
  *
- * Only the thread that entered may leave. A thread that enters a lock which it holds is told MISUSE. A thread that ends while it holds a lock releases nothing,
- * and all others wait; qolb_lock_holder returns its number, on Linux gettid's.
+ * Only the thread that entered may leave. A thread that enters a lock which it holds is told MISUSE. A thread that ends
+ * while it holds a lock releases nothing, and all others wait; qolb_lock_holder returns its number, on Linux gettid's.
  *
- * A static lock is opened at its first use. If there is no memory, each use is answered QOLB_NO_MEMORY, until there is some.
+ * A static lock is opened at its first use. If there is no memory, each use is answered QOLB_NO_MEMORY, until there is
+ * some.
  *
- * The holder may use the line's 64 bytes too: qolb_lock_turn lends it the node, to read and to write the line. For every other call that node is
- * misuse, and after the holder has left it is misuse for all.
+ * The holder may use the line's 64 bytes too: qolb_lock_turn lends it the node, to read and to write the line. For
+ * every other call that node is misuse, and after the holder has left it is misuse for all.
  *
  * Seats and the sleeping of threads are tested and not proved; every step on a line is a proved call.
  *
@@ -87,7 +96,8 @@
  * turn: the time from the grant of the line to its release. The node at its turn holds the line, and is its holder.
  * lane: one of the line's eight numbers of 64 bits. Lane k is bytes 8k to 8k + 7, the lowest first.
  * lease: the number of turns of a line. At the end of the last one it closes.
- * closed: no later request is served, and each is answered CLOSED, in their order. A holder closes the line (qolb_shut), or its lease is used up.
+ * closed: no later request is served, and each is answered CLOSED, in their order. A holder closes the line
+ * (qolb_shut), or its lease is used up.
  * predecessor, successor: the nodes whose requests are right before a node's own in the queue, and right behind.
  * withdrawn: taken back by its node, of a request. The release that reaches it passes it.
  * busy: not allowed to make a request yet, of a node (BUSY, below).
@@ -97,14 +107,17 @@
  *
  * A line is of one of three kinds, all under the same calls and promises:
  *
- * - QOLB_RING: a node takes a ticket and waits on a cell of its own. It takes at least 34 kilobytes, for any number of nodes.
- * - QOLB_LINK: a link line, whose queue is a linked list: a node links itself to its predecessor. Only this kind has requests in two calls,
- *   qolb_prepend and qolb_link, and a node that may be busy after its own release (BUSY, below). QOLB_LIST is its former name.
- * - QOLB_TICKET: a ticket line, a ring whose cells are granted by a number and never cleared. A release that passes no withdrawn request takes one step on
- *   shared words, where a ring's takes two. Take this one, by the name QOLB_DEFAULT, unless memory is short or you want requests in two calls.
+ * - QOLB_RING: a node takes a ticket and waits on a cell of its own. It takes at least 34 kilobytes, for any number of
+ *   nodes.
+ * - QOLB_LINK: a link line, whose queue is a linked list: a node links itself to its predecessor. Only this kind has
+ *   requests in two calls, qolb_prepend and qolb_link, and a node that may be busy after its own release (BUSY, below).
+ *   QOLB_LIST is its former name.
+ * - QOLB_TICKET: a ticket line, a ring whose cells are granted by a number and never cleared. A release that passes no
+ *   withdrawn request takes one step on shared words, where a ring's takes two. Take this one, by the name
+ *   QOLB_DEFAULT, unless memory is short or you want requests in two calls.
  *
- * Bytes of heap that an open line keeps, as the library asks malloc for them (qolb_memory, for any number of nodes). malloc takes some 16 more for
- * each of its blocks, which are the number of nodes and 3:
+ * Bytes of heap that an open line keeps, as the library asks malloc for them (qolb_memory, for any number of nodes).
+ * malloc takes some 16 more for each of its blocks, which are the number of nodes and 3:
  *
  *     nodes                 1         2         8        64       200
  *     ring             33,792    34,176    36,480    57,984   110,208
@@ -123,111 +136,132 @@
  * - Start a handle as zeros: `qolb_node node = {0};`.
  * - Move a handle, never copy it: qolb_move. Only these calls read or change its contents.
  * - Pass no null pointer, no freed one, and no two arguments that overlap.
- * - One call at a time for a handle. Different handles, also of one line, may be called by different threads at the same time.
+ * - One call at a time for a handle. Different handles, also of one line, may be called by different threads at the
+ *   same time.
  * - Hand a handle to another thread by a lock, a thread's start or join, or a sequentially consistent atomic.
- * - Use one copy of the library for a line or a lock: not the static one in the program and another one in what it opens at run time.
- * - Start a lock by QOLB_LOCK_INIT_DEFAULT, QOLB_LOCK_INIT or QOLB_LOCK_INIT_OF, a condition by QOLB_COND_INIT. Close a lock only if no thread is about
- *   to call it.
- * - Do not move or copy a lock or a condition once it is used. Close a lock before its memory goes. The memory of a condition may go when no thread is
- *   in a call on it.
+ * - Use one copy of the library for a line or a lock: not the static one in the program and another one in what it
+ *   opens at run time.
+ * - Start a lock by QOLB_LOCK_INIT_DEFAULT, QOLB_LOCK_INIT or QOLB_LOCK_INIT_OF, a condition by QOLB_COND_INIT. Close a
+ *   lock only if no thread is about to call it.
+ * - Do not move or copy a lock or a condition once it is used. Close a lock before its memory goes. The memory of a
+ *   condition may go when no thread is in a call on it.
  * - Leave a lock before the thread ends.
  * - Call nothing from a signal handler, nor in the forked child of a process with threads (PROCESSES, below).
  * - The program's malloc, realloc and free are of one allocator, which aligns as C asks.
  *
- * Every other call that its handle, node or lock does not allow is answered QOLB_MISUSE, or as the call says, and then nothing has changed.
+ * Every other call that its handle, node or lock does not allow is answered QOLB_MISUSE, or as the call says, and then
+ * nothing has changed.
  *
  * MEMORY ORDER
  *
- * A line guards any data, as a mutex does. All that a thread wrote anywhere in memory before its node's release is seen by
- * the thread whose node is granted the line next, and by those whose requests are answered CLOSED.
+ * A line guards any data, as a mutex does. All that a thread wrote anywhere in memory before its node's release is seen
+ * by the thread whose node is granted the line next, and by those whose requests are answered CLOSED.
  *
- * For the line's own 64 bytes this is proved. For other memory it follows: every step on a shared word is sequentially consistent, and a release writes the
- * next holder's word after all that its holder wrote.
+ * For the line's own 64 bytes this is proved. For other memory it follows: every step on a shared word is sequentially
+ * consistent, and a release writes the next holder's word after all that its holder wrote.
  *
  * WAITING
  *
- * Of the calls on a node two wait for other threads: qolb_acquire and qolb_acquire_within. They poll for some 1.5 us, with a pause of the processor between
- * two polls, yield the processor 16 times with a poll after each, and then sleep (on Linux by a futex, elsewhere for 200 us at a time) until the line is
- * released; then they poll anew. So does a thread that waits for a lock. At a condition it sleeps at once.
+ * Of the calls on a node two wait for other threads: qolb_acquire and qolb_acquire_within. They poll for some 1.5 us,
+ * with a pause of the processor between two polls, yield the processor 16 times with a poll after each, and then sleep
+ * (on Linux by a futex, elsewhere for 200 us at a time) until the line is released; then they poll anew. So does a
+ * thread that waits for a lock. At a condition it sleeps at once.
  *
- * A call that releases the line wakes at most two sleepers: the next holder, and the waiter behind it, which can wake up during the holder's turn. Such calls are
- * qolb_deqolb, qolb_shut, and every call that answers CLOSED. Leaving a lock also wakes the first two threads at its door; in a burst it wakes only the
- * thread that watches. Lines may share bells, and wake each other's waiters without effect.
+ * A call that releases the line wakes at most two sleepers: the next holder, and the waiter behind it, which can wake
+ * up during the holder's turn. Such calls are qolb_deqolb, qolb_shut, and every call that answers CLOSED. Leaving a
+ * lock also wakes the first two threads at its door; in a burst it wakes only the thread that watches. Lines may share
+ * bells, and wake each other's waiters without effect.
  *
- * No call wakes the thread of a busy node, and no notification tells of its end. That thread makes its request again 16 times, and then every 200 us.
+ * No call wakes the thread of a busy node, and no notification tells of its end. That thread makes its request again 16
+ * times, and then every 200 us.
  *
- * A granted line is its node's, even if the node has not polled: all nodes behind wait until its thread has woken up and had its turn.
+ * A granted line is its node's, even if the node has not polled: all nodes behind wait until its thread has woken up
+ * and had its turn.
  *
  * No turn is promised: a request reaches its turn once each earlier one has ended.
  *
- * No wait is a cancellation point. A thread that is cancelled while it waits is granted the line or is late, and ends at its next cancellation point. A thread
- * that may be cancelled at any instruction (PTHREAD_CANCEL_ASYNCHRONOUS) must make no call.
+ * No wait is a cancellation point. A thread that is cancelled while it waits is granted the line or is late, and ends
+ * at its next cancellation point. A thread that may be cancelled at any instruction (PTHREAD_CANCEL_ASYNCHRONOUS) must
+ * make no call.
  *
  * EVENT LOOPS
  *
- * A thread that serves many tasks, as an event loop does, must not wait for one of them. qolb_enqolb, qolb_poll and qolb_withdraw never wait, and
- * qolb_notify tells when the request is at its turn. Here an eventfd tells it, which epoll, poll or io_uring watches:
+ * A thread that serves many tasks, as an event loop does, must not wait for one of them. qolb_enqolb, qolb_poll and
+ * qolb_withdraw never wait, and qolb_notify tells when the request is at its turn. Here an eventfd tells it, which
+ * epoll, poll or io_uring watches:
  *
  *     uint32_t got = qolb_enqolb(&node);
- *     if (got == QOLB_QUEUED) got = qolb_notify_fd(&node, fd);   // WAITING: fd will be readable; then read it, and call qolb_notify_fd again
+ *     if (got == QOLB_QUEUED) got = qolb_notify_fd(&node, fd);   // WAITING: once fd is readable, read it and repeat
  *     if (got == QOLB_GRANTED) turn(&node);                      // and qolb_deqolb
  *
- * To give up: qolb_notify_off, then qolb_withdraw, and if that answers GRANTED, qolb_deqolb. No step of it waits for a turn of another node.
+ * To give up: qolb_notify_off, then qolb_withdraw, and if that answers GRANTED, qolb_deqolb. No step of it waits for a
+ * turn of another node.
  *
- * A notification is one call, `call(arg)`. The thread that releases the line makes it, after the release and inside the call that released, under whatever locks
- * that thread holds. So:
+ * A notification is one call, `call(arg)`. The thread that releases the line makes it, after the release and inside the
+ * call that released, under whatever locks that thread holds. So:
  *
- * - The call passes the news on: it sets a flag, makes a task ready, writes to a descriptor. It does not wait for another thread, throw, jump out or end the
- *   thread, which is not cancelled in it.
- * - The call may use any node that its thread may use, by calls that do not wait. A release in it makes its own calls after this one has returned, or, if 32
- *   are already put off, at once.
- * - qolb_notify, qolb_notify_fd, qolb_notify_off and qolb_close wait for a call of the same node in another thread, until it has returned or has said
- *   qolb_notify_done. A call says that before it takes a lock under which one of these four is made, before it resumes a coroutine, and before it makes one.
- * - A call may be early, though this is rare: then the request still waits. Call qolb_notify again, which polls and wants another call in one step.
+ * - The call passes the news on: it sets a flag, makes a task ready, writes to a descriptor. It does not wait for
+ *   another thread, throw, jump out or end the thread, which is not cancelled in it.
+ * - The call may use any node that its thread may use, by calls that do not wait. A release in it makes its own calls
+ *   after this one has returned, or, if 32 are already put off, at once.
+ * - qolb_notify, qolb_notify_fd, qolb_notify_off and qolb_close wait for a call of the same node in another thread,
+ *   until it has returned or has said qolb_notify_done. A call says that before it takes a lock under which one of
+ *   these four is made, before it resumes a coroutine, and before it makes one.
+ * - A call may be early, though this is rare: then the request still waits. Call qolb_notify again, which polls and
+ *   wants another call in one step.
  * - Poll after the call: all behind wait for it, also after a shut: each is told CLOSED once the one before has polled.
- * - A call may be late: after a turn that qolb_poll granted it is still made, until qolb_notify_off. Whatever `arg` is must last until then.
- * - Take a descriptor off before you close it. Call nothing from a signal handler. After a fork a release in the child writes to the parent's eventfd, too.
+ * - A call may be late: after a turn that qolb_poll granted it is still made, until qolb_notify_off. Whatever `arg` is
+ *   must last until then.
+ * - Take a descriptor off before you close it. Call nothing from a signal handler. After a fork a release in the child
+ *   writes to the parent's eventfd, too.
  *
- * Tasks enter a lock, too, beside threads, in one queue: qolb_task_enter asks for it, and a call tells when the task has it. No thread owns the turn: any thread
- * may go on with the task, one call at a time, and leave for it.
+ * Tasks enter a lock, too, beside threads, in one queue: qolb_task_enter asks for it, and a call tells when the task
+ * has it. No thread owns the turn: any thread may go on with the task, one call at a time, and leave for it.
  *
- *     uint32_t got = qolb_task_enter(&task, &lock, make_ready, &task);   // WAITING: the call will be made; then qolb_task_poll
+ *     uint32_t got = qolb_task_enter(&task, &lock, make_ready, &task);   // WAITING: after the call, qolb_task_poll
  *     if (got == QOLB_GRANTED) work(), qolb_task_leave(&task);
  *
- * What is said above of qolb_notify holds for that call; qolb_task_poll, qolb_task_cancel and qolb_task_leave wait for one in another thread. And:
+ * What is said above of qolb_notify holds for that call; qolb_task_poll, qolb_task_cancel and qolb_task_leave wait for
+ * one in another thread. And:
  *
- * - Every call by which a thread or a task enters, leaves, gives up or closes a lock may make calls of tasks. While a task waits no burst begins, and one that
- *   goes on ends with its turn.
- * - qolb_task_enter, qolb_task_cancel and qolb_task_leave wait for the end of other threads' calls at the door, and for no turn.
- * - A thread that waits for a lock which one of its own tasks holds waits for ever, if it would have to leave for that task. In an event loop let tasks enter,
- *   and never the loop's thread.
+ * - Every call by which a thread or a task enters, leaves, gives up or closes a lock may make calls of tasks. While a
+ *   task waits no burst begins, and one that goes on ends with its turn.
+ * - qolb_task_enter, qolb_task_cancel and qolb_task_leave wait for the end of other threads' calls at the door, and for
+ *   no turn.
+ * - A thread that waits for a lock which one of its own tasks holds waits for ever, if it would have to leave for that
+ *   task. In an event loop let tasks enter, and never the loop's thread.
  * - qolb_cond_wait is for threads alone. A task may signal.
  *
- * The thread sanitizer is told that what precedes qolb_notify precedes the call, and that the call precedes what follows qolb_notify_off.
+ * The thread sanitizer is told that what precedes qolb_notify precedes the call, and that the call precedes what
+ * follows qolb_notify_off.
  *
  * BUSY
  *
- * A withdrawn request stays in the queue until another node's release passes it, and until then its node is busy. A node of a link line may also be busy after
- * its own release, until its successor has linked. So ask again later; if a node before the withdrawn request never releases, for ever. qolb_acquire and
- * qolb_acquire_within ask again by themselves. qolb_clear tells if a node is busy, and makes no request.
+ * A withdrawn request stays in the queue until another node's release passes it, and until then its node is busy. A
+ * node of a link line may also be busy after its own release, until its successor has linked. So ask again later; if a
+ * node before the withdrawn request never releases, for ever. qolb_acquire and qolb_acquire_within ask again by
+ * themselves. qolb_clear tells if a node is busy, and makes no request.
  *
- * A thread whose node is busy is in no queue, and may be overtaken. Of a pool, take a node for which qolb_clear answers DONE.
+ * A thread whose node is busy is in no queue, and may be overtaken. Of a pool, take a node for which qolb_clear answers
+ * DONE.
  *
  * THREADS THAT END
  *
- * A thread that ends while its node holds the line, or waits for it, releases and withdraws nothing: the line stays with that node, and all nodes behind it
- * wait. Any thread that has the handle, and got it in one of the ways above, may go on with it: qolb_state tells the node's state.
+ * A thread that ends while its node holds the line, or waits for it, releases and withdraws nothing: the line stays
+ * with that node, and all nodes behind it wait. Any thread that has the handle, and got it in one of the ways above,
+ * may go on with it: qolb_state tells the node's state.
  *
  * PROCESSES
  *
- * A line is of one process. A fork copies it: parent and child then have a line each, in the same state, which guards nothing that both share. The child of a
- * process with one thread may go on with its copy, and close its nodes. In the child of a process with threads call nothing: a thread that was not
- * copied may have been in the midst of a call.
+ * A line is of one process. A fork copies it: parent and child then have a line each, in the same state, which guards
+ * nothing that both share. The child of a process with one thread may go on with its copy, and close its nodes. In the
+ * child of a process with threads call nothing: a thread that was not copied may have been in the midst of a call.
  *
  * SPEED
  *
- * Handles of different threads may be side by side: only qolb_open, qolb_close and qolb_move write to them. But what a thread writes beside
- * another's handle slows its calls. So keep what each thread writes on its stack, or QOLB_NODE_ALIGN bytes apart:
+ * Handles of different threads may be side by side: only qolb_open, qolb_close and qolb_move write to them. But what a
+ * thread writes beside another's handle slows its calls. So keep what each thread writes on its stack, or
+ * QOLB_NODE_ALIGN bytes apart:
  *
  *     struct worker { _Alignas(QOLB_NODE_ALIGN) qolb_node node; long count; };
  *
@@ -237,19 +271,20 @@
  *
  * SANITIZERS AND DEBUGGERS
  *
- * The thread sanitizer (-fsanitize=thread) is told of each grant and release. Lines of one label are one to it, and so are a few of different labels: between
- * these it may miss a race. Each lock is separate. Helgrind and drd of valgrind are told the same in files that are compiled with -DQOLB_HELGRIND or -DQOLB_DRD,
- * and must suppress the library's own words: valgrind --tool=helgrind --suppressions=PREFIX/share/qolb/valgrind.supp. The library has no tables for
+ * The thread sanitizer (-fsanitize=thread) is told of each grant and release. Lines of one label are one to it, and so
+ * are a few of different labels: between these it may miss a race. Each lock is separate. Helgrind and drd of valgrind
+ * are told the same in files that are compiled with -DQOLB_HELGRIND or -DQOLB_DRD, and must suppress the library's own
+ * words: valgrind --tool=helgrind --suppressions=PREFIX/share/qolb/valgrind.supp. The library has no tables for
  * unwinding, so a backtrace that begins inside one of its calls may end there.
  *
- * bpftrace, perf and gdb find probes where a thread waits (provider qolb: wait, sleep, wake, granted, withdrawn, closed), if the library was built with
- * <sys/sdt.h>.
+ * bpftrace, perf and gdb find probes where a thread waits (provider qolb: wait, sleep, wake, granted, withdrawn,
+ * closed), if the library was built with <sys/sdt.h>.
  *
  * PROCESSOR
  *
- * Linux on x86-64, with the instructions of x86-64-v2 (SSE4.2 and POPCNT among them), which processors have since 2009. On an older processor the first
- * call that needs one ends the program by SIGILL. A program that may run on one asks first: __builtin_cpu_supports("sse4.2") &&
- * __builtin_cpu_supports("popcnt"). */
+ * Linux on x86-64, with the instructions of x86-64-v2 (SSE4.2 and POPCNT among them), which processors have since 2009.
+ * On an older processor the first call that needs one ends the program by SIGILL. A program that may run on one asks
+ * first: __builtin_cpu_supports("sse4.2") && __builtin_cpu_supports("popcnt"). */
 #ifndef QOLB_H
 #define QOLB_H
 
@@ -263,8 +298,8 @@
 #include <valgrind/drd.h>
 #endif
 
-/* The version of this header. QOLB_VERSION is one number, 10000 for each major version, 100 for each minor one; qolb_version() returns that of the
- * library that the program runs with. */
+/* The version of this header. QOLB_VERSION is one number, 10000 for each major version, 100 for each minor one;
+ * qolb_version() returns that of the library that the program runs with. */
 #define QOLB_VERSION_MAJOR 1
 #define QOLB_VERSION_MINOR 8
 #define QOLB_VERSION_PATCH 0
@@ -309,8 +344,9 @@ typedef struct qolb_bytes {
     uint8_t byte[64];
 } qolb_bytes;
 
-/* The kinds of line: nodes wait on cells by tickets, in a link line by links, or on numbered cells by tickets. Take QOLB_DEFAULT, a ticket line, unless
- * memory is short or you want requests in two calls: then take a link line. QOLB_LIST is QOLB_LINK's former name. */
+/* The kinds of line: nodes wait on cells by tickets, in a link line by links, or on numbered cells by tickets. Take
+ * QOLB_DEFAULT, a ticket line, unless memory is short or you want requests in two calls: then take a link line.
+ * QOLB_LIST is QOLB_LINK's former name. */
 enum qolb_kind { QOLB_RING = 0, QOLB_LINK = 1, QOLB_TICKET = 2, QOLB_LIST = QOLB_LINK, QOLB_DEFAULT = QOLB_TICKET };
 
 /* The number of kinds. Each number below it is a kind. */
@@ -325,7 +361,7 @@ enum qolb_answer {
     QOLB_LINKING = 4,    /* its request is behind another: link it */
     QOLB_WITHDRAWN = 5,  /* its request is withdrawn */
     QOLB_CLOSED = 6,     /* the line is closed, and the request has ended */
-    QOLB_BUSY = 7,       /* its last request is not cleared yet: ask again later. Of qolb_try and qolb_lock_try also: another has it */
+    QOLB_BUSY = 7,       /* its last request is not cleared yet: ask again later. Of a try: another has it */
     QOLB_MISUSE = 8,     /* the handle or its node does not allow the call; nothing changed */
     QOLB_NO_MEMORY = 9,  /* only of an opening, as the next five; nothing changed. A lock's first use opens it */
     QOLB_BAD_NODES = 10, /* not 1 to 200 nodes; of a lock also: no such burst */
@@ -333,7 +369,7 @@ enum qolb_answer {
     QOLB_BAD_KIND = 12,  /* no such kind */
     QOLB_TOO_FEW = 13,   /* fewer handles than nodes */
     QOLB_OCCUPIED = 14,  /* one of the handles has a node */
-    QOLB_LATE = 15       /* the time is over. Of a node: its request is withdrawn. Of a wait at a condition: the lock is held again, so leave it */
+    QOLB_LATE = 15       /* the time is over. A node's request is withdrawn; at a condition the lock is held again */
 };
 
 /* The state of a node. In the states IDLE, LEFT, ROLLED and SHUT it may make a request. */
@@ -348,13 +384,15 @@ enum qolb_node_state {
     QOLB_STATE_SHUT = 7     /* it knows that the line is closed */
 };
 
-/* Opens a line of `nodes` nodes with the bytes `opening`, and puts node k into out[k - 1], which must be empty; `out` has `handles` handles. The
- * line closes at the end of its lease-th turn.
+/* Opens a line of `nodes` nodes with the bytes `opening`, and puts node k into out[k - 1], which must be empty; `out`
+ * has `handles` handles. The line closes at the end of its lease-th turn.
  * DONE; else the first that applies of BAD_KIND, BAD_NODES, BAD_LEASE, TOO_FEW, OCCUPIED and NO_MEMORY. */
-uint32_t qolb_open(uint32_t kind, uint64_t label, uint64_t nodes, uint64_t lease, const qolb_bytes *opening, qolb_node *out, size_t handles) QOLB_LOOK;
+uint32_t qolb_open(uint32_t kind, uint64_t label, uint64_t nodes, uint64_t lease, const qolb_bytes *opening,
+                   qolb_node *out, size_t handles) QOLB_LOOK;
 
-/* Returns the bytes of heap that an open line of this kind and this number of nodes keeps, as the library asks malloc for them. 0 if opening
- * answers BAD_KIND or BAD_NODES. Opening takes more for a moment. This call allocates nothing, and needs no line. */
+/* Returns the bytes of heap that an open line of this kind and this number of nodes keeps, as the library asks malloc
+ * for them. 0 if opening answers BAD_KIND or BAD_NODES. Opening takes more for a moment. This call allocates nothing,
+ * and needs no line. */
 uint64_t qolb_memory(uint32_t kind, uint64_t nodes);
 
 /* Requests the line, and does not wait. If the node may ask: GRANTED, QUEUED, CLOSED, BUSY. Else MISUSE. */
@@ -363,27 +401,31 @@ uint32_t qolb_enqolb(qolb_node *node) QOLB_LOOK;
 /* Polls whether the request is at its turn. In the state QUEUED: GRANTED, WAITING, CLOSED. Else MISUSE. */
 uint32_t qolb_poll(qolb_node *node) QOLB_LOOK;
 
-/* Polls at most `polls` times, with a pause between two. In the state QUEUED, with polls above 0: GRANTED, WAITING, CLOSED. Else MISUSE.
- * It spins meanwhile: with more threads than processors, wait for few polls, and yield the processor between two waits. */
+/* Polls at most `polls` times, with a pause between two. In the state QUEUED, with polls above 0: GRANTED, WAITING,
+ * CLOSED. Else MISUSE. It spins meanwhile: with more threads than processors, wait for few polls, and yield the
+ * processor between two waits. */
 uint32_t qolb_wait(qolb_node *node, uint64_t polls) QOLB_LOOK;
 
-/* Requests the line, and waits as long as it takes, also while the node is busy. If the node may ask: GRANTED, CLOSED. Else MISUSE. */
+/* Requests the line, and waits as long as it takes, also while the node is busy. If the node may ask: GRANTED, CLOSED.
+ * Else MISUSE. */
 uint32_t qolb_acquire(qolb_node *node) QOLB_LOOK;
 
-/* Requests the line, and waits at most this many nanoseconds, also while the node is busy; UINT64_MAX is as long as it takes. If the node may ask:
- * GRANTED, CLOSED, LATE. Else MISUSE.
- * After LATE the node is withdrawn: it gets no turn, and may ask again, but may be busy at first. It polls at least once. */
+/* Requests the line, and waits at most this many nanoseconds, also while the node is busy; UINT64_MAX is as long as it
+ * takes. If the node may ask: GRANTED, CLOSED, LATE. Else MISUSE.
+ * After LATE the node is withdrawn: it gets no turn, and may ask again, but may be busy at first. It polls at least
+ * once. */
 uint32_t qolb_acquire_within(qolb_node *node, uint64_t nanoseconds) QOLB_LOOK;
 
-/* Polls whether the node is busy, and makes no request. If the node may ask: DONE, and it is not busy until it asks; or BUSY, until a call of
- * another node clears it. Else MISUSE. DONE leaves a link line's node that was LEFT or ROLLED in the state IDLE, and every other node in its state. */
+/* Polls whether the node is busy, and makes no request. If the node may ask: DONE, and it is not busy until it asks; or
+ * BUSY, until a call of another node clears it. Else MISUSE. DONE leaves a link line's node that was LEFT or ROLLED in
+ * the state IDLE, and every other node in its state. */
 uint32_t qolb_clear(qolb_node *node);
 
 /* Withdraws the request, unless it is at its turn. In the state QUEUED: WITHDRAWN, GRANTED, CLOSED. Else MISUSE. */
 uint32_t qolb_withdraw(qolb_node *node) QOLB_LOOK;
 
-/* The two halves of qolb_enqolb, only of a link line: prepend takes the place in the queue, and link tells the predecessor its successor. Until then the
- * line stays with the predecessor. On a line of another kind MISUSE.
+/* The two halves of qolb_enqolb, only of a link line: prepend takes the place in the queue, and link tells the
+ * predecessor its successor. Until then the line stays with the predecessor. On a line of another kind MISUSE.
  * prepend, if the node may ask: GRANTED, LINKING, CLOSED, BUSY. link, in the state LINKING: GRANTED, QUEUED, CLOSED. */
 uint32_t qolb_prepend(qolb_node *node) QOLB_LOOK;
 uint32_t qolb_link(qolb_node *node) QOLB_LOOK;
@@ -394,15 +436,17 @@ uint32_t qolb_read(qolb_node *node, qolb_bytes *out);
 /* Writes byte k of `bytes` for the holder if bit k of the mask is set. In the state HOLDING: DONE. Else MISUSE. */
 uint32_t qolb_write(qolb_node *node, uint64_t mask, const qolb_bytes *bytes);
 
-/* Read and write one lane, 0 to 7, for the holder. In the state HOLDING, with lane below 8: DONE. Else MISUSE, and `out` is unchanged. */
+/* Read and write one lane, 0 to 7, for the holder. In the state HOLDING, with lane below 8: DONE. Else MISUSE, and
+ * `out` is unchanged. */
 uint32_t qolb_read_lane(qolb_node *node, uint64_t lane, uint64_t *out);
 uint32_t qolb_write_lane(qolb_node *node, uint64_t lane, uint64_t value);
 
-/* Adds `by` to one lane modulo 2^64, for the holder, and writes to `was` what the lane had before. In the state HOLDING, with lane below 8: DONE.
- * Else MISUSE, and `was` is unchanged. */
+/* Adds `by` to one lane modulo 2^64, for the holder, and writes to `was` what the lane had before. In the state
+ * HOLDING, with lane below 8: DONE. Else MISUSE, and `was` is unchanged. */
 uint32_t qolb_add_lane(qolb_node *node, uint64_t lane, uint64_t by, uint64_t *was);
 
-/* Returns the number of turns left, with the holder's own: QOLB_NO_LEASE without a lease. 0 if the node does not hold the line. */
+/* Returns the number of turns left, with the holder's own: QOLB_NO_LEASE without a lease. 0 if the node does not hold
+ * the line. */
 uint64_t qolb_turns_left(qolb_node *node);
 
 /* Releases the line; the last turn of a lease closes it. In the state HOLDING: DONE. Else MISUSE. */
@@ -411,22 +455,26 @@ uint32_t qolb_deqolb(qolb_node *node);
 /* Releases the line and closes it: no later request is served. In the state HOLDING: DONE. Else MISUSE. */
 uint32_t qolb_shut(qolb_node *node);
 
-/* Has `call(arg)` called once, when the request is at its turn or the line is closed (EVENT LOOPS, above). In the state QUEUED: WAITING, and the call will be
- * made; GRANTED or CLOSED, as of qolb_poll, and it will not. Else MISUSE, also if `call` is null. A second wish of a node replaces the first. */
+/* Has `call(arg)` called once, when the request is at its turn or the line is closed (EVENT LOOPS, above). In the state
+ * QUEUED: WAITING, and the call will be made; GRANTED or CLOSED, as of qolb_poll, and it will not. Else MISUSE, also if
+ * `call` is null. A second wish of a node replaces the first. */
 uint32_t qolb_notify(qolb_node *node, void (*call)(void *arg), void *arg) QOLB_LOOK;
 
-/* Has 1 added once to the eventfd `fd`, when qolb_notify would make its call. The same answers; MISUSE if `fd` is negative. */
+/* Has 1 added once to the eventfd `fd`, when qolb_notify would make its call. The same answers; MISUSE if `fd` is
+ * negative. */
 uint32_t qolb_notify_fd(qolb_node *node, int fd) QOLB_LOOK;
 
-/* Takes the node's wish for a call back; the request stays. WITHDRAWN: the call will not be made. DONE: none was wanted, or it was made, and has returned or
- * said qolb_notify_done, unless the calling thread is in it. MISUSE for an empty handle and for a lent node. */
+/* Takes the node's wish for a call back; the request stays. WITHDRAWN: the call will not be made. DONE: none was
+ * wanted, or it was made, and has returned or said qolb_notify_done, unless the calling thread is in it. MISUSE for an
+ * empty handle and for a lent node. */
 uint32_t qolb_notify_off(qolb_node *node);
 
-/* Says, in a notification's call, that from here on nobody has to wait for it: it does not touch its `arg` any more. Elsewhere it does nothing. */
+/* Says, in a notification's call, that from here on nobody has to wait for it: it does not touch its `arg` any more.
+ * Elsewhere it does nothing. */
 void qolb_notify_done(void);
 
-/* Frees the node and empties the handle. In the states IDLE, LEFT, ROLLED, SHUT: DONE, after qolb_notify_off. Else MISUSE. The last node frees the
- * line. */
+/* Frees the node and empties the handle. In the states IDLE, LEFT, ROLLED, SHUT: DONE, after qolb_notify_off. Else
+ * MISUSE. The last node frees the line. */
 uint32_t qolb_close(qolb_node *node);
 
 /* The node's number, from 1; 0 for an empty handle. */
@@ -438,7 +486,10 @@ uint64_t qolb_label(qolb_node *node);
 /* The state after the node's last call: a `qolb_node_state`. */
 uint32_t qolb_state(qolb_node *node);
 
-/* A lock, unopened: 64 bytes of zeros, 1 to 200 seats, and bursts or none (LOCKS). Only these calls read or change its contents. */
+/* clang-format off */
+
+/* A lock, unopened: 64 bytes of zeros, 1 to 200 seats, and bursts or none (LOCKS). Only these calls read or change its
+ * contents. */
 typedef struct qolb_lock {
     void *own;
     uint32_t kind, seats;
@@ -448,85 +499,104 @@ typedef struct qolb_lock {
 #define QOLB_LOCK_INIT_OF(kind, seats) {QOLB_NULL_, (kind), (seats)}
 #define QOLB_LOCK_INIT_BURSTS(kind, seats, burst) {QOLB_NULL_, (kind), QOLB_SEATS(seats, burst)}
 
-/* The number of seats for qolb_lock_open, of a lock with bursts of at most `burst` turns; 0: it is strict. An older library answers BAD_NODES. It may evaluate its
- * arguments twice. */
+/* The number of seats for qolb_lock_open, of a lock with bursts of at most `burst` turns; 0: it is strict. An older
+ * library answers BAD_NODES. It may evaluate its arguments twice. */
 #define QOLB_SEATS(seats, burst) QOLB_AS_(uint32_t, QOLB_HALF_(seats, 65535) + 65536 * QOLB_HALF_(burst, 1))
-#define QOLB_HALF_(number, if_more) (QOLB_AS_(uint64_t, number) > 65535 ? QOLB_AS_(uint64_t, if_more) : QOLB_AS_(uint64_t, number))
+#define QOLB_HALF_(number, if_more) \
+    (QOLB_AS_(uint64_t, number) > 65535 ? QOLB_AS_(uint64_t, if_more) : QOLB_AS_(uint64_t, number))
 
-/* A condition: holders of a lock leave the lock and wait here until another thread signals. It may serve several locks. It needs no freeing. */
+/* A condition: holders of a lock leave the lock and wait here until another thread signals. It may serve several locks.
+ * It needs no freeing. */
 typedef struct qolb_cond {
     void *own;
 } qolb_cond;
 #define QOLB_COND_INIT {QOLB_NULL_}
 
-/* Opens an unopened lock with this kind, label, number of seats (or QOLB_SEATS) and these bytes; without this call the first use opens it.
- * DONE; else the first that applies of BAD_KIND, BAD_NODES (no such seats or burst), NO_MEMORY, and OCCUPIED: it is open. */
-uint32_t qolb_lock_open(qolb_lock *lock, uint32_t kind, uint64_t label, uint64_t seats, const qolb_bytes *opening) QOLB_LOOK;
+/* clang-format on */
 
-/* Enters the lock, and waits as long as it takes: GRANTED, CLOSED; MISUSE, and nothing changed, if the calling thread holds it. At the first use also
- * NO_MEMORY, BAD_NODES (a lock of no such seats or burst), BAD_KIND. */
+/* Opens an unopened lock with this kind, label, number of seats (or QOLB_SEATS) and these bytes; without this call the
+ * first use opens it. DONE; else the first that applies of BAD_KIND, BAD_NODES (no such seats or burst), NO_MEMORY, and
+ * OCCUPIED: it is open. */
+uint32_t qolb_lock_open(qolb_lock *lock, uint32_t kind, uint64_t label, uint64_t seats,
+                        const qolb_bytes *opening) QOLB_LOOK;
+
+/* Enters the lock, and waits as long as it takes: GRANTED, CLOSED; MISUSE, and nothing changed, if the calling thread
+ * holds it. At the first use also NO_MEMORY, BAD_NODES (a lock of no such seats or burst), BAD_KIND. */
 uint32_t qolb_lock_enter(qolb_lock *lock) QOLB_LOOK;
 
-/* Enters the lock if no thread has it: GRANTED, BUSY (also if the calling thread holds it), CLOSED; at the first use also the other answers of
- * qolb_lock_enter. */
+/* Enters the lock if no thread has it: GRANTED, BUSY (also if the calling thread holds it), CLOSED; at the first use
+ * also the other answers of qolb_lock_enter. */
 uint32_t qolb_lock_try(qolb_lock *lock) QOLB_LOOK;
 
-/* Enters the lock, and waits at most this many nanoseconds (UINT64_MAX: as long as it takes): GRANTED, LATE, CLOSED; MISUSE at once, and nothing changed,
- * if the calling thread holds it; at the first use also the other answers of qolb_lock_enter. */
+/* Enters the lock, and waits at most this many nanoseconds (UINT64_MAX: as long as it takes): GRANTED, LATE, CLOSED;
+ * MISUSE at once, and nothing changed, if the calling thread holds it; at the first use also the other answers of
+ * qolb_lock_enter. */
 uint32_t qolb_lock_enter_within(qolb_lock *lock, uint64_t nanoseconds) QOLB_LOOK;
 
 /* Leaves the lock, which goes to the first thread in its queue. DONE; MISUSE if the calling thread does not hold it. */
 uint32_t qolb_lock_leave(qolb_lock *lock);
 
-/* Leaves the lock and closes it: all waiting threads, also at a condition, and all later ones are answered CLOSED. DONE; MISUSE if the calling
- * thread does not hold it. */
+/* Leaves the lock and closes it: all waiting threads, also at a condition, and all later ones are answered CLOSED.
+ * DONE; MISUSE if the calling thread does not hold it. */
 uint32_t qolb_lock_shut(qolb_lock *lock);
 
-/* Frees the lock's memory: it is unopened again. Its next use opens it with zeros, the label 0, and the kind, seats and burst that it had. The thread that
- * was granted the lock last may close it while another is still in qolb_lock_leave. DONE, also if it was unopened; MISUSE, and nothing changed, if a
- * thread or a task holds it or waits, also at a condition of it. */
+/* Frees the lock's memory: it is unopened again. Its next use opens it with zeros, the label 0, and the kind, seats and
+ * burst that it had. The thread that was granted the lock last may close it while another is still in qolb_lock_leave.
+ * DONE, also if it was unopened; MISUSE, and nothing changed, if a thread or a task holds it or waits, also at a
+ * condition of it. */
 uint32_t qolb_lock_close(qolb_lock *lock);
 
-/* The holder's node, lent until the holder leaves, for qolb_read, qolb_write, qolb_read_lane, qolb_write_lane, qolb_add_lane, qolb_turns_left,
- * qolb_number, qolb_label and qolb_state. For every other call, and for any other thread, it is MISUSE. NULL if the calling thread does not hold the lock. */
+/* The holder's node, lent until the holder leaves, for qolb_read, qolb_write, qolb_read_lane, qolb_write_lane,
+ * qolb_add_lane, qolb_turns_left, qolb_number, qolb_label and qolb_state. For every other call, and for any other
+ * thread, it is MISUSE. NULL if the calling thread does not hold the lock. */
 qolb_node *qolb_lock_turn(qolb_lock *lock);
 
-/* A number of the thread that holds the lock; UINT64_MAX if a task does; 0 if none does, and for the moment of a handoff. On Linux it is the system's, which
- * the thread had when it first entered a lock. */
+/* A number of the thread that holds the lock; UINT64_MAX if a task does; 0 if none does, and for the moment of a
+ * handoff. On Linux it is the system's, which the thread had when it first entered a lock. */
 uint64_t qolb_lock_holder(const qolb_lock *lock);
 
-/* Leaves the lock, waits at the condition until a signal or a broadcast, and enters the lock again; no signal after the leave is missed. Check the state that
- * you wait for, and wait in a loop. GRANTED, and it holds the lock; CLOSED, and it does not. MISUSE if the calling thread does not hold it. */
+/* Leaves the lock, waits at the condition until a signal or a broadcast, and enters the lock again; no signal after the
+ * leave is missed. Check the state that you wait for, and wait in a loop. GRANTED, and it holds the lock; CLOSED, and
+ * it does not. MISUSE if the calling thread does not hold it. */
 uint32_t qolb_cond_wait(qolb_cond *cond, qolb_lock *lock) QOLB_LOOK;
 
-/* Waits as qolb_cond_wait, but for a signal at most this many nanoseconds from the call on (UINT64_MAX: as long as it takes); then it enters the lock
- * again, as long as that takes. GRANTED or LATE, and it holds the lock; CLOSED, and it does not; MISUSE. */
+/* Waits as qolb_cond_wait, but for a signal at most this many nanoseconds from the call on (UINT64_MAX: as long as it
+ * takes); then it enters the lock again, as long as that takes. GRANTED or LATE, and it holds the lock; CLOSED, and it
+ * does not; MISUSE. */
 uint32_t qolb_cond_wait_within(qolb_cond *cond, qolb_lock *lock, uint64_t nanoseconds) QOLB_LOOK;
 
-/* A signal wakes the thread that has waited longest at the condition, a broadcast all. The caller may hold the lock or not. DONE, also if no
- * thread waits. */
+/* A signal wakes the thread that has waited longest at the condition, a broadcast all. The caller may hold the lock or
+ * not. DONE, also if no thread waits. */
 uint32_t qolb_cond_signal(qolb_cond *cond);
 uint32_t qolb_cond_broadcast(qolb_cond *cond);
 
-/* A task that enters locks: nobody waits in it. It starts as QOLB_TASK_INIT. It stays where it is while it waits, and while its node
- * is lent (qolb_task_turn). Only these calls read or change its contents. */
+/* clang-format off */
+
+/* A task that enters locks: nobody waits in it. It starts as QOLB_TASK_INIT. It stays where it is while it waits, and
+ * while its node is lent (qolb_task_turn). Only these calls read or change its contents. */
 typedef struct qolb_task {
     void *own[16];
 } qolb_task;
 #define QOLB_TASK_INIT {{QOLB_NULL_}}
 
-/* Asks for the lock for a task, and does not wait for a turn. GRANTED: the task holds it. WAITING: `call(arg)` will be called once, when the task has it or the
- * lock is shut; then qolb_task_poll tells which. CLOSED. MISUSE: the task waits or holds, or `call` is null. At the first use also NO_MEMORY, BAD_NODES, BAD_KIND. */
+/* clang-format on */
+
+/* Asks for the lock for a task, and does not wait for a turn. GRANTED: the task holds it. WAITING: `call(arg)` will be
+ * called once, when the task has it or the lock is shut; then qolb_task_poll tells which. CLOSED. MISUSE: the task
+ * waits or holds, or `call` is null. At the first use also NO_MEMORY, BAD_NODES, BAD_KIND. */
 uint32_t qolb_task_enter(qolb_task *task, qolb_lock *lock, void (*call)(void *arg), void *arg) QOLB_LOOK;
 
-/* The same, and 1 is added to the eventfd `fd`, which is not negative, in place of a call. Close it only after the task's turn or qolb_task_cancel. */
+/* The same, and 1 is added to the eventfd `fd`, which is not negative, in place of a call. Close it only after the
+ * task's turn or qolb_task_cancel. */
 uint32_t qolb_task_enter_fd(qolb_task *task, qolb_lock *lock, int fd) QOLB_LOOK;
 
-/* Polls for a task that waits: GRANTED, and it holds the lock; CLOSED; WAITING, and the call will be made, maybe again. MISUSE if it does not wait. */
+/* Polls for a task that waits: GRANTED, and it holds the lock; CLOSED; WAITING, and the call will be made, maybe again.
+ * MISUSE if it does not wait. */
 uint32_t qolb_task_poll(qolb_task *task) QOLB_LOOK;
 
-/* Gives up, for a task that waits: no call is made afterwards. WITHDRAWN, also if it was at its turn: it leaves then. CLOSED if the lock was shut. DONE if it
- * does not wait; MISUSE, and nothing changed, if it was told that it holds the lock. */
+/* Gives up, for a task that waits: no call is made afterwards. WITHDRAWN, also if it was at its turn: it leaves then.
+ * CLOSED if the lock was shut. DONE if it does not wait; MISUSE, and nothing changed, if it was told that it holds the
+ * lock. */
 uint32_t qolb_task_cancel(qolb_task *task);
 
 /* Leaves for a task, in any thread. DONE; MISUSE if the task does not hold the lock, or does not know it. */
@@ -535,7 +605,8 @@ uint32_t qolb_task_leave(qolb_task *task);
 /* Leaves for a task, and closes the lock, as qolb_lock_shut does. DONE; MISUSE as of qolb_task_leave. */
 uint32_t qolb_task_shut(qolb_task *task);
 
-/* The node of a task that holds a lock, lent until it leaves, as qolb_lock_turn lends a thread's: to whoever makes the calls for the task. Else NULL. */
+/* The node of a task that holds a lock, lent until it leaves, as qolb_lock_turn lends a thread's: to whoever makes the
+ * calls for the task. Else NULL. */
 qolb_node *qolb_task_turn(qolb_task *task);
 
 /* The version of the library, as QOLB_VERSION is that of the header. */
@@ -584,7 +655,9 @@ static inline void qolb_gives_(qolb_node *node) {
 
 QOLB_LOOK static inline uint32_t qolb_enqolb_(qolb_node *node) { return qolb_took_(node, qolb_enqolb(node)); }
 QOLB_LOOK static inline uint32_t qolb_poll_(qolb_node *node) { return qolb_took_(node, qolb_poll(node)); }
-QOLB_LOOK static inline uint32_t qolb_wait_(qolb_node *node, uint64_t polls) { return qolb_took_(node, qolb_wait(node, polls)); }
+QOLB_LOOK static inline uint32_t qolb_wait_(qolb_node *node, uint64_t polls) {
+    return qolb_took_(node, qolb_wait(node, polls));
+}
 QOLB_LOOK static inline uint32_t qolb_acquire_(qolb_node *node) { return qolb_took_(node, qolb_acquire(node)); }
 QOLB_LOOK static inline uint32_t qolb_acquire_within_(qolb_node *node, uint64_t nanoseconds) {
     return qolb_took_(node, qolb_acquire_within(node, nanoseconds));
@@ -595,7 +668,9 @@ QOLB_LOOK static inline uint32_t qolb_link_(qolb_node *node) { return qolb_took_
 QOLB_LOOK static inline uint32_t qolb_notify_(qolb_node *node, void (*call)(void *arg), void *arg) {
     return qolb_took_(node, qolb_notify(node, call, arg));
 }
-QOLB_LOOK static inline uint32_t qolb_notify_fd_(qolb_node *node, int fd) { return qolb_took_(node, qolb_notify_fd(node, fd)); }
+QOLB_LOOK static inline uint32_t qolb_notify_fd_(qolb_node *node, int fd) {
+    return qolb_took_(node, qolb_notify_fd(node, fd));
+}
 static inline uint32_t qolb_deqolb_(qolb_node *node) { return qolb_gives_(node), qolb_deqolb(node); }
 static inline uint32_t qolb_shut_(qolb_node *node) { return qolb_gives_(node), qolb_shut(node); }
 
@@ -609,7 +684,9 @@ static inline void qolb_leaves_(qolb_lock *lock) {
     if (qolb_lock_turn(lock)) QOLB_GIVES_(lock);
 }
 
-QOLB_LOOK static inline uint32_t qolb_lock_enter_(qolb_lock *lock) { return qolb_entered_(lock, qolb_lock_enter(lock)); }
+QOLB_LOOK static inline uint32_t qolb_lock_enter_(qolb_lock *lock) {
+    return qolb_entered_(lock, qolb_lock_enter(lock));
+}
 QOLB_LOOK static inline uint32_t qolb_lock_try_(qolb_lock *lock) { return qolb_entered_(lock, qolb_lock_try(lock)); }
 QOLB_LOOK static inline uint32_t qolb_lock_enter_within_(qolb_lock *lock, uint64_t nanoseconds) {
     uint32_t got = qolb_lock_enter_within(lock, nanoseconds);
@@ -634,10 +711,13 @@ static inline void qolb_task_leaves_(qolb_task *task) {
     if (qolb_task_turn(task)) QOLB_GIVES_(task->own[0]);
 }
 
-QOLB_LOOK static inline uint32_t qolb_task_enter_(qolb_task *task, qolb_lock *lock, void (*call)(void *arg), void *arg) {
+QOLB_LOOK static inline uint32_t qolb_task_enter_(qolb_task *task, qolb_lock *lock, void (*call)(void *arg),
+                                                  void *arg) {
     return qolb_tasked_(task, qolb_task_enter(task, lock, call, arg));
 }
-QOLB_LOOK static inline uint32_t qolb_task_enter_fd_(qolb_task *task, qolb_lock *lock, int fd) { return qolb_tasked_(task, qolb_task_enter_fd(task, lock, fd)); }
+QOLB_LOOK static inline uint32_t qolb_task_enter_fd_(qolb_task *task, qolb_lock *lock, int fd) {
+    return qolb_tasked_(task, qolb_task_enter_fd(task, lock, fd));
+}
 QOLB_LOOK static inline uint32_t qolb_task_poll_(qolb_task *task) { return qolb_tasked_(task, qolb_task_poll(task)); }
 static inline uint32_t qolb_task_leave_(qolb_task *task) { return qolb_task_leaves_(task), qolb_task_leave(task); }
 static inline uint32_t qolb_task_shut_(qolb_task *task) { return qolb_task_leaves_(task), qolb_task_shut(task); }
@@ -669,8 +749,8 @@ static inline uint32_t qolb_task_shut_(qolb_task *task) { return qolb_task_leave
 
 /* ---- For callers again. ---- */
 
-/* Requests the line, and withdraws the request if it is not granted at once. If the node may ask: GRANTED, BUSY, CLOSED. Else MISUSE.
- * Each later try answers BUSY until a release has passed the withdrawn request. */
+/* Requests the line, and withdraws the request if it is not granted at once. If the node may ask: GRANTED, BUSY,
+ * CLOSED. Else MISUSE. Each later try answers BUSY until a release has passed the withdrawn request. */
 QOLB_LOOK static inline uint32_t qolb_try(qolb_node *node) {
     uint32_t got = qolb_enqolb(node);
     if (got != QOLB_QUEUED) return got;
@@ -680,9 +760,10 @@ QOLB_LOOK static inline uint32_t qolb_try(qolb_node *node) {
 
 /* The name of an answer, as "QOLB_GRANTED"; "?" for any other number. */
 static inline const char *qolb_answer_name(uint32_t answer) {
-    static const char *const names[] = {"QOLB_DONE",      "QOLB_GRANTED",   "QOLB_QUEUED",   "QOLB_WAITING",   "QOLB_LINKING", "QOLB_WITHDRAWN",
-                                        "QOLB_CLOSED",    "QOLB_BUSY",      "QOLB_MISUSE",   "QOLB_NO_MEMORY", "QOLB_BAD_NODES", "QOLB_BAD_LEASE",
-                                        "QOLB_BAD_KIND",  "QOLB_TOO_FEW",   "QOLB_OCCUPIED", "QOLB_LATE"};
+    static const char *const names[] = {"QOLB_DONE",     "QOLB_GRANTED",   "QOLB_QUEUED",    "QOLB_WAITING",
+                                        "QOLB_LINKING",  "QOLB_WITHDRAWN", "QOLB_CLOSED",    "QOLB_BUSY",
+                                        "QOLB_MISUSE",   "QOLB_NO_MEMORY", "QOLB_BAD_NODES", "QOLB_BAD_LEASE",
+                                        "QOLB_BAD_KIND", "QOLB_TOO_FEW",   "QOLB_OCCUPIED",  "QOLB_LATE"};
     return answer < sizeof names / sizeof names[0] ? names[answer] : "?";
 }
 

@@ -1,4 +1,5 @@
-// QOLB for C++14 and later: a node that moves and is never copied, and a guard. qolb.h has the answer of each call, and the rules for its caller.
+// QOLB for C++14 and later: a node that moves and is never copied, and a guard. qolb.h has the answer of each call, and
+// the rules for its caller.
 //
 //     auto opened = qolb::Node::open(QOLB_DEFAULT, 1, 2, qolb_bytes{});
 //     if (opened.first != QOLB_DONE) return;
@@ -71,7 +72,8 @@ class Closed : public std::runtime_error {
     Closed() : std::runtime_error("qolb: the line is closed") {}
 };
 
-// There is no node, or it waits or holds already; or it does not hold the line that it is to read, write or release. Nothing changed.
+// There is no node, or it waits or holds already; or it does not hold the line that it is to read, write or release.
+// Nothing changed.
 class Misuse : public std::logic_error {
   public:
     Misuse() : Misuse("qolb: the lock or node does not allow the call") {}
@@ -91,7 +93,8 @@ class Deadlock : public Misuse {
 
 namespace detail {
 
-// A time that has all 64 bits of any other, and that no other overflows, as the hours of the year 9999 overflow a 64-bit number of nanoseconds.
+// A time that has all 64 bits of any other, and that no other overflows, as the hours of the year 9999 overflow a
+// 64-bit number of nanoseconds.
 using Nanoseconds = std::chrono::duration<long double, std::nano>;
 
 // Rounds up, to at most the largest number.
@@ -110,7 +113,8 @@ template <class Clock, class Duration> Nanoseconds left(const std::chrono::time_
 
 // The end of a time that begins now.
 template <class Rep, class Period> auto end_of(const std::chrono::duration<Rep, Period> &time) {
-    return std::chrono::time_point<std::chrono::steady_clock, Nanoseconds>(std::chrono::steady_clock::now()) + Nanoseconds(time);
+    return std::chrono::time_point<std::chrono::steady_clock, Nanoseconds>(std::chrono::steady_clock::now()) +
+           Nanoseconds(time);
 }
 
 // Tries once more where the clock was set back meanwhile.
@@ -129,7 +133,8 @@ QOLB_NODISCARD inline std::uint64_t memory(qolb_kind kind, std::uint64_t nodes) 
 
 // A node of a line, or none. If it is destroyed, it withdraws its request, or releases the line that it holds.
 //
-// It is a timed lock as the standard library means it, so std::unique_lock, std::lock_guard and std::scoped_lock take it.
+// It is a timed lock as the standard library means it, so std::unique_lock, std::lock_guard and std::scoped_lock take
+// it.
 class Node {
   public:
     Node() = default;
@@ -155,7 +160,9 @@ class Node {
     QOLB_NODISCARD qolb_answer prepend() { return answer(qolb_prepend(&node_)); }
     QOLB_NODISCARD qolb_answer link() { return answer(qolb_link(&node_)); }
     // Have a call made, or 1 added to an eventfd, when the request is at its turn (EVENT LOOPS in qolb.h).
-    QOLB_NODISCARD qolb_answer notify(void (*call)(void *arg), void *arg) { return answer(qolb_notify(&node_, call, arg)); }
+    QOLB_NODISCARD qolb_answer notify(void (*call)(void *arg), void *arg) {
+        return answer(qolb_notify(&node_, call, arg));
+    }
     QOLB_NODISCARD qolb_answer notify_fd(int fd) { return answer(qolb_notify_fd(&node_, fd)); }
     qolb_answer notify_off() { return answer(qolb_notify_off(&node_)); }
     // For the calls of qolb.h.
@@ -163,8 +170,12 @@ class Node {
     qolb_answer read(qolb_bytes &out) { return answer(qolb_read(&node_, &out)); }
     qolb_answer write(std::uint64_t mask, const qolb_bytes &bytes) { return answer(qolb_write(&node_, mask, &bytes)); }
     qolb_answer read_lane(std::uint64_t lane, std::uint64_t &out) { return answer(qolb_read_lane(&node_, lane, &out)); }
-    qolb_answer write_lane(std::uint64_t lane, std::uint64_t value) { return answer(qolb_write_lane(&node_, lane, value)); }
-    qolb_answer add_lane(std::uint64_t lane, std::uint64_t by, std::uint64_t &was) { return answer(qolb_add_lane(&node_, lane, by, &was)); }
+    qolb_answer write_lane(std::uint64_t lane, std::uint64_t value) {
+        return answer(qolb_write_lane(&node_, lane, value));
+    }
+    qolb_answer add_lane(std::uint64_t lane, std::uint64_t by, std::uint64_t &was) {
+        return answer(qolb_add_lane(&node_, lane, by, &was));
+    }
     qolb_answer deqolb() { return answer(qolb_deqolb(&node_)); }
     qolb_answer shut() { return answer(qolb_shut(&node_)); }
     qolb_answer close() { return answer(qolb_close(&node_)); }
@@ -184,26 +195,30 @@ class Node {
         return got(qolb_acquire_within(&node_, detail::nanoseconds(time)));
     }
 
-    // As a lock of the standard library: these throw Closed if the line is closed, so that a loop around them ends, and Misuse.
+    // As a lock of the standard library: these throw Closed if the line is closed, so that a loop around them ends, and
+    // Misuse.
     void lock() { locked(acquire()); }
     QOLB_NODISCARD bool try_lock() { return locked(try_acquire()); }
-    template <class Rep, class Period> QOLB_NODISCARD bool try_lock_for(const std::chrono::duration<Rep, Period> &time) {
+    template <class Rep, class Period>
+    QOLB_NODISCARD bool try_lock_for(const std::chrono::duration<Rep, Period> &time) {
         return locked(acquire_for(time));
     }
-    template <class Clock, class Duration> QOLB_NODISCARD bool try_lock_until(const std::chrono::time_point<Clock, Duration> &end) {
+    template <class Clock, class Duration>
+    QOLB_NODISCARD bool try_lock_until(const std::chrono::time_point<Clock, Duration> &end) {
         return detail::try_lock_until(*this, end);
     }
     void unlock() {
         if (deqolb() != QOLB_DONE) QOLB_THROW(Misuse());
     }
 
-    // Acquires the line, lets `change` change its bytes, writes them and releases the line: granted. Else closed or misuse, and `change` is not
-    // called. If `change` throws, nothing is written and the line is released.
+    // Acquires the line, lets `change` change its bytes, writes them and releases the line: granted. Else closed or
+    // misuse, and `change` is not called. If `change` throws, nothing is written and the line is released.
     template <class Change> QOLB_NODISCARD Got with(Change change);
 
     // Opens a line: its nodes in their order, or the cause why there is none.
-    QOLB_NODISCARD static std::pair<qolb_answer, std::vector<Node>> open(qolb_kind kind, std::uint64_t label, std::uint64_t nodes,
-                                                                         const qolb_bytes &opening, std::uint64_t lease = QOLB_NO_LEASE) {
+    QOLB_NODISCARD static std::pair<qolb_answer, std::vector<Node>> open(qolb_kind kind, std::uint64_t label,
+                                                                         std::uint64_t nodes, const qolb_bytes &opening,
+                                                                         std::uint64_t lease = QOLB_NO_LEASE) {
         std::array<qolb_node, 200> raw{};
         std::vector<Node> made(nodes <= raw.size() ? nodes : 0);
         qolb_answer told = answer(qolb_open(kind, label, nodes, lease, &opening, raw.data(), raw.size()));
@@ -240,14 +255,16 @@ class Node {
     qolb_node node_{};
 };
 
-// A turn of a node: the line is acquired here and released at the end of the scope, however that ends. It writes nothing by itself. The node must not
-// move meanwhile.
+// A turn of a node: the line is acquired here and released at the end of the scope, however that ends. It writes
+// nothing by itself. The node must not move meanwhile.
 class Guard {
   public:
-    // Waits as long as it takes. Throws Closed if the line is closed, and Misuse if there is no node, or it waits or holds already.
+    // Waits as long as it takes. Throws Closed if the line is closed, and Misuse if there is no node, or it waits or
+    // holds already.
     explicit Guard(Node &node) : node_(&node) { node.lock(); }
 
-    // Takes over the turn of a node that holds the line, as after try_acquire or acquire_for. Throws Misuse if it does not hold.
+    // Takes over the turn of a node that holds the line, as after try_acquire or acquire_for. Throws Misuse if it does
+    // not hold.
     Guard(Node &node, std::adopt_lock_t) : node_(&node) {
         if (node.state() != QOLB_STATE_HOLDING) QOLB_THROW(Misuse());
     }
@@ -275,7 +292,9 @@ class Guard {
         return value;
     }
 
-    void set_lane(std::uint64_t lane, std::uint64_t value) { did(node_ ? node_->write_lane(lane, value) : QOLB_MISUSE); }
+    void set_lane(std::uint64_t lane, std::uint64_t value) {
+        did(node_ ? node_->write_lane(lane, value) : QOLB_MISUSE);
+    }
 
     // Adds to a lane modulo 2^64, and returns what it had before.
     std::uint64_t add_to_lane(std::uint64_t lane, std::uint64_t by) {
@@ -319,17 +338,19 @@ struct burst {
     std::uint32_t turns;
 };
 
-// A lock that any thread may enter, without a node for each (qolb.h, LOCKS). It opens at its first use, so a static one needs no constructor at run
-// time.
+// A lock that any thread may enter, without a node for each (qolb.h, LOCKS). It opens at its first use, so a static one
+// needs no constructor at run time.
 //
-// It is a timed lock as the standard library means it: std::lock_guard, std::unique_lock, std::scoped_lock and std::condition_variable_any take it.
-// The thread that entered must leave. It may be destroyed if no thread holds it or waits for it; else its memory stays.
+// It is a timed lock as the standard library means it: std::lock_guard, std::unique_lock, std::scoped_lock and
+// std::condition_variable_any take it. The thread that entered must leave. It may be destroyed if no thread holds it or
+// waits for it; else its memory stays.
 class Lock {
   public:
     // For any number of threads, in at most 3 kilobytes.
     constexpr Lock() noexcept : lock_ QOLB_LOCK_INIT_DEFAULT {}
     // With 1 to 200 seats, of this kind. A link line takes the least memory.
-    explicit constexpr Lock(std::uint32_t seats, qolb_kind kind = QOLB_DEFAULT) noexcept : lock_{nullptr, static_cast<std::uint32_t>(kind), seats} {}
+    explicit constexpr Lock(std::uint32_t seats, qolb_kind kind = QOLB_DEFAULT) noexcept
+        : lock_{nullptr, static_cast<std::uint32_t>(kind), seats} {}
     // With 2 to 200 seats, and bursts of 2 to 65,535 turns: qolb::lock(qolb::seats{4}, qolb::burst{1024}).
     constexpr Lock(qolb::seats many, qolb::burst most, qolb_kind kind = QOLB_LINK) noexcept
         : lock_ QOLB_LOCK_INIT_BURSTS(static_cast<std::uint32_t>(kind), many.number, most.turns) {}
@@ -337,25 +358,28 @@ class Lock {
     Lock &operator=(const Lock &) = delete;
     ~Lock() { qolb_lock_close(&lock_); }
 
-    // As in qolb.h: granted; closed; late or busy; misuse if the thread holds it; and at the first use no memory, or bad nodes if it does not have 1 to 200
-    // seats.
+    // As in qolb.h: granted; closed; late or busy; misuse if the thread holds it; and at the first use no memory, or
+    // bad nodes if it does not have 1 to 200 seats.
     QOLB_NODISCARD qolb_answer enter() { return answer(qolb_lock_enter(&lock_)); }
     QOLB_NODISCARD qolb_answer try_enter() { return answer(qolb_lock_try(&lock_)); }
-    template <class Rep, class Period> QOLB_NODISCARD qolb_answer enter_for(const std::chrono::duration<Rep, Period> &time) {
+    template <class Rep, class Period>
+    QOLB_NODISCARD qolb_answer enter_for(const std::chrono::duration<Rep, Period> &time) {
         return answer(qolb_lock_enter_within(&lock_, detail::nanoseconds(time)));
     }
     qolb_answer leave() { return answer(qolb_lock_leave(&lock_)); }
     qolb_answer shut() { return answer(qolb_lock_shut(&lock_)); }
     std::uint64_t holder() const { return qolb_lock_holder(&lock_); }
 
-    // As a lock of the standard library: these throw Closed if the lock was shut, std::bad_alloc, Deadlock if the thread holds it (try_lock returns false), and
-    // Misuse.
+    // As a lock of the standard library: these throw Closed if the lock was shut, std::bad_alloc, Deadlock if the
+    // thread holds it (try_lock returns false), and Misuse.
     void lock() { entered(enter()); }
     QOLB_NODISCARD bool try_lock() { return entered(try_enter()); }
-    template <class Rep, class Period> QOLB_NODISCARD bool try_lock_for(const std::chrono::duration<Rep, Period> &time) {
+    template <class Rep, class Period>
+    QOLB_NODISCARD bool try_lock_for(const std::chrono::duration<Rep, Period> &time) {
         return entered(enter_for(time));
     }
-    template <class Clock, class Duration> QOLB_NODISCARD bool try_lock_until(const std::chrono::time_point<Clock, Duration> &end) {
+    template <class Clock, class Duration>
+    QOLB_NODISCARD bool try_lock_until(const std::chrono::time_point<Clock, Duration> &end) {
         return detail::try_lock_until(*this, end);
     }
     void unlock() {
@@ -382,11 +406,12 @@ class Lock {
 
 using lock = Lock;
 
-// A condition of holders of a Lock, as a std::condition_variable is of those of a std::mutex. It has no spurious wakeups, and wakes the thread that has
-// waited longest first. If the lock is shut meanwhile, a wait throws Closed, and its unique_lock owns nothing.
+// A condition of holders of a Lock, as a std::condition_variable is of those of a std::mutex. It has no spurious
+// wakeups, and wakes the thread that has waited longest first. If the lock is shut meanwhile, a wait throws Closed, and
+// its unique_lock owns nothing.
 //
-// It has no std::notify_all_at_thread_exit: at its thread's end nothing of the library runs. For waits with a lock of another type take a
-// std::condition_variable_any.
+// It has no std::notify_all_at_thread_exit: at its thread's end nothing of the library runs. For waits with a lock of
+// another type take a std::condition_variable_any.
 class Condition {
   public:
     constexpr Condition() noexcept : cond_{nullptr} {}
@@ -401,11 +426,14 @@ class Condition {
         while (!is_so()) wait(held);
     }
 
-    // Returns whether there was a signal in time. wait_for_status tells the same as the standard library's wait_for does.
-    template <class Rep, class Period> bool wait_for(std::unique_lock<Lock> &held, const std::chrono::duration<Rep, Period> &time) {
+    // Returns whether there was a signal in time. wait_for_status tells the same as the standard library's wait_for
+    // does.
+    template <class Rep, class Period>
+    bool wait_for(std::unique_lock<Lock> &held, const std::chrono::duration<Rep, Period> &time) {
         return told(held, qolb_cond_wait_within(&cond_, held.mutex()->native_handle(), detail::nanoseconds(time)));
     }
-    template <class Rep, class Period> std::cv_status wait_for_status(std::unique_lock<Lock> &held, const std::chrono::duration<Rep, Period> &time) {
+    template <class Rep, class Period>
+    std::cv_status wait_for_status(std::unique_lock<Lock> &held, const std::chrono::duration<Rep, Period> &time) {
         return wait_for(held, time) ? std::cv_status::no_timeout : std::cv_status::timeout;
     }
     // Returns the value of the predicate at the end.
@@ -422,7 +450,8 @@ class Condition {
     }
     // Returns the value of the predicate at the end.
     template <class Clock, class Duration, class Predicate>
-    bool wait_until(std::unique_lock<Lock> &held, const std::chrono::time_point<Clock, Duration> &end, Predicate is_so) {
+    bool wait_until(std::unique_lock<Lock> &held, const std::chrono::time_point<Clock, Duration> &end,
+                    Predicate is_so) {
         while (!is_so())
             if (wait_until(held, end) == std::cv_status::timeout) return is_so();
         return true;
@@ -441,7 +470,8 @@ class Condition {
     qolb_cond cond_;
 };
 
-// A value of at most 64 bytes in a lock's line, which is handed from thread to thread with it. It is opened when it is made.
+// A value of at most 64 bytes in a lock's line, which is handed from thread to thread with it. It is opened when it is
+// made.
 template <class T> class Guarded {
     static_assert(std::is_trivially_copyable<T>::value, "its bytes are copied into the line and out");
     static_assert(sizeof(T) <= sizeof(qolb_bytes), "a line has 64 bytes");
@@ -456,8 +486,9 @@ template <class T> class Guarded {
     Guarded(const T &value, qolb::seats many, qolb::burst most, qolb_kind kind = QOLB_LINK)
         : Guarded(value, qolb_lock QOLB_LOCK_INIT_BURSTS(static_cast<std::uint32_t>(kind), many.number, most.turns)) {}
 
-    // Enters, lets `change` change the value, writes it and leaves; returns the result of `change`. If `change` throws, nothing is written. Throws
-    // Closed if the line was shut, and Deadlock if the thread is in `change` of the same value.
+    // Enters, lets `change` change the value, writes it and leaves; returns the result of `change`. If `change` throws,
+    // nothing is written. Throws Closed if the line was shut, and Deadlock if the thread is in `change` of the same
+    // value.
     template <class Change> auto with(Change change) -> decltype(change(std::declval<T &>())) {
         std::lock_guard<Lock> held(lock_);
         Copy copy(qolb_lock_turn(lock_.native_handle()));
@@ -473,7 +504,8 @@ template <class T> class Guarded {
         with([&value](T &it) { std::memcpy(&it, &value, sizeof value); });
     }
 
-    // Closes the line: later threads get Closed. Returns false if it was closed. Throws Deadlock if the thread is in `change` of the same value.
+    // Closes the line: later threads get Closed. Returns false if it was closed. Throws Deadlock if the thread is in
+    // `change` of the same value.
     bool shut() {
         qolb_answer got = lock_.enter();
         if (got == QOLB_MISUSE) QOLB_THROW(Deadlock());
@@ -534,8 +566,9 @@ template <class T> using guarded = Guarded<T>;
 //     qolb::Got got = co_await qolb::turn(node, loop);       // then qolb::Guard turn(node, std::adopt_lock)
 //     qolb::Entered turn = co_await qolb::enter(lock, loop); // leaves when it is destroyed, by any thread
 //
-// A loop runs what was posted to it: `void post(Ready &)` from any thread, and `void unpost(Ready &)`, behind which it will not run, by its own thread.
-// A coroutine that waits may be destroyed by the loop's thread: its request is withdrawn.
+// A loop runs what was posted to it: `void post(Ready &)` from any thread, and `void unpost(Ready &)`, behind which it
+// will not run, by its own thread. A coroutine that waits may be destroyed by the loop's thread: its request is
+// withdrawn.
 class Ready {
   public:
     virtual void run() = 0;
@@ -546,8 +579,9 @@ class Ready {
     ~Ready() = default;
 };
 
-// Runs at once what is posted, in the thread that releases the line, behind its release. A release in what runs there makes its own calls after that has
-// returned, or, if 32 are put off, at once. Coroutines that wait must not be destroyed while another thread may release the line.
+// Runs at once what is posted, in the thread that releases the line, behind its release. A release in what runs there
+// makes its own calls after that has returned, or, if 32 are put off, at once. Coroutines that wait must not be
+// destroyed while another thread may release the line.
 struct Inline {
     void post(Ready &it) {
         qolb_notify_done();
@@ -629,7 +663,8 @@ template <class Loop> class Turn final : public detail::Waits<Loop> {
 class Entered {
   public:
     Entered(std::uint32_t got, const qolb_task &task) : got_(got), task_(task) {}
-    Entered(Entered &&other) noexcept : got_(std::exchange(other.got_, std::uint32_t(QOLB_MISUSE))), task_(other.task_) {}
+    Entered(Entered &&other) noexcept
+        : got_(std::exchange(other.got_, std::uint32_t(QOLB_MISUSE))), task_(other.task_) {}
     Entered(const Entered &) = delete;
     Entered &operator=(Entered &&) = delete;
     ~Entered() { leave(); }

@@ -2,24 +2,26 @@
  *
  *   make -C c && LD_PRELOAD=c/build/preload.so PROGRAM        (glibc, Linux 4.14); installed as LIBDIR/qolb/preload.so
  *
- * Each ordinary mutex that the program locks gets its own qolb_lock, of 3 KB, and each condition variable by which it waits with one a qolb_cond. Recursive,
- * error-checking, robust, shared and priority mutexes stay the C library's, and so does one for which there is no memory. Whether a mutex is a lock of ours is
- * decided once, at its first use, until it is destroyed or initialised again.
+ * Each ordinary mutex that the program locks gets its own qolb_lock, of 3 KB, and each condition variable by which it
+ * waits with one a qolb_cond. Recursive, error-checking, robust, shared and priority mutexes stay the C library's, and
+ * so does one for which there is no memory. Whether a mutex is a lock of ours is decided once, at its first use, until
+ * it is destroyed or initialised again.
  *
- * As with the C library, any thread may unlock such a mutex, unlocking a free one changes nothing, and a thread that locks one that it holds waits until
- * another unlocks it. A mutex that a thread held when it forked is held in the child, and those that waited are not there. A program that never destroys its
- * mutexes keeps 3 KB for each address at which it locked one. A wait until a time of the clock CLOCK_REALTIME does not notice that this is set meanwhile.
- * A wait at a condition may return for no reason when another thread that waits is cancelled.
+ * As with the C library, any thread may unlock such a mutex, unlocking a free one changes nothing, and a thread that
+ * locks one that it holds waits until another unlocks it. A mutex that a thread held when it forked is held in the
+ * child, and those that waited are not there. A program that never destroys its mutexes keeps 3 KB for each address at
+ * which it locked one. A wait until a time of the clock CLOCK_REALTIME does not notice that this is set meanwhile. A
+ * wait at a condition may return for no reason when another thread that waits is cancelled.
  *
- * QOLB_BURST=TURNS is the hard limit of a burst (qolb.h, LOCKS): 1024, if it is not set, and 0 for strict order. QOLB_KIND=ring, link or ticket chooses the kind
- * of line; else it is that of a lock by default.
+ * QOLB_BURST=TURNS is the hard limit of a burst (qolb.h, LOCKS): 1024, if it is not set, and 0 for strict order.
+ * QOLB_KIND=ring, link or ticket chooses the kind of line; else it is that of a lock by default.
  *
- * With QOLB_REPORT=FILE the program appends a line there at its end: the number of their kind, the burst, how many mutexes were ours in all, and at most at a
- * time, how often one was granted, was late or was not free at once, and how often two threads were in one at the same time, which must be 0. Counting costs
- * time, and is left out without it.
+ * With QOLB_REPORT=FILE the program appends a line there at its end: the number of their kind, the burst, how many
+ * mutexes were ours in all, and at most at a time, how often one was granted, was late or was not free at once, and how
+ * often two threads were in one at the same time, which must be 0. Counting costs time, and is left out without it.
  *
- * What does not call the C library's mutexes by their names is not taken in: C11's mtx_t, Rust's std::sync::Mutex, and libraries that are opened with
- * RTLD_DEEPBIND, which must not share a mutex with others then. */
+ * What does not call the C library's mutexes by their names is not taken in: C11's mtx_t, Rust's std::sync::Mutex, and
+ * libraries that are opened with RTLD_DEEPBIND, which must not share a mutex with others then. */
 #define _GNU_SOURCE
 #include "preload.h"
 #include <dlfcn.h>
@@ -33,11 +35,11 @@
 
 /* ---- The C library's own ---- */
 
-#define REAL(name, version, ...)                                               \
-    static int (*real_##name(void))(__VA_ARGS__) {                             \
-        static _Atomic(void *) found;                                          \
-        if (!found) found = dlvsym(RTLD_NEXT, "pthread_" #name, version);      \
-        return (int (*)(__VA_ARGS__))found;                                    \
+#define REAL(name, version, ...)                                          \
+    static int (*real_##name(void))(__VA_ARGS__) {                        \
+        static _Atomic(void *) found;                                     \
+        if (!found) found = dlvsym(RTLD_NEXT, "pthread_" #name, version); \
+        return (int (*)(__VA_ARGS__))found;                               \
     }
 
 REAL(mutex_init, "GLIBC_2.2.5", pthread_mutex_t *, const pthread_mutexattr_t *)
@@ -86,13 +88,15 @@ static void choose_kind(const char *name) {
 /* The number that is written there, with digits alone; 65536 if it is another or greater. */
 static uint32_t number_in(const char *digits) {
     uint32_t number = *digits ? 0 : BURSTS;
-    for (; *digits && number < BURSTS; digits++) number = *digits >= '0' && *digits <= '9' ? number * 10 + (uint32_t)(*digits - '0') : BURSTS;
+    for (; *digits && number < BURSTS; digits++)
+        number = *digits >= '0' && *digits <= '9' ? number * 10 + (uint32_t)(*digits - '0') : BURSTS;
     return number < BURSTS ? number : BURSTS;
 }
 
 static void choose_burst(const char *digits) {
     settings.burst = digits ? number_in(digits) : USUAL_BURST;
-    if (settings.burst == 1 || settings.burst == BURSTS) refuse("QOLB_BURST", digits, "0, for strict order, or a number from 2 to 65535");
+    if (settings.burst == 1 || settings.burst == BURSTS)
+        refuse("QOLB_BURST", digits, "0, for strict order, or a number from 2 to 65535");
 }
 
 /* A copy, as a program may write its title over its environment. */
@@ -140,8 +144,10 @@ __attribute__((destructor)) static void report(void) {
     qolb_process_();
     int file = counts() ? open(settings.report, O_WRONLY | O_APPEND | O_CREAT | O_CLOEXEC, 0666) : -1;
     if (file < 0) return;
-    int size = snprintf(text, sizeof text, "kind %u burst %u mutexes %llu at once %lld grants %llu late %llu not free %llu violations %llu\n", settings.kind,
-                        settings.burst, mutexes, most_at_once, grants, late, not_free, violations);
+    int size = snprintf(
+        text, sizeof text,
+        "kind %u burst %u mutexes %llu at once %lld grants %llu late %llu not free %llu violations %llu\n",
+        settings.kind, settings.burst, mutexes, most_at_once, grants, late, not_free, violations);
     if (write(file, text, (size_t)size) != size) perror(settings.report);
     close(file);
 }
@@ -156,7 +162,8 @@ static struct line *take_line(void) {
     line = qolb_take_memory_(sizeof *line);
     if (!line) return NULL;
     *line = (struct line){0};
-    if (qolb_lock_open(&line->lock, settings.kind, 0, QOLB_SEATS(settings.seats, settings.burst), &zeros) == QOLB_DONE) return line;
+    if (qolb_lock_open(&line->lock, settings.kind, 0, QOLB_SEATS(settings.seats, settings.burst), &zeros) == QOLB_DONE)
+        return line;
     qolb_give_memory_(line, sizeof *line);
     return NULL;
 }
@@ -168,9 +175,10 @@ static int is_free(struct line *line) {
     return 1;
 }
 
-/* A mutex of ours says so in two words, which the C library uses in robust mutexes alone: the line, and a number that is right for this mutex and line in this
- * process only. So a mutex that is initialised again, also by assignment, says nothing; and nor does a copy, nor one that a child has of its parent.
- * One that stays the C library's for want of memory says that, by LEFT and its address. */
+/* A mutex of ours says so in two words, which the C library uses in robust mutexes alone: the line, and a number that
+ * is right for this mutex and line in this process only. So a mutex that is initialised again, also by assignment, says
+ * nothing; and nor does a copy, nor one that a child has of its parent. One that stays the C library's for want of
+ * memory says that, by LEFT and its address. */
 #define LINE_OF(mutex) ((mutex)->__data.__list.__next)
 #define SIGN_OF(mutex) ((mutex)->__data.__list.__prev)
 #define LEFT ((void *)1)
@@ -192,7 +200,9 @@ static inline struct line *said(const pthread_mutex_t *mutex) {
 
 static int says_nothing(const pthread_mutex_t *mutex) { return !LINE_OF(mutex) && !SIGN_OF(mutex); }
 
-static int is_left(const pthread_mutex_t *mutex) { return (void *)LINE_OF(mutex) == LEFT && (const void *)SIGN_OF(mutex) == mutex; }
+static int is_left(const pthread_mutex_t *mutex) {
+    return (void *)LINE_OF(mutex) == LEFT && (const void *)SIGN_OF(mutex) == mutex;
+}
 
 static inline int is_ordinary(const pthread_mutex_t *mutex) {
     int kind = mutex->__data.__kind & ~(256 | 512); /* but for the flags on elision */
@@ -204,7 +214,8 @@ static int is_of_this_process(const struct entry *entry) { return entry->process
 /* Whether a thread held it, in the process in which it was last used. */
 static int is_held(const struct entry *entry) { return entry->line && qolb_lock_holder(&entry->line->lock); }
 
-/* The line that the mutex gets. One that was initialised again keeps its line, if that is free; and else the line is forgotten, and never used again. */
+/* The line that the mutex gets. One that was initialised again keeps its line, if that is free; and else the line is
+ * forgotten, and never used again. */
 static struct line *line_for(const struct entry *entry, const pthread_mutex_t *mutex) {
     if (entry->line && is_of_this_process(entry) && (!says_nothing(mutex) || is_free(entry->line))) return entry->line;
     return take_line();
@@ -306,7 +317,8 @@ int pthread_mutex_destroy(pthread_mutex_t *mutex) {
     int ordinary = is_ordinary(mutex), busy = 0;
     atomic_uint *guard = qolb_guard_table_(MUTEXES, mutex);
     struct entry *entry = qolb_find_(MUTEXES, mutex);
-    if (entry && ordinary && !says_nothing(mutex)) busy = is_of_this_process(entry) ? !is_free(entry->line) : is_held(entry);
+    if (entry && ordinary && !says_nothing(mutex))
+        busy = is_of_this_process(entry) ? !is_free(entry->line) : is_held(entry);
     if (entry && !busy) remove_entry(entry);
     return_guard(guard);
     int got = busy ? EBUSY : real_mutex_destroy()(mutex);
@@ -350,9 +362,12 @@ static BY_THREAD struct {
 /* The number of threads that were cancelled. */
 static atomic_uint cancels;
 
-static int is_waited_at(const struct entry *entry) { return is_of_this_process(entry) && __atomic_load_n(&entry->cond.own, __ATOMIC_SEQ_CST); }
+static int is_waited_at(const struct entry *entry) {
+    return is_of_this_process(entry) && __atomic_load_n(&entry->cond.own, __ATOMIC_SEQ_CST);
+}
 
-/* Where threads wait with lines for this condition; NULL if there is no memory. Those that waited in the parent of this process are not here. */
+/* Where threads wait with lines for this condition; NULL if there is no memory. Those that waited in the parent of this
+ * process are not here. */
 static qolb_cond *cond_of(const pthread_cond_t *condition) {
     atomic_uint *guard = qolb_guard_table_(CONDITIONS, condition);
     struct entry *entry = qolb_find_(CONDITIONS, condition);
@@ -376,7 +391,8 @@ static int wait_a_moment(struct line *line, uint64_t nanoseconds) {
     return nanoseconds <= MOMENT ? ETIMEDOUT : 0;
 }
 
-/* Waits with a line at most this long, and has it again. A thread may be cancelled here, as where the C library waits, with the mutex locked. */
+/* Waits with a line at most this long, and has it again. A thread may be cancelled here, as where the C library waits,
+ * with the mutex locked. */
 static int wait_at(struct line *line, pthread_cond_t *condition, uint64_t nanoseconds) {
     if (!qolb_lock_turn(&line->lock)) return EPERM;
     own_wait.cancels = atomic_load(&cancels);
@@ -408,7 +424,8 @@ int pthread_cond_timedwait(pthread_cond_t *condition, pthread_mutex_t *mutex, co
     return line ? wait_until(line, condition, clock, end) : real_cond_timedwait()(condition, mutex, end);
 }
 
-int pthread_cond_clockwait(pthread_cond_t *condition, pthread_mutex_t *mutex, clockid_t clock, const struct timespec *end) {
+int pthread_cond_clockwait(pthread_cond_t *condition, pthread_mutex_t *mutex, clockid_t clock,
+                           const struct timespec *end) {
     struct line *line = is_clock(clock) ? line_of(mutex) : NULL;
     return line ? wait_until(line, condition, clock, end) : real_cond_clockwait()(condition, mutex, clock, end);
 }
@@ -422,7 +439,8 @@ static qolb_cond *waited_at(const pthread_cond_t *condition) {
     return cond;
 }
 
-/* The C library's condition is signalled, too: a thread may wait there with a mutex of the C library, and a signal may wake more than one. */
+/* The C library's condition is signalled, too: a thread may wait there with a mutex of the C library, and a signal may
+ * wake more than one. */
 int pthread_cond_signal(pthread_cond_t *condition) {
     qolb_cond *cond = waited_at(condition);
     if (cond) qolb_cond_signal(cond);
@@ -446,9 +464,10 @@ int pthread_cond_destroy(pthread_cond_t *condition) {
 
 /* ---- Cancelling ----
  *
- * A thread that is cancelled while it waits with a line has to return. So whoever cancels one wakes all that wait with lines, which may return for no reason.
- * A waiter stands in its list before it sleeps, and then loads the number of those that were cancelled; who cancels adds to that number before it looks at
- * the lists. So one of the two sees the other. */
+ * A thread that is cancelled while it waits with a line has to return. So whoever cancels one wakes all that wait with
+ * lines, which may return for no reason. A waiter stands in its list before it sleeps, and then loads the number of
+ * those that were cancelled; who cancels adds to that number before it looks at the lists. So one of the two sees the
+ * other. */
 
 static void wake_all(struct entry *entry) {
     if (is_waited_at(entry)) qolb_cond_broadcast(&entry->cond);

@@ -6,8 +6,9 @@
 
 /* ---- Processes ----
  *
- * A fork copies the locks, and not the threads that were in them. So the number of the process is in memory that the kernel clears in the child, with the
- * guards and the free memory: there they are as at the start, whatever the parent's threads were doing. */
+ * A fork copies the locks, and not the threads that were in them. So the number of the process is in memory that the
+ * kernel clears in the child, with the guards and the free memory: there they are as at the start, whatever the
+ * parent's threads were doing. */
 enum { MUTEXES, CONDITIONS, TABLES, STRIPES = 32, UNIT = 16, CLASSES = 4096, MOST_BYTES = UNIT * (CLASSES - 1) };
 
 struct stripe {
@@ -20,8 +21,8 @@ struct cleared {
     _Alignas(APART) atomic_uint guard; /* of what is below */
     char *at, *end;                    /* free memory of the newest map */
     size_t maps;
-    struct line *spare;                /* locks of mutexes that were destroyed */
-    void *given_back[CLASSES];         /* blocks, by size */
+    struct line *spare;        /* locks of mutexes that were destroyed */
+    void *given_back[CLASSES]; /* blocks, by size */
     struct stripe stripe[TABLES][STRIPES];
 };
 
@@ -35,12 +36,13 @@ HIDDEN void qolb_begin_(void);
 
 /* ---- Tables ---- */
 
-/* A mutex's lock. It is never closed, and serves another mutex once its own is destroyed. So a thread that is still in a call on it does no harm. */
+/* A mutex's lock. It is never closed, and serves another mutex once its own is destroyed. So a thread that is still in
+ * a call on it does no harm. */
 struct line {
     qolb_lock lock;
-    struct line *next;   /* of those that serve none */
-    atomic_int inside;   /* the number of threads in it, if they are counted */
-    atomic_int waiting;  /* the number of threads that left it to wait at a condition */
+    struct line *next;  /* of those that serve none */
+    atomic_int inside;  /* the number of threads in it, if they are counted */
+    atomic_int waiting; /* the number of threads that left it to wait at a condition */
 };
 
 /* What is kept of an address. An entry stays in its tree, and may get another address once its own is removed. */

@@ -1,6 +1,7 @@
 /* The memory of preload.c: what the kernel gives, the tables, and the number of the process (preload.h).
  *
- * Nothing here calls malloc: the program's may lock a mutex, and would come back here. Few large maps serve all locks, as the kernel limits their number. */
+ * Nothing here calls malloc: the program's may lock a mutex, and would come back here. Few large maps serve all locks,
+ * as the kernel limits their number. */
 #define _GNU_SOURCE
 #include "preload.h"
 #include <string.h>
@@ -42,7 +43,8 @@ enum { LEAST_MAP = 1 << 18, DOUBLED = 6 };
 static int map_more(void) {
     size_t size = (size_t)LEAST_MAP << (own->maps < DOUBLED ? own->maps : DOUBLED);
     char *map = mmap(NULL, size, PROT_READ | PROT_WRITE, MAP_PRIVATE | MAP_ANONYMOUS, -1, 0);
-    if (map == MAP_FAILED) map = mmap(NULL, size = LEAST_MAP, PROT_READ | PROT_WRITE, MAP_PRIVATE | MAP_ANONYMOUS, -1, 0);
+    if (map == MAP_FAILED)
+        map = mmap(NULL, size = LEAST_MAP, PROT_READ | PROT_WRITE, MAP_PRIVATE | MAP_ANONYMOUS, -1, 0);
     if (map == MAP_FAILED) return 0;
     madvise(map, size, MADV_NOHUGEPAGE);
     own->maps++;
@@ -81,7 +83,8 @@ void qolb_give_memory_(void *block, size_t size) {
     return_guard(&own->guard);
 }
 
-/* The library's own malloc and free, by the linker's option --wrap. Its realloc calls these (gaps.c). Before each block stands its size. */
+/* The library's own malloc and free, by the linker's option --wrap. Its realloc calls these (gaps.c). Before each block
+ * stands its size. */
 HIDDEN void *__wrap_malloc(size_t size);
 HIDDEN void __wrap_free(void *block);
 
@@ -117,8 +120,9 @@ void qolb_give_spare_(struct line *line) {
 
 /* ---- Tables ----
  *
- * Each stripe of a table is a tree, in which two bits of an address's hash lead from each entry to the next. It grows by one entry a time, which is put into
- * its place by one store: so a child that was forked meanwhile finds it whole. */
+ * Each stripe of a table is a tree, in which two bits of an address's hash lead from each entry to the next. It grows
+ * by one entry a time, which is put into its place by one store: so a child that was forked meanwhile finds it
+ * whole. */
 
 static struct entry *root[TABLES][STRIPES];
 

@@ -1,4 +1,5 @@
-/* The bells, how long a waiter polls, and the system calls of sleeping: Linux's futex. On other systems a sleeper polls again after 200 us (bells.h). Tested, not proved. */
+/* The bells, how long a waiter polls, and the system calls of sleeping: Linux's futex. On other systems a sleeper polls
+ * again after 200 us (bells.h). Tested, not proved. */
 #define _GNU_SOURCE
 #include "bells.h"
 #include <time.h>
@@ -53,7 +54,9 @@ void qolb_sleep_at_(atomic_uint *word, unsigned value, uint64_t nanoseconds) {
     syscall(SYS_futex, word, 128 /* FUTEX_WAIT_PRIVATE */, value, nanoseconds == FOR_EVER ? NULL : &most, NULL, 0);
 }
 
-void qolb_wake_at_(atomic_uint *word, int most) { syscall(SYS_futex, word, 129 /* FUTEX_WAKE_PRIVATE */, most, NULL, NULL, 0); }
+void qolb_wake_at_(atomic_uint *word, int most) {
+    syscall(SYS_futex, word, 129 /* FUTEX_WAKE_PRIVATE */, most, NULL, NULL, 0);
+}
 
 #else
 

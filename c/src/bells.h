@@ -1,16 +1,20 @@
-/* Bells, at which threads sleep that wait for a lock or for a node's turn, and the clock of their time limits. One of the library's internal files.
+/* Bells, at which threads sleep that wait for a lock or for a node's turn, and the clock of their time limits. One of
+ * the library's internal files.
  *
- * Each place at which a node of a line waits has a bell, and so has the door of each lock, for threads that want a seat. A waiter adds itself to the
- * bell's sleepers, and to counts of more: of all that wait for its lock; or, with a node of its own, of all that wait for its line, and of all such. It
- * reads the bell's word, checks once more for its turn or seat, and sleeps while the word is unchanged. A waker first makes its change, and then loads
- * those counts, the one of most first; if none is 0, the waker loads the sleepers of the few bells that it has to ring. Each step is sequentially
- * consistent, but for those of qolb_end_turn_, in lock.c. So one of the two sees the other: a Dekker handshake. tools/spin goes through all orders of
- * these steps, and through those of protocols that differ by one step; tools/seats.py runs these files themselves, on a model of the processor's memory.
+ * Each place at which a node of a line waits has a bell, and so has the door of each lock, for threads that want a
+ * seat. A waiter adds itself to the bell's sleepers, and to counts of more: of all that wait for its lock; or, with a
+ * node of its own, of all that wait for its line, and of all such. It reads the bell's word, checks once more for its
+ * turn or seat, and sleeps while the word is unchanged. A waker first makes its change, and then loads those counts,
+ * the one of most first; if none is 0, the waker loads the sleepers of the few bells that it has to ring. Each step is
+ * sequentially consistent, but for those of qolb_end_turn_, in lock.c. So one of the two sees the other: a Dekker
+ * handshake. tools/spin goes through all orders of these steps, and through those of protocols that differ by one step;
+ * tools/seats.py runs these files themselves, on a model of the processor's memory.
  *
  * A waiter without a thread has a notice in the bell's list in place of a sleeper: the waker makes its call (notify.c).
  *
- * The bells are in the library and not in the opened lines. So ringing touches nothing that the next holder may have freed; and all callers of one
- * library ring the same bells, in any language, from the program or from a library that it opened at run time. */
+ * The bells are in the library and not in the opened lines. So ringing touches nothing that the next holder may have
+ * freed; and all callers of one library ring the same bells, in any language, from the program or from a library that
+ * it opened at run time. */
 #ifndef QOLB_BELLS_H
 #define QOLB_BELLS_H
 
@@ -35,7 +39,9 @@ struct limit {
 /* Nanoseconds of a clock that is never set. */
 HIDDEN uint64_t qolb_now_(void);
 
-static inline struct limit from_now(uint64_t nanoseconds) { return (struct limit){nanoseconds == FOR_EVER ? 0 : qolb_now_(), nanoseconds}; }
+static inline struct limit from_now(uint64_t nanoseconds) {
+    return (struct limit){nanoseconds == FOR_EVER ? 0 : qolb_now_(), nanoseconds};
+}
 
 static inline uint64_t left(const struct limit *limit) {
     if (limit->nanoseconds == FOR_EVER) return FOR_EVER;
@@ -49,8 +55,8 @@ HIDDEN void qolb_sleep_at_(atomic_uint *word, unsigned value, uint64_t nanosecon
 /* Wakes at most this many sleepers of the word, which need not exist any more. */
 HIDDEN void qolb_wake_at_(atomic_uint *word, int most);
 
-/* How often a waiter polls before it yields the processor: as often as one instruction `pause` behind each poll makes some 1.5 us, which is counted
- * once. The instruction takes 10 to 140 cycles, by the processor. */
+/* How often a waiter polls before it yields the processor: as often as one instruction `pause` behind each poll makes
+ * some 1.5 us, which is counted once. The instruction takes 10 to 140 cycles, by the processor. */
 HIDDEN unsigned qolb_looks_(void);
 
 /* ---- Guards ---- */
@@ -76,7 +82,8 @@ enum { PLACE_WORDS = 16 };
 
 struct bell {
     _Alignas(APART) atomic_uint sleepers;
-    atomic_uint in_line;            /* of the lines whose first bell this is: the number of their nodes that sleep, or have a notice in a list */
+    /* Of the lines whose first bell this is: the number of their nodes that sleep, or have a notice in a list. */
+    atomic_uint in_line;
     _Atomic(struct notice *) first; /* of the notices in the bell's list; written under the guard */
     _Alignas(APART) atomic_uint word;
     atomic_uint guard, ended; /* the second: the number of calls that ended and another thread waited for */
@@ -85,9 +92,11 @@ struct bell {
 
 extern HIDDEN struct bell qolb_bells_[BELLS];
 
-/* The bell of the waiters at this word of the node's line. No two places of a line share one. Those of two lines may: then they wake each other's
- * waiters without effect. */
-static inline struct bell *bell_at(const qolb_node *node, uint64_t word) { return &qolb_bells_[(*first_bell_of(node) + word / PLACE_WORDS) % BELLS]; }
+/* The bell of the waiters at this word of the node's line. No two places of a line share one. Those of two lines may:
+ * then they wake each other's waiters without effect. */
+static inline struct bell *bell_at(const qolb_node *node, uint64_t word) {
+    return &qolb_bells_[(*first_bell_of(node) + word / PLACE_WORDS) % BELLS];
+}
 
 /* Wakes all sleepers of the bell. */
 HIDDEN void qolb_toll_(struct bell *bell);
@@ -104,17 +113,22 @@ struct notice {
     uint64_t key;                  /* of line and place: lines that share a bell make no calls for each other */
     void (*call)(void *);          /* NULL if none is wanted since the last off; written by the node's caller alone */
     void *arg;
-    atomic_uint *in_line, *in_all; /* the counts that have it while it is in a list; written once. The second may be NULL */
+    atomic_uint *in_line, *in_all; /* the counts that have it while it is in a list; written once. The second or NULL */
 };
 
 _Static_assert(sizeof(struct notice) <= NOTICE_BYTES, "a notice is in its node's block");
 
 /* The same for two lines only if 2^32 lines were opened between them. */
-static inline uint64_t key_of(const qolb_node *node, uint64_t word) { return (uint64_t)*first_bell_of(node) << 32 | (uint32_t)word; }
+static inline uint64_t key_of(const qolb_node *node, uint64_t word) {
+    return (uint64_t)*first_bell_of(node) << 32 | (uint32_t)word;
+}
 
-static inline struct bell *bell_of_key(uint64_t key) { return &qolb_bells_[((uint32_t)(key >> 32) + (uint32_t)key / PLACE_WORDS) % BELLS]; }
+static inline struct bell *bell_of_key(uint64_t key) {
+    return &qolb_bells_[((uint32_t)(key >> 32) + (uint32_t)key / PLACE_WORDS) % BELLS];
+}
 
-/* Puts the notice into the list of the place at which the node waits, and polls: WAITING, and its call will be made; any other answer, and it will not. */
+/* Puts the notice into the list of the place at which the node waits, and polls: WAITING, and its call will be made;
+ * any other answer, and it will not. */
 HIDDEN uint32_t qolb_listen_(struct notice *notice, qolb_node *node);
 
 /* For the sanitizer of threads: what was done until now comes before the call of the notice at this address. */
@@ -123,10 +137,12 @@ HIDDEN void qolb_tell_release_(const void *at);
 /* Puts the notice into the list of this key's bell. */
 HIDDEN void qolb_list_(struct notice *notice, uint64_t key);
 
-/* Takes the notice out of its list: WITHDRAWN. If it was in none: DONE, after the calls of it that run in other threads. */
+/* Takes the notice out of its list: WITHDRAWN. If it was in none: DONE, after the calls of it that run in other
+ * threads. */
 HIDDEN uint32_t qolb_unlist_(struct notice *notice);
 
-/* Makes the call of the notice with this key, if the list has one. If the calling thread is in such a call, then after that. */
+/* Makes the call of the notice with this key, if the list has one. If the calling thread is in such a call, then after
+ * that. */
 HIDDEN void qolb_make_call_(struct bell *bell, uint64_t key);
 
 /* The call of a notification by an eventfd (calls.c). */
@@ -134,8 +150,8 @@ HIDDEN void qolb_add_to_descriptor_(void *fd);
 
 /* ---- Ringing ---- */
 
-/* The bells to be rung by a node that has released its line: that of the next holder, and that of the waiter behind it, which can wake up during
- * the holder's turn. If there is none, a bell at which no waiter of the line sleeps. */
+/* The bells to be rung by a node that has released its line: that of the next holder, and that of the waiter behind it,
+ * which can wake up during the holder's turn. If there is none, a bell at which no waiter of the line sleeps. */
 struct next {
     struct bell *holder, *ahead;
     uint64_t key; /* of the holder's place */

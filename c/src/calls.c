@@ -1,9 +1,11 @@
-/* The calls on nodes, as the library exports them: each is the proved one, but for a node that a lock has lent (qolb_lock_turn). With a lent node its
- * holder reads and writes the line, and every call that would change the node's state is misuse: its lock would not know of it. Only opening and
- * closing write to a handle, so threads may have theirs side by side, as qolb_open writes them.
+/* The calls on nodes, as the library exports them: each is the proved one, but for a node that a lock has lent
+ * (qolb_lock_turn). With a lent node its holder reads and writes the line, and every call that would change the node's
+ * state is misuse: its lock would not know of it. Only opening and closing write to a handle, so threads may have
+ * theirs side by side, as qolb_open writes them.
  *
- * The calls that wait for a turn are here, too, and those by which a node is told of its turn (notify.c). All that release a line ring its bells
- * (bells.h). This is tested, not proved. So is the memory of an open line beside its table. */
+ * The calls that wait for a turn are here, too, and those by which a node is told of its turn (notify.c). All that
+ * release a line ring its bells (bells.h). This is tested, not proved. So is the memory of an open line beside its
+ * table. */
 #define _GNU_SOURCE
 #include "bells.h"
 #include "probes.h"
@@ -19,22 +21,24 @@ enum { NAP = 200000 };
 
 /* ---- Opening ---- */
 
-/* The number of nodes that sleep at bells or have a notice in a list, of any line that is no lock's. A release loads it, and nothing more while it is 0. */
-static struct {
-    _Alignas(APART) atomic_uint waiting;
-} anywhere;
+/* The number of nodes that sleep at bells or have a notice in a list, of any line that is no lock's. A release loads
+ * it, and nothing more while it is 0. */
+static struct { _Alignas(APART) atomic_uint waiting; } anywhere;
 
-/* The first bells of lines that are opened one after another are far apart: the next is behind this one by the golden part of all bells. */
+/* The first bells of lines that are opened one after another are far apart: the next is behind this one by the golden
+ * part of all bells. */
 enum { NEXT_BELLS = 633 };
 
-uint32_t qolb_open(uint32_t kind, uint64_t label, uint64_t nodes, uint64_t lease, const qolb_bytes *opening, qolb_node *out, size_t handles) {
+uint32_t qolb_open(uint32_t kind, uint64_t label, uint64_t nodes, uint64_t lease, const qolb_bytes *opening,
+                   qolb_node *out, size_t handles) {
     static atomic_uint drawn;
     uint32_t got = qolb_open_proved_(kind, label, nodes, lease, opening, out, handles);
     if (got != QOLB_DONE) return got;
     uint32_t bell = atomic_fetch_add(&drawn, NEXT_BELLS);
     for (uint64_t k = 0; k < nodes; k++) {
         *first_bell_of(&out[k]) = bell;
-        *notice_of(&out[k]) = (struct notice){.in_line = &qolb_bells_[bell % BELLS].in_line, .in_all = &anywhere.waiting};
+        *notice_of(&out[k]) = (struct notice){.in_line = &qolb_bells_[bell % BELLS].in_line,
+                                              .in_all = &anywhere.waiting};
     }
     return got;
 }
@@ -50,11 +54,15 @@ __attribute__((noinline)) static uint32_t rung(qolb_node *node, uint32_t got) {
 static inline atomic_uint *waiting_in_line(const qolb_node *node) { return notice_of(node)->in_line; }
 
 /* After a misuse there may be no node. */
-static inline int rings(const qolb_node *node, uint32_t got) { return got != QOLB_MISUSE && atomic_load(waiting_in_line(node)); }
+static inline int rings(const qolb_node *node, uint32_t got) {
+    return got != QOLB_MISUSE && atomic_load(waiting_in_line(node));
+}
 
-/* The answer of a call that released the line. The load is behind the release: the proved call hands the line over by an instruction that no load
- * passes. */
-static inline uint32_t let_go(qolb_node *node, uint32_t got) { return atomic_load(&anywhere.waiting) && rings(node, got) ? rung(node, got) : got; }
+/* The answer of a call that released the line. The load is behind the release: the proved call hands the line over by
+ * an instruction that no load passes. */
+static inline uint32_t let_go(qolb_node *node, uint32_t got) {
+    return atomic_load(&anywhere.waiting) && rings(node, got) ? rung(node, got) : got;
+}
 
 /* The answer of any other call. A node that is told that the line is closed has forwarded it. */
 static inline uint32_t told(qolb_node *node, uint32_t got) { return got == QOLB_CLOSED ? let_go(node, got) : got; }
@@ -106,7 +114,8 @@ uint32_t qolb_clear(qolb_node *node) {
 
 static int may_close(qolb_node *node) {
     uint32_t state = qolb_state_proved_(node);
-    return state == QOLB_STATE_IDLE || state == QOLB_STATE_LEFT || state == QOLB_STATE_ROLLED || state == QOLB_STATE_SHUT;
+    return state == QOLB_STATE_IDLE || state == QOLB_STATE_LEFT || state == QOLB_STATE_ROLLED ||
+           state == QOLB_STATE_SHUT;
 }
 
 /* Its notice is in the node's block. */
@@ -118,7 +127,8 @@ uint32_t qolb_close(qolb_node *node) {
 
 /* ---- Waiting for a turn ---- */
 
-/* Polls for some 1.5 us, and yields the processor 16 times with a poll after each, while there is time: GRANTED, CLOSED, WAITING. */
+/* Polls for some 1.5 us, and yields the processor 16 times with a poll after each, while there is time: GRANTED,
+ * CLOSED, WAITING. */
 static uint32_t look_a_while(qolb_node *node, const struct limit *limit) {
     uint32_t got = qolb_wait_proved_(node, qolb_looks_());
     for (int k = 0; got == QOLB_WAITING && k < YIELDS && left(limit); k++) {
@@ -298,8 +308,9 @@ uint32_t qolb_state(qolb_node *node) {
 
 /* ---- Memory ----
  *
- * The bytes that an open line keeps, as its blocks are allocated (gaps.h). The proved part returns those of its table. The other blocks always
- * have the same sizes, as c/tests/memory.c counts. Each is a multiple of 128 bytes, and 128 more are asked for so that it begins at one. */
+ * The bytes that an open line keeps, as its blocks are allocated (gaps.h). The proved part returns those of its table.
+ * The other blocks always have the same sizes, as c/tests/memory.c counts. Each is a multiple of 128 bytes, and 128
+ * more are asked for so that it begins at one. */
 uint64_t qolb_memory(uint32_t kind, uint64_t nodes) {
     uint64_t table = qolb_memory_proved_(kind, nodes);
     if (table == 0) return 0;
@@ -307,5 +318,6 @@ uint64_t qolb_memory(uint32_t kind, uint64_t nodes) {
     return table + KEPT_BYTES(LINE_BYTES) + nodes * KEPT_BYTES(NODE_BYTES) + blocks * GAP_BYTES;
 }
 
-/* The version of the released library, with its parts in C: the proved part's is that of the last release that changed it. */
+/* The version of the released library, with its parts in C: the proved part's is that of the last release that changed
+ * it. */
 uint32_t qolb_version(void) { return QOLB_VERSION; }

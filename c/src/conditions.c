@@ -1,7 +1,8 @@
 /* The conditions of locks, and shutting one (lock.h). Tested, not proved.
  *
- * A waiter is in two lists, by an entry on its stack: that of the condition, under a guard, from whose front a signal takes one; and that of the
- * lock, under the lock itself, by which a shut tells all. It sleeps on a word of its entry, which is set once. */
+ * A waiter is in two lists, by an entry on its stack: that of the condition, under a guard, from whose front a signal
+ * takes one; and that of the lock, under the lock itself, by which a shut tells all. It sleeps on a word of its entry,
+ * which is set once. */
 #include "lock.h"
 
 enum { GUARDS = 64 };
@@ -135,7 +136,8 @@ uint32_t qolb_cond_signal(qolb_cond *cond) { return signal_some(cond, 0); }
 
 uint32_t qolb_cond_broadcast(qolb_cond *cond) { return signal_some(cond, 1); }
 
-/* From here on the holder does nothing but shut the line. A waiter that is told may end at once: its successor in the list is read before. */
+/* From here on the holder does nothing but shut the line. A waiter that is told may end at once: its successor in the
+ * list is read before. */
 void qolb_tell_shut_(struct hall *hall) {
     atomic_store(&hall->is_shut, 1);
     for (struct waiter *it = hall->waits, *beside; it; it = beside) {

@@ -1,11 +1,13 @@
-/* The door of a lock: a list of the threads that want a seat, in the order in which they came (lock.h). Tested, not proved.
+/* The door of a lock: a list of the threads that want a seat, in the order in which they came (lock.h). Tested, not
+ * proved.
  *
- * The entries are on the threads' stacks. Only the first looks for a seat: it is told, looks, makes its request, and only then leaves the list and tells the
- * next. No later thread takes a seat while one is at the door. Who frees a seat first says that it is about to be free, and then looks whether one is there;
- * who comes first counts itself, and then looks at the seats: a Dekker handshake. The first that meets a seat that is about to be free looks again.
+ * The entries are on the threads' stacks. Only the first looks for a seat: it is told, looks, makes its request, and
+ * only then leaves the list and tells the next. No later thread takes a seat while one is at the door. Who frees a seat
+ * first says that it is about to be free, and then looks whether one is there; who comes first counts itself, and then
+ * looks at the seats: a Dekker handshake. The first that meets a seat that is about to be free looks again.
  *
- * A thread that is at the door counts as a guest until it has a seat, so the hall stays. A leaver therefore frees its seat under the guard: as long as the list is
- * not empty, and cannot change, the hall is there. */
+ * A thread that is at the door counts as a guest until it has a seat, so the hall stays. A leaver therefore frees its
+ * seat under the guard: as long as the list is not empty, and cannot change, the hall is there. */
 #define _GNU_SOURCE
 #include "lock.h"
 #include <sched.h>

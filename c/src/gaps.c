@@ -1,6 +1,7 @@
-/* The allocation of the proved part: each block begins at a multiple of 128 bytes, and no other begins in its last 128. A thread writes to its node's
- * data in each call. So no cache line has data of two nodes, nor has a pair of lines that is fetched together, and none has data of a node and data
- * that all nodes read; and a slot of a table, with its 64 bytes and what goes with them, is in one pair.
+/* The allocation of the proved part: each block begins at a multiple of 128 bytes, and no other begins in its last 128.
+ * A thread writes to its node's data in each call. So no cache line has data of two nodes, nor has a pair of lines that
+ * is fetched together, and none has data of a node and data that all nodes read; and a slot of a table, with its 64
+ * bytes and what goes with them, is in one pair.
  *
  * The toolchain's lines of C that allocate have these names instead of malloc's, realloc's and free's (Makefile). */
 #include "gaps.h"
@@ -17,7 +18,8 @@ BY_THREAD struct room qolb_room_;
 
 static struct before *before(void *block) { return (struct before *)block - 1; }
 
-/* If nothing can be added to the size, the allocation fails. What malloc gives is a multiple of 16, so there is room for a `struct before`. */
+/* If nothing can be added to the size, the allocation fails. What malloc gives is a multiple of 16, so there is room
+ * for a `struct before`. */
 void *qolb_malloc_(size_t size) {
     struct room *room = &qolb_room_;
     if ((size == NODE_BYTES || size == LINE_BYTES) && (size_t)(room->end - room->at) >= ROOM_BYTES(size)) {

@@ -1,19 +1,21 @@
-/* The blocks that an open line keeps on the heap, and the contents of the gaps behind their data (gaps.c). One of the library's internal files. */
+/* The blocks that an open line keeps on the heap, and the contents of the gaps behind their data (gaps.c). One of the
+ * library's internal files. */
 #ifndef QOLB_GAPS_H
 #define QOLB_GAPS_H
 
 #include "qolb.h"
 
 enum {
-    TABLE_BLOCKS = 2, /* the words, and the slots */
-    LINE_BYTES = 112, /* of the block with the line, which all nodes share, and the count of those that do */
-    NODE_BYTES = 160, /* of the block of each node, to which its handle points */
-    SEAT_BYTES = 40,  /* behind a node's data, for a lock's seat */
+    TABLE_BLOCKS = 2,  /* the words, and the slots */
+    LINE_BYTES = 112,  /* of the block with the line, which all nodes share, and the count of those that do */
+    NODE_BYTES = 160,  /* of the block of each node, to which its handle points */
+    SEAT_BYTES = 40,   /* behind a node's data, for a lock's seat */
     NOTICE_BYTES = 56, /* in its place, for the notice of a node that is no lock's */
     GAP_BYTES = QOLB_NODE_ALIGN
 };
 
-/* The bytes of a block of this size: no other begins in its last 128. malloc is asked for 128 more, as it does not align the block. */
+/* The bytes of a block of this size: no other begins in its last 128. malloc is asked for 128 more, as it does not
+ * align the block. */
 #define KEPT_BYTES(size) (((size) + GAP_BYTES - 1) / GAP_BYTES * GAP_BYTES)
 
 /* What stands before each block: what malloc gave, or NULL for one in a lock's room; and the size asked for. */
@@ -25,8 +27,8 @@ struct before {
 /* The bytes that a block of this size takes in a room: the next one has its `before` there too. */
 #define ROOM_BYTES(size) KEPT_BYTES((size) + sizeof(struct before))
 
-/* A lock's room for the blocks of its line and nodes, while the thread opens it: from `at`, a multiple of 128 bytes, before `end`. The lock frees the
- * room, and the blocks in it are not freed. */
+/* A lock's room for the blocks of its line and nodes, while the thread opens it: from `at`, a multiple of 128 bytes,
+ * before `end`. The lock frees the room, and the blocks in it are not freed. */
 struct room {
     char *at, *end;
 };
@@ -41,15 +43,18 @@ struct room {
 extern BY_THREAD __attribute__((visibility("hidden"))) struct room qolb_room_;
 
 _Static_assert(SEAT_BYTES <= GAP_BYTES / 2 && NOTICE_BYTES <= GAP_BYTES / 2, "both are before the number");
-_Static_assert(NODE_BYTES % GAP_BYTES + GAP_BYTES / 2 + sizeof(uint32_t) + sizeof(struct before) <= GAP_BYTES, "all has room there");
+_Static_assert(NODE_BYTES % GAP_BYTES + GAP_BYTES / 2 + sizeof(uint32_t) + sizeof(struct before) <= GAP_BYTES,
+               "all has room there");
 
 /* The first bytes behind a node's data. */
 static inline void *behind(const qolb_node *node) { return (char *)node->own + NODE_BYTES; }
 
-/* The place of a number of each node that is drawn when its line is opened, the same for all nodes of the line (bell_at, in bells.h). Nothing in
- * the handle or in the proved part has room for it. It is in the middle of the gap behind the node's data: if NODE_BYTES is
- * wrong, it does no harm until c/tests/memory.c reports that. */
-static inline uint32_t *first_bell_of(const qolb_node *node) { return (uint32_t *)((char *)node->own + NODE_BYTES + GAP_BYTES / 2); }
+/* The place of a number of each node that is drawn when its line is opened, the same for all nodes of the line
+ * (bell_at, in bells.h). Nothing in the handle or in the proved part has room for it. It is in the middle of the gap
+ * behind the node's data: if NODE_BYTES is wrong, it does no harm until c/tests/memory.c reports that. */
+static inline uint32_t *first_bell_of(const qolb_node *node) {
+    return (uint32_t *)((char *)node->own + NODE_BYTES + GAP_BYTES / 2);
+}
 
 /* The node's notice (bells.h), before that number. A node of a lock has its seat there, and no notice. */
 static inline struct notice *notice_of(const qolb_node *node) { return behind(node); }

@@ -1,20 +1,24 @@
-/* The gate of a lock: while nobody waits, the line is kept for whoever enters next, by one change of a word (lock.h). Tested, not proved.
+/* The gate of a lock: while nobody waits, the line is kept for whoever enters next, by one change of a word (lock.h).
+ * Tested, not proved.
  *
- * A thread is registered once its request is made, or it is in the door's list, and it has then seen that the line is not kept, or has marked the gate. No thread
- * whose call begins after that is served before it. Who keeps its turn first sets the gate, and then looks whether it is alone; who takes a seat, or comes to
- * the door, first does so, and then looks at the gate. So one of the two sees the other: a Dekker handshake.
+ * A thread is registered once its request is made, or it is in the door's list, and it has then seen that the line is
+ * not kept, or has marked the gate. No thread whose call begins after that is served before it. Who keeps its turn
+ * first sets the gate, and then looks whether it is alone; who takes a seat, or comes to the door, first does so, and
+ * then looks at the gate. So one of the two sees the other: a Dekker handshake.
  *
- * With bursts a line is kept though threads wait. The kept turn then ends with its burst-th turn, counted from the first in which a thread waits: so each kept turn
- * has at most burst - 1 turns of threads that came later. One of those that wait is the watcher. It ends the kept turn earlier: if nobody uses it, after a part
- * of a burst, or after a while. The thread that is in opens the gate, and then looks for the bell at which the watcher sleeps; the watcher first tells its bell, and
- * then looks at the gate: a Dekker handshake, too. */
+ * With bursts a line is kept though threads wait. The kept turn then ends with its burst-th turn, counted from the
+ * first in which a thread waits: so each kept turn has at most burst - 1 turns of threads that came later. One of those
+ * that wait is the watcher. It ends the kept turn earlier: if nobody uses it, after a part of a burst, or after a
+ * while. The thread that is in opens the gate, and then looks for the bell at which the watcher sleeps; the watcher
+ * first tells its bell, and then looks at the gate: a Dekker handshake, too. */
 #include "lock.h"
 
 /* The watcher calls out after this part of a burst, and this many nanoseconds after the kept turn began. */
 enum { WATCHED_PART = 16, PATIENCE = 1000000 };
 
 void qolb_take_back_(struct hall *hall, uint64_t gate) {
-    if (atomic_compare_exchange_strong(&hall->gate, &gate, QUEUED_UP)) qolb_end_turn_(hall, hall->held_by, qolb_deqolb_proved_);
+    if (atomic_compare_exchange_strong(&hall->gate, &gate, QUEUED_UP))
+        qolb_end_turn_(hall, hall->held_by, qolb_deqolb_proved_);
 }
 
 void qolb_call_out_(struct hall *hall) {
@@ -116,7 +120,8 @@ static struct seat *oldest(struct hall *hall, const struct seat *kept) {
     return first;
 }
 
-/* Names the watcher: false if it returns its seat. One that does so later finds that it was named, and ends the kept turn. It is named as one that sleeps. */
+/* Names the watcher: false if it returns its seat. One that does so later finds that it was named, and ends the kept
+ * turn. It is named as one that sleeps. */
 static int names_watcher(struct hall *hall, struct seat *watcher) {
     atomic_store(&hall->watcher, watcher);
     if (atomic_load(&watcher->state) != TAKEN) return 0;
@@ -124,7 +129,8 @@ static int names_watcher(struct hall *hall, struct seat *watcher) {
     return 1;
 }
 
-/* If no thread has a seat, the first that takes one names itself. The first at the door may have met a busy seat, and may sleep. */
+/* If no thread has a seat, the first that takes one names itself. The first at the door may have met a busy seat, and
+ * may sleep. */
 static void begin_burst(struct hall *hall, struct seat *kept) {
     atomic_store(&hall->watcher, NULL);
     atomic_store_explicit(&hall->since, qolb_now_(), memory_order_relaxed);

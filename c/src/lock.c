@@ -1,4 +1,5 @@
-/* The lock for threads that come and go: its halls, entering and leaving (lock.h). Tested, not proved; each step on the line is a proved call.
+/* The lock for threads that come and go: its halls, entering and leaving (lock.h). Tested, not proved; each step on the
+ * line is a proved call.
  *
  * A thread with a seat sleeps at the bell of the place where its node waits (bells.h), which is rung only for it. */
 #define _GNU_SOURCE
@@ -33,7 +34,9 @@ static void free_hall(struct hall *hall) {
     free(hall->block);
 }
 
-static size_t hall_bytes(unsigned seats) { return ROOM_BYTES(offsetof(struct hall, seat) + seats * sizeof(struct seat *)); }
+static size_t hall_bytes(unsigned seats) {
+    return ROOM_BYTES(offsetof(struct hall, seat) + seats * sizeof(struct seat *));
+}
 
 /* A block with room for the hall, and behind it for the blocks of the line and its nodes. */
 static void *room_for(unsigned seats, struct hall **hall) {
@@ -115,7 +118,8 @@ uint32_t qolb_lock_open(qolb_lock *lock, uint32_t kind, uint64_t label, uint64_t
 uint32_t qolb_hall_opened_(qolb_lock *lock, struct hall **hall) {
     static const qolb_bytes zeros;
     while (!(*hall = hall_of(lock))) {
-        uint32_t kind = __atomic_load_n(&lock->kind, __ATOMIC_RELAXED), seats = __atomic_load_n(&lock->seats, __ATOMIC_RELAXED);
+        uint32_t kind = __atomic_load_n(&lock->kind, __ATOMIC_RELAXED);
+        uint32_t seats = __atomic_load_n(&lock->seats, __ATOMIC_RELAXED);
         uint32_t got = qolb_lock_open(lock, kind, 0, seats, &zeros);
         if (got != QOLB_DONE && got != QOLB_OCCUPIED) return got;
     }
@@ -124,9 +128,13 @@ uint32_t qolb_hall_opened_(qolb_lock *lock, struct hall **hall) {
 
 /* ---- Who holds it ---- */
 
-static int is_in(struct hall *hall) { return in_of(atomic_load_explicit(&hall->gate, memory_order_relaxed)) == own_number(); }
+static int is_in(struct hall *hall) {
+    return in_of(atomic_load_explicit(&hall->gate, memory_order_relaxed)) == own_number();
+}
 
-static inline int is_of(const struct seat *seat, uint64_t thread) { return atomic_load_explicit(&seat->holder, memory_order_relaxed) == thread; }
+static inline int is_of(const struct seat *seat, uint64_t thread) {
+    return atomic_load_explicit(&seat->holder, memory_order_relaxed) == thread;
+}
 
 /* The seat by which the thread holds the line, by a request of its own: mostly its last one. */
 static struct seat *own_seat(struct hall *hall) {
@@ -139,7 +147,9 @@ static struct seat *own_seat(struct hall *hall) {
     return NULL;
 }
 
-struct seat *qolb_held_seat_(struct hall *hall) { return !hall ? NULL : is_in(hall) ? hall->held_by : own_seat(hall); }
+struct seat *qolb_held_seat_(struct hall *hall) {
+    return !hall ? NULL : is_in(hall) ? hall->held_by : own_seat(hall);
+}
 
 qolb_node *qolb_lock_turn(qolb_lock *lock) {
     struct hall *hall = hall_of(lock);
@@ -168,8 +178,8 @@ static inline int goes_in(struct hall *hall) {
     return gate & OPEN && atomic_compare_exchange_strong(&hall->gate, &gate, own_number() + (gate ^ OPEN));
 }
 
-/* The last step on the hall by a thread that was late, tried without success, or was told that the lock is shut: the last has forwarded the line, as
- * its node tells until the seat is free. */
+/* The last step on the hall by a thread that was late, tried without success, or was told that the lock is shut: the
+ * last has forwarded the line, as its node tells until the seat is free. */
 void qolb_give_back_(struct hall *hall, struct seat *seat, uint32_t got) {
     struct next next = got == QOLB_CLOSED ? next_of(&seat->node) : (struct next){NULL, NULL, 0};
     if (next.holder) wake_for(next);
@@ -179,8 +189,9 @@ void qolb_give_back_(struct hall *hall, struct seat *seat, uint32_t got) {
     if (next.holder) call_for(next);
 }
 
-/* A seat whose node was found busy. Nobody is told: while a seat is busy there is a thread before it in the queue, which will do so. With bursts the end of the kept
- * turn clears the node; and this thread may have been named the watcher. */
+/* A seat whose node was found busy. Nobody is told: while a seat is busy there is a thread before it in the queue,
+ * which will do so. With bursts the end of the kept turn clears the node; and this thread may have been named the
+ * watcher. */
 __attribute__((noinline)) static void return_busy(struct hall *hall, struct seat *seat) {
     if (hall->burst) {
         atomic_exchange(&seat->state, LEAVING);
@@ -205,7 +216,8 @@ static inline uint32_t ask_at(struct asking *me, struct seat *seat) {
     return got;
 }
 
-/* Begins with the thread's last seat. With bursts a thread at the door goes in by no gate: others may wait before it. */
+/* Begins with the thread's last seat. With bursts a thread at the door goes in by no gate: others may wait before
+ * it. */
 uint32_t qolb_take_seat_(struct asking *me) {
     struct hall *hall = me->hall;
     if (!me->is_task && !(me->is_first && hall->burst) && goes_in(hall)) return QOLB_GRANTED;
@@ -281,7 +293,8 @@ static uint32_t await(struct asking *me, uint64_t nanoseconds) {
         if (got == QOLB_LATE) got = closed_or(me->hall, got);
         atomic_fetch_sub(&me->hall->guests, 1);
     }
-    if (me->seat && me->hall->burst) atomic_store_explicit(&me->seat->order, atomic_fetch_add(&me->hall->orders, 1), memory_order_relaxed);
+    if (me->seat && me->hall->burst)
+        atomic_store_explicit(&me->seat->order, atomic_fetch_add(&me->hall->orders, 1), memory_order_relaxed);
     while (got == QOLB_WAITING) {
         if (left(&limit) == 0) {
             got = give_up(me->seat);
@@ -293,8 +306,8 @@ static uint32_t await(struct asking *me, uint64_t nanoseconds) {
     return got;
 }
 
-/* Handles the answer of a request: the holder is known from here on, and any other thread returns its seat. With the seat it still has, a thread that was late
- * looks whether the lock was shut. */
+/* Handles the answer of a request: the holder is known from here on, and any other thread returns its seat. With the
+ * seat it still has, a thread that was late looks whether the lock was shut. */
 static inline uint32_t settle(struct asking *me, uint32_t got) {
     if (!me->seat) return got;
     if (got == QOLB_GRANTED) {
@@ -324,11 +337,14 @@ __attribute__((noinline)) static uint32_t enter_later(struct asking me, uint32_t
 static uint32_t enter_by_seat(struct hall *hall, uint64_t nanoseconds) {
     struct asking me = {.hall = hall, .seen = QUEUED_UP};
     unsigned last = (own_number(), qolb_own_.last_seat);
-    uint32_t got = last < hall->seats && !atomic_load(&hall->at_door) ? ask_at(&me, hall->seat[last]) : (uint32_t)QOLB_BUSY;
+    uint32_t got = last < hall->seats && !atomic_load(&hall->at_door) ? ask_at(&me, hall->seat[last])
+                                                                      : (uint32_t)QOLB_BUSY;
     return got == QOLB_GRANTED ? settle(&me, got) : enter_later(me, got, nanoseconds);
 }
 
-uint32_t qolb_enter_hall_(struct hall *hall, uint64_t nanoseconds) { return goes_in(hall) ? (uint32_t)QOLB_GRANTED : enter_by_seat(hall, nanoseconds); }
+uint32_t qolb_enter_hall_(struct hall *hall, uint64_t nanoseconds) {
+    return goes_in(hall) ? (uint32_t)QOLB_GRANTED : enter_by_seat(hall, nanoseconds);
+}
 
 __attribute__((noinline)) static uint32_t enter_slowly(qolb_lock *lock, uint64_t nanoseconds) {
     struct hall *hall;
@@ -365,14 +381,15 @@ uint32_t qolb_lock_enter_unasked_(qolb_lock *lock, uint64_t nanoseconds) {
     return goes_in_at_once(lock) ? (uint32_t)QOLB_GRANTED : enter_unasked_slowly(lock, nanoseconds);
 }
 
-/* With the last seat that is free, so that threads that try again and again keep mostly that one busy. If it is busy, another thread has the lock. A seat
- * of a thread that is still in its last call says nothing. */
+/* With the last seat that is free, so that threads that try again and again keep mostly that one busy. If it is busy,
+ * another thread has the lock. A seat of a thread that is still in its last call says nothing. */
 uint32_t qolb_lock_try(qolb_lock *lock) {
     struct hall *hall;
     uint32_t got = qolb_hall_opened_(lock, &hall);
     if (got != QOLB_DONE) return got;
     if (goes_in(hall)) return QOLB_GRANTED;
-    if (atomic_load(&hall->gate) != QUEUED_UP || atomic_load(&hall->at_door) || qolb_lock_holder(lock)) return closed_or(hall, QOLB_BUSY);
+    if (atomic_load(&hall->gate) != QUEUED_UP || atomic_load(&hall->at_door) || qolb_lock_holder(lock))
+        return closed_or(hall, QOLB_BUSY);
     struct asking me = {.hall = hall, .seen = QUEUED_UP};
     unsigned k = hall->seats - 1;
     while (k > 0 && atomic_load(&hall->seat[k]->state) != FREE) k--;
@@ -384,8 +401,9 @@ uint32_t qolb_lock_try(qolb_lock *lock) {
 
 /* ---- Leaving ---- */
 
-/* For a holder that has released the line while others of the lock wait: rings for the next holder and the waiter behind it, as its node tells, and serves
- * the first at the door. A call comes last: it may use the lock, and the seat is free by then. */
+/* For a holder that has released the line while others of the lock wait: rings for the next holder and the waiter
+ * behind it, as its node tells, and serves the first at the door. A call comes last: it may use the lock, and the seat
+ * is free by then. */
 __attribute__((noinline)) static void ring_and_free(struct hall *hall, struct seat *seat) {
     struct next next = next_of(&seat->node);
     wake_for(next);
@@ -393,8 +411,9 @@ __attribute__((noinline)) static void ring_and_free(struct hall *hall, struct se
     call_for(next);
 }
 
-/* A release uses instructions on the line's words that let no load pass a store before them. So a thread that wants a seat sees that this one is
- * about to be free, and looks again; or it has been counted, and is told. The seat's last store needs no such instruction. */
+/* A release uses instructions on the line's words that let no load pass a store before them. So a thread that wants a
+ * seat sees that this one is about to be free, and looks again; or it has been counted, and is told. The seat's last
+ * store needs no such instruction. */
 void qolb_end_turn_(struct hall *hall, struct seat *seat, uint32_t (*release)(qolb_node *)) {
     atomic_store_explicit(&seat->holder, 0, memory_order_release);
     atomic_store_explicit(&seat->state, LEAVING, memory_order_release);
@@ -435,7 +454,9 @@ uint32_t qolb_lock_leave(qolb_lock *lock) {
     struct hall *hall = hall_of(lock);
     uint64_t gate = qolb_own_.number;
     if (!hall || !gate) return QOLB_MISUSE;
-    if (atomic_load_explicit(&hall->gate, memory_order_relaxed) == gate && atomic_compare_exchange_strong(&hall->gate, &gate, OPEN)) return QOLB_DONE;
+    if (atomic_load_explicit(&hall->gate, memory_order_relaxed) == gate &&
+        atomic_compare_exchange_strong(&hall->gate, &gate, OPEN))
+        return QOLB_DONE;
     return leave_slowly(hall);
 }
 
@@ -459,8 +480,8 @@ uint32_t qolb_lock_leave_for_another_(qolb_lock *lock) {
 
 /* ---- Closing ---- */
 
-/* Returns the seats that were taken to close the lock. The last of them is about to be free for a moment, as its hall may be gone then. With bursts one of them may
- * have been named the watcher's. */
+/* Returns the seats that were taken to close the lock. The last of them is about to be free for a moment, as its hall
+ * may be gone then. With bursts one of them may have been named the watcher's. */
 static void return_taken(struct hall *hall, unsigned many) {
     if (many == 0) return;
     for (unsigned k = 1; k < many; k++) atomic_store(&hall->seat[k]->state, FREE);
@@ -469,7 +490,8 @@ static void return_taken(struct hall *hall, unsigned many) {
     qolb_free_seat_(hall, hall->seat[0]);
 }
 
-/* Takes all seats, in their order; returns the number of those that it took before one was not free. Waits for a seat that is about to be free. */
+/* Takes all seats, in their order; returns the number of those that it took before one was not free. Waits for a seat
+ * that is about to be free. */
 static unsigned take_all(struct hall *hall) {
     for (unsigned k = 0; k < hall->seats; k++) {
         unsigned state = FREE;

@@ -1,16 +1,18 @@
-/* What a lock has, and what lock.c, gate.c, door.c, conditions.c and tasks.c call of each other (qolb.h, LOCKS). Five of the library's internal files. Tested,
- * not proved; each step on the line is a proved call.
+/* What a lock has, and what lock.c, gate.c, door.c, conditions.c and tasks.c call of each other (qolb.h, LOCKS). Five
+ * of the library's internal files. Tested, not proved; each step on the line is a proved call.
  *
- * A lock has a hall: a line, and for each of its nodes a seat. A thread that enters takes a free seat, makes a request with its node, and waits for its
- * turn; it returns the seat when it leaves. A thread that finds no free seat waits at the door, in a list (door.c). While nobody waits, the line is kept, and
- * a thread enters and leaves by the gate alone (gate.c). */
+ * A lock has a hall: a line, and for each of its nodes a seat. A thread that enters takes a free seat, makes a request
+ * with its node, and waits for its turn; it returns the seat when it leaves. A thread that finds no free seat waits at
+ * the door, in a list (door.c). While nobody waits, the line is kept, and a thread enters and leaves by the gate alone
+ * (gate.c). */
 #ifndef QOLB_LOCK_H
 #define QOLB_LOCK_H
 
 #include "bells.h"
 #include "probes.h"
 
-/* A lock's `seats` have the number of its seats, and BURST times the turns of its bursts (gate.c); 0 turns: it has none. */
+/* A lock's `seats` have the number of its seats, and BURST times the turns of its bursts (gate.c); 0 turns: it has
+ * none. */
 enum { MAX_SEATS = 200, BURST = 65536 };
 
 /* ---- Seats ---- */
@@ -25,8 +27,9 @@ enum seat_state {
 struct seat {
     qolb_node node;
     atomic_uint state;
-    unsigned calm;           /* the number of its turns in a row that were granted at once */
-    _Atomic uint64_t holder; /* the number of the thread that holds the line with its node, by a request of its own; else 0 */
+    unsigned calm; /* the number of its turns in a row that were granted at once */
+    /* The number of the thread that holds the line with its node, by a request of its own; else 0. */
+    _Atomic uint64_t holder;
     /* With bursts. */
     _Atomic(struct bell *) bell; /* where its thread sleeps, once it does */
     atomic_uint order;           /* the number of its request, about as the requests came */
@@ -54,18 +57,20 @@ struct hall {
     /* Written by the holder, when it keeps its turn, and when it waits at a condition. */
     _Alignas(QOLB_NODE_ALIGN) struct seat *held_by;
     struct waiter *waits;
-    atomic_uint sleepers; /* the number of threads that sleep at any bell of the line, or are at the door. A leaver that finds none rings no bell */
-    atomic_uint at_door;  /* the number of threads that are at the door, or about to be */
-    atomic_uint guests;   /* the number of threads that use the hall and have no seat, and of tasks at the door */
-    atomic_uint tasks;    /* the number of tasks that wait. While there are any, no turn is kept */
-    atomic_uint guard;    /* of the door's list (take_guard) */
+    /* The number of threads that sleep at any bell of the line, or are at the door. A leaver that finds none rings no
+     * bell. */
+    atomic_uint sleepers;
+    atomic_uint at_door; /* the number of threads that are at the door, or about to be */
+    atomic_uint guests;  /* the number of threads that use the hall and have no seat, and of tasks at the door */
+    atomic_uint tasks;   /* the number of tasks that wait. While there are any, no turn is kept */
+    atomic_uint guard;   /* of the door's list (take_guard) */
     struct caller *first, *last;
     /* With bursts. */
     _Atomic(struct seat *) watcher; /* the seat whose thread sees to it that the kept turn ends */
-    atomic_uint keepers;            /* the number of threads that look at the hall though they have opened its gate: it stays so long */
+    atomic_uint keepers;            /* the number of threads that look at the hall after they opened its gate */
     atomic_uint orders;             /* the number of requests */
     uint64_t label;                 /* of the line; read by threads that wait */
-    atomic_uint is_shut;            /* set by the holder right before it closes the line: who gives up from then on is told CLOSED */
+    atomic_uint is_shut;            /* set before the line is closed: who gives up from then on is told CLOSED */
     /* Written once. */
     _Alignas(QOLB_NODE_ALIGN) void *block; /* what malloc gave */
     unsigned seats;
@@ -77,20 +82,25 @@ struct hall {
 
 /* For the probes of a thread that waits, with a seat or at the door. */
 static inline struct probed of_seat(const struct hall *hall, struct seat *seat) {
-    return (struct probed){hall->label, seat ? qolb_number_proved_(&seat->node) : 0, *first_bell_of(&hall->seat[0]->node)};
+    return (struct probed){hall->label, seat ? qolb_number_proved_(&seat->node) : 0,
+                           *first_bell_of(&hall->seat[0]->node)};
 }
 
-/* The answer to who gives up, while it keeps the hall there. A shut closes the line, but who waits before it may not have forwarded that yet. */
-static inline uint32_t closed_or(struct hall *hall, uint32_t got) { return atomic_load(&hall->is_shut) ? (uint32_t)QOLB_CLOSED : got; }
+/* The answer to who gives up, while it keeps the hall there. A shut closes the line, but who waits before it may not
+ * have forwarded that yet. */
+static inline uint32_t closed_or(struct hall *hall, uint32_t got) {
+    return atomic_load(&hall->is_shut) ? (uint32_t)QOLB_CLOSED : got;
+}
 
 static inline struct hall *hall_of(const qolb_lock *lock) { return __atomic_load_n(&lock->own, __ATOMIC_ACQUIRE); }
 
 /* ---- The gate ----
  *
- * QUEUED_UP: each thread makes a request of its own. Else the line is kept: the node of held_by holds it, in the turns of one thread after another, which
- * are no turns of the line. OPEN: no thread is in. Else the number of the thread that is in. CALLED: the kept turn ends when that thread leaves. With bursts
- * also WAITED: a thread waits, and the turns that end are counted in the upper 16 bits; and ASLEEP: the watcher may sleep, and wants to be woken when the gate
- * is opened. */
+ * QUEUED_UP: each thread makes a request of its own. Else the line is kept: the node of held_by holds it, in the turns
+ * of one thread after another, which are no turns of the line. OPEN: no thread is in. Else the number of the thread
+ * that is in. CALLED: the kept turn ends when that thread leaves. With bursts also WAITED: a thread waits, and the
+ * turns that end are counted in the upper 16 bits; and ASLEEP: the watcher may sleep, and wants to be woken when the
+ * gate is opened. */
 enum { QUEUED_UP = 0, CALLED = 1, WAITED = 2, ASLEEP = 4, OPEN = 8, NUMBER = 16 };
 #define TURN ((uint64_t)1 << 48)
 
@@ -99,8 +109,9 @@ static inline uint64_t in_of(uint64_t gate) { return gate % TURN / NUMBER * NUMB
 
 /* ---- Threads ----
  *
- * A thread's number: the system's, 22 bits of it, and above them 22 bits of a count of the threads of this process that have drawn one; times NUMBER, as it
- * is in a gate. A thread keeps it over a fork. So a thread of the child that the system gives the parent's number has another one here. */
+ * A thread's number: the system's, 22 bits of it, and above them 22 bits of a count of the threads of this process that
+ * have drawn one; times NUMBER, as it is in a gate. A thread keeps it over a fork. So a thread of the child that the
+ * system gives the parent's number has another one here. */
 enum { SYSTEM_BITS = 22 };
 
 struct own {
@@ -127,8 +138,8 @@ struct asking {
     uint64_t seen;     /* with bursts, the gate as it saw it last while it waited */
 };
 
-/* Makes a request with a seat that is free and not busy: GRANTED, CLOSED or WAITING, for a turn or, without a seat, for a seat. GRANTED without a seat: it
- * went in by the gate. */
+/* Makes a request with a seat that is free and not busy: GRANTED, CLOSED or WAITING, for a turn or, without a seat, for
+ * a seat. GRANTED without a seat: it went in by the gate. */
 HIDDEN uint32_t qolb_take_seat_(struct asking *me);
 HIDDEN uint32_t qolb_enter_hall_(struct hall *hall, uint64_t nanoseconds);
 
@@ -141,7 +152,8 @@ HIDDEN void qolb_give_back_(struct hall *hall, struct seat *seat, uint32_t got);
 /* Leaves for who holds the line by this seat, by a request of its own. */
 HIDDEN void qolb_leave_by_seat_(struct hall *hall, struct seat *seat, uint32_t (*release)(qolb_node *));
 
-/* The seat by whose node the calling thread holds the line, also if it is in by the gate; NULL if it does not hold it. */
+/* The seat by whose node the calling thread holds the line, also if it is in by the gate; NULL if it does not hold
+ * it. */
 HIDDEN struct seat *qolb_held_seat_(struct hall *hall);
 
 /* Leaves for the calling thread, which holds by this seat. */
@@ -168,14 +180,16 @@ static inline void marks_gate(struct hall *hall) {
 /* Leaves for the thread that is in. */
 HIDDEN void qolb_leave_gate_(struct hall *hall, uint64_t gate, uint32_t (*release)(qolb_node *));
 
-/* Leaves for a thread that holds by a seat, and keeps its turn for whoever enters next, if no thread waits, or if there are bursts. */
+/* Leaves for a thread that holds by a seat, and keeps its turn for whoever enters next, if no thread waits, or if there
+ * are bursts. */
 HIDDEN void qolb_keep_turn_(struct hall *hall, struct seat *kept);
 
-/* With bursts, for a thread whose request waits: the watcher ends a kept turn that nobody uses, or that has lasted long enough. Returns whether this thread is the
- * watcher. */
+/* With bursts, for a thread whose request waits: the watcher ends a kept turn that nobody uses, or that has lasted long
+ * enough. Returns whether this thread is the watcher. */
 HIDDEN int qolb_watch_(struct asking *me);
 
-/* With bursts, for a thread whose request waits, and that has counted itself at its seat's bell: whether it may sleep. */
+/* With bursts, for a thread whose request waits, and that has counted itself at its seat's bell: whether it may
+ * sleep. */
 HIDDEN int qolb_may_sleep_(struct hall *hall, struct seat *seat);
 
 /* Whether somebody waits who has no thread, and so could not watch the gate. With bursts, no turn is kept then. */
@@ -186,19 +200,22 @@ static inline int waits_without_thread(struct hall *hall) { return atomic_load(&
 /* Waits for a seat: the answer of its request, WAITING for a turn, LATE, or GRANTED without a seat, by the gate. */
 HIDDEN uint32_t qolb_wait_at_door_(struct asking *me, const struct limit *limit);
 
-/* Makes the requests of the tasks that are the first at the door, as long as there are seats, and tells a thread that is then the first to look for one. */
+/* Makes the requests of the tasks that are the first at the door, as long as there are seats, and tells a thread that
+ * is then the first to look for one. */
 HIDDEN void qolb_admit_(struct hall *hall);
 
 /* Under the guard: a new last one at the door, and one that goes. */
 HIDDEN void qolb_stand_(struct hall *hall, struct caller *me);
 HIDDEN void qolb_go_out_(struct hall *hall, struct caller *me);
 
-/* Frees a seat that has been LEAVING since before a read-modify-write step of this thread, and tells the first at the door. The hall may be gone afterwards. */
+/* Frees a seat that has been LEAVING since before a read-modify-write step of this thread, and tells the first at the
+ * door. The hall may be gone afterwards. */
 HIDDEN void qolb_free_seat_(struct hall *hall, struct seat *seat);
 
 /* ---- tasks.c ---- */
 
-/* The number that all tasks have in a gate, and as holders of seats. No thread has it, as the system gives none the number 0. */
+/* The number that all tasks have in a gate, and as holders of seats. No thread has it, as the system gives none the
+ * number 0. */
 #define BY_TASK (((uint64_t)1 << SYSTEM_BITS) * NUMBER)
 
 /* The calls of tasks that are to be made once the guard is returned. */
@@ -207,8 +224,8 @@ struct due {
     unsigned calls;
 };
 
-/* Under the guard, if the first at the door is a task: makes its request, with which it goes from the door. Else there is no seat for it; MEETS if one is about to
- * be free. */
+/* Under the guard, if the first at the door is a task: makes its request, with which it goes from the door. Else there
+ * is no seat for it; MEETS if one is about to be free. */
 enum at_first { GOES, STAYS, MEETS };
 HIDDEN enum at_first qolb_seat_first_(struct hall *hall, struct due *due);
 

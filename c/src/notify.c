@@ -1,14 +1,17 @@
-/* Calls in place of wakes: who waits for a turn without a thread has a notice in the list of the bell of its place (bells.h). Tested, not proved.
+/* Calls in place of wakes: who waits for a turn without a thread has a notice in the list of the bell of its place
+ * (bells.h). Tested, not proved.
  *
- * Under the bell's guard a waiter puts its notice into the list, counts it, and polls. Who releases the line loads the counts, then the list's head, and then takes
- * the guard. So it finds a count of 0 or an empty list, and then the poll comes after the release; or it takes the guard, and finds the notice exactly if
- * the poll was WAITING. It takes the notice out, notes the call that it is about to make, which is on its stack, in the bell, and makes the call without the
- * guard. Once the call has begun the notice is not touched: its node may be gone. */
+ * Under the bell's guard a waiter puts its notice into the list, counts it, and polls. Who releases the line loads the
+ * counts, then the list's head, and then takes the guard. So it finds a count of 0 or an empty list, and then the poll
+ * comes after the release; or it takes the guard, and finds the notice exactly if the poll was WAITING. It takes the
+ * notice out, notes the call that it is about to make, which is on its stack, in the bell, and makes the call without
+ * the guard. Once the call has begun the notice is not touched: its node may be gone. */
 #define _GNU_SOURCE
 #include "bells.h"
 #include <pthread.h>
 
-/* The sanitizer of threads, if the program has it, sees nothing inside this library. It is told what a wish for a call hands over, and what a call does. */
+/* The sanitizer of threads, if the program has it, sees nothing inside this library. It is told what a wish for a call
+ * hands over, and what a call does. */
 void __tsan_acquire(void *address) __attribute__((weak));
 void __tsan_release(void *address) __attribute__((weak));
 
@@ -28,10 +31,12 @@ struct running {
     int awaited;
 };
 
-/* The most calls that a thread puts off until the call that it is in has returned. A call that would be one more is made inside that call. */
+/* The most calls that a thread puts off until the call that it is in has returned. A call that would be one more is
+ * made inside that call. */
 enum { PUT_OFF = 32 };
 
-/* A thread that makes calls. A call that releases a line makes no call inside itself: else calls that go on with turn after turn would use up the stack. */
+/* A thread that makes calls. A call that releases a line makes no call inside itself: else calls that go on with turn
+ * after turn would use up the stack. */
 struct caller_of_notices {
     struct running *running; /* the call that it is in; NULL if nobody waits for it any more */
     struct bell *bell;       /* at which that call is noted */
@@ -183,7 +188,8 @@ void qolb_make_call_(struct bell *bell, uint64_t key) {
     pthread_setcancelstate(PTHREAD_CANCEL_DISABLE, &cancels);
     in_call = &me;
     make_noted_call(bell, key);
-    for (; me.made != me.wanted; me.made++) make_noted_call(me.put_off[me.made % PUT_OFF].bell, me.put_off[me.made % PUT_OFF].key);
+    for (; me.made != me.wanted; me.made++)
+        make_noted_call(me.put_off[me.made % PUT_OFF].bell, me.put_off[me.made % PUT_OFF].key);
     in_call = outer;
     pthread_setcancelstate(cancels, &cancels);
 }

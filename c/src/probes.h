@@ -1,10 +1,14 @@
-/* Probes of threads that wait: places in the library at which bpftrace, perf and gdb can look (USDT). One of the library's internal files.
+/* Probes of threads that wait: places in the library at which bpftrace, perf and gdb can look (USDT). One of the
+ * library's internal files.
  *
- * Their provider is qolb. `wait`: a thread begins to wait for its turn. `sleep` and `wake`: it sleeps meanwhile. Then one of `granted`, `withdrawn` (it was
- * late, also if it is told that the lock was shut) and `closed`. The arguments of each are the line's label, the number of the node (0 while the thread has none), and a number by which lines
- * of one label differ. A call that does not wait passes no probe. Where no tracer looks, a probe is an instruction that does nothing.
+ * Their provider is qolb. `wait`: a thread begins to wait for its turn. `sleep` and `wake`: it sleeps meanwhile. Then
+ * one of `granted`, `withdrawn` (it was late, also if it is told that the lock was shut) and `closed`. The arguments of
+ * each are the line's label, the number of the node (0 while the thread has none), and a number by which lines of one
+ * label differ. A call that does not wait passes no probe. Where no tracer looks, a probe is an instruction that does
+ * nothing.
  *
- * They are there if the library is built with <sys/sdt.h> (Debian's systemtap-sdt-dev), and not with -DQOLB_NO_PROBES. */
+ * They are there if the library is built with <sys/sdt.h> (Debian's systemtap-sdt-dev), and not with
+ * -DQOLB_NO_PROBES. */
 #ifndef QOLB_PROBES_H
 #define QOLB_PROBES_H
 
@@ -21,7 +25,9 @@ struct probed {
     uint64_t label, number, line;
 };
 
-static inline struct probed of_node(qolb_node *node) { return (struct probed){qolb_label_proved_(node), qolb_number_proved_(node), *first_bell_of(node)}; }
+static inline struct probed of_node(qolb_node *node) {
+    return (struct probed){qolb_label_proved_(node), qolb_number_proved_(node), *first_bell_of(node)};
+}
 
 /* The number goes into a register: perf adds no probe that has a constant at one place and none at another. */
 #ifdef DTRACE_PROBE3

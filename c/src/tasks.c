@@ -1,15 +1,19 @@
-/* Tasks at a lock: who asks for it without a thread that waits (qolb.h, EVENT LOOPS). Tested, not proved; each step on the line is a proved call.
+/* Tasks at a lock: who asks for it without a thread that waits (qolb.h, EVENT LOOPS). Tested, not proved; each step on
+ * the line is a proved call.
  *
- * A task stands where a thread would, and no thread owns it. While it waits it has a notice (notify.c): at the place of its node's request, if it has a seat. If
- * not, it is at the door, in one list with the threads there. Who frees a seat, or goes from the door, makes the request of the first there, if that is a
- * task; a thread there is told, and looks itself. If the request is answered at once, the task is due: its notice is in the list of a bell at which no node
- * waits, and its call is made once the guard is returned.
+ * A task stands where a thread would, and no thread owns it. While it waits it has a notice (notify.c): at the place of
+ * its node's request, if it has a seat. If not, it is at the door, in one list with the threads there. Who frees a
+ * seat, or goes from the door, makes the request of the first there, if that is a task; a thread there is told, and
+ * looks itself. If the request is answered at once, the task is due: its notice is in the list of a bell at which no
+ * node waits, and its call is made once the guard is returned.
  *
- * A task cannot watch the gate, so while one waits no turn is kept. It counts itself, and then goes in by an open gate or marks the gate; who keeps its turn
- * sets the gate, and then looks at the count: a Dekker handshake. So a request that is made for a task finds no open gate.
+ * A task cannot watch the gate, so while one waits no turn is kept. It counts itself, and then goes in by an open gate
+ * or marks the gate; who keeps its turn sets the gate, and then looks at the count: a Dekker handshake. So a request
+ * that is made for a task finds no open gate.
  *
- * A task that comes as the first has seen each seat taken or busy before it stands at the door: it waits for one that is about to be free, as the thread of
- * that seat may not know of it. Who frees a seat later knows that somebody is at the door. */
+ * A task that comes as the first has seen each seat taken or busy before it stands at the door: it waits for one that
+ * is about to be free, as the thread of that seat may not know of it. Who frees a seat later knows that somebody is at
+ * the door. */
 #define _GNU_SOURCE
 #include "lock.h"
 #include <sched.h>
@@ -39,18 +43,20 @@ static struct task *task_of(struct caller *at) { return (struct task *)((char *)
 
 /* ---- Asking ---- */
 
-/* For a task that is counted: true if it went in by an open gate. Else no turn is kept from here on, or it ends when the thread that is in leaves. */
+/* For a task that is counted: true if it went in by an open gate. Else no turn is kept from here on, or it ends when
+ * the thread that is in leaves. */
 static int goes_in(struct hall *hall) {
     uint64_t gate = atomic_load(&hall->gate);
     while (gate != QUEUED_UP && !(gate & CALLED)) {
         int opens = (gate & OPEN) != 0;
-        if (atomic_compare_exchange_strong(&hall->gate, &gate, opens ? BY_TASK + (gate ^ OPEN) : gate | CALLED)) return opens;
+        if (atomic_compare_exchange_strong(&hall->gate, &gate, opens ? BY_TASK + (gate ^ OPEN) : gate | CALLED))
+            return opens;
     }
     return 0;
 }
 
-/* Makes a request with a seat that is free and not busy: GRANTED, CLOSED or WAITING. If there is none, WAITING without a seat; then `met` tells whether one is
- * about to be free. */
+/* Makes a request with a seat that is free and not busy: GRANTED, CLOSED or WAITING. If there is none, WAITING without
+ * a seat; then `met` tells whether one is about to be free. */
 static uint32_t ask(struct task *me, int is_first, int *met) {
     struct asking asking = {.hall = me->hall, .is_first = is_first, .is_task = 1};
     uint32_t got = qolb_take_seat_(&asking);
@@ -68,7 +74,8 @@ static void count_at_door(struct hall *hall, unsigned by) {
     atomic_fetch_add(&hall->guests, by);
 }
 
-/* One step at the door: makes the task's request if it is the first there, or stands there. Returns whether neither: a seat is about to be free. */
+/* One step at the door: makes the task's request if it is the first there, or stands there. Returns whether neither: a
+ * seat is about to be free. */
 static int comes(struct task *me, uint32_t *got, int *stands) {
     struct hall *hall = me->hall;
     int met = 0;
@@ -84,7 +91,8 @@ static int comes(struct task *me, uint32_t *got, int *stands) {
     return waits;
 }
 
-/* Returns whether it stands at the door: then another thread may go on with it. Else its request was made, with this answer. */
+/* Returns whether it stands at the door: then another thread may go on with it. Else its request was made, with this
+ * answer. */
 static int stands_at_door(struct task *me, uint32_t *got) {
     struct hall *hall = me->hall;
     int stands;
@@ -94,7 +102,8 @@ static int stands_at_door(struct task *me, uint32_t *got) {
     return stands;
 }
 
-/* What follows an answer. After WAITING the task is not touched. The hall may be gone afterwards, unless the answer is GRANTED. */
+/* What follows an answer. After WAITING the task is not touched. The hall may be gone afterwards, unless the answer is
+ * GRANTED. */
 static uint32_t settle(struct task *me, uint32_t got, int late) {
     if (got == QOLB_WAITING) return got;
     struct hall *hall = me->hall;
@@ -154,7 +163,8 @@ uint32_t qolb_task_enter_fd(qolb_task *task, qolb_lock *lock, int fd) {
 /* No node waits at this word: it is for the notices of the tasks of a line that are due. */
 #define DUE UINT32_MAX
 
-/* Behind the last change the task may be polled by another thread once the guard is returned, and be gone; and so may the hall. */
+/* Behind the last change the task may be polled by another thread once the guard is returned, and be gone; and so may
+ * the hall. */
 enum at_first qolb_seat_first_(struct hall *hall, struct due *due) {
     struct task *me = task_of(hall->first);
     int met;
@@ -197,8 +207,8 @@ uint32_t qolb_task_poll(qolb_task *task) {
 
 /* ---- Giving up ---- */
 
-/* WITHDRAWN or CLOSED; WAITING if it has a seat now. Those behind it miss nothing: while it was the first, there was no seat for it, or who frees one waits for the
- * guard. */
+/* WITHDRAWN or CLOSED; WAITING if it has a seat now. Those behind it miss nothing: while it was the first, there was no
+ * seat for it, or who frees one waits for the guard. */
 static uint32_t goes_from_door(struct task *me) {
     struct hall *hall = me->hall;
     uint32_t got = QOLB_WAITING;

@@ -1,5 +1,5 @@
-/* For the shared library only: the calls of 1.1 once more, in the version node of 1.0. They were there until each release had a version node of
- * its own, and programs that were linked before look for them there. */
+/* For the shared library only: the calls of 1.1 once more, in the version node of 1.0. They were there until each
+ * release had a version node of its own, and programs that were linked before look for them there. */
 #include "qolb.h"
 
 __asm__(".symver qolb_label_in_1_, qolb_label@QOLB_1");

@@ -1,5 +1,6 @@
-/* One line that several objects wait for and release: this program, an object that was built with an older header, a library that the program
- * opens at run time, and calls that it finds by their names. A release by each wakes the waiters of each. Prints only errors. */
+/* One line that several objects wait for and release: this program, an object that was built with an older header, a
+ * library that the program opens at run time, and calls that it finds by their names. A release by each wakes the
+ * waiters of each. Prints only errors. */
 #define _GNU_SOURCE
 #include "beside.h"
 #include <dlfcn.h>
@@ -13,7 +14,9 @@ enum { OWN, OLDER, PLUGIN, BY_NAME, OBJECTS, THREADS = 8, ROUNDS = 400 };
 static struct calls of[OBJECTS];
 
 static uint32_t acquires(qolb_node *node) { return qolb_acquire(node); }
-static uint32_t acquires_within(qolb_node *node, uint64_t nanoseconds) { return qolb_acquire_within(node, nanoseconds); }
+static uint32_t acquires_within(qolb_node *node, uint64_t nanoseconds) {
+    return qolb_acquire_within(node, nanoseconds);
+}
 
 static void *named(const char *name) {
     void *found = dlsym(RTLD_DEFAULT, name);
@@ -48,7 +51,8 @@ struct waiter {
 static void *waits(void *argument) {
     struct waiter *me = argument;
     about_to_wait(&me->number);
-    me->got = me->is_limited ? me->calls->acquire_within(&me->node, (uint64_t)60000 * MS) : me->calls->acquire(&me->node);
+    me->got = me->is_limited ? me->calls->acquire_within(&me->node, (uint64_t)60000 * MS)
+                             : me->calls->acquire(&me->node);
     if (me->got == QOLB_GRANTED) MUST(me->calls->deqolb(&me->node), QOLB_DONE);
     return NULL;
 }
@@ -90,7 +94,8 @@ static void *uses(void *argument) {
     struct worker *me = argument;
     uint32_t seed = (uint32_t)me->self;
     for (int round = 0; round < ROUNDS; round++) {
-        uint32_t draw = drawn(&seed), got = draw % 2 ? me->calls->acquire(&me->node) : me->calls->acquire_within(&me->node, draw / 2 % (500 * US));
+        uint32_t draw = drawn(&seed), got = draw % 2 ? me->calls->acquire(&me->node)
+                                                     : me->calls->acquire_within(&me->node, draw / 2 % (500 * US));
         if (got == QOLB_LATE) continue;
         MUST(got, QOLB_GRANTED);
         MUST(shared.inside++, 0);

@@ -14,7 +14,8 @@ struct calls {
     uint32_t (*shut)(struct qolb_node *node);
 };
 
-/* Of an object that was built with the header of 1.3 or before (older.c), and of one that the program opens at run time (plugin.c). */
+/* Of an object that was built with the header of 1.3 or before (older.c), and of one that the program opens at run time
+ * (plugin.c). */
 const struct calls *older(void);
 const struct calls *plugin(void);
 

@@ -1,5 +1,6 @@
-/* A thread that is cancelled while it waits goes on waiting: it is granted the line, or is late, and ends at its next cancellation point. So no
- * request of an ended thread is in the queue, and the line is handed on. Prints only errors. */
+/* A thread that is cancelled while it waits goes on waiting: it is granted the line, or is late, and ends at its next
+ * cancellation point. So no request of an ended thread is in the queue, and the line is handed on. Prints only
+ * errors. */
 #define _POSIX_C_SOURCE 200809L
 #include <pthread.h>
 #include <qolb.h>
@@ -11,13 +12,13 @@
 
 enum { FOR_EVER, LONG, SHORT };
 
-#define WANT(call, wanted)                                                                     \
-    do {                                                                                       \
-        unsigned long long got_ = (call);                                                      \
-        if (got_ != (wanted)) {                                                                \
-            printf("line %d: %s gave %llu\n", __LINE__, #call, got_);                          \
-            return 1;                                                                          \
-        }                                                                                      \
+#define WANT(call, wanted)                                            \
+    do {                                                              \
+        unsigned long long got_ = (call);                             \
+        if (got_ != (wanted)) {                                       \
+            printf("line %d: %s gave %llu\n", __LINE__, #call, got_); \
+            return 1;                                                 \
+        }                                                             \
     } while (0)
 
 struct waiter {
@@ -34,14 +35,16 @@ static void nap(long milliseconds) {
 
 static void *waits(void *argument) {
     struct waiter *me = argument;
-    me->got = me->how == FOR_EVER ? qolb_acquire(&me->node) : qolb_acquire_within(&me->node, me->how == LONG ? 60000000000 : 80000000);
+    me->got = me->how == FOR_EVER ? qolb_acquire(&me->node)
+                                  : qolb_acquire_within(&me->node, me->how == LONG ? 60000000000 : 80000000);
     if (me->got == QOLB_GRANTED) me->released = qolb_deqolb(&me->node);
     while (!me->is_cancelled) sched_yield(); /* on a busy machine it may be late before it is cancelled */
     pthread_testcancel();
     return NULL;
 }
 
-/* The waiter is cancelled while another node holds the line; `busy` if a request of its node is withdrawn and not passed yet. */
+/* The waiter is cancelled while another node holds the line; `busy` if a request of its node is withdrawn and not
+ * passed yet. */
 static int cancelled(uint32_t kind, int how, int busy) {
     qolb_bytes zeros = {{0}};
     qolb_node n[3] = {{0}};

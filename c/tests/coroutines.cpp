@@ -1,5 +1,6 @@
-// Ten thousand coroutines over four loops, a thread each, that share lines and a lock; some are destroyed while they wait. And without a loop, each in the
-// thread that releases, and what it is told that may not ask, gives up, or finds its line closed. Prints only errors.
+// Ten thousand coroutines over four loops, a thread each, that share lines and a lock; some are destroyed while they
+// wait. And without a loop, each in the thread that releases, and what it is told that may not ask, gives up, or finds
+// its line closed. Prints only errors.
 //
 //   build/coroutines_cpp [COROUTINES [ROUNDS [SEED [SECONDS]]]]
 //
@@ -69,7 +70,9 @@ template <class L> struct Later : qolb::Ready {
     void await_suspend(std::coroutine_handle<> h) { waiter = h, waits = true, loop.post(*this); }
     void await_resume() {}
     void run() override { waits = false, waiter.resume(); }
-    ~Later() { if (waits) loop.unpost(*this); }
+    ~Later() {
+        if (waits) loop.unpost(*this);
+    }
     L &loop;
     std::coroutine_handle<> waiter;
     bool waits = false;
@@ -82,7 +85,10 @@ static long counts[64]; // of each line
 Job by_node(qolb::Node node, int line, int rounds, Loop &loop, int &left) {
     while (rounds > 0) {
         qolb::Got got = co_await qolb::turn(node, loop);
-        if (got == qolb::Got::busy) { co_await Later<Loop>(loop); continue; }
+        if (got == qolb::Got::busy) {
+            co_await Later<Loop>(loop);
+            continue;
+        }
         if (got != qolb::Got::granted) std::abort();
         qolb::Guard turn(node, std::adopt_lock);
         counts[line]++, turn.add_to_lane(0, 1), added_nodes++, rounds--;
@@ -127,7 +133,8 @@ enum { THREADS = 4, NODES = 160, MOST_LINES = 64 };
 
 // Half of the coroutines have a node each, as far as there are lines, and the others the lock.
 static int many(int coroutines, int rounds, unsigned seed) {
-    int lines = std::min<int>(MOST_LINES, (coroutines / 2 + NODES - 1) / NODES), at_lock = std::max(0, coroutines - lines * NODES);
+    int lines = std::min<int>(MOST_LINES, (coroutines / 2 + NODES - 1) / NODES),
+        at_lock = std::max(0, coroutines - lines * NODES);
     qolb::Lock lock(8);
     std::vector<std::vector<Share>> shares(THREADS);
     std::vector<qolb::Node> last;
@@ -140,7 +147,9 @@ static int many(int coroutines, int rounds, unsigned seed) {
         for (int k = 0; k < NODES; k++) shares[k % THREADS].push_back({std::move(nodes[k]), line});
     }
     std::vector<std::thread> threads;
-    for (int k = 0; k < THREADS; k++) threads.emplace_back(work, std::ref(shares[k]), std::ref(lock), at_lock / THREADS, rounds, seed * THREADS + (unsigned)k);
+    for (int k = 0; k < THREADS; k++)
+        threads.emplace_back(work, std::ref(shares[k]), std::ref(lock), at_lock / THREADS, rounds,
+                             seed * THREADS + (unsigned)k);
     for (auto &it : threads) it.join();
     long sum = 0;
     for (int line = 0; line < lines; line++) {
@@ -235,7 +244,9 @@ static int entering_is_told() {
     lock.leave();
     if (told != std::vector<qolb_answer>{QOLB_GRANTED}) return 1;
     jobs[1].handle.destroy(); // it leaves
-    if (told != std::vector<qolb_answer>{QOLB_GRANTED, QOLB_GRANTED} || lock.enter() != QOLB_GRANTED || lock.shut() != QOLB_DONE) return 1;
+    if (told != std::vector<qolb_answer>{QOLB_GRANTED, QOLB_GRANTED} || lock.enter() != QOLB_GRANTED ||
+        lock.shut() != QOLB_DONE)
+        return 1;
     jobs[1] = enters(lock, now, told, false), jobs[1].handle.resume();
     jobs[1].handle.destroy(), jobs[2].handle.destroy();
     return told.size() != 3 || told[2] != QOLB_CLOSED;
@@ -278,7 +289,8 @@ static int chains() {
 }
 
 int main(int argc, char **argv) {
-    int coroutines = argc > 1 ? std::atoi(argv[1]) : 10000, rounds = argc > 2 ? std::atoi(argv[2]) : 20, seconds = argc > 4 ? std::atoi(argv[4]) : 0;
+    int coroutines = argc > 1 ? std::atoi(argv[1]) : 10000, rounds = argc > 2 ? std::atoi(argv[2]) : 20,
+        seconds = argc > 4 ? std::atoi(argv[4]) : 0;
     unsigned seed = argc > 3 ? (unsigned)std::atoi(argv[3]) : 1;
     auto since = std::chrono::steady_clock::now();
     alarm((unsigned)seconds + 600);

@@ -1,5 +1,5 @@
-// Times and deadlines at the ends of their types, for a node, a lock and a condition: each is late at once, or waits until it is granted. Prints only
-// errors.
+// Times and deadlines at the ends of their types, for a node, a lock and a condition: each is late at once, or waits
+// until it is granted. Prints only errors.
 #include <qolb.hpp>
 
 #include <chrono>
@@ -15,7 +15,8 @@ using namespace std::chrono;
 
 enum Ends { late, waits };
 
-// Something that this thread has and another wants, within a time or until a deadline; and that can be had after the last call.
+// Something that this thread has and another wants, within a time or until a deadline; and that can be had after the
+// last call.
 struct Node {
     qolb::Node has, wants;
 
@@ -84,7 +85,8 @@ struct Predicate : Signal {
     }
 };
 
-// Whether a call by another thread ends as wanted: before it can be had, or by having it. Who waits although it is late is ended by the alarm.
+// Whether a call by another thread ends as wanted: before it can be had, or by having it. Who waits although it is late
+// is ended by the alarm.
 template <class Thing, class Call> bool ends(qolb_kind kind, Ends wanted, Call call) {
     Thing thing(kind);
     bool got = false;
@@ -97,9 +99,12 @@ template <class Thing, class Call> bool ends(qolb_kind kind, Ends wanted, Call c
     return got == (wanted == waits);
 }
 
-bool told(const char *what, const char *time, qolb_kind kind) { return std::printf("%s, kind %d: %s\n", what, kind, time), false; }
+bool told(const char *what, const char *time, qolb_kind kind) {
+    return std::printf("%s, kind %d: %s\n", what, kind, time), false;
+}
 
-template <class Thing, class Time> bool within(const char *what, const char *name, qolb_kind kind, Ends wanted, Time time) {
+template <class Thing, class Time>
+bool within(const char *what, const char *name, qolb_kind kind, Ends wanted, Time time) {
     return ends<Thing>(kind, wanted, [&](Thing &it) { return it.within(time); }) || told(what, name, kind);
 }
 
@@ -115,9 +120,10 @@ using attoseconds = duration<std::int64_t, std::atto>;
 using of_float = duration<float>;
 
 template <class Thing> bool times(const char *what, qolb_kind kind) {
-    return WITHIN(late, nanoseconds(-1)) && WITHIN(late, nanoseconds::min()) && WITHIN(late, hours(-1)) && WITHIN(late, hours::min()) &&
-           WITHIN(late, days::min()) && WITHIN(late, attoseconds(1)) && WITHIN(late, of_float(-1)) && WITHIN(late, of_float::min()) &&
-           WITHIN(waits, nanoseconds::max()) && WITHIN(waits, hours::max()) && WITHIN(waits, days::max()) && WITHIN(waits, of_float::max()) &&
+    return WITHIN(late, nanoseconds(-1)) && WITHIN(late, nanoseconds::min()) && WITHIN(late, hours(-1)) &&
+           WITHIN(late, hours::min()) && WITHIN(late, days::min()) && WITHIN(late, attoseconds(1)) &&
+           WITHIN(late, of_float(-1)) && WITHIN(late, of_float::min()) && WITHIN(waits, nanoseconds::max()) &&
+           WITHIN(waits, hours::max()) && WITHIN(waits, days::max()) && WITHIN(waits, of_float::max()) &&
            WITHIN(waits, hours(24 * 366 * 10000));
 }
 
@@ -129,14 +135,16 @@ constexpr seconds year_9999(253402300799);
 
 template <class Thing, class Clock> bool deadlines(const char *what, qolb_kind kind) {
     using time_point = typename Clock::time_point;
-    return UNTIL(late, time_point::min()) && UNTIL(late, by_hours<Clock>::min()) && UNTIL(late, by_seconds<Clock>::min()) &&
-           UNTIL(late, by_seconds<Clock>(-year_9999)) && UNTIL(late, time_point()) && UNTIL(late, Clock::now() - seconds(1)) &&
-           UNTIL(waits, time_point::max()) && UNTIL(waits, by_hours<Clock>::max()) && UNTIL(waits, by_seconds<Clock>::max()) &&
+    return UNTIL(late, time_point::min()) && UNTIL(late, by_hours<Clock>::min()) &&
+           UNTIL(late, by_seconds<Clock>::min()) && UNTIL(late, by_seconds<Clock>(-year_9999)) &&
+           UNTIL(late, time_point()) && UNTIL(late, Clock::now() - seconds(1)) && UNTIL(waits, time_point::max()) &&
+           UNTIL(waits, by_hours<Clock>::max()) && UNTIL(waits, by_seconds<Clock>::max()) &&
            UNTIL(waits, by_seconds<Clock>(year_9999)) && UNTIL(waits, Clock::now() + hours(1));
 }
 
 template <class Thing> bool all(const char *what, qolb_kind kind) {
-    return times<Thing>(what, kind) && deadlines<Thing, steady_clock>(what, kind) && deadlines<Thing, system_clock>(what, kind);
+    return times<Thing>(what, kind) && deadlines<Thing, steady_clock>(what, kind) &&
+           deadlines<Thing, system_clock>(what, kind);
 }
 
 // A clock that is set back by 100 ms once it was read twice: for the deadline, and for the time that is left.
@@ -147,7 +155,9 @@ struct SetBack {
     using time_point = std::chrono::time_point<SetBack>;
     static constexpr bool is_steady = false;
     static int reads;
-    static time_point now() { return time_point(steady_clock::now().time_since_epoch() - (++reads > 2 ? milliseconds(100) : milliseconds(0))); }
+    static time_point now() {
+        return time_point(steady_clock::now().time_since_epoch() - (++reads > 2 ? milliseconds(100) : milliseconds(0)));
+    }
 };
 int SetBack::reads;
 
@@ -156,7 +166,8 @@ template <class Thing> bool follows_its_clock() {
     SetBack::reads = 0;
     auto since = steady_clock::now();
     auto end = SetBack::now() + milliseconds(1);
-    return ends<Thing>(QOLB_DEFAULT, late, [&](Thing &it) { return it.until(end); }) && steady_clock::now() - since >= milliseconds(101);
+    return ends<Thing>(QOLB_DEFAULT, late, [&](Thing &it) { return it.until(end); }) &&
+           steady_clock::now() - since >= milliseconds(101);
 }
 
 } // namespace
@@ -165,7 +176,9 @@ int main() {
     alarm(300);
     for (std::uint32_t number = 0; number < QOLB_KINDS; number++) {
         auto kind = static_cast<qolb_kind>(number);
-        if (!all<Node>("node", kind) || !all<Lock>("lock", kind) || !all<Signal>("signal", kind) || !all<Predicate>("predicate", kind)) return 1;
+        if (!all<Node>("node", kind) || !all<Lock>("lock", kind) || !all<Signal>("signal", kind) ||
+            !all<Predicate>("predicate", kind))
+            return 1;
     }
     if (!follows_its_clock<Lock>() || !follows_its_clock<Predicate>()) return std::puts("a clock that is set back"), 1;
     return 0;

@@ -1,5 +1,6 @@
-// Each call of a node in each of its states, over a line of each kind: its answer or exception, and the state after it. Linked with --wrap for
-// clock_gettime and syscall, so that time passes only in sleeps with a limit. Prints only errors.
+// Each call of a node in each of its states, over a line of each kind: its answer or exception, and the state after it.
+// Linked with --wrap for clock_gettime and syscall, so that time passes only in sleeps with a limit. Prints only
+// errors.
 #include <qolb.hpp>
 
 #include <chrono>
@@ -8,6 +9,7 @@
 #include <functional>
 #include <mutex>
 #include <string>
+#include <sys/eventfd.h>
 #include <sys/syscall.h>
 #include <thread>
 #include <time.h>
@@ -48,11 +50,12 @@ namespace {
 
 constexpr std::uint64_t label = 7, lease = 9;
 constexpr std::size_t states = 8;
-constexpr qolb_node_state every_state[states] = {QOLB_STATE_EMPTY,   QOLB_STATE_IDLE, QOLB_STATE_LINKING, QOLB_STATE_QUEUED,
-                                                 QOLB_STATE_HOLDING, QOLB_STATE_LEFT, QOLB_STATE_ROLLED,  QOLB_STATE_SHUT};
+constexpr qolb_node_state every_state[states] = {QOLB_STATE_EMPTY,  QOLB_STATE_IDLE,    QOLB_STATE_LINKING,
+                                                 QOLB_STATE_QUEUED, QOLB_STATE_HOLDING, QOLB_STATE_LEFT,
+                                                 QOLB_STATE_ROLLED, QOLB_STATE_SHUT};
 
-// A line of three nodes. The second is `node`, in the wanted state: if it waits or was withdrawn, the first holds the line, and if it has left, the
-// third has not linked yet.
+// A line of three nodes. The second is `node`, in the wanted state: if it waits or was withdrawn, the first holds the
+// line, and if it has left, the third has not linked yet.
 struct Line {
     std::vector<qolb::Node> nodes;
     qolb::Node node;
@@ -81,9 +84,11 @@ struct Line {
     }
 };
 
-constexpr qolb_node_state EMPTY = QOLB_STATE_EMPTY, IDLE = QOLB_STATE_IDLE, LINK = QOLB_STATE_LINKING, QUEUED = QOLB_STATE_QUEUED,
-                          HOLDS = QOLB_STATE_HOLDING, LEFT = QOLB_STATE_LEFT, ROLLED = QOLB_STATE_ROLLED, SHUT = QOLB_STATE_SHUT;
-constexpr qolb_answer DONE = QOLB_DONE, GRANTED = QOLB_GRANTED, CLOSED = QOLB_CLOSED, BUSY = QOLB_BUSY, NO = QOLB_MISUSE;
+constexpr qolb_node_state EMPTY = QOLB_STATE_EMPTY, IDLE = QOLB_STATE_IDLE, LINK = QOLB_STATE_LINKING,
+                          QUEUED = QOLB_STATE_QUEUED, HOLDS = QOLB_STATE_HOLDING, LEFT = QOLB_STATE_LEFT,
+                          ROLLED = QOLB_STATE_ROLLED, SHUT = QOLB_STATE_SHUT;
+constexpr qolb_answer DONE = QOLB_DONE, GRANTED = QOLB_GRANTED, CLOSED = QOLB_CLOSED, BUSY = QOLB_BUSY,
+                      NO = QOLB_MISUSE;
 
 // The outcome of a call that may throw.
 enum Ended { has = 100, has_not, throws_closed, throws_misuse, does };
@@ -117,53 +122,109 @@ template <class Call> int meanwhile(Line &line, Call call) {
     return told;
 }
 
-constexpr int G = static_cast<int>(qolb::Got::granted), C = static_cast<int>(qolb::Got::closed), B = static_cast<int>(qolb::Got::busy),
-              L = static_cast<int>(qolb::Got::late), M = static_cast<int>(qolb::Got::misuse);
+constexpr int G = static_cast<int>(qolb::Got::granted), C = static_cast<int>(qolb::Got::closed),
+              B = static_cast<int>(qolb::Got::busy), L = static_cast<int>(qolb::Got::late),
+              M = static_cast<int>(qolb::Got::misuse);
 
+const int event = eventfd(0, EFD_CLOEXEC);
+
+// clang-format off
 #define STAYS {EMPTY, IDLE, LINK, QUEUED, HOLDS, LEFT, ROLLED, SHUT}
 
 const std::vector<Row> rows = {
-    {"enqolb", [](Line &l) { return l.node.enqolb(); }, {NO, GRANTED, NO, NO, NO, BUSY, BUSY, CLOSED}, {EMPTY, HOLDS, LINK, QUEUED, HOLDS, LEFT, ROLLED, SHUT}},
+    {"enqolb", [](Line &l) { return l.node.enqolb(); },
+     {NO, GRANTED, NO, NO, NO, BUSY, BUSY, CLOSED}, {EMPTY, HOLDS, LINK, QUEUED, HOLDS, LEFT, ROLLED, SHUT}},
     {"clear", [](Line &l) { return l.node.clear(); }, {NO, DONE, NO, NO, NO, BUSY, BUSY, DONE}, STAYS},
     {"poll", [](Line &l) { return l.node.poll(); }, {NO, NO, NO, QOLB_WAITING, NO, NO, NO, NO}, STAYS},
     {"wait", [](Line &l) { return l.node.wait(3); }, {NO, NO, NO, QOLB_WAITING, NO, NO, NO, NO}, STAYS},
     {"wait for no poll", [](Line &l) { return l.node.wait(0); }, {NO, NO, NO, NO, NO, NO, NO, NO}, STAYS},
-    {"notify", [](Line &l) { return l.node.notify([](void *) {}, nullptr); }, {NO, NO, NO, QOLB_WAITING, NO, NO, NO, NO}, STAYS},
-    {"notify_fd", [](Line &l) { return l.node.notify_fd(-1); }, {NO, NO, NO, QOLB_WAITING, NO, NO, NO, NO}, STAYS},
+    {"notify", [](Line &l) { return l.node.notify([](void *) {}, nullptr); },
+     {NO, NO, NO, QOLB_WAITING, NO, NO, NO, NO}, STAYS},
+    {"notify_fd", [](Line &l) { return l.node.notify_fd(event); }, {NO, NO, NO, QOLB_WAITING, NO, NO, NO, NO}, STAYS},
+    {"notify_fd of none", [](Line &l) { return l.node.notify_fd(-1); }, {NO, NO, NO, NO, NO, NO, NO, NO}, STAYS},
     {"notify_off", [](Line &l) { return l.node.notify_off(); }, {NO, DONE, DONE, DONE, DONE, DONE, DONE, DONE}, STAYS},
-    {"withdraw", [](Line &l) { return l.node.withdraw(); }, {NO, NO, NO, QOLB_WITHDRAWN, NO, NO, NO, NO}, {EMPTY, IDLE, LINK, ROLLED, HOLDS, LEFT, ROLLED, SHUT}},
-    {"link", [](Line &l) { return l.node.link(); }, {NO, NO, QOLB_QUEUED, NO, NO, NO, NO, NO}, {EMPTY, IDLE, QUEUED, QUEUED, HOLDS, LEFT, ROLLED, SHUT}},
+    {"withdraw", [](Line &l) { return l.node.withdraw(); },
+     {NO, NO, NO, QOLB_WITHDRAWN, NO, NO, NO, NO}, {EMPTY, IDLE, LINK, ROLLED, HOLDS, LEFT, ROLLED, SHUT}},
+    {"link", [](Line &l) { return l.node.link(); },
+     {NO, NO, QOLB_QUEUED, NO, NO, NO, NO, NO}, {EMPTY, IDLE, QUEUED, QUEUED, HOLDS, LEFT, ROLLED, SHUT}},
     {"read", [](Line &l) { qolb_bytes out; return l.node.read(out); }, {NO, NO, NO, NO, DONE, NO, NO, NO}, STAYS},
     {"write", [](Line &l) { return l.node.write(1, qolb_bytes{}); }, {NO, NO, NO, NO, DONE, NO, NO, NO}, STAYS},
-    {"read_lane", [](Line &l) { std::uint64_t out; return l.node.read_lane(7, out); }, {NO, NO, NO, NO, DONE, NO, NO, NO}, STAYS},
-    {"read_lane of none", [](Line &l) { std::uint64_t out; return l.node.read_lane(8, out); }, {NO, NO, NO, NO, NO, NO, NO, NO}, STAYS},
+    {"read_lane", [](Line &l) { std::uint64_t out; return l.node.read_lane(7, out); },
+     {NO, NO, NO, NO, DONE, NO, NO, NO}, STAYS},
+    {"read_lane of none", [](Line &l) { std::uint64_t out; return l.node.read_lane(8, out); },
+     {NO, NO, NO, NO, NO, NO, NO, NO}, STAYS},
     {"write_lane", [](Line &l) { return l.node.write_lane(7, 1); }, {NO, NO, NO, NO, DONE, NO, NO, NO}, STAYS},
     {"write_lane of none", [](Line &l) { return l.node.write_lane(8, 1); }, {NO, NO, NO, NO, NO, NO, NO, NO}, STAYS},
-    {"add_lane", [](Line &l) { std::uint64_t was; return l.node.add_lane(7, 1, was); }, {NO, NO, NO, NO, DONE, NO, NO, NO}, STAYS},
-    {"add_lane of none", [](Line &l) { std::uint64_t was; return l.node.add_lane(8, 1, was); }, {NO, NO, NO, NO, NO, NO, NO, NO}, STAYS},
-    {"what add_lane leaves, if it is misuse", [](Line &l) { std::uint64_t was = 9; return l.node.add_lane(7, 1, was), static_cast<int>(was); }, {9, 9, 9, 9, 0, 9, 9, 9}, STAYS},
-    {"deqolb", [](Line &l) { return l.node.deqolb(); }, {NO, NO, NO, NO, DONE, NO, NO, NO}, {EMPTY, IDLE, LINK, QUEUED, IDLE, LEFT, ROLLED, SHUT}},
-    {"shut", [](Line &l) { return l.node.shut(); }, {NO, NO, NO, NO, DONE, NO, NO, NO}, {EMPTY, IDLE, LINK, QUEUED, SHUT, LEFT, ROLLED, SHUT}},
-    {"close", [](Line &l) { return l.node.close(); }, {NO, DONE, NO, NO, NO, DONE, DONE, DONE}, {EMPTY, EMPTY, LINK, QUEUED, HOLDS, EMPTY, EMPTY, EMPTY}},
+    {"add_lane", [](Line &l) { std::uint64_t was; return l.node.add_lane(7, 1, was); },
+     {NO, NO, NO, NO, DONE, NO, NO, NO}, STAYS},
+    {"add_lane of none", [](Line &l) { std::uint64_t was; return l.node.add_lane(8, 1, was); },
+     {NO, NO, NO, NO, NO, NO, NO, NO}, STAYS},
+    {"what add_lane leaves, if it is misuse",
+     [](Line &l) { std::uint64_t was = 9; return l.node.add_lane(7, 1, was), static_cast<int>(was); },
+     {9, 9, 9, 9, 0, 9, 9, 9}, STAYS},
+    {"deqolb", [](Line &l) { return l.node.deqolb(); },
+     {NO, NO, NO, NO, DONE, NO, NO, NO}, {EMPTY, IDLE, LINK, QUEUED, IDLE, LEFT, ROLLED, SHUT}},
+    {"shut", [](Line &l) { return l.node.shut(); },
+     {NO, NO, NO, NO, DONE, NO, NO, NO}, {EMPTY, IDLE, LINK, QUEUED, SHUT, LEFT, ROLLED, SHUT}},
+    {"close", [](Line &l) { return l.node.close(); },
+     {NO, DONE, NO, NO, NO, DONE, DONE, DONE}, {EMPTY, EMPTY, LINK, QUEUED, HOLDS, EMPTY, EMPTY, EMPTY}},
     {"turns_left", [](Line &l) { return static_cast<int>(l.node.turns_left()); }, {0, 0, 0, 0, lease, 0, 0, 0}, STAYS},
     {"number", [](Line &l) { return static_cast<int>(l.node.number()); }, {0, 2, 2, 2, 2, 2, 2, 2}, STAYS},
-    {"label", [](Line &l) { return static_cast<int>(l.node.label()); }, {0, label, label, label, label, label, label, label}, STAYS},
-    {"acquire", [](Line &l) { return meanwhile(l, [&] { return static_cast<int>(l.node.acquire()); }); }, {M, G, M, M, M, G, G, C}, {EMPTY, HOLDS, LINK, QUEUED, HOLDS, HOLDS, HOLDS, SHUT}},
-    {"try_acquire", [](Line &l) { return static_cast<int>(l.node.try_acquire()); }, {M, G, M, M, M, B, B, C}, {EMPTY, HOLDS, LINK, QUEUED, HOLDS, LEFT, ROLLED, SHUT}},
-    {"acquire_for", [](Line &l) { return static_cast<int>(l.node.acquire_for(std::chrono::microseconds(50))); }, {M, G, M, M, M, L, L, C}, {EMPTY, HOLDS, LINK, QUEUED, HOLDS, LEFT, ROLLED, SHUT}},
-    {"lock", [](Line &l) { return meanwhile(l, [&] { return ended([&] { return l.node.lock(), true; }); }); }, {throws_misuse, has, throws_misuse, throws_misuse, throws_misuse, has, has, throws_closed}, {EMPTY, HOLDS, LINK, QUEUED, HOLDS, HOLDS, HOLDS, SHUT}},
-    {"try_lock", [](Line &l) { return ended([&] { return l.node.try_lock(); }); }, {throws_misuse, has, throws_misuse, throws_misuse, throws_misuse, has_not, has_not, throws_closed}, {EMPTY, HOLDS, LINK, QUEUED, HOLDS, LEFT, ROLLED, SHUT}},
-    {"try_lock_for", [](Line &l) { return ended([&] { return l.node.try_lock_for(std::chrono::microseconds(50)); }); }, {throws_misuse, has, throws_misuse, throws_misuse, throws_misuse, has_not, has_not, throws_closed}, {EMPTY, HOLDS, LINK, QUEUED, HOLDS, LEFT, ROLLED, SHUT}},
-    {"try_lock_until", [](Line &l) { return ended([&] { return l.node.try_lock_until(std::chrono::steady_clock::now() + std::chrono::microseconds(50)); }); }, {throws_misuse, has, throws_misuse, throws_misuse, throws_misuse, has_not, has_not, throws_closed}, {EMPTY, HOLDS, LINK, QUEUED, HOLDS, LEFT, ROLLED, SHUT}},
-    {"unlock", [](Line &l) { return ended([&] { return l.node.unlock(), true; }); }, {throws_misuse, throws_misuse, throws_misuse, throws_misuse, has, throws_misuse, throws_misuse, throws_misuse}, {EMPTY, IDLE, LINK, QUEUED, IDLE, LEFT, ROLLED, SHUT}},
-    {"with", [](Line &l) { return meanwhile(l, [&] { return static_cast<int>(l.node.with([](qolb_bytes &) {})); }); }, {M, G, M, M, M, G, G, C}, {EMPTY, IDLE, LINK, QUEUED, HOLDS, IDLE, IDLE, SHUT}},
-    {"a guard", [](Line &l) { return meanwhile(l, [&] { return ended([&] { qolb::Guard turn(l.node); return l.node.state() == HOLDS; }); }); }, {throws_misuse, has, throws_misuse, throws_misuse, throws_misuse, has, has, throws_closed}, {EMPTY, IDLE, LINK, QUEUED, HOLDS, IDLE, IDLE, SHUT}},
-    {"a guard of a turn", [](Line &l) { return ended([&] { qolb::Guard turn(l.node, std::adopt_lock); return true; }); }, {throws_misuse, throws_misuse, throws_misuse, throws_misuse, has, throws_misuse, throws_misuse, throws_misuse}, {EMPTY, IDLE, LINK, QUEUED, IDLE, LEFT, ROLLED, SHUT}},
-    {"a move", [](Line &l) { qolb::Node there(std::move(l.node)); int was = there.state(); l.node = std::move(there); return there.state() == EMPTY ? was : -1; }, {EMPTY, IDLE, LINK, QUEUED, HOLDS, LEFT, ROLLED, SHUT}, STAYS},
-    {"a move onto itself", [](Line &l) { qolb::Node &same = l.node; l.node = std::move(same); return static_cast<int>(DONE); }, {DONE, DONE, DONE, DONE, DONE, DONE, DONE, DONE}, STAYS},
+    {"label", [](Line &l) { return static_cast<int>(l.node.label()); },
+     {0, label, label, label, label, label, label, label}, STAYS},
+    {"acquire", [](Line &l) { return meanwhile(l, [&] { return static_cast<int>(l.node.acquire()); }); },
+     {M, G, M, M, M, G, G, C}, {EMPTY, HOLDS, LINK, QUEUED, HOLDS, HOLDS, HOLDS, SHUT}},
+    {"try_acquire", [](Line &l) { return static_cast<int>(l.node.try_acquire()); },
+     {M, G, M, M, M, B, B, C}, {EMPTY, HOLDS, LINK, QUEUED, HOLDS, LEFT, ROLLED, SHUT}},
+    {"acquire_for", [](Line &l) { return static_cast<int>(l.node.acquire_for(std::chrono::microseconds(50))); },
+     {M, G, M, M, M, L, L, C}, {EMPTY, HOLDS, LINK, QUEUED, HOLDS, LEFT, ROLLED, SHUT}},
+    {"lock", [](Line &l) { return meanwhile(l, [&] { return ended([&] { return l.node.lock(), true; }); }); },
+     {throws_misuse, has, throws_misuse, throws_misuse, throws_misuse, has, has, throws_closed},
+     {EMPTY, HOLDS, LINK, QUEUED, HOLDS, HOLDS, HOLDS, SHUT}},
+    {"try_lock", [](Line &l) { return ended([&] { return l.node.try_lock(); }); },
+     {throws_misuse, has, throws_misuse, throws_misuse, throws_misuse, has_not, has_not, throws_closed},
+     {EMPTY, HOLDS, LINK, QUEUED, HOLDS, LEFT, ROLLED, SHUT}},
+    {"try_lock_for", [](Line &l) { return ended([&] { return l.node.try_lock_for(std::chrono::microseconds(50)); }); },
+     {throws_misuse, has, throws_misuse, throws_misuse, throws_misuse, has_not, has_not, throws_closed},
+     {EMPTY, HOLDS, LINK, QUEUED, HOLDS, LEFT, ROLLED, SHUT}},
+    {"try_lock_until",
+     [](Line &l) {
+         auto end = std::chrono::steady_clock::now() + std::chrono::microseconds(50);
+         return ended([&] { return l.node.try_lock_until(end); });
+     },
+     {throws_misuse, has, throws_misuse, throws_misuse, throws_misuse, has_not, has_not, throws_closed},
+     {EMPTY, HOLDS, LINK, QUEUED, HOLDS, LEFT, ROLLED, SHUT}},
+    {"unlock", [](Line &l) { return ended([&] { return l.node.unlock(), true; }); },
+     {throws_misuse, throws_misuse, throws_misuse, throws_misuse, has, throws_misuse, throws_misuse, throws_misuse},
+     {EMPTY, IDLE, LINK, QUEUED, IDLE, LEFT, ROLLED, SHUT}},
+    {"with", [](Line &l) { return meanwhile(l, [&] { return static_cast<int>(l.node.with([](qolb_bytes &) {})); }); },
+     {M, G, M, M, M, G, G, C}, {EMPTY, IDLE, LINK, QUEUED, HOLDS, IDLE, IDLE, SHUT}},
+    {"a guard",
+     [](Line &l) {
+         return meanwhile(l, [&] { return ended([&] { qolb::Guard turn(l.node); return l.node.state() == HOLDS; }); });
+     },
+     {throws_misuse, has, throws_misuse, throws_misuse, throws_misuse, has, has, throws_closed},
+     {EMPTY, IDLE, LINK, QUEUED, HOLDS, IDLE, IDLE, SHUT}},
+    {"a guard of a turn",
+     [](Line &l) { return ended([&] { qolb::Guard turn(l.node, std::adopt_lock); return true; }); },
+     {throws_misuse, throws_misuse, throws_misuse, throws_misuse, has, throws_misuse, throws_misuse, throws_misuse},
+     {EMPTY, IDLE, LINK, QUEUED, IDLE, LEFT, ROLLED, SHUT}},
+    {"a move",
+     [](Line &l) {
+         qolb::Node there(std::move(l.node));
+         int was = there.state();
+         l.node = std::move(there);
+         return there.state() == EMPTY ? was : -1;
+     },
+     {EMPTY, IDLE, LINK, QUEUED, HOLDS, LEFT, ROLLED, SHUT}, STAYS},
+    {"a move onto itself",
+     [](Line &l) { qolb::Node &same = l.node; l.node = std::move(same); return static_cast<int>(DONE); },
+     {DONE, DONE, DONE, DONE, DONE, DONE, DONE, DONE}, STAYS},
 };
+// clang-format on
 
-// The further rows of a line of this kind: only a link line has the first half of a request, and the state of a node that is not busy any more.
+// The further rows of a line of this kind: only a link line has the first half of a request, and the state of a node
+// that is not busy any more.
 struct Of {
     Row prepend, clear;
 };
@@ -171,8 +232,14 @@ struct Of {
 int is_clear_then(Line &line) { return line.goes_on(), line.node.clear(); }
 
 const Of of_link = {
-    {"prepend", [](Line &l) { return l.node.prepend(); }, {NO, GRANTED, NO, NO, NO, BUSY, BUSY, CLOSED}, {EMPTY, HOLDS, LINK, QUEUED, HOLDS, LEFT, ROLLED, SHUT}},
-    {"clear, where the line has gone on", is_clear_then, {NO, DONE, NO, NO, NO, DONE, DONE, DONE}, {EMPTY, IDLE, LINK, QUEUED, HOLDS, IDLE, IDLE, SHUT}},
+    {"prepend",
+     [](Line &l) { return l.node.prepend(); },
+     {NO, GRANTED, NO, NO, NO, BUSY, BUSY, CLOSED},
+     {EMPTY, HOLDS, LINK, QUEUED, HOLDS, LEFT, ROLLED, SHUT}},
+    {"clear, where the line has gone on",
+     is_clear_then,
+     {NO, DONE, NO, NO, NO, DONE, DONE, DONE},
+     {EMPTY, IDLE, LINK, QUEUED, HOLDS, IDLE, IDLE, SHUT}},
 };
 const Of of_others = {
     {"prepend", [](Line &l) { return l.node.prepend(); }, {NO, NO, NO, NO, NO, NO, NO, NO}, STAYS},
@@ -180,12 +247,14 @@ const Of of_others = {
 };
 
 bool holds(const Row &row, qolb_kind kind, std::size_t k) {
-    if (kind != QOLB_LINK && (every_state[k] == LINK || every_state[k] == LEFT)) return true; // states of a link line alone
+    // States of a link line alone.
+    if (kind != QOLB_LINK && (every_state[k] == LINK || every_state[k] == LEFT)) return true;
     Line line(kind, every_state[k]);
     if (line.node.state() != every_state[k]) return std::printf("kind %d: no node in the state %zu\n", kind, k), false;
     int told = row.call(line);
     if (told == row.told[k] && line.node.state() == row.then[k]) return true;
-    std::printf("kind %d, %s in the state %zu: told %d, and leaves the state %d\n", kind, row.name, k, told, line.node.state());
+    std::printf("kind %d, %s in the state %zu: told %d, and leaves the state %d\n", kind, row.name, k, told,
+                line.node.state());
     return false;
 }
 
@@ -200,21 +269,28 @@ bool rounds_up(qolb_kind kind) {
     for (auto time : times) {
         std::uint64_t since = now;
         bool late = line.node.acquire_for(duration<double, std::nano>(time.nanoseconds)) == qolb::Got::late;
-        if (!late || now - since != time.wanted) return std::printf("%f ns: late after %llu\n", time.nanoseconds, static_cast<unsigned long long>(now - since)), false;
+        if (!late || now - since != time.wanted)
+            return std::printf("%f ns: late after %llu\n", time.nanoseconds,
+                               static_cast<unsigned long long>(now - since)),
+                   false;
     }
     // The same for a period as fine as can be, where an hour would not fit its number; and for a coarse one.
     std::uint64_t since = now;
-    if (line.node.acquire_for(duration<std::int64_t, std::atto>(1)) != qolb::Got::late || now - since != 1) return false;
+    if (line.node.acquire_for(duration<std::int64_t, std::atto>(1)) != qolb::Got::late || now - since != 1)
+        return false;
     since = now;
-    if (line.node.acquire_for(duration<std::int64_t, std::pico>(2001)) != qolb::Got::late || now - since != 3) return false;
+    if (line.node.acquire_for(duration<std::int64_t, std::pico>(2001)) != qolb::Got::late || now - since != 3)
+        return false;
     since = now;
     return line.node.acquire_for(duration<int, std::ratio<60>>(1)) == qolb::Got::late && now - since == 60000000000;
 }
 
-// The bytes of a ticket line of two nodes: four cells of 256 bytes, the line, two nodes, each a multiple of 128, and 128 more for each of five blocks.
+// The bytes of a ticket line of two nodes: four cells of 256 bytes, the line, two nodes, each a multiple of 128, and
+// 128 more for each of five blocks.
 bool tells_memory() {
     constexpr std::uint64_t keeps = 4 * 256 + 128 + 2 * 256 + 5 * 128;
-    return qolb::memory(QOLB_TICKET, 2) == keeps && qolb::memory(QOLB_TICKET, 0) == 0 && qolb::memory(QOLB_TICKET, 201) == 0;
+    return qolb::memory(QOLB_TICKET, 2) == keeps && qolb::memory(QOLB_TICKET, 0) == 0 &&
+           qolb::memory(QOLB_TICKET, 201) == 0;
 }
 
 } // namespace

@@ -1,4 +1,5 @@
-/* After a fork parent and child have a line each, both in the same state, and neither sees what the other does. Prints only errors. */
+/* After a fork parent and child have a line each, both in the same state, and neither sees what the other does. Prints
+ * only errors. */
 #define _POSIX_C_SOURCE 200809L
 #include <qolb.h>
 #include <stdio.h>
@@ -6,16 +7,17 @@
 #include <sys/wait.h>
 #include <unistd.h>
 
-#define WANT(call, wanted)                                                                     \
-    do {                                                                                       \
-        unsigned long long got_ = (call);                                                      \
-        if (got_ != (wanted)) {                                                                \
-            printf("line %d: %s gave %llu\n", __LINE__, #call, got_);                          \
-            return 1;                                                                          \
-        }                                                                                      \
+#define WANT(call, wanted)                                            \
+    do {                                                              \
+        unsigned long long got_ = (call);                             \
+        if (got_ != (wanted)) {                                       \
+            printf("line %d: %s gave %llu\n", __LINE__, #call, got_); \
+            return 1;                                                 \
+        }                                                             \
     } while (0)
 
-/* The first node holds the line, with this in its lane 0, and the second waits: it continues from there, and leaves its own number in the line. */
+/* The first node holds the line, with this in its lane 0, and the second waits: it continues from there, and leaves its
+ * own number in the line. */
 static int goes_on(qolb_node *n, uint64_t was, uint64_t leaves) {
     uint64_t lane;
     WANT(qolb_state(&n[0]), QOLB_STATE_HOLDING);
@@ -50,7 +52,8 @@ static int forks(uint32_t kind) {
     if (child == 0) {
         /* The child's copy is its own, and so is a line that it opens. */
         int wrong = goes_on(n, 5, 6) || closes(n);
-        wrong = wrong || qolb_open(kind, 2, 1, QOLB_NO_LEASE, &zeros, &fresh, 1) != QOLB_DONE || qolb_acquire(&fresh) != QOLB_GRANTED;
+        wrong = wrong || qolb_open(kind, 2, 1, QOLB_NO_LEASE, &zeros, &fresh, 1) != QOLB_DONE ||
+                qolb_acquire(&fresh) != QOLB_GRANTED;
         wrong = wrong || qolb_deqolb(&fresh) != QOLB_DONE || qolb_close(&fresh) != QOLB_DONE;
         exit(wrong);
     }

@@ -1,8 +1,8 @@
-/* A timed lock: threads share a line that guards the program's data, and give up if it takes too long. Then the effects of a closing, and the answers
- * of the waiting calls. Prints only errors.
+/* A timed lock: threads share a line that guards the program's data, and give up if it takes too long. Then the effects
+ * of a closing, and the answers of the waiting calls. Prints only errors.
  *
- * The thread sanitizer sees the data, and must be quiet. Built with -DUNGUARDED each thread has its own line, so that nothing guards the data, and
- * then it must report. */
+ * The thread sanitizer sees the data, and must be quiet. Built with -DUNGUARDED each thread has its own line, so that
+ * nothing guards the data, and then it must report. */
 #define _POSIX_C_SOURCE 200809L
 #include <pthread.h>
 #include <qolb.h>
@@ -13,13 +13,13 @@
 
 enum { THREADS = 4, ROUNDS = 5000 };
 
-#define WANT(call, wanted)                                                                     \
-    do {                                                                                       \
-        unsigned long long got_ = (call);                                                      \
-        if (got_ != (wanted)) {                                                                \
-            printf("line %d: %s gave %llu\n", __LINE__, #call, got_);                          \
-            return 1;                                                                          \
-        }                                                                                      \
+#define WANT(call, wanted)                                            \
+    do {                                                              \
+        unsigned long long got_ = (call);                             \
+        if (got_ != (wanted)) {                                       \
+            printf("line %d: %s gave %llu\n", __LINE__, #call, got_); \
+            return 1;                                                 \
+        }                                                             \
     } while (0)
 
 /* The guarded data: ordinary, and too large for the line's own bytes. */
@@ -51,7 +51,8 @@ static void *work(void *argument) {
                        : round % 3 == 1 ? qolb_acquire_within(&me->node, 1000000)
                                         : qolb_acquire(&me->node);
         if (got == QOLB_BUSY || got == QOLB_LATE) {
-            /* A node that gave up has no turn and gets none, also if the grant was at that moment: else the line would stay with it. */
+            /* A node that gave up has no turn and gets none, also if the grant was at that moment: else the line would
+             * stay with it. */
             uint32_t state = qolb_state(&me->node);
             if (state == QOLB_STATE_HOLDING || state == QOLB_STATE_QUEUED) return went_wrong(me, got);
             me->gave_up++;
@@ -73,7 +74,8 @@ static int share(uint32_t kind) {
     pthread_t ids[THREADS];
     memset(&guarded, 0, sizeof guarded);
 #ifdef UNGUARDED
-    for (int k = 0; k < THREADS; k++) WANT(qolb_open(kind, (uint64_t)k, 1, QOLB_NO_LEASE, &zeros, &nodes[k], 1), QOLB_DONE);
+    for (int k = 0; k < THREADS; k++)
+        WANT(qolb_open(kind, (uint64_t)k, 1, QOLB_NO_LEASE, &zeros, &nodes[k], 1), QOLB_DONE);
 #else
     long had = 0;
     WANT(qolb_open(kind, 1, THREADS, QOLB_NO_LEASE, &zeros, nodes, THREADS), QOLB_DONE);
@@ -106,8 +108,8 @@ static void *shuts(void *argument) {
     return qolb_shut(argument) == QOLB_DONE ? NULL : "not shut";
 }
 
-/* A thread that is told that the line is closed sees what its last holder wrote, by the line alone: the thread is joined after that. In a link line the
- * answer may be that of the second half of the request. */
+/* A thread that is told that the line is closed sees what its last holder wrote, by the line alone: the thread is
+ * joined after that. In a link line the answer may be that of the second half of the request. */
 static int told_sees(uint32_t kind, int in_halves) {
     qolb_bytes zeros = {{0}};
     qolb_node n[2] = {{0}};

@@ -1,6 +1,7 @@
-/* Locks for threads that come and go: the answer of each call, the order of service, conditions, and heavy use by many threads.
+/* Locks for threads that come and go: the answer of each call, the order of service, conditions, and heavy use by many
+ * threads.
  *
- *   build/locks [SECONDS]     1200: where a turn is lost, who waits for it does not end, and the program is ended after so many
+ *   build/locks [SECONDS]     1200: where a turn is lost, who waits for it does not end; the program ends then
  *
  * Prints only errors. The thread sanitizer sees the data, and must be quiet. */
 #define _GNU_SOURCE
@@ -30,7 +31,8 @@ static void start(struct helper *it, void *(*work)(void *)) { MUST(pthread_creat
 
 static int of_a_closed_one(void) {
     qolb_bytes zeros = {{0}};
-    qolb_lock lock = QOLB_LOCK_INIT(2), none = QOLB_LOCK_INIT(0), many = QOLB_LOCK_INIT(201), odd = QOLB_LOCK_INIT_OF(3, 2);
+    qolb_lock lock = QOLB_LOCK_INIT(2), none = QOLB_LOCK_INIT(0), many = QOLB_LOCK_INIT(201),
+              odd = QOLB_LOCK_INIT_OF(3, 2);
     qolb_cond cond = QOLB_COND_INIT;
     WANT(lock.kind, QOLB_TICKET);
     WANT(qolb_lock_leave(&lock), QOLB_MISUSE);
@@ -53,13 +55,16 @@ static int of_a_closed_one(void) {
     return 0;
 }
 
-/* Bursts that there are not, for a lock that is opened by its first use and by the call; and the least and the longest. */
+/* Bursts that there are not, for a lock that is opened by its first use and by the call; and the least and the
+ * longest. */
 static int of_bursts(void) {
-    static const uint32_t wrong[][2] = {{2, 1}, {200, 1}, {2, 65536}, {2, UINT32_MAX}, {1, 2}, {1, 1024}, {0, 2}, {201, 2}, {65536, 2}, {65538, 2}, {UINT32_MAX, 2}, {65538, 0}};
+    static const uint32_t wrong[][2] = {{2, 1}, {200, 1}, {2, 65536}, {2, UINT32_MAX}, {1, 2},          {1, 1024},
+                                        {0, 2}, {201, 2}, {65536, 2}, {65538, 2},      {UINT32_MAX, 2}, {65538, 0}};
     static const uint32_t right[][2] = {{2, 2}, {2, 65535}, {200, 2}, {200, 65535}, {1, 0}, {4, 0}};
     qolb_bytes zeros = {{0}};
     for (size_t k = 0; k < sizeof wrong / sizeof wrong[0]; k++) {
-        qolb_lock lock = QOLB_LOCK_INIT_BURSTS(QOLB_LINK, wrong[k][0], wrong[k][1]), odd = QOLB_LOCK_INIT_BURSTS(3, wrong[k][0], wrong[k][1]);
+        qolb_lock lock = QOLB_LOCK_INIT_BURSTS(QOLB_LINK, wrong[k][0], wrong[k][1]),
+                  odd = QOLB_LOCK_INIT_BURSTS(3, wrong[k][0], wrong[k][1]);
         WANT(qolb_lock_enter(&lock), QOLB_BAD_NODES);
         WANT(qolb_lock_try(&odd), QOLB_BAD_KIND);
         WANT(qolb_lock_open(&lock, QOLB_TICKET, 1, QOLB_SEATS(wrong[k][0], wrong[k][1]), &zeros), QOLB_BAD_NODES);
@@ -126,7 +131,8 @@ static int refuses_to_move(qolb_node *lent) {
     return 0;
 }
 
-/* The holder reads and writes by the node that it was lent, in a lock that was opened with the label 9 and three seats. */
+/* The holder reads and writes by the node that it was lent, in a lock that was opened with the label 9 and three
+ * seats. */
 static int reads_and_writes(qolb_node *lent, const qolb_bytes *opening) {
     qolb_bytes seen;
     uint64_t lane;
@@ -159,7 +165,8 @@ static int of_others(qolb_lock *lock) {
     return 0;
 }
 
-/* A shut lock answers CLOSED to all later threads; closed and used again it is as after its initialiser, with its kind and its seats. */
+/* A shut lock answers CLOSED to all later threads; closed and used again it is as after its initialiser, with its kind
+ * and its seats. */
 static int of_a_shut_one(qolb_lock *lock) {
     uint32_t kind = lock->kind, seats = lock->seats;
     uint64_t lane;
@@ -217,9 +224,7 @@ static void *enters_once(void *argument) {
 
 /* ---- First come, first served ---- */
 
-static struct {
-    int order[MOST], served;
-} guarded;
+static struct { int order[MOST], served; } guarded;
 
 static uint32_t shared_turns; /* those before the first that waited */
 
@@ -234,11 +239,12 @@ static void *notes_its_turn(void *argument) {
     return NULL;
 }
 
-/* Some threads were late before, so that their seats are busy; and a thread tried. Waiting threads take no processor. With bursts those that wait keep their order,
- * too. */
+/* Some threads were late before, so that their seats are busy; and a thread tried. Waiting threads take no processor.
+ * With bursts those that wait keep their order, too. */
 static int in_order(uint32_t kind, uint32_t burst) {
     enum { THREADS = 8, LATE = 3 };
-    qolb_lock lock = QOLB_LOCK_INIT_BURSTS(kind, 1 + LATE + LATE + THREADS, burst); /* the holder, those that were late, and those that wait */
+    /* The holder, those that were late, and those that wait. */
+    qolb_lock lock = QOLB_LOCK_INIT_BURSTS(kind, 1 + LATE + LATE + THREADS, burst);
     struct helper late[LATE] = {{0}}, threads[THREADS] = {{0}};
     guarded.served = 0;
     WANT(qolb_lock_enter(&lock), QOLB_GRANTED);
@@ -268,8 +274,8 @@ static int in_order(uint32_t kind, uint32_t burst) {
     return 0;
 }
 
-/* Far more threads than seats: they come one after another, the next when the last sleeps. Some give up in the middle. The line is kept before, or is not; and
- * a thread at the door may be late. */
+/* Far more threads than seats: they come one after another, the next when the last sleeps. Some give up in the middle.
+ * The line is kept before, or is not; and a thread at the door may be late. */
 static int in_order_at_the_door(uint32_t kind, int is_kept, uint32_t burst) {
     enum { THREADS = 200, TURNS = 40 };
     qolb_lock lock = QOLB_LOCK_INIT_BURSTS(kind, 2, burst);
@@ -300,7 +306,8 @@ static int in_order_at_the_door(uint32_t kind, int is_kept, uint32_t burst) {
     return 0;
 }
 
-/* While some threads wait, this one enters again and again. The k-th of them is overtaken at most k * (burst - 1) times; and by some turns, as it slept. */
+/* While some threads wait, this one enters again and again. The k-th of them is overtaken at most k * (burst - 1)
+ * times; and by some turns, as it slept. */
 static int overtaken_within_the_bound(uint32_t kind, uint32_t seats, uint32_t burst) {
     enum { THREADS = 3 };
     qolb_lock lock = QOLB_LOCK_INIT_BURSTS(kind, seats, burst);
@@ -339,8 +346,8 @@ static int bursts(uint32_t kind) {
     return 0;
 }
 
-/* A leave wakes the next holder and the waiter behind it, and all others sleep on: so each sleeps at most twice, and perhaps once more if the
- * system delays it. If each leave woke all, the last would sleep twelve times. */
+/* A leave wakes the next holder and the waiter behind it, and all others sleep on: so each sleeps at most twice, and
+ * perhaps once more if the system delays it. If each leave woke all, the last would sleep twelve times. */
 static void *has_a_long_turn(void *argument) {
     struct helper *me = argument;
     about_to_wait(&me->number);
@@ -372,7 +379,8 @@ static int others_sleep_on(uint32_t kind) {
     return 0;
 }
 
-/* More threads than seats: each is served, also if every seat is busy for a while, and a thread that is late without a seat is late. */
+/* More threads than seats: each is served, also if every seat is busy for a while, and a thread that is late without a
+ * seat is late. */
 static int without_a_seat(uint32_t kind) {
     enum { THREADS = 6 };
     static qolb_lock lock = QOLB_LOCK_INIT(2);
@@ -477,7 +485,8 @@ static void *waits_a_second_with_a_node(void *argument) {
 static int waiters_take_no_processor(void) {
     static qolb_lock held = QOLB_LOCK_INIT(2), free = QOLB_LOCK_INIT(2);
     static qolb_cond cond = QOLB_COND_INIT;
-    static void *(*const works[])(void *) = {waits_a_second, waits_a_second, waits_a_second, waits_a_second_at_condition, waits_a_second_with_a_node};
+    static void *(*const works[])(void *) = {waits_a_second, waits_a_second, waits_a_second,
+                                             waits_a_second_at_condition, waits_a_second_with_a_node};
     qolb_bytes zeros = {{0}};
     qolb_node nodes[2] = {{0}};
     struct helper threads[5] = {{0}};
@@ -508,7 +517,8 @@ static void *waits_at_condition(void *argument) {
     struct helper *me = argument;
     MUST(qolb_lock_enter(me->lock), QOLB_GRANTED);
     about_to_wait(&me->number);
-    me->got = me->nanoseconds ? qolb_cond_wait_within(me->cond, me->lock, me->nanoseconds) : qolb_cond_wait(me->cond, me->lock);
+    me->got = me->nanoseconds ? qolb_cond_wait_within(me->cond, me->lock, me->nanoseconds)
+                              : qolb_cond_wait(me->cond, me->lock);
     if (me->got == QOLB_CLOSED) return NULL;
     guarded.order[guarded.served++] = me->self;
     MUST(qolb_lock_leave(me->lock), QOLB_DONE);
@@ -538,7 +548,8 @@ static int shut_tells_all(uint32_t kind) {
     return 0;
 }
 
-/* Once a shut has returned every call is told CLOSED, though who waits, for a turn or for a seat, may not have woken up yet. */
+/* Once a shut has returned every call is told CLOSED, though who waits, for a turn or for a seat, may not have woken up
+ * yet. */
 static int shut_is_seen_at_once(uint32_t kind, uint32_t seats, uint32_t waiters, int way) {
     qolb_lock lock = QOLB_LOCK_INIT_OF(kind, seats);
     struct helper threads[4] = {{0}};
@@ -578,7 +589,8 @@ static int served_by(qolb_lock *lock, int less) {
     return served;
 }
 
-/* A signal wakes the thread that has waited longest and no other; a late thread is not in the list any more; a broadcast wakes all. */
+/* A signal wakes the thread that has waited longest and no other; a late thread is not in the list any more; a
+ * broadcast wakes all. */
 static int told_in_order(uint32_t kind) {
     enum { THREADS = 7 };
     static qolb_lock lock = QOLB_LOCK_INIT(THREADS + 1);
@@ -654,7 +666,8 @@ static void *makes(void *argument) {
     for (int k = 0; k < THINGS; k++) {
         MUST(qolb_lock_enter(&box.lock), QOLB_GRANTED);
         while (box.has) {
-            uint32_t got = me->self ? qolb_cond_wait(&box.empty, &box.lock) : qolb_cond_wait_within(&box.empty, &box.lock, 50000);
+            uint32_t got = me->self ? qolb_cond_wait(&box.empty, &box.lock)
+                                    : qolb_cond_wait_within(&box.empty, &box.lock, 50000);
             if (me->self || got != QOLB_LATE) MUST(got, QOLB_GRANTED);
         }
         box.has = 1;
@@ -671,7 +684,8 @@ static void *takes(void *argument) {
     for (int k = 0; k < THINGS; k++) {
         MUST(qolb_lock_enter(&box.lock), QOLB_GRANTED);
         while (!box.has) {
-            uint32_t got = me->self ? qolb_cond_wait(&box.full, &box.lock) : qolb_cond_wait_within(&box.full, &box.lock, 50000);
+            uint32_t got = me->self ? qolb_cond_wait(&box.full, &box.lock)
+                                    : qolb_cond_wait_within(&box.full, &box.lock, 50000);
             if (me->self || got != QOLB_LATE) MUST(got, QOLB_GRANTED);
         }
         box.has = 0;
@@ -745,13 +759,16 @@ static void *uses(void *argument) {
         if (got != QOLB_LATE) MUST(got, QOLB_GRANTED);
         has_a_turn(me->self);
         had++;
-        MUST(shared.ends_by_shut && me->self == 0 && round > shared.rounds / 2 ? qolb_lock_shut(&shared.lock) : qolb_lock_leave(&shared.lock), QOLB_DONE);
+        MUST(shared.ends_by_shut && me->self == 0 && round > shared.rounds / 2 ? qolb_lock_shut(&shared.lock)
+                                                                               : qolb_lock_leave(&shared.lock),
+             QOLB_DONE);
     }
     me->nanoseconds = (uint64_t)had;
     return NULL;
 }
 
-/* Threads come and go: each wave is joined, and another starts, before the next combination of kinds, seats and ends. */
+/* Threads come and go: each wave is joined, and another starts, before the next combination of kinds, seats and
+ * ends. */
 static int much_use(uint32_t kind, unsigned threads, unsigned seats, int ends_by_shut) {
     static struct helper helpers[MOST];
     long had = 0;
@@ -808,11 +825,26 @@ static int freed_by_the_last(uint32_t kind, uint32_t burst) {
 static int of_kind(uint32_t kind) {
     for (int is_kept = 0; is_kept < 2; is_kept++)
         if (in_order_at_the_door(kind, is_kept, 0) || in_order_at_the_door(kind, is_kept, 64)) return 1;
-    if (of_the_holder(kind) || in_order(kind, 0) || in_order(kind, 64) || others_sleep_on(kind) || without_a_seat(kind)) return 1;
-    if (shut_tells_all(kind) || shuts_seen_at_once(kind) || told_in_order(kind) || freed_by_the_last(kind, 0) || freed_by_the_last(kind, 2) || bursts(kind)) return 1;
-    static const unsigned uses_of[][2] = {{2, 1},           {2, 2},                {8, 3},                {8, 20},                 {32, 5},                {32, 32},
-                                          {200, 200},       {200, 16},             {2, QOLB_SEATS(2, 2)}, {8, QOLB_SEATS(3, 2)},   {8, QOLB_SEATS(20, 3)}, {32, QOLB_SEATS(2, 64)},
-                                          {32, QOLB_SEATS(5, 1024)}, {200, QOLB_SEATS(4, 16)}, {200, QOLB_SEATS(200, 65535)}};
+    if (of_the_holder(kind) || in_order(kind, 0) || in_order(kind, 64) || others_sleep_on(kind) || without_a_seat(kind))
+        return 1;
+    if (shut_tells_all(kind) || shuts_seen_at_once(kind) || told_in_order(kind) || freed_by_the_last(kind, 0) ||
+        freed_by_the_last(kind, 2) || bursts(kind))
+        return 1;
+    static const unsigned uses_of[][2] = {{2, 1},
+                                          {2, 2},
+                                          {8, 3},
+                                          {8, 20},
+                                          {32, 5},
+                                          {32, 32},
+                                          {200, 200},
+                                          {200, 16},
+                                          {2, QOLB_SEATS(2, 2)},
+                                          {8, QOLB_SEATS(3, 2)},
+                                          {8, QOLB_SEATS(20, 3)},
+                                          {32, QOLB_SEATS(2, 64)},
+                                          {32, QOLB_SEATS(5, 1024)},
+                                          {200, QOLB_SEATS(4, 16)},
+                                          {200, QOLB_SEATS(200, 65535)}};
     for (size_t k = 0; k < sizeof uses_of / sizeof uses_of[0]; k++)
         for (int shut = 0; shut < 2; shut++)
             if (much_use(kind, uses_of[k][0], uses_of[k][1], shut)) return 1;
@@ -821,7 +853,9 @@ static int of_kind(uint32_t kind) {
 
 int main(int argc, char **argv) {
     alarm(argc > 1 ? (unsigned)atoi(argv[1]) : 1200);
-    if (of_a_closed_one() || of_bursts() || cancelled(is_cancelled) || cancelled(is_cancelled_at_condition) || interrupted(0) || interrupted(UINT64_MAX)) return 1;
+    if (of_a_closed_one() || of_bursts() || cancelled(is_cancelled) || cancelled(is_cancelled_at_condition) ||
+        interrupted(0) || interrupted(UINT64_MAX))
+        return 1;
     if (waiters_take_no_processor() || makers_and_takers()) return 1;
     for (uint32_t kind = 0; kind < QOLB_KINDS; kind++)
         if (of_kind(kind)) return 1;

@@ -1,8 +1,8 @@
-// The lock, its condition and the guarded value of qolb.hpp: with the guards and the condition of the standard library, by threads that come and go,
-// with time limits, shut, and misused. Prints only errors.
+// The lock, its condition and the guarded value of qolb.hpp: with the guards and the condition of the standard library,
+// by threads that come and go, with time limits, shut, and misused. Prints only errors.
 //
-// The thread sanitizer sees the data, and must be quiet. Built with -DUNGUARDED some data are used outside of the turns of a guarded value, and then
-// it must report.
+// The thread sanitizer sees the data, and must be quiet. Built with -DUNGUARDED some data are used outside of the turns
+// of a guarded value, and then it must report.
 #include <qolb.hpp>
 
 #include <atomic>
@@ -67,8 +67,7 @@ bool counts() {
                     turns++;
                 } else {
                     std::unique_lock<qolb::lock> turn(of_few_seats, std::defer_lock);
-                    while (!turn.try_lock_for(100us) && !turn.try_lock()) {
-                    }
+                    while (!turn.try_lock_for(100us) && !turn.try_lock()) {}
                     turns++;
                 }
             }
@@ -125,7 +124,8 @@ bool bursts() {
         }
     });
     WANT(had == threads * rounds);
-    for (std::uint32_t burst : {1u, 65536u, 65540u}) WANT(throws<qolb::Misuse>([&] { qolb::lock(four, qolb::burst{burst}).lock(); }));
+    for (std::uint32_t burst : {1u, 65536u, 65540u})
+        WANT(throws<qolb::Misuse>([&] { qolb::lock(four, qolb::burst{burst}).lock(); }));
     WANT(throws<qolb::Misuse>([&] { qolb::lock(qolb::seats{1}, qolb::burst{2}).lock(); }));
     qolb::lock strict(qolb::seats{1}, qolb::burst{0}, QOLB_RING);
     WANT(strict.try_lock() && strict.native_handle()->kind == QOLB_RING && strict.leave() == QOLB_DONE);
@@ -148,7 +148,8 @@ bool answers() {
     auto since = std::chrono::steady_clock::now();
     bool late = false;
     std::thread([&] {
-        late = !lock.try_lock_for(20ms) && !lock.try_lock_until(std::chrono::steady_clock::now() + 20ms) && lock.enter_for(0ns) == QOLB_LATE;
+        late = !lock.try_lock_for(20ms) && !lock.try_lock_until(std::chrono::steady_clock::now() + 20ms) &&
+               lock.enter_for(0ns) == QOLB_LATE;
     }).join();
     WANT(late && std::chrono::steady_clock::now() - since >= 40ms);
     WANT(lock.enter_for(0ns) == QOLB_MISUSE && lock.enter() == QOLB_MISUSE);
@@ -181,8 +182,7 @@ template <class Cond> bool hands_over() {
                 changed.wait(held, [&] { return has == 0; });
                 has = k;
             } else {
-                while (!changed.wait_for(held, 1ms, [&] { return has != 0; })) {
-                }
+                while (!changed.wait_for(held, 1ms, [&] { return has != 0; })) {}
                 sum += has;
                 has = 0;
             }
@@ -211,8 +211,9 @@ bool condition_ends() {
         std::unique_lock<qolb::lock> mine(lock);
         waiting = true;
         closed = throws<qolb::Closed>([&] {
-            for (;;) cond.wait(mine);
-        }) && !mine.owns_lock();
+                     for (;;) cond.wait(mine);
+                 }) &&
+                 !mine.owns_lock();
     });
     for (; !waiting; held.lock()) {
         held.unlock();
@@ -248,11 +249,17 @@ bool each_wait_is_notified() {
     WANT(is_notified([](auto &cond, held_lock &held) { return cond.wait(held), true; }));
     WANT(is_notified([&](auto &cond, held_lock &held) { return cond.wait(held, second_time), asked; }));
     WANT(is_notified([](auto &cond, held_lock &held) { return cond.wait_for(held, 60s); }));
-    WANT(is_notified([](auto &cond, held_lock &held) { return cond.wait_for_status(held, 60s) == std::cv_status::no_timeout; }));
-    WANT(is_notified([](auto &cond, held_lock &held) { return cond.wait_until(held, steady_clock::now() + 60s) == std::cv_status::no_timeout; }));
-    WANT(is_notified([](auto &cond, held_lock &held) { return cond.wait_until(held, system_clock::now() + 60s) == std::cv_status::no_timeout; }));
+    WANT(is_notified(
+        [](auto &cond, held_lock &held) { return cond.wait_for_status(held, 60s) == std::cv_status::no_timeout; }));
+    WANT(is_notified([](auto &cond, held_lock &held) {
+        return cond.wait_until(held, steady_clock::now() + 60s) == std::cv_status::no_timeout;
+    }));
+    WANT(is_notified([](auto &cond, held_lock &held) {
+        return cond.wait_until(held, system_clock::now() + 60s) == std::cv_status::no_timeout;
+    }));
     asked = false;
-    WANT(is_notified([&](auto &cond, held_lock &held) { return cond.wait_until(held, system_clock::now() + 60s, second_time); }));
+    WANT(is_notified(
+        [&](auto &cond, held_lock &held) { return cond.wait_until(held, system_clock::now() + 60s, second_time); }));
     return true;
 }
 
@@ -345,6 +352,8 @@ bool guards() {
 
 int main() {
     alarm(1200);
-    bool right = counts() && bursts() && answers() && hands_over<qolb::Condition>() && hands_over<std::condition_variable_any>() && condition_ends() && each_wait_is_notified() && condition_tells() && guards();
+    bool right = counts() && bursts() && answers() && hands_over<qolb::Condition>() &&
+                 hands_over<std::condition_variable_any>() && condition_ends() && each_wait_is_notified() &&
+                 condition_tells() && guards();
     return right ? 0 : 1;
 }

@@ -1,5 +1,5 @@
-/* Ten thousand tasks over four threads: half with a node each, half at a lock that threads enter, too. They are woken for no reason, and give up at random.
- * Prints only errors.
+/* Ten thousand tasks over four threads: half with a node each, half at a lock that threads enter, too. They are woken
+ * for no reason, and give up at random. Prints only errors.
  *
  *   build/many_tasks_c [TASKS [ROUNDS [SEED [SEATS [SECONDS]]]]]
  *
@@ -13,10 +13,20 @@
 #include <stdlib.h>
 #include <time.h>
 #include <unistd.h>
-#define MUST(x) do { if (!(x)) { fprintf(stderr, "%s:%d: %s\n", __FILE__, __LINE__, #x); abort(); } } while (0)
+#define MUST(x)                                                     \
+    do {                                                            \
+        if (!(x)) {                                                 \
+            fprintf(stderr, "%s:%d: %s\n", __FILE__, __LINE__, #x); \
+            abort();                                                \
+        }                                                           \
+    } while (0)
 
 enum { IDLE, READY, RUNS, AGAIN };
-struct line { long count; long lane; _Alignas(128) qolb_node nodes[200]; };
+struct line {
+    long count;
+    long lane;
+    _Alignas(128) qolb_node nodes[200];
+};
 struct task {
     _Alignas(128) atomic_int run;
     struct task *next;
@@ -46,12 +56,18 @@ static void push(struct task *it) {
 static void wake(struct task *it) {
     for (;;) {
         int s = atomic_load(&it->run);
-        if (s == IDLE && atomic_compare_exchange_strong(&it->run, &s, READY)) { push(it); return; }
+        if (s == IDLE && atomic_compare_exchange_strong(&it->run, &s, READY)) {
+            push(it);
+            return;
+        }
         if (s == RUNS && atomic_compare_exchange_strong(&it->run, &s, AGAIN)) return;
         if (s == READY || s == AGAIN) return;
     }
 }
-static void call(void *arg) { atomic_fetch_add_explicit(&calls, 1, memory_order_relaxed); wake(arg); }
+static void call(void *arg) {
+    atomic_fetch_add_explicit(&calls, 1, memory_order_relaxed);
+    wake(arg);
+}
 static unsigned draw(struct task *it, unsigned below) {
     it->random ^= it->random << 13, it->random ^= it->random >> 7, it->random ^= it->random << 17;
     return (unsigned)(it->random >> 20) % below;
@@ -69,26 +85,46 @@ static int step_node(struct task *it) {
     uint32_t got;
     for (;;) {
         if (it->phase == 0) {
-            if (it->rounds == 0) { qolb_notify_off(it->node); return 1; }
+            if (it->rounds == 0) {
+                qolb_notify_off(it->node);
+                return 1;
+            }
             got = qolb_enqolb(it->node);
-            if (got == QOLB_BUSY) { busy++; wake(it); return 0; }
+            if (got == QOLB_BUSY) {
+                busy++;
+                wake(it);
+                return 0;
+            }
             it->phase = got == QOLB_QUEUED;
         } else {
             got = draw(it, 3) ? qolb_poll(it->node) : QOLB_WAITING;
         }
-        if (got == QOLB_GRANTED) { turn(it); continue; }
+        if (got == QOLB_GRANTED) {
+            turn(it);
+            continue;
+        }
         if (draw(it, 4) == 0) {
             qolb_notify_off(it->node);
             got = qolb_withdraw(it->node);
             cancels++;
-            if (got == QOLB_GRANTED) { late_grants++; turn(it); continue; }
+            if (got == QOLB_GRANTED) {
+                late_grants++;
+                turn(it);
+                continue;
+            }
             MUST(got == QOLB_WITHDRAWN);
             it->phase = 0;
-            if (draw(it, 2)) { wake(it); return 0; }
+            if (draw(it, 2)) {
+                wake(it);
+                return 0;
+            }
             continue;
         }
         got = qolb_notify(it->node, call, it);
-        if (got == QOLB_GRANTED) { turn(it); continue; }
+        if (got == QOLB_GRANTED) {
+            turn(it);
+            continue;
+        }
         MUST(got == QOLB_WAITING);
         waits++;
         return 0;
@@ -113,7 +149,10 @@ static int step_at_lock(struct task *it) {
         }
         if (got == QOLB_GRANTED) {
             it->phase = 2, it->entered = pthread_self();
-            if (draw(it, 4) == 0) { wake(it); return 0; }
+            if (draw(it, 4) == 0) {
+                wake(it);
+                return 0;
+            }
             continue;
         }
         MUST(got == QOLB_WAITING);
@@ -140,7 +179,8 @@ static void *work(void *_) {
         int done = it->line ? step_node(it) : step_at_lock(it), s = RUNS;
         if (done) {
             atomic_store(&it->run, READY); /* no wake pushes it any more */
-            if (atomic_fetch_sub(&left, 1) == 1) pthread_mutex_lock(&mutex), pthread_cond_broadcast(&some), pthread_mutex_unlock(&mutex);
+            if (atomic_fetch_sub(&left, 1) == 1)
+                pthread_mutex_lock(&mutex), pthread_cond_broadcast(&some), pthread_mutex_unlock(&mutex);
         } else if (!atomic_compare_exchange_strong(&it->run, &s, IDLE)) {
             atomic_store(&it->run, READY);
             push(it);
@@ -161,9 +201,15 @@ static atomic_long by_threads;
 static void *enters(void *seed) {
     unsigned s = (unsigned)(uintptr_t)seed;
     while (atomic_load(&left)) {
-        uint32_t got = s % 3 == 0 ? qolb_lock_enter(&lock) : s % 3 == 1 ? qolb_lock_enter_within(&lock, 20000) : qolb_lock_try(&lock);
+        uint32_t got = s % 3 == 0   ? qolb_lock_enter(&lock)
+                       : s % 3 == 1 ? qolb_lock_enter_within(&lock, 20000)
+                                    : qolb_lock_try(&lock);
         s = (s * 1103515245 + 12345) >> 3;
-        if (got == QOLB_GRANTED) { guarded++; MUST(qolb_lock_leave(&lock) == QOLB_DONE); by_threads++; }
+        if (got == QOLB_GRANTED) {
+            guarded++;
+            MUST(qolb_lock_leave(&lock) == QOLB_DONE);
+            by_threads++;
+        }
         struct timespec t = {0, 100000};
         nanosleep(&t, NULL);
     }
@@ -213,13 +259,15 @@ static void run(int rounds, uint64_t seed, int seats) {
 
 int main(int argc, char **argv) {
     many = argc > 1 ? atoi(argv[1]) : 10000;
-    int rounds = argc > 2 ? atoi(argv[2]) : 5, seats = argc > 4 ? atoi(argv[4]) : 4, seconds = argc > 5 ? atoi(argv[5]) : 0;
+    int rounds = argc > 2 ? atoi(argv[2]) : 5, seats = argc > 4 ? atoi(argv[4]) : 4,
+        seconds = argc > 5 ? atoi(argv[5]) : 0;
     uint64_t seed = argc > 3 ? strtoull(argv[3], NULL, 10) : 1;
     time_t since = time(NULL);
     alarm((unsigned)seconds + 600);
     lines = aligned_alloc(128, ((size_t)many / 2 + 39) / 40 * sizeof *lines);
     tasks = aligned_alloc(128, (size_t)many * sizeof *tasks);
     MUST(lines && tasks);
-    do run(rounds, seed++, seats); while (time(NULL) - since < seconds);
+    do run(rounds, seed++, seats);
+    while (time(NULL) - since < seconds);
     return 0;
 }

@@ -1,14 +1,16 @@
-/* The heap bytes of a line, and of a lock: those that stay taken after qolb_open and after a lock's first use, by kind and number of nodes or of
- * seats, as malloc_usable_size counts them. qolb_memory must return what opening has allocated and keeps, and opening may ask for at most three
- * times that at a time. The data of two nodes must be in no two cache lines that are fetched together, and each block of a line must begin at a
- * multiple of 128 bytes. 100,000 ticket lines of two nodes must take less than 260 MB. */
+/* The heap bytes of a line, and of a lock: those that stay taken after qolb_open and after a lock's first use, by kind
+ * and number of nodes or of seats, as malloc_usable_size counts them. qolb_memory must return what opening has
+ * allocated and keeps, and opening may ask for at most three times that at a time. The data of two nodes must be in no
+ * two cache lines that are fetched together, and each block of a line must begin at a multiple of 128 bytes. 100,000
+ * ticket lines of two nodes must take less than 260 MB. */
 #include <malloc.h>
 #include <qolb.h>
 #include <stdio.h>
 #include <stdlib.h>
 #include <string.h>
 
-/* For all allocated blocks: their usable bytes, and the requested ones; and the most that were requested at a time. Blocks are counted while `counts`. */
+/* For all allocated blocks: their usable bytes, and the requested ones; and the most that were requested at a time.
+ * Blocks are counted while `counts`. */
 static size_t taken, asked, most;
 static int counts = 1;
 static struct {
@@ -76,7 +78,8 @@ void __wrap_free(void *block) {
     __real_free(block);
 }
 
-/* Returns whether the nodes are this far apart. The data of a node are above 128 bytes, and begin where its handle points. */
+/* Returns whether the nodes are this far apart. The data of a node are above 128 bytes, and begin where its handle
+ * points. */
 static int apart(const qolb_node *node, uint64_t nodes) {
     for (uint64_t a = 0; a < nodes; a++) {
         for (uint64_t b = 0; b < a; b++) {
@@ -87,8 +90,8 @@ static int apart(const qolb_node *node, uint64_t nodes) {
     return 1;
 }
 
-/* Returns whether qolb_memory returns what a line of this many nodes has allocated and keeps, and allocates nothing itself; and whether opening
- * asks for no more than three times that at a time. */
+/* Returns whether qolb_memory returns what a line of this many nodes has allocated and keeps, and allocates nothing
+ * itself; and whether opening asks for no more than three times that at a time. */
 static int is_told(uint32_t kind, uint64_t nodes) {
     qolb_bytes zeros = {{0}};
     qolb_node node[200] = {{0}};
@@ -100,7 +103,9 @@ static int is_told(uint32_t kind, uint64_t nodes) {
     for (uint64_t n = 0; n < nodes; n++)
         if (qolb_close(&node[n]) != QOLB_DONE) return 0;
     if (told == keeps && needs <= 3 * keeps && asked == before) return 1;
-    return printf("kind %d nodes %d: asks for %zu, keeps %zu, and is told to keep %zu\n", (int)kind, (int)nodes, needs, keeps, (size_t)told), 0;
+    return printf("kind %d nodes %d: asks for %zu, keeps %zu, and is told to keep %zu\n", (int)kind, (int)nodes, needs,
+                  keeps, (size_t)told),
+           0;
 }
 
 /* The same for few nodes and many; and 0 for a line that opening refuses. */

@@ -1,10 +1,11 @@
-/* Random calls on lines and locks by one thread, each compared with a model of the calls in plain C: every answer, state, byte, count and name.
+/* Random calls on lines and locks by one thread, each compared with a model of the calls in plain C: every answer,
+ * state, byte, count and name.
  *
  *   build/model [CALLS [SEED]]        300,000 calls, seed 1
  *
- * Prints only the first difference. The model is written from qolb.h: a queue of requests, of which the first that is not withdrawn has the turn.
- * The line is with the first request, at home if there is none, or in a link line with the last request that ended, if the successor has not linked
- * yet. */
+ * Prints only the first difference. The model is written from qolb.h: a queue of requests, of which the first that is
+ * not withdrawn has the turn. The line is with the first request, at home if there is none, or in a link line with the
+ * last request that ended, if the successor has not linked yet. */
 #include <qolb.h>
 #include <stdio.h>
 #include <stdlib.h>
@@ -30,7 +31,7 @@ static struct line {
     int closed;
     struct node node[MOST + 1];
     struct request queue[MOST];
-    unsigned waiting; /* requests in the queue */
+    unsigned waiting;   /* requests in the queue */
     unsigned lies_with; /* in a link line: whose turn is over, while the first request is not linked */
 } model;
 
@@ -46,16 +47,16 @@ static uint64_t draw(uint64_t below) {
 }
 
 static void differ(const char *call, unsigned node, uint64_t got, uint64_t wanted) {
-    printf("call %llu, %s, node %u of %llu, kind %u: got %llu (%s), wanted %llu (%s)\n", (unsigned long long)done, call, node,
-           (unsigned long long)model.nodes, model.kind, (unsigned long long)got, qolb_answer_name((uint32_t)got), (unsigned long long)wanted,
-           qolb_answer_name((uint32_t)wanted));
+    printf("call %llu, %s, node %u of %llu, kind %u: got %llu (%s), wanted %llu (%s)\n", (unsigned long long)done, call,
+           node, (unsigned long long)model.nodes, model.kind, (unsigned long long)got, qolb_answer_name((uint32_t)got),
+           (unsigned long long)wanted, qolb_answer_name((uint32_t)wanted));
     exit(1);
 }
 
-#define SAME(call, node, wanted)                                 \
-    do {                                                         \
-        uint64_t want_ = (wanted), got_ = (call);                \
-        if (got_ != want_) differ(#call, node, got_, want_);     \
+#define SAME(call, node, wanted)                             \
+    do {                                                     \
+        uint64_t want_ = (wanted), got_ = (call);            \
+        if (got_ != want_) differ(#call, node, got_, want_); \
     } while (0)
 
 /* ---- The model ---- */
@@ -276,8 +277,8 @@ static void one_line(void) {
 
 /* ---- Locks ----
  *
- * By one thread, which either holds the lock or does not. If a call would wait, it does so for a moment, and is late; and the thread never enters
- * a lock that it holds. */
+ * By one thread, which either holds the lock or does not. If a call would wait, it does so for a moment, and is late;
+ * and the thread never enters a lock that it holds. */
 
 static struct {
     qolb_lock lock;
@@ -314,10 +315,10 @@ static void lock_is_opened(void) {
     uint32_t kind = (uint32_t)draw(4);
     uint64_t seats = draw(8) ? draw(6) : draw(2) * 201, label = draw(9);
     for (int k = 0; k < 64; k++) opening.byte[k] = (uint8_t)draw(256);
-    uint32_t wanted = kind >= QOLB_KINDS                ? QOLB_BAD_KIND
+    uint32_t wanted = kind >= QOLB_KINDS           ? QOLB_BAD_KIND
                       : seats == 0 || seats > MOST ? QOLB_BAD_NODES
-                      : locked.open                     ? QOLB_OCCUPIED
-                                                        : QOLB_DONE;
+                      : locked.open                ? QOLB_OCCUPIED
+                                                   : QOLB_DONE;
     SAME(qolb_lock_open(&locked.lock, kind, label, seats, &opening), 0, wanted);
     if (wanted != QOLB_DONE) return;
     lock_opens(label);
@@ -343,9 +344,7 @@ static void lock_is_read_and_written(void) {
 
 static void lock_call(void) {
     switch (draw(12)) {
-    case 0:
-        SAME(qolb_lock_enter(&locked.lock), 0, lock_enters(QOLB_MISUSE));
-        break;
+    case 0: SAME(qolb_lock_enter(&locked.lock), 0, lock_enters(QOLB_MISUSE)); break;
     case 1: SAME(qolb_lock_try(&locked.lock), 0, lock_enters(QOLB_BUSY)); break;
     case 2: SAME(qolb_lock_enter_within(&locked.lock, draw(2) * 300), 0, lock_enters(QOLB_MISUSE)); break;
     case 3:
@@ -353,7 +352,10 @@ static void lock_call(void) {
     case 5:
         if (draw(8) == 0) SAME(qolb_lock_shut(&locked.lock), 0, lock_leaves(1));
         break;
-    case 6: SAME(qolb_cond_wait_within(&locked.cond, &locked.lock, draw(2) * 300), 0, locked.held ? QOLB_LATE : QOLB_MISUSE); break;
+    case 6:
+        SAME(qolb_cond_wait_within(&locked.cond, &locked.lock, draw(2) * 300), 0,
+             locked.held ? QOLB_LATE : QOLB_MISUSE);
+        break;
     case 7: SAME(draw(2) ? qolb_cond_signal(&locked.cond) : qolb_cond_broadcast(&locked.cond), 0, QOLB_DONE); break;
     case 8:
         SAME(qolb_lock_close(&locked.lock), 0, locked.held ? QOLB_MISUSE : QOLB_DONE);

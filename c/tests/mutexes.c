@@ -1,5 +1,5 @@
-/* The C library's mutexes and condition variables, as a program may use them. `make check` runs it as it is, and with every mutex a line
- * (preload.c): both must answer the same. Prints only errors. */
+/* The C library's mutexes and condition variables, as a program may use them. `make check` runs it as it is, and with
+ * every mutex a line (preload.c): both must answer the same. Prints only errors. */
 #define _GNU_SOURCE
 #include "mutexes.h"
 #include <limits.h>
@@ -8,7 +8,8 @@
 #include <sys/wait.h>
 
 static pthread_mutex_t ordinary = PTHREAD_MUTEX_INITIALIZER, semaphore = PTHREAD_MUTEX_INITIALIZER;
-static pthread_mutex_t checking = PTHREAD_ERRORCHECK_MUTEX_INITIALIZER_NP, recursive = PTHREAD_RECURSIVE_MUTEX_INITIALIZER_NP;
+static pthread_mutex_t checking = PTHREAD_ERRORCHECK_MUTEX_INITIALIZER_NP,
+                       recursive = PTHREAD_RECURSIVE_MUTEX_INITIALIZER_NP;
 static pthread_cond_t news = PTHREAD_COND_INITIALIZER;
 static int has_news, rounds;
 
@@ -116,7 +117,8 @@ static void of_conditions(pthread_mutex_t *mutex) {
 
 /* ---- Times ---- */
 
-static const struct timespec never = {LONG_MAX, 999999999}, long_ago = {-5, 0}, no_times[] = {{1, -1}, {1, 1000000000}, {LONG_MAX, LONG_MIN}};
+static const struct timespec never = {LONG_MAX, 999999999}, long_ago = {-5, 0},
+                             no_times[] = {{1, -1}, {1, 1000000000}, {LONG_MAX, LONG_MIN}};
 
 static void *finds_no_time(void *mutex) {
     for (int k = 0; k < 3; k++) {

@@ -1,4 +1,5 @@
-/* What the programs have in common that are run as they are and with every mutex a line: mutexes, mutexes_many, mutexes_forked. */
+/* What the programs have in common that are run as they are and with every mutex a line: mutexes, mutexes_many,
+ * mutexes_forked. */
 #include <errno.h>
 #include <pthread.h>
 #include <stdio.h>
@@ -6,14 +7,14 @@
 #include <time.h>
 #include <unistd.h>
 
-#define WANT(call, wanted)                                                     \
-    do {                                                                       \
-        int got_ = (call);                                                     \
-        if (got_ != (wanted)) {                                                \
-            printf("line %d: %s gave %d\n", __LINE__, #call, got_);            \
-            fflush(stdout);                                                    \
-            _exit(1);                                                          \
-        }                                                                      \
+#define WANT(call, wanted)                                          \
+    do {                                                            \
+        int got_ = (call);                                          \
+        if (got_ != (wanted)) {                                     \
+            printf("line %d: %s gave %d\n", __LINE__, #call, got_); \
+            fflush(stdout);                                         \
+            _exit(1);                                               \
+        }                                                           \
     } while (0)
 
 static inline void in_another_thread(void *(*work)(void *), void *with) {

@@ -1,5 +1,5 @@
-/* Mutexes and conditions in the child of a fork, whose other threads are not there. `make check` runs it as it is, and with every mutex a line (preload.c):
- * both must answer the same. Prints only errors. */
+/* Mutexes and conditions in the child of a fork, whose other threads are not there. `make check` runs it as it is, and
+ * with every mutex a line (preload.c): both must answer the same. Prints only errors. */
 #define _GNU_SOURCE
 #include "mutexes.h"
 #include <sched.h>
@@ -7,7 +7,8 @@
 
 enum { WAITERS = 6, FORKS = 100 };
 
-static pthread_mutex_t mutex = PTHREAD_MUTEX_INITIALIZER, others = PTHREAD_MUTEX_INITIALIZER, unused = PTHREAD_MUTEX_INITIALIZER;
+static pthread_mutex_t mutex = PTHREAD_MUTEX_INITIALIZER, others = PTHREAD_MUTEX_INITIALIZER,
+                       unused = PTHREAD_MUTEX_INITIALIZER;
 static pthread_cond_t condition = PTHREAD_COND_INITIALIZER;
 static int has_news, is_over, arrived;
 

@@ -1,6 +1,7 @@
-/* Each allocation of an opening is refused in turn: the opening is then refused, the handles stay empty, and its memory is freed. Only opening and
- * closing allocate or free, or write to a handle: the proved calls put the same node back. The same for a lock, which its first use may open. Linked
- * with --wrap for malloc, realloc and free. Prints only errors. */
+/* Each allocation of an opening is refused in turn: the opening is then refused, the handles stay empty, and its memory
+ * is freed. Only opening and closing allocate or free, or write to a handle: the proved calls put the same node back.
+ * The same for a lock, which its first use may open. Linked with --wrap for malloc, realloc and free. Prints only
+ * errors. */
 #define _DEFAULT_SOURCE
 #include <proved.h>
 #include <stdio.h>
@@ -63,27 +64,38 @@ static int refused_in_turn(uint32_t kind) {
 static int calls_take_none(uint32_t kind) {
     enum { PAGE = 4096 };
     qolb_bytes bytes = {{0}};
-    qolb_node *nodes = mmap(NULL, PAGE, PROT_READ | PROT_WRITE, MAP_PRIVATE | MAP_ANONYMOUS, -1, 0), *one = nodes, *two = nodes + 1;
+    qolb_node *nodes = mmap(NULL, PAGE, PROT_READ | PROT_WRITE, MAP_PRIVATE | MAP_ANONYMOUS, -1, 0), *one = nodes,
+              *two = nodes + 1;
     uint64_t number = 0;
     if (nodes == MAP_FAILED || qolb_open(kind, 1, 2, 9, &bytes, nodes, 2) != QOLB_DONE) return puts("not opened"), 1;
     if (mprotect(nodes, PAGE, PROT_READ) != 0) return puts("not protected"), 1;
     taken = given_back = 0;
     if (qolb_enqolb(one) != QOLB_GRANTED || qolb_turns_left(one) != 9) return puts("not granted"), 1;
-    if (qolb_write(one, 1, &bytes) != QOLB_DONE || qolb_write_lane(one, 1, 7) != QOLB_DONE) return puts("not written"), 1;
+    if (qolb_write(one, 1, &bytes) != QOLB_DONE || qolb_write_lane(one, 1, 7) != QOLB_DONE)
+        return puts("not written"), 1;
     if (qolb_add_lane(one, 1, 2, &number) != QOLB_DONE || number != 7) return puts("not added"), 1;
-    if (qolb_read(one, &bytes) != QOLB_DONE || qolb_read_lane(one, 1, &number) != QOLB_DONE || number != 9) return puts("not read"), 1;
-    if (qolb_enqolb(two) != QOLB_QUEUED || qolb_poll(two) != QOLB_WAITING || qolb_wait(two, 3) != QOLB_WAITING) return puts("does not wait"), 1;
-    if (qolb_number(two) != 2 || qolb_label(two) != 1 || qolb_state(two) != QOLB_STATE_QUEUED) return puts("not node 2"), 1;
+    if (qolb_read(one, &bytes) != QOLB_DONE || qolb_read_lane(one, 1, &number) != QOLB_DONE || number != 9)
+        return puts("not read"), 1;
+    if (qolb_enqolb(two) != QOLB_QUEUED || qolb_poll(two) != QOLB_WAITING || qolb_wait(two, 3) != QOLB_WAITING)
+        return puts("does not wait"), 1;
+    if (qolb_number(two) != 2 || qolb_label(two) != 1 || qolb_state(two) != QOLB_STATE_QUEUED)
+        return puts("not node 2"), 1;
     if (qolb_memory(kind, 2) == 0) return puts("no memory is told"), 1;
-    if (qolb_withdraw(two) != QOLB_WITHDRAWN || qolb_clear(two) != QOLB_BUSY || qolb_enqolb(two) != QOLB_BUSY) return puts("not busy"), 1;
-    if (qolb_deqolb(one) != QOLB_DONE || qolb_clear(two) != QOLB_DONE || qolb_clear(one) != QOLB_DONE) return puts("not passed"), 1;
+    if (qolb_withdraw(two) != QOLB_WITHDRAWN || qolb_clear(two) != QOLB_BUSY || qolb_enqolb(two) != QOLB_BUSY)
+        return puts("not busy"), 1;
+    if (qolb_deqolb(one) != QOLB_DONE || qolb_clear(two) != QOLB_DONE || qolb_clear(one) != QOLB_DONE)
+        return puts("not passed"), 1;
     if (kind == QOLB_LINK) {
-        if (qolb_prepend(two) != QOLB_GRANTED || qolb_prepend(one) != QOLB_LINKING || qolb_link(one) != QOLB_QUEUED) return puts("not linked"), 1;
+        if (qolb_prepend(two) != QOLB_GRANTED || qolb_prepend(one) != QOLB_LINKING || qolb_link(one) != QOLB_QUEUED)
+            return puts("not linked"), 1;
     } else {
         if (qolb_enqolb(two) != QOLB_GRANTED || qolb_enqolb(one) != QOLB_QUEUED) return puts("not queued"), 1;
     }
-    if (qolb_shut(two) != QOLB_DONE || qolb_poll(one) != QOLB_CLOSED || qolb_poll(one) != QOLB_MISUSE) return puts("not closed"), 1;
-    if (qolb_acquire(one) != QOLB_CLOSED || qolb_acquire_within(two, 0) != QOLB_CLOSED || qolb_acquire(one) != QOLB_CLOSED) return puts("not closed"), 1;
+    if (qolb_shut(two) != QOLB_DONE || qolb_poll(one) != QOLB_CLOSED || qolb_poll(one) != QOLB_MISUSE)
+        return puts("not closed"), 1;
+    if (qolb_acquire(one) != QOLB_CLOSED || qolb_acquire_within(two, 0) != QOLB_CLOSED ||
+        qolb_acquire(one) != QOLB_CLOSED)
+        return puts("not closed"), 1;
     if (taken || given_back) return printf("calls took %lu and gave back %lu\n", taken, given_back), 1;
     if (mprotect(nodes, PAGE, PROT_READ | PROT_WRITE) != 0) return puts("not protected"), 1;
     if (qolb_close(one) != QOLB_DONE || qolb_close(two) != QOLB_DONE || !given_back) return puts("not given back"), 1;
@@ -98,14 +110,21 @@ static int puts_the_same_back(uint32_t kind) {
     if (qolb_open(kind, 1, 2, 9, &bytes, one, 2) != QOLB_DONE) return puts("not opened"), 1;
     void *was[] = {one->own, two->own};
 #define SAME(call) ((call), one->own == was[0] && two->own == was[1])
-    int same = SAME(qolb_enqolb_proved_(one)) && SAME(qolb_enqolb_proved_(one)) && SAME(qolb_turns_left_proved_(one)) && SAME(qolb_state_proved_(one));
-    same = same && SAME(qolb_write_proved_(one, 1, &bytes)) && SAME(qolb_write_lane_proved_(one, 1, 7)) && SAME(qolb_read_proved_(one, &bytes));
-    same = same && SAME(qolb_add_lane_proved_(one, 1, 2, &lane)) && SAME(qolb_read_lane_proved_(one, 1, &lane)) && SAME(qolb_number_proved_(one)) && SAME(qolb_label_proved_(one));
-    same = same && SAME(qolb_enqolb_proved_(two)) && SAME(qolb_poll_proved_(two)) && SAME(qolb_wait_proved_(two, 3)) && SAME(qolb_withdraw_proved_(two));
-    same = same && SAME(qolb_clear_proved_(two)) && SAME(qolb_clear_proved_(one)) && SAME(qolb_waits_at_proved_(one)) && SAME(qolb_enqolb_proved_(two));
-    same = same && SAME(qolb_deqolb_proved_(one)) && SAME(qolb_went_to_proved_(one)) && SAME(qolb_went_ahead_proved_(one));
+    int same = SAME(qolb_enqolb_proved_(one)) && SAME(qolb_enqolb_proved_(one)) && SAME(qolb_turns_left_proved_(one)) &&
+               SAME(qolb_state_proved_(one));
+    same = same && SAME(qolb_write_proved_(one, 1, &bytes)) && SAME(qolb_write_lane_proved_(one, 1, 7)) &&
+           SAME(qolb_read_proved_(one, &bytes));
+    same = same && SAME(qolb_add_lane_proved_(one, 1, 2, &lane)) && SAME(qolb_read_lane_proved_(one, 1, &lane)) &&
+           SAME(qolb_number_proved_(one)) && SAME(qolb_label_proved_(one));
+    same = same && SAME(qolb_enqolb_proved_(two)) && SAME(qolb_poll_proved_(two)) && SAME(qolb_wait_proved_(two, 3)) &&
+           SAME(qolb_withdraw_proved_(two));
+    same = same && SAME(qolb_clear_proved_(two)) && SAME(qolb_clear_proved_(one)) && SAME(qolb_waits_at_proved_(one)) &&
+           SAME(qolb_enqolb_proved_(two));
+    same = same && SAME(qolb_deqolb_proved_(one)) && SAME(qolb_went_to_proved_(one)) &&
+           SAME(qolb_went_ahead_proved_(one));
     same = same && SAME(qolb_prepend_proved_(one)) && SAME(qolb_prepend_proved_(two));
-    same = same && SAME(qolb_link_proved_(two)) && SAME(qolb_shut_proved_(one)) && SAME(qolb_poll_proved_(two)) && SAME(qolb_enqolb_proved_(one));
+    same = same && SAME(qolb_link_proved_(two)) && SAME(qolb_shut_proved_(one)) && SAME(qolb_poll_proved_(two)) &&
+           SAME(qolb_enqolb_proved_(one));
 #undef SAME
     if (!same) return puts("another node was put back"), 1;
     if (kind != QOLB_LINK && qolb_shut(one) != QOLB_DONE) return puts("does not hold it"), 1;
@@ -113,8 +132,8 @@ static int puts_the_same_back(uint32_t kind) {
     return 0;
 }
 
-/* Each allocation of a lock's first use, or of its opening, is refused in turn: then the lock is closed as before, and keeps nothing. The next use
- * opens it. Entering, leaving and waiting allocate nothing. */
+/* Each allocation of a lock's first use, or of its opening, is refused in turn: then the lock is closed as before, and
+ * keeps nothing. The next use opens it. Entering, leaving and waiting allocate nothing. */
 static uint32_t used_first(qolb_lock *lock, uint32_t kind, unsigned way) {
     qolb_bytes zeros = {{0}};
     switch (way) {
@@ -134,13 +153,17 @@ static int lock_refused_in_turn(uint32_t kind, unsigned way) {
         uint32_t got = used_first(&lock, kind, way);
         int refused = refuse_at == 0;
         refuse_at = 0;
-        if (got != (refused ? QOLB_NO_MEMORY : way == 3 ? QOLB_DONE : QOLB_GRANTED)) return printf("lock, allocation %lu: answer %u\n", n, got), 1;
-        if (refused && (lock.own || taken != given_back)) return printf("lock, allocation %lu: %lu taken, %lu given back\n", n, taken, given_back), 1;
+        if (got != (refused ? QOLB_NO_MEMORY : way == 3 ? QOLB_DONE : QOLB_GRANTED))
+            return printf("lock, allocation %lu: answer %u\n", n, got), 1;
+        if (refused && (lock.own || taken != given_back))
+            return printf("lock, allocation %lu: %lu taken, %lu given back\n", n, taken, given_back), 1;
         if ((refused || way == 3) && qolb_lock_enter(&lock) != QOLB_GRANTED) return puts("lock: not opened later"), 1;
         unsigned long before = taken;
-        if (qolb_lock_enter_within(&lock, 0) != QOLB_MISUSE || qolb_cond_wait_within(&cond, &lock, 0) != QOLB_LATE) return puts("lock: not late"), 1;
+        if (qolb_lock_enter_within(&lock, 0) != QOLB_MISUSE || qolb_cond_wait_within(&cond, &lock, 0) != QOLB_LATE)
+            return puts("lock: not late"), 1;
         if (qolb_lock_leave(&lock) != QOLB_DONE || taken != before) return puts("lock: calls took memory"), 1;
-        if (qolb_lock_close(&lock) != QOLB_DONE || taken != given_back) return printf("lock: %lu taken, %lu given back\n", taken, given_back), 1;
+        if (qolb_lock_close(&lock) != QOLB_DONE || taken != given_back)
+            return printf("lock: %lu taken, %lu given back\n", taken, given_back), 1;
         if (!refused) return n < 5 ? puts("lock: too few allocations"), 1 : 0;
     }
 }

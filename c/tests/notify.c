@@ -132,7 +132,8 @@ static int replaces(uint32_t kind) {
     return closes(2, n);
 }
 
-/* A release passes a withdrawn request, and the call of the one behind it is made. Closing takes off what was left on. */
+/* A release passes a withdrawn request, and the call of the one behind it is made. Closing takes off what was left
+ * on. */
 static int passes_withdrawn(uint32_t kind) {
     qolb_node n[4];
     calls = 0;
@@ -281,7 +282,8 @@ static void *releases(void *node) {
     return NULL;
 }
 
-/* A thread is cancelled in the call, and goes on to its end. Meanwhile off, or closing, waits for the call, unless that is done. */
+/* A thread is cancelled in the call, and goes on to its end. Meanwhile off, or closing, waits for the call, unless that
+ * is done. */
 static int waits_for_the_call(uint32_t kind, int by_close, int done) {
     qolb_node n[3];
     pthread_t thread;

@@ -1,6 +1,7 @@
-/* Who holds a lock, where the system gives a thread a number that another thread has had: after a fork the one thread of the child goes on with the number that
- * it had in the parent, and once the parent has ended the system may give that to a new thread of the child. Here it gives each thread the same
- * number: linked with --wrap for syscall. Prints only errors. */
+/* Who holds a lock, where the system gives a thread a number that another thread has had: after a fork the one thread
+ * of the child goes on with the number that it had in the parent, and once the parent has ended the system may give
+ * that to a new thread of the child. Here it gives each thread the same number: linked with --wrap for syscall. Prints
+ * only errors. */
 #define _GNU_SOURCE
 #include <pthread.h>
 #include <qolb.h>
@@ -13,13 +14,13 @@
 
 enum { TURNS = 40, NUMBER = 7, MS = 1000000 };
 
-#define WANT(call, wanted)                                                                     \
-    do {                                                                                       \
-        unsigned long long got_ = (unsigned long long)(call);                                  \
-        if (got_ != (unsigned long long)(wanted)) {                                            \
-            printf("line %d: %s gave %llu\n", __LINE__, #call, got_);                          \
-            exit(1);                                                                           \
-        }                                                                                      \
+#define WANT(call, wanted)                                            \
+    do {                                                              \
+        unsigned long long got_ = (unsigned long long)(call);         \
+        if (got_ != (unsigned long long)(wanted)) {                   \
+            printf("line %d: %s gave %llu\n", __LINE__, #call, got_); \
+            exit(1);                                                  \
+        }                                                             \
     } while (0)
 
 long __real_syscall(long number, ...);

@@ -1,5 +1,5 @@
-/* An object as built with the header of 1.3 or before: its waiting calls are those of that header, which poll and rest and never sleep at a bell.
- * All else is of the library that it is linked with. */
+/* An object as built with the header of 1.3 or before: its waiting calls are those of that header, which poll and rest
+ * and never sleep at a bell. All else is of the library that it is linked with. */
 #include "beside.h"
 
 enum { QUEUED = 2, WAITING = 3, WITHDRAWN = 5, BUSY = 7, LATE = 15 };
@@ -73,7 +73,9 @@ static inline uint32_t qolb_acquire_within(struct qolb_node *node, uint64_t nano
 /* The object's calls for the program. */
 
 static uint32_t acquires(struct qolb_node *node) { return qolb_acquire(node); }
-static uint32_t acquires_within(struct qolb_node *node, uint64_t nanoseconds) { return qolb_acquire_within(node, nanoseconds); }
+static uint32_t acquires_within(struct qolb_node *node, uint64_t nanoseconds) {
+    return qolb_acquire_within(node, nanoseconds);
+}
 
 const struct calls *older(void) {
     static const struct calls calls = {acquires, acquires_within, qolb_deqolb, qolb_shut};

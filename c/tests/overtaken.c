@@ -1,11 +1,13 @@
-/* Who is overtaken at a strict lock with few seats, where threads and tasks have very different numbers of turns. Counted is who was served before whom, and
- * not turns: each that comes to the door draws a ticket under the door's guard (the Makefile puts the call of `stood` into door.c), and a holder looks
- * whether somebody with an earlier ticket is not served yet. Ends with 1 if there is one.
+/* Who is overtaken at a strict lock with few seats, where threads and tasks have very different numbers of turns.
+ * Counted is who was served before whom, and not turns: each that comes to the door draws a ticket under the door's
+ * guard (the Makefile puts the call of `stood` into door.c), and a holder looks whether somebody with an earlier ticket
+ * is not served yet. Ends with 1 if there is one.
  *
  *   build/overtaken [SECONDS [THREADS [TASKS [SEATS [BUSY]]]]]
  *
- * BUSY threads more do nothing but take processors. Prints for the users with least and most turns, of threads and of tasks: their turns; how many turns of
- * all went by, in the mean, from when they came until they were served; and how many from when they left until they came again. */
+ * BUSY threads more do nothing but take processors. Prints for the users with least and most turns, of threads and of
+ * tasks: their turns; how many turns of all went by, in the mean, from when they came until they were served; and how
+ * many from when they left until they came again. */
 #define _GNU_SOURCE
 #include <qolb.h>
 
@@ -19,7 +21,9 @@ struct user {
     struct user *next;
     qolb_task task;
     int is_task;
-    uint64_t ticket, began, came, left; /* 0: it did not come to the door; tickets drawn before its call; turns of all when it came and when it left */
+    uint64_t ticket;     /* 0: it did not come to the door */
+    uint64_t began;      /* tickets drawn before its call */
+    uint64_t came, left; /* turns of all when it came and when it left */
     uint64_t turns, in_queue, away, at_door, overtakes;
     int has_come;
 };
@@ -173,7 +177,8 @@ static void *works(void *unused) {
 
 static void tells(const char *name, const struct user *it) {
     double many = it->turns ? (double)it->turns : 1;
-    printf("%s\t%llu\t%.1f\t%.1f\t%.0f\n", name, (unsigned long long)it->turns, (double)it->in_queue / many, (double)it->away / many, 100 * (double)it->at_door / many);
+    printf("%s\t%llu\t%.1f\t%.1f\t%.0f\n", name, (unsigned long long)it->turns, (double)it->in_queue / many,
+           (double)it->away / many, 100 * (double)it->at_door / many);
 }
 
 static void tells_of(int is_task, int many) {
@@ -183,12 +188,14 @@ static void tells_of(int is_task, int many) {
         if (!least || users[k].turns < least->turns) least = &users[k];
         if (!most || users[k].turns > most->turns) most = &users[k];
     }
-    if (least) tells(is_task ? "task, least" : "thread, least", least), tells(is_task ? "task, most" : "thread, most", most);
+    if (least)
+        tells(is_task ? "task, least" : "thread, least", least), tells(is_task ? "task, most" : "thread, most", most);
 }
 
 int main(int argc, char **argv) {
     double time = argc > 1 ? atof(argv[1]) : 1;
-    int threads = argc > 2 ? atoi(argv[2]) : 6, tasks = argc > 3 ? atoi(argv[3]) : 20, seats = argc > 4 ? atoi(argv[4]) : 4, busy = argc > 5 ? atoi(argv[5]) : 4;
+    int threads = argc > 2 ? atoi(argv[2]) : 6, tasks = argc > 3 ? atoi(argv[3]) : 20,
+        seats = argc > 4 ? atoi(argv[4]) : 4, busy = argc > 5 ? atoi(argv[5]) : 4;
     pthread_t thread[MOST_USERS + WORKERS];
     int many = 0, all = threads + tasks;
     if (threads < 0 || tasks < 0 || all < 1 || all > MOST_USERS || busy < 0 || threads + busy > MOST_USERS) return 2;

@@ -1,5 +1,6 @@
-/* Threads that wait, one at a time, for a debugger that stops at the library's probes (probes.h): one is late, one is granted the line, one is told that
- * it is closed, and one waits for a lock of one seat. The lines have the labels 7 and 9. Prints only errors. */
+/* Threads that wait, one at a time, for a debugger that stops at the library's probes (probes.h): one is late, one is
+ * granted the line, one is told that it is closed, and one waits for a lock of one seat. The lines have the labels 7
+ * and 9. Prints only errors. */
 #define _GNU_SOURCE
 #include <qolb.h>
 

@@ -1,5 +1,6 @@
-/* Data that a lock guards, for threads and for a task, or a line whose waiter is told by an eventfd; and data that is used in some wrong way, for the thread sanitizer, and for valgrind's helgrind and drd: they must be quiet about
- * the first and report each other.
+/* Data that a lock guards, for threads and for a task, or a line whose waiter is told by an eventfd; and data that is
+ * used in some wrong way, for the thread sanitizer, and for valgrind's helgrind and drd: they must be quiet about the
+ * first and report each other.
  *
  *   build/races WAY     its number below
  *

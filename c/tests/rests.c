@@ -1,8 +1,9 @@
-/* How a waiter rests between polls, with a node, for a lock and at a condition, by a clock that the program advances: how often it requests and
- * polls, how often it yields the processor, how long it sleeps, and when it is late; its answer if the line is granted, or closed, between the
- * last poll and the withdrawal; and which calls wake sleepers, and which sleepers. Linked with --wrap for clock_gettime, nanosleep, sched_yield,
- * syscall and for the proved calls that request, poll, withdraw and name the next holder. One thread does what several would: so it enters a lock that it
- * holds, by the call of preload.c. Prints only errors. */
+/* How a waiter rests between polls, with a node, for a lock and at a condition, by a clock that the program advances:
+ * how often it requests and polls, how often it yields the processor, how long it sleeps, and when it is late; its
+ * answer if the line is granted, or closed, between the last poll and the withdrawal; and which calls wake sleepers,
+ * and which sleepers. Linked with --wrap for clock_gettime, nanosleep, sched_yield, syscall and for the proved calls
+ * that request, poll, withdraw and name the next holder. One thread does what several would: so it enters a lock that
+ * it holds, by the call of preload.c. Prints only errors. */
 #define _GNU_SOURCE
 #include <proved.h>
 #include <stdarg.h>
@@ -14,29 +15,29 @@
 #include <time.h>
 #include <unistd.h>
 
-#define WANT(call, wanted)                                                                     \
-    do {                                                                                       \
-        unsigned long long got_ = (call);                                                      \
-        if (got_ != (wanted)) {                                                                \
-            printf("line %d: %s gave %llu\n", __LINE__, #call, got_);                          \
-            return 1;                                                                          \
-        }                                                                                      \
+#define WANT(call, wanted)                                            \
+    do {                                                              \
+        unsigned long long got_ = (call);                             \
+        if (got_ != (wanted)) {                                       \
+            printf("line %d: %s gave %llu\n", __LINE__, #call, got_); \
+            return 1;                                                 \
+        }                                                             \
     } while (0)
 
 enum { US = 1000, MS = 1000000 };
 #define NEVER UINT64_MAX
 
-/* The time, in nanoseconds; and since `begins` the numbers of clock calls and rests, the longest time that a sleep may have lasted, the node's
- * numbers of requests, polls and spins, the number of times that it was asked for the next holder, the number of wakes, and the calls that a
- * waiter must not make. */
+/* The time, in nanoseconds; and since `begins` the numbers of clock calls and rests, the longest time that a sleep may
+ * have lasted, the node's numbers of requests, polls and spins, the number of times that it was asked for the next
+ * holder, the number of wakes, and the calls that a waiter must not make. */
 static uint64_t now, clocks, yields, sleeps, longest, asks, spins, spun, looks, names, wakes, wrong;
 
-/* How often a waiter yields before it sleeps, as qolb.h says; and how often it polls before it yields: for 1.5 us, by a clock by which 64 pauses take
- * 384 ns. */
+/* How often a waiter yields before it sleeps, as qolb.h says; and how often it polls before it yields: for 1.5 us, by a
+ * clock by which 64 pauses take 384 ns. */
 enum { YIELDS = 16, LOOKS = 250 };
 
-/* How long 64 pauses take by the clock in each of the runs in which they are timed, between two clock calls; the number of clock calls for that; and
- * whether the next request begins it. */
+/* How long 64 pauses take by the clock in each of the runs in which they are timed, between two clock calls; the number
+ * of clock calls for that; and whether the next request begins it. */
 enum { TIMED = 5 };
 static uint64_t lasts[TIMED];
 static unsigned timed = 2 * TIMED;
@@ -46,8 +47,8 @@ static int will_time;
 enum { NOTED = 8 };
 static const void *slept_at[NOTED], *woken_at[NOTED];
 
-/* An action at the first clock call at this time or later, at this number of yields, during this number of sleeps, or before a request is
- * withdrawn. It happens once. */
+/* An action at the first clock call at this time or later, at this number of yields, during this number of sleeps, or
+ * before a request is withdrawn. It happens once. */
 static struct {
     void (*does)(void);
     uint64_t at, at_yield, at_sleep;
@@ -177,13 +178,18 @@ static int counts(const uint64_t *runs, uint64_t polls) {
     return 0;
 }
 
-/* Each is the first wait of a process of its own, and the last one that of this process. The quickest run counts; 16 to 512 polls. */
+/* Each is the first wait of a process of its own, and the last one that of this process. The quickest run counts; 16 to
+ * 512 polls. */
 static int counts_looks(void) {
     static const struct {
         uint64_t runs[TIMED], polls;
     } rows[] = {
-        {{0, 0, 0, 0, 0}, 512},               {{187, 187, 187, 187, 187}, 512}, {{188, 188, 188, 188, 188}, 510},
-        {{90000, 3200, 5000, 3300, 4000}, 30}, {{9000, 9000, 9000, 9000, 6000}, 16}, {{7000, 6500, 7000, 7000, 7000}, 16},
+        {{0, 0, 0, 0, 0}, 512},
+        {{187, 187, 187, 187, 187}, 512},
+        {{188, 188, 188, 188, 188}, 510},
+        {{90000, 3200, 5000, 3300, 4000}, 30},
+        {{9000, 9000, 9000, 9000, 6000}, 16},
+        {{7000, 6500, 7000, 7000, 7000}, 16},
     };
     for (size_t k = 0; k < sizeof rows / sizeof rows[0]; k++) {
         int status;
@@ -209,8 +215,9 @@ static void shuts(void) {
 
 /* Without a grant, while the first node holds the line. */
 static int late(qolb_node *n) {
-    /* For 20 ms, while it waits and while it is busy: late to the nanosecond. Waiting, it polls for 1.5 us, 16 times more and yields before each of
-     * these, polls once more, and sleeps as long as it may. Busy, it requests again 16 times, and then every 200 us. */
+    /* For 20 ms, while it waits and while it is busy: late to the nanosecond. Waiting, it polls for 1.5 us, 16 times
+     * more and yields before each of these, polls once more, and sleeps as long as it may. Busy, it requests again 16
+     * times, and then every 200 us. */
     for (unsigned busy = 0; busy < 2; busy++) {
         uint64_t since = now;
         begins(NULL);
@@ -240,7 +247,8 @@ static int late(qolb_node *n) {
     return 0;
 }
 
-/* It waits as long as it takes, and reads no clock: it sleeps, and if it is woken for no reason it polls anew. A release wakes it, by one call. */
+/* It waits as long as it takes, and reads no clock: it sleeps, and if it is woken for no reason it polls anew. A
+ * release wakes it, by one call. */
 static int sleeps_on(qolb_node *n, int limited) {
     holder = &n[0];
     begins(releases);
@@ -290,7 +298,8 @@ static int granted(qolb_node *n) {
     return 0;
 }
 
-/* Granted at once it neither polls nor rests; a try makes one request, and does neither. A release without waiters makes no system call. */
+/* Granted at once it neither polls nor rests; a try makes one request, and does neither. A release without waiters
+ * makes no system call. */
 static int at_once(qolb_node *n) {
     begins(NULL);
     WANT(qolb_acquire(&n[1]), QOLB_GRANTED);
@@ -388,7 +397,8 @@ static int passes_on(uint32_t kind, uint32_t (*call)(qolb_node *node), int links
     return 0;
 }
 
-/* There are 1,024 bells, and as many lines from this one on, the next has the same first bell: its calls take a sleeper of the other for one of its own. */
+/* There are 1,024 bells, and as many lines from this one on, the next has the same first bell: its calls take a sleeper
+ * of the other for one of its own. */
 static int skips_bells(void) {
     static qolb_bytes zeros;
     for (int k = 0; k < 1023; k++) {
@@ -399,8 +409,9 @@ static int skips_bells(void) {
     return 0;
 }
 
-/* A request on a closed line is told at once, and may have forwarded the line to a sleeper behind it: so it asks for the next holder. Here there
- * is none. A sleeper of another line is not woken if it has a bell of its own, and then the call does not even ask, as nobody of its line sleeps. */
+/* A request on a closed line is told at once, and may have forwarded the line to a sleeper behind it: so it asks for
+ * the next holder. Here there is none. A sleeper of another line is not woken if it has a bell of its own, and then the
+ * call does not even ask, as nobody of its line sleeps. */
 static int asks_a_closed_one(uint32_t kind, uint32_t (*call)(qolb_node *node), int shares) {
     qolb_bytes zeros = {{0}};
     qolb_node n[2] = {{0}}, closed = {0};
@@ -497,7 +508,9 @@ static int each_passes_on(uint32_t kind) {
     if (passes_on(kind, qolb_poll, 0) || passes_on(kind, waits, 0) || passes_on(kind, qolb_withdraw, 0)) return 1;
     if (misuse_wakes_nobody(kind, qolb_deqolb) || misuse_wakes_nobody(kind, qolb_shut)) return 1;
     for (int shares = 0; shares < 2; shares++)
-        if (asks_a_closed_one(kind, qolb_enqolb, shares) || asks_a_closed_one(kind, acquires, shares) || asks_a_closed_one(kind, acquires_within, shares)) return 1;
+        if (asks_a_closed_one(kind, qolb_enqolb, shares) || asks_a_closed_one(kind, acquires, shares) ||
+            asks_a_closed_one(kind, acquires_within, shares))
+            return 1;
     if (is_told_late(kind, is_told_as_it_gives_up) || is_told_late(kind, is_told_after_being_busy)) return 1;
     return kind == QOLB_LINK && (passes_on(kind, qolb_link, 1) || asks_a_closed_one(kind, qolb_prepend, 1));
 }
@@ -516,7 +529,9 @@ static uint32_t (*waits_as)(unsigned k);
 static void (*lets_go)(void);
 
 /* The first waits as long as it takes; the others are late, as their sleeps end while it sleeps. */
-static uint32_t acquires_as(unsigned k) { return k ? qolb_acquire_within(&nodes[k], 20 * MS) : qolb_acquire(&nodes[0]); }
+static uint32_t acquires_as(unsigned k) {
+    return k ? qolb_acquire_within(&nodes[k], 20 * MS) : qolb_acquire(&nodes[0]);
+}
 static uint32_t enters_as(unsigned k) { return qolb_lock_enter_unasked_(held, k ? 20 * MS : NEVER); }
 
 /* While one sleeps the next waits and sleeps, too, and while the last does the line is released. */
@@ -602,7 +617,8 @@ static int wakes_behind_one_awake(uint32_t kind) {
     return 0;
 }
 
-/* No two places of a line share a bell, for any number of nodes; nor do the same places of two lines that are opened one after the other. */
+/* No two places of a line share a bell, for any number of nodes; nor do the same places of two lines that are opened
+ * one after the other. */
 static int each_has_its_bell(uint32_t kind) {
     enum { MOST = 200 };
     qolb_bytes zeros = {{0}};
@@ -755,8 +771,9 @@ int main(void) {
     now = 5000000000;
     if (counts_looks()) return 1;
     for (uint32_t kind = 0; kind < QOLB_KINDS; kind++)
-        if (rests(kind) || withdraws_late(kind, 0) || withdraws_late(kind, 1) || each_passes_on(kind) || wakes_whom_it_should(kind) ||
-            lock_rests(kind) || lock_at_the_end(kind, 0) || lock_at_the_end(kind, 1) || woken_for_nothing(kind))
+        if (rests(kind) || withdraws_late(kind, 0) || withdraws_late(kind, 1) || each_passes_on(kind) ||
+            wakes_whom_it_should(kind) || lock_rests(kind) || lock_at_the_end(kind, 0) || lock_at_the_end(kind, 1) ||
+            woken_for_nothing(kind))
             return 1;
     WANT(wrong, 0);
     return 0;

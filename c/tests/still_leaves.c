@@ -1,5 +1,6 @@
-/* A thread that has left a lock, and is stopped in that call while it wakes the next holder: the lock is free for all others, by each call, and is closed only
- * once that thread is out. Linked with --wrap for syscall. Prints only errors. */
+/* A thread that has left a lock, and is stopped in that call while it wakes the next holder: the lock is free for all
+ * others, by each call, and is closed only once that thread is out. Linked with --wrap for syscall. Prints only
+ * errors. */
 #define _GNU_SOURCE
 #include <qolb.h>
 #include <stdarg.h>

@@ -1,5 +1,5 @@
-/* Two hundred threads at one lock for some time: each enters, waits at most some time, tries, and waits at a condition, in a random order. No addition may be
- * lost, no two threads be in at once, and each thread has to go on.
+/* Two hundred threads at one lock for some time: each enters, waits at most some time, tries, and waits at a condition,
+ * in a random order. No addition may be lost, no two threads be in at once, and each thread has to go on.
  *
  *   build/stress SECONDS KIND SEATS[+BURST] [SEED]     a thread that has no turn in ten times as long ends the program
  *
@@ -36,7 +36,9 @@ static void turn(struct worker *me) {
 
 /* Whether it is in. */
 static int enters(struct worker *me, unsigned way) {
-    uint32_t got = way < 10 ? qolb_lock_enter(&lock) : way < 14 ? qolb_lock_enter_within(&lock, drawn(&me->seed) % (20 * MS)) : qolb_lock_try(&lock);
+    uint32_t got = way < 10   ? qolb_lock_enter(&lock)
+                   : way < 14 ? qolb_lock_enter_within(&lock, drawn(&me->seed) % (20 * MS))
+                              : qolb_lock_try(&lock);
     if (got == QOLB_GRANTED) return 1;
     MUST(got, way < 14 ? QOLB_LATE : QOLB_BUSY);
     me->late++;

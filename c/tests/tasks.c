@@ -65,7 +65,8 @@ static int refuses(uint32_t kind, uint32_t seats) {
     return 0;
 }
 
-/* Tasks beyond the seats, in the order in which they came; one gives up in the middle, one at the front, and one at its turn. */
+/* Tasks beyond the seats, in the order in which they came; one gives up in the middle, one at the front, and one at its
+ * turn. */
 static int in_order(uint32_t kind, uint32_t seats) {
     begin(kind, seats);
     WANT(enters(0), QOLB_GRANTED);
@@ -130,7 +131,8 @@ static int shuts(uint32_t kind, uint32_t seats, int by_task) {
     return 0;
 }
 
-/* Once a shut has returned no task waits for those before it, to be told: one that asks, the last in the line or at the door that gives up, and a thread. */
+/* Once a shut has returned no task waits for those before it, to be told: one that asks, the last in the line or at the
+ * door that gives up, and a thread. */
 static int shut_is_seen_at_once(uint32_t kind, uint32_t seats, int by_task) {
     begin(kind, seats);
     if (by_task) WANT(enters(0), QOLB_GRANTED);
@@ -222,9 +224,7 @@ enum { EACH = 2000 };
 static long guarded;
 static atomic_int ready[MANY];
 
-static void make_ready(void *arg) {
-    atomic_store((atomic_int *)arg, 1);
-}
+static void make_ready(void *arg) { atomic_store((atomic_int *)arg, 1); }
 
 static void *thread_enters(void *seed) {
     for (int k = 0; k < EACH; k++) {
@@ -257,7 +257,8 @@ static int beside_threads(uint32_t kind, uint32_t seats) {
     begin(kind, seats);
     guarded = 0;
     memset(ready, 0, sizeof ready);
-    for (int k = 0; k < 4; k++) WANT(pthread_create(&thread[k], NULL, k % 2 ? serves_tasks : thread_enters, (void *)(intptr_t)(k / 2 * 3)), 0);
+    for (int k = 0; k < 4; k++)
+        WANT(pthread_create(&thread[k], NULL, k % 2 ? serves_tasks : thread_enters, (void *)(intptr_t)(k / 2 * 3)), 0);
     for (int k = 0; k < 4; k++) WANT(pthread_join(thread[k], NULL), 0);
     WANT(guarded, 8 * EACH);
     WANT(qolb_lock_close(&lock), QOLB_DONE);
@@ -302,7 +303,9 @@ int main(void) {
         for (uint32_t seats = 1; seats <= 4; seats++)
             for (uint32_t burst = 0; burst < (seats > 1 ? 2 : 1); burst++) {
                 uint32_t all = seats + 65536 * 4 * burst;
-                if (refuses(kind, all) || in_order(kind, all) || has_the_bytes(kind, all) || shuts(kind, all, 0) || shuts(kind, all, 1)) return 1;
+                if (refuses(kind, all) || in_order(kind, all) || has_the_bytes(kind, all) || shuts(kind, all, 0) ||
+                    shuts(kind, all, 1))
+                    return 1;
                 if (shut_is_seen_at_once(kind, all, 0) || shut_is_seen_at_once(kind, all, 1)) return 1;
                 if (tells_a_descriptor(kind, all) || nests_no_call(kind, all) || closes_in_a_call(kind, all)) return 1;
                 if (beside_threads(kind, all) || keeps_the_order(kind, all)) return 1;

@@ -1,5 +1,5 @@
-/* Two threads add to one lane of a line of each kind; then every mistake is made that the library must answer, and a line of each number of nodes
- * is opened; and a node is freed that has closed its line. Prints only errors. */
+/* Two threads add to one lane of a line of each kind; then every mistake is made that the library must answer, and a
+ * line of each number of nodes is opened; and a node is freed that has closed its line. Prints only errors. */
 #define _POSIX_C_SOURCE 200809L
 #include <pthread.h>
 #include <qolb.h>
@@ -9,13 +9,13 @@
 
 enum { THREADS = 2, ROUNDS = 20000 };
 
-#define WANT(call, wanted)                                                                     \
-    do {                                                                                       \
-        unsigned long long got_ = (call);                                                      \
-        if (got_ != (wanted)) {                                                                \
-            printf("line %d: %s gave %llu\n", __LINE__, #call, got_);                          \
-            return 1;                                                                          \
-        }                                                                                      \
+#define WANT(call, wanted)                                            \
+    do {                                                              \
+        unsigned long long got_ = (call);                             \
+        if (got_ != (wanted)) {                                       \
+            printf("line %d: %s gave %llu\n", __LINE__, #call, got_); \
+            return 1;                                                 \
+        }                                                             \
     } while (0)
 
 /* A thread's own node, apart from others, so that the threads share no cache line but the line's. */
@@ -23,7 +23,8 @@ struct adder {
     _Alignas(QOLB_NODE_ALIGN) qolb_node node;
 };
 
-/* A thread adds 1 to lane 3: a third of its rounds by one call, a third by lanes, and a third by whole lines. The node is the thread's alone. */
+/* A thread adds 1 to lane 3: a third of its rounds by one call, a third by lanes, and a third by whole lines. The node
+ * is the thread's alone. */
 static void *add(void *argument) {
     qolb_node *node = &((struct adder *)argument)->node;
     for (int round = 0; round < ROUNDS; round++) {
@@ -99,10 +100,11 @@ static int refusals(void) {
     return 0;
 }
 
-/* With enough memory, a line of each number of nodes opens, with short leases and long ones, with large labels up to the largest, and with more handles than it
- * needs; a line of 200 with each of the leases. */
+/* With enough memory, a line of each number of nodes opens, with short leases and long ones, with large labels up to
+ * the largest, and with more handles than it needs; a line of 200 with each of the leases. */
 static int opens(uint32_t kind) {
-    static const uint64_t leases[] = {1, UINT32_MAX, (uint64_t)UINT32_MAX + 1, (uint64_t)1 << 63, UINT64_MAX - 1, QOLB_NO_LEASE};
+    static const uint64_t leases[] = {
+        1, UINT32_MAX, (uint64_t)UINT32_MAX + 1, (uint64_t)1 << 63, UINT64_MAX - 1, QOLB_NO_LEASE};
     static qolb_node nodes[1000];
     qolb_bytes zeros = {{0}};
     for (uint64_t many = 1; many <= 200; many++)

@@ -1,4 +1,5 @@
-// Two threads move a token to and fro between two counts of one line, and a third node sees their sum. Prints only errors.
+// Two threads move a token to and fro between two counts of one line, and a third node sees their sum. Prints only
+// errors.
 #include <qolb.hpp>
 
 #include <chrono>
@@ -37,7 +38,8 @@ bool run(qolb_kind kind) {
     if (got != qolb::Got::granted || lanes[0] != 65536 || lanes[1] != 65536) return false;
     // A moved-from node is empty, and a node that holds releases at the end of its scope.
     if (nodes[0].state() != QOLB_STATE_EMPTY || nodes[0].enqolb() != QOLB_MISUSE) return false;
-    return nodes[2].acquire() == qolb::Got::granted && nodes[2].shut() == QOLB_DONE && nodes[2].acquire() == qolb::Got::closed;
+    return nodes[2].acquire() == qolb::Got::granted && nodes[2].shut() == QOLB_DONE &&
+           nodes[2].acquire() == qolb::Got::closed;
 }
 
 // Returns whether the work throws this.
@@ -82,27 +84,32 @@ bool is_lock(qolb_kind kind) {
         std::unique_lock<qolb::Node> now(b, std::try_to_lock);
         auto since = std::chrono::steady_clock::now();
         std::unique_lock<qolb::Node> soon(b, 5ms);
-        if (now || soon || std::chrono::steady_clock::now() - since < 5ms || b.state() != QOLB_STATE_ROLLED) return false;
+        if (now || soon || std::chrono::steady_clock::now() - since < 5ms || b.state() != QOLB_STATE_ROLLED)
+            return false;
         if (std::unique_lock<qolb::Node>(b, std::chrono::steady_clock::now() + 1ms)) return false;
         if (b.try_acquire() != qolb::Got::busy || b.acquire_for(0s) != qolb::Got::late) return false;
         if (a.acquire() != qolb::Got::misuse || a.with([](qolb_bytes &) {}) != qolb::Got::misuse) return false;
-        if (!throws<qolb::Misuse>([&] { a.lock(); }) || !throws<qolb::Misuse>([&] { qolb::Guard turn(b, std::adopt_lock); })) return false;
+        if (!throws<qolb::Misuse>([&] { a.lock(); }) ||
+            !throws<qolb::Misuse>([&] { qolb::Guard turn(b, std::adopt_lock); }))
+            return false;
     }
     if (!throws<qolb::Misuse>([&] { a.unlock(); })) return false;
     {
         std::unique_lock<qolb::Node> lock(b, 1h);
         if (!lock) return false;
     }
-    {
-        std::lock_guard<qolb::Node> lock(b);
-    }
+    { std::lock_guard<qolb::Node> lock(b); }
     // The guard ends before its scope, and closes the line at the last turn of its lease.
     qolb::Guard last(a);
     last.release();
-    if (!throws<qolb::Misuse>([&] { (void)last.lane(0); }) || !throws<qolb::Misuse>([&] { last.release(); })) return false;
+    if (!throws<qolb::Misuse>([&] { (void)last.lane(0); }) || !throws<qolb::Misuse>([&] { last.release(); }))
+        return false;
     if (!throws<qolb::Closed>([&] { b.lock(); }) || !throws<qolb::Closed>([&] { (void)b.try_lock(); })) return false;
-    if (!throws<qolb::Closed>([&] { (void)b.try_lock_for(1ms); }) || !throws<qolb::Closed>([&] { qolb::Guard turn(a); })) return false;
-    return a.acquire_for(1ms) == qolb::Got::closed && b.with([](qolb_bytes &) {}) == qolb::Got::closed && a.state() == QOLB_STATE_SHUT;
+    if (!throws<qolb::Closed>([&] { (void)b.try_lock_for(1ms); }) ||
+        !throws<qolb::Closed>([&] { qolb::Guard turn(a); }))
+        return false;
+    return a.acquire_for(1ms) == qolb::Got::closed && b.with([](qolb_bytes &) {}) == qolb::Got::closed &&
+           a.state() == QOLB_STATE_SHUT;
 }
 
 // A holder that is assigned to releases its line.
@@ -115,7 +122,8 @@ bool is_assigned(qolb_kind kind) {
     return b.acquire_for(1min) == qolb::Got::granted;
 }
 
-// All bytes as `with` leaves them are written; a guard writes only the bytes of its mask; and a guard that shuts closes the line.
+// All bytes as `with` leaves them are written; a guard writes only the bytes of its mask; and a guard that shuts closes
+// the line.
 bool is_written(qolb_kind kind) {
     auto opened = qolb::Node::open(kind, 1, 2, qolb_bytes{});
     auto &a = opened.second[0], &b = opened.second[1];
@@ -134,7 +142,8 @@ bool is_written(qolb_kind kind) {
     return b.state() == QOLB_STATE_SHUT && a.try_acquire() == qolb::Got::closed;
 }
 
-// A node that is destroyed while it waits is withdrawn, also if it has not linked yet, and a node that was granted the line meanwhile releases.
+// A node that is destroyed while it waits is withdrawn, also if it has not linked yet, and a node that was granted the
+// line meanwhile releases.
 bool waiter_is_destroyed(qolb_kind kind) {
     auto opened = qolb::Node::open(kind, 1, 4, qolb_bytes{});
     auto &nodes = opened.second;
@@ -154,14 +163,16 @@ bool times_are_taken(qolb_kind kind) {
     auto opened = qolb::Node::open(kind, 1, 2, qolb_bytes{});
     auto &a = opened.second[0], &b = opened.second[1];
     if (a.acquire() != qolb::Got::granted) return false;
-    if (b.acquire_for(-1ns) != qolb::Got::late || b.acquire_for(std::chrono::hours::min()) != qolb::Got::late) return false;
+    if (b.acquire_for(-1ns) != qolb::Got::late || b.acquire_for(std::chrono::hours::min()) != qolb::Got::late)
+        return false;
     if (b.try_lock_until(std::chrono::steady_clock::now() - 1h)) return false;
     for (bool by_hours : {false, true}) {
         std::thread back([&] {
             std::this_thread::sleep_for(5ms);
             a.unlock();
         });
-        qolb::Got got = by_hours ? b.acquire_for(std::chrono::hours::max()) : b.acquire_for(std::chrono::nanoseconds::max());
+        qolb::Got got = by_hours ? b.acquire_for(std::chrono::hours::max())
+                                 : b.acquire_for(std::chrono::nanoseconds::max());
         back.join();
         if (got != qolb::Got::granted || b.deqolb() != QOLB_DONE || a.acquire() != qolb::Got::granted) return false;
     }

@@ -14,23 +14,23 @@
 
 enum { US = 1000, MS = 1000000 };
 
-#define WANT(call, wanted)                                                                     \
-    do {                                                                                       \
-        unsigned long long got_ = (unsigned long long)(call);                                  \
-        if (got_ != (unsigned long long)(wanted)) {                                            \
-            printf("line %d: %s gave %llu\n", __LINE__, #call, got_);                          \
-            return 1;                                                                          \
-        }                                                                                      \
+#define WANT(call, wanted)                                            \
+    do {                                                              \
+        unsigned long long got_ = (unsigned long long)(call);         \
+        if (got_ != (unsigned long long)(wanted)) {                   \
+            printf("line %d: %s gave %llu\n", __LINE__, #call, got_); \
+            return 1;                                                 \
+        }                                                             \
     } while (0)
 
 /* For a thread that cannot return an error. */
-#define MUST(call, wanted)                                                                     \
-    do {                                                                                       \
-        unsigned long long got_ = (unsigned long long)(call);                                  \
-        if (got_ != (unsigned long long)(wanted)) {                                            \
-            printf("line %d: %s gave %llu\n", __LINE__, #call, got_);                          \
-            exit(1);                                                                           \
-        }                                                                                      \
+#define MUST(call, wanted)                                            \
+    do {                                                              \
+        unsigned long long got_ = (unsigned long long)(call);         \
+        if (got_ != (unsigned long long)(wanted)) {                   \
+            printf("line %d: %s gave %llu\n", __LINE__, #call, got_); \
+            exit(1);                                                  \
+        }                                                             \
     } while (0)
 
 static inline double seconds(clockid_t clock) {
@@ -48,7 +48,9 @@ struct used {
 static inline struct used used(void) {
     struct rusage it;
     getrusage(RUSAGE_THREAD, &it);
-    return (struct used){(double)(it.ru_utime.tv_sec + it.ru_stime.tv_sec) + (double)(it.ru_utime.tv_usec + it.ru_stime.tv_usec) / 1e6, it.ru_nvcsw};
+    return (struct used){(double)(it.ru_utime.tv_sec + it.ru_stime.tv_sec) +
+                             (double)(it.ru_utime.tv_usec + it.ru_stime.tv_usec) / 1e6,
+                         it.ru_nvcsw};
 }
 
 /* A thread reports its number right before it waits, and so it sleeps nowhere else. */

@@ -1,7 +1,7 @@
-/* Threads that wait with nodes sleep, and each call that releases their line wakes them: releases, closings, and calls that are told of one; few
- * threads and many, with withdrawals and time limits.
+/* Threads that wait with nodes sleep, and each call that releases their line wakes them: releases, closings, and calls
+ * that are told of one; few threads and many, with withdrawals and time limits.
  *
- *   build/waits [SECONDS]     1200: where a turn is lost, who waits for it does not end, and the program is ended after so many
+ *   build/waits [SECONDS]     1200: where a turn is lost, who waits for it does not end; the program ends then
  *
  * Prints only errors. The thread sanitizer sees the data, and must be quiet. */
 #define _GNU_SOURCE
@@ -56,8 +56,9 @@ static void start(struct waiter *it, qolb_node *node, int how) {
     MUST(pthread_create(&it->id, NULL, waits, it), 0);
 }
 
-/* A second's wait takes no processor: it sleeps once, while it would poll 5,000 times if it polled every 200 us. A busy node does that, and takes
- * little. After the release each is granted the line soon, and only the one whose second is over is late. */
+/* A second's wait takes no processor: it sleeps once, while it would poll 5,000 times if it polled every 200 us. A busy
+ * node does that, and takes little. After the release each is granted the line soon, and only the one whose second is
+ * over is late. */
 static int takes_no_processor(uint32_t kind) {
     static const int hows[] = {AS_LONG_AS_IT_TAKES, A_MINUTE, A_SECOND, AS_LONG_AS_IT_TAKES, A_MINUTE};
     enum { WAITERS = 5, BUSY = 3 };
@@ -81,7 +82,8 @@ static int takes_no_processor(uint32_t kind) {
         if (!is_late) pthread_join(waiters[k].id, NULL);
         WANT(waiters[k].got, is_late ? QOLB_LATE : QOLB_GRANTED);
         WANT(waiters[k].lasted >= 1, 1);
-        WANT((is_late ? waiters[k].lasted - 1 : waiters[k].ended - released) < 5, 1); /* others may have the processors meanwhile */
+        /* Others may have the processors meanwhile. */
+        WANT((is_late ? waiters[k].lasted - 1 : waiters[k].ended - released) < 5, 1);
         WANT(waiters[k].used.processor < (k < BUSY ? 0.1 : 0.5), 1);
         if (k < BUSY) WANT(waiters[k].used.sleeps < 100, 1);
         WANT(qolb_close(&waiters[k].node), QOLB_DONE);
@@ -103,7 +105,8 @@ static void *has_a_long_turn(void *argument) {
     return NULL;
 }
 
-/* So each sleeps at most twice, and perhaps once more if the system delays it. If each release woke all, the last would sleep twelve times. */
+/* So each sleeps at most twice, and perhaps once more if the system delays it. If each release woke all, the last would
+ * sleep twelve times. */
 static int others_sleep_on(uint32_t kind) {
     enum { WAITERS = 12, MOST_SLEEPS = 8 };
     static struct waiter waiters[WAITERS];
@@ -152,7 +155,8 @@ static int released_by(uint32_t kind, uint32_t (*call)(qolb_node *node), uint64_
     return 0;
 }
 
-/* By a node that is told that the line is closed: it is between the holder and a sleeper, and polls, withdraws or links after the closing. */
+/* By a node that is told that the line is closed: it is between the holder and a sleeper, and polls, withdraws or links
+ * after the closing. */
 static int passed_on_by(uint32_t kind, uint32_t (*call)(qolb_node *node), int links) {
     static struct waiter waiter;
     qolb_node n[3];
@@ -171,9 +175,12 @@ static int passed_on_by(uint32_t kind, uint32_t (*call)(qolb_node *node), int li
 }
 
 static int each_call_wakes(uint32_t kind) {
-    if (released_by(kind, qolb_deqolb, QOLB_NO_LEASE, QOLB_GRANTED) || released_by(kind, qolb_shut, QOLB_NO_LEASE, QOLB_CLOSED)) return 1;
+    if (released_by(kind, qolb_deqolb, QOLB_NO_LEASE, QOLB_GRANTED) ||
+        released_by(kind, qolb_shut, QOLB_NO_LEASE, QOLB_CLOSED))
+        return 1;
     if (released_by(kind, qolb_deqolb, 1, QOLB_CLOSED)) return 1;
-    if (passed_on_by(kind, qolb_poll, 0) || passed_on_by(kind, waits_once, 0) || passed_on_by(kind, qolb_withdraw, 0)) return 1;
+    if (passed_on_by(kind, qolb_poll, 0) || passed_on_by(kind, waits_once, 0) || passed_on_by(kind, qolb_withdraw, 0))
+        return 1;
     return kind == QOLB_LINK && passed_on_by(kind, qolb_link, 1);
 }
 
@@ -196,7 +203,8 @@ static void holds_for(uint32_t draw) {
 static void *races(void *argument) {
     qolb_node *node = argument;
     uint32_t seed = 1;
-    for (; race.tries < RACES || !race.granted || !race.late; race.tries++) { /* where others have the processors one of the two may not run at first */
+    /* Where others have the processors one of the two may not run at first. */
+    for (; race.tries < RACES || !race.granted || !race.late; race.tries++) {
         uint32_t got = qolb_acquire_within(node, 5 * US + drawn(&seed) % (200 * US));
         if (got == QOLB_LATE) {
             uint32_t state = qolb_state(node);
@@ -213,7 +221,8 @@ static void *races(void *argument) {
     return NULL;
 }
 
-/* The thread's time is over about when the line is released. It has the line or it has not: then it is passed, and the line is handed on. */
+/* The thread's time is over about when the line is released. It has the line or it has not: then it is passed, and the
+ * line is handed on. */
 static int time_out_races_with_grant(uint32_t kind) {
     qolb_node n[2];
     pthread_t id;
@@ -338,9 +347,12 @@ static int much_use(uint32_t kind, int threads, enum ends ends) {
 
 static int of_kind(uint32_t kind) {
     static const int threads[] = {2, 8, 32, MOST};
-    if (takes_no_processor(kind) || others_sleep_on(kind) || each_call_wakes(kind) || time_out_races_with_grant(kind)) return 1;
+    if (takes_no_processor(kind) || others_sleep_on(kind) || each_call_wakes(kind) || time_out_races_with_grant(kind))
+        return 1;
     for (size_t k = 0; k < sizeof threads / sizeof threads[0]; k++)
-        if (much_use(kind, threads[k], BY_ROUNDS) || much_use(kind, threads[k], BY_SHUT) || much_use(kind, threads[k], BY_LEASE)) return 1;
+        if (much_use(kind, threads[k], BY_ROUNDS) || much_use(kind, threads[k], BY_SHUT) ||
+            much_use(kind, threads[k], BY_LEASE))
+            return 1;
     return 0;
 }
 

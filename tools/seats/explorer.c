@@ -1,5 +1,5 @@
-/* Makes runs of scenes.c on a model of the processor's memory: see ../seats.py, which builds and starts it. A run is made anew from its start for each
- * list of choices, of which a limited number may differ from the plain schedule. */
+/* Makes runs of scenes.c on a model of the processor's memory: see ../seats.py, which builds and starts it. A run is
+ * made anew from its start for each list of choices, of which a limited number may differ from the plain schedule. */
 #define _GNU_SOURCE
 #include "explorer.h"
 #include <qolb.h>
@@ -48,10 +48,12 @@ void must(int is_so, const char *what) {
     exit(1);
 }
 
-/* Chooses one of `options`. The first `free` cost nothing; any other is a turn of the schedule, of which a run has at most `most`. */
+/* Chooses one of `options`. The first `free` cost nothing; any other is a turn of the schedule, of which a run has at
+ * most `most`. */
 static int choose(int options, int free) {
     MUST(depth < 1 << 14);
-    if (depth >= planned) path[depth].taken = 0, path[depth].options = (unsigned char)options, path[depth].free = (unsigned char)free;
+    if (depth >= planned)
+        path[depth].taken = 0, path[depth].options = (unsigned char)options, path[depth].free = (unsigned char)free;
     return path[depth++].taken;
 }
 
@@ -60,7 +62,8 @@ static int next_path(void) {
     for (planned = depth; planned > 0; planned--) {
         int spent = 0, k = planned - 1;
         for (int j = 0; j < k; j++) spent += path[j].taken >= path[j].free;
-        if (path[k].taken + 1 < path[k].options && spent + (path[k].taken + 1 >= path[k].free) <= most) return path[k].taken++, 1;
+        if (path[k].taken + 1 < path[k].options && spent + (path[k].taken + 1 >= path[k].free) <= most)
+            return path[k].taken++, 1;
     }
     return 0;
 }
@@ -96,18 +99,21 @@ static struct cell *cell_of(uintptr_t at) {
 }
 
 static void join(struct clock *to, const struct clock *from) {
-    for (int k = 0; k <= THREADS; k++) if (to->at[k] < from->at[k]) to->at[k] = from->at[k];
+    for (int k = 0; k <= THREADS; k++)
+        if (to->at[k] < from->at[k]) to->at[k] = from->at[k];
 }
 
 /* An access, which must follow all accesses that it would race with. */
 void touch(const volatile void *where, unsigned size, int how) {
     static const int races[4][4] = {{0, 1, 0, 1}, {1, 1, 1, 1}, {0, 1, 0, 0}, {1, 1, 0, 0}};
     if (is_own((uintptr_t)where)) return;
-    for (int k = 0; k < many_freed; k++) must((uintptr_t)where + size <= freed[k].from || (uintptr_t)where >= freed[k].to, "it was freed");
+    for (int k = 0; k < many_freed; k++)
+        must((uintptr_t)where + size <= freed[k].from || (uintptr_t)where >= freed[k].to, "it was freed");
     for (uintptr_t at = (uintptr_t)where / 4 * 4; at < (uintptr_t)where + size; at += 4) {
         struct cell *cell = cell_of(at);
         for (int other = 0; other < 4; other++)
-            for (int k = 0; k <= THREADS; k++) must(!races[how][other] || cell->done[other].at[k] <= me()->clock.at[k] || k == self_, "a race");
+            for (int k = 0; k <= THREADS; k++)
+                must(!races[how][other] || cell->done[other].at[k] <= me()->clock.at[k] || k == self_, "a race");
         cell->done[how].at[self_] = me()->clock.at[self_];
     }
 }
@@ -126,22 +132,28 @@ static void show_oldest(struct thread *of) {
     memmove(&of->late[0], &of->late[1], sizeof of->late[0] * (size_t)--of->lates);
 }
 
-void show_all(void) { while (me()->lates) show_oldest(me()); }
+void show_all(void) {
+    while (me()->lates) show_oldest(me());
+}
 
-/* Before each step on shared memory: another thread may be next, be told that its time is over, or have one of its stores seen. A thread that yields lets
- * the others go first; a thread that sleeps or has ended returns only if it is woken. */
+/* Before each step on shared memory: another thread may be next, be told that its time is over, or have one of its
+ * stores seen. A thread that yields lets the others go first; a thread that sleeps or has ended returns only if it is
+ * woken. */
 void step(int yields) {
     enum { GOES_ON, RUNS_NOW, STORE, TIME } what = STORE;
     while (what != GOES_ON && what != RUNS_NOW && self_ != THREADS) {
         unsigned char next[4 * THREADS];
         int many = 0, all = scene->threads, free = 1;
         if (me()->state == RUNS && !yields) next[many++] = GOES_ON;
-        for (int k = self_ + 1; k < self_ + all; k++) if (threads[k % all].state == RUNS) next[many++] = (unsigned char)(RUNS_NOW + 4 * (k % all));
+        for (int k = self_ + 1; k < self_ + all; k++)
+            if (threads[k % all].state == RUNS) next[many++] = (unsigned char)(RUNS_NOW + 4 * (k % all));
         if (me()->state == RUNS && yields) next[many++] = GOES_ON;
         if (me()->state != RUNS && many) free = many;
-        for (int k = 0; k < all; k++) if (threads[k].lates) next[many++] = (unsigned char)(STORE + 4 * k);
+        for (int k = 0; k < all; k++)
+            if (threads[k].lates) next[many++] = (unsigned char)(STORE + 4 * k);
         int so_far = many;
-        for (int k = 0; k < all; k++) if (threads[k].state == SLEEPS && threads[k].times_out) next[many++] = (unsigned char)(TIME + 4 * k);
+        for (int k = 0; k < all; k++)
+            if (threads[k].state == SLEEPS && threads[k].times_out) next[many++] = (unsigned char)(TIME + 4 * k);
         if (so_far == 0) {
             for (int k = 0; k < all; k++) must(threads[k].state == ENDED, "a thread sleeps, and nobody wakes it");
             swapcontext(&me()->context, &scheduler);
@@ -166,7 +178,8 @@ static uint64_t load(const volatile void *where, unsigned size, int order) {
     uintptr_t at = (uintptr_t)where;
     step(0);
     touch(where, size, READ);
-    for (int k = me()->lates - 1; k >= 0; k--) if (me()->late[k].at == at) return me()->late[k].value;
+    for (int k = me()->lates - 1; k >= 0; k--)
+        if (me()->late[k].at == at) return me()->late[k].value;
     if (order != __ATOMIC_RELAXED) acquires(&cell_of(at)->told);
     return get(at, size);
 }
@@ -202,18 +215,29 @@ static uint64_t change(volatile void *where, unsigned size, enum change how, uin
     return was;
 }
 
-#define OF_SIZE(bits, bytes)                                                                                                                       \
-    uint##bits##_t __tsan_atomic##bits##_load(const volatile void *p, int o) { return (uint##bits##_t)load(p, bytes, o); }                         \
-    void __tsan_atomic##bits##_store(volatile void *p, uint##bits##_t v, int o) { store(p, bytes, v, o); }                                         \
-    uint##bits##_t __tsan_atomic##bits##_exchange(volatile void *p, uint##bits##_t v, int o) { return (void)o, (uint##bits##_t)change(p, bytes, SETS, v, NULL); } \
-    uint##bits##_t __tsan_atomic##bits##_fetch_add(volatile void *p, uint##bits##_t v, int o) { return (void)o, (uint##bits##_t)change(p, bytes, ADDS, v, NULL); } \
-    uint##bits##_t __tsan_atomic##bits##_fetch_sub(volatile void *p, uint##bits##_t v, int o) { return (void)o, (uint##bits##_t)change(p, bytes, ADDS, -(uint64_t)v, NULL); } \
-    uint##bits##_t __tsan_atomic##bits##_fetch_or(volatile void *p, uint##bits##_t v, int o) { return (void)o, (uint##bits##_t)change(p, bytes, MARKS, v, NULL); } \
-    int __tsan_atomic##bits##_compare_exchange_strong(volatile void *p, uint##bits##_t *was, uint##bits##_t v, int o, int failed) {                \
-        uint64_t only = *was, found = change(p, bytes, SETS, v, &only);                                                                            \
-        return (void)o, (void)failed, *was = (uint##bits##_t)found, found == only;                                                                 \
-    }                                                                                                                                              \
-    void __tsan_read##bytes(void *p) { touch(p, bytes, PLAIN_READ); }                                                                              \
+#define OF_SIZE(bits, bytes)                                                                                          \
+    uint##bits##_t __tsan_atomic##bits##_load(const volatile void *p, int o) {                                        \
+        return (uint##bits##_t)load(p, bytes, o);                                                                     \
+    }                                                                                                                 \
+    void __tsan_atomic##bits##_store(volatile void *p, uint##bits##_t v, int o) { store(p, bytes, v, o); }            \
+    uint##bits##_t __tsan_atomic##bits##_exchange(volatile void *p, uint##bits##_t v, int o) {                        \
+        return (void)o, (uint##bits##_t)change(p, bytes, SETS, v, NULL);                                              \
+    }                                                                                                                 \
+    uint##bits##_t __tsan_atomic##bits##_fetch_add(volatile void *p, uint##bits##_t v, int o) {                       \
+        return (void)o, (uint##bits##_t)change(p, bytes, ADDS, v, NULL);                                              \
+    }                                                                                                                 \
+    uint##bits##_t __tsan_atomic##bits##_fetch_sub(volatile void *p, uint##bits##_t v, int o) {                       \
+        return (void)o, (uint##bits##_t)change(p, bytes, ADDS, -(uint64_t)v, NULL);                                   \
+    }                                                                                                                 \
+    uint##bits##_t __tsan_atomic##bits##_fetch_or(volatile void *p, uint##bits##_t v, int o) {                        \
+        return (void)o, (uint##bits##_t)change(p, bytes, MARKS, v, NULL);                                             \
+    }                                                                                                                 \
+    int __tsan_atomic##bits##_compare_exchange_strong(volatile void *p, uint##bits##_t *was, uint##bits##_t v, int o, \
+                                                      int failed) {                                                   \
+        uint64_t only = *was, found = change(p, bytes, SETS, v, &only);                                               \
+        return (void)o, (void)failed, *was = (uint##bits##_t)found, found == only;                                    \
+    }                                                                                                                 \
+    void __tsan_read##bytes(void *p) { touch(p, bytes, PLAIN_READ); }                                                 \
     void __tsan_write##bytes(void *p) { touch(p, bytes, PLAIN_WRITE); }
 OF_SIZE(32, 4)
 OF_SIZE(64, 8)
@@ -257,7 +281,8 @@ static void sleeps(uintptr_t word, uint32_t value, int times_out) {
 }
 
 static void wakes(uintptr_t word, int many) {
-    for (int k = 0; k < scene->threads && many > 0; k++) if (threads[k].state == SLEEPS && threads[k].word == word) threads[k].state = RUNS, many--;
+    for (int k = 0; k < scene->threads && many > 0; k++)
+        if (threads[k].state == SLEEPS && threads[k].word == word) threads[k].state = RUNS, many--;
 }
 
 /* The system calls of a lock. Each lets all stores before it be seen. */
@@ -295,10 +320,12 @@ static void run(void) {
     threads[THREADS].clock.at[THREADS] = 1;
     set_up(scene);
     for (int k = 0; k < scene->threads; k++) {
-        threads[k].own = (struct own_data){0, 0, 0}, threads[k].in_call = NULL, threads[k].state = RUNS, threads[k].now = 0, threads[k].lates = 0;
+        threads[k].own = (struct own_data){0, 0, 0}, threads[k].in_call = NULL, threads[k].state = RUNS,
+        threads[k].now = 0, threads[k].lates = 0;
         threads[k].clock = threads[THREADS].clock, threads[k].clock.at[k] = 1;
         getcontext(&threads[k].context);
-        threads[k].context.uc_stack.ss_sp = threads[k].stack, threads[k].context.uc_stack.ss_size = sizeof threads[k].stack;
+        threads[k].context.uc_stack.ss_sp = threads[k].stack,
+        threads[k].context.uc_stack.ss_size = sizeof threads[k].stack;
         makecontext(&threads[k].context, (void (*)(void))body, 1, k);
     }
     threads[THREADS].clock.at[THREADS]++;
@@ -309,17 +336,18 @@ static void run(void) {
     check_end(scene);
 }
 
-/* seats MOST [BEGINNING]: all scenes, or those whose names begin so, with runs of at most MOST turns of the schedule. */
+/* seats MOST [BEGINNING]: all scenes, or those whose names begin so, with runs of at most MOST turns of the
+ * schedule. */
 int main(int argc, char **argv) {
     most = argc > 1 ? atoi(argv[1]) : 2;
     for (scene = scenes; scene->name; scene++) {
         if (argc > 2 && strncmp(argv[2], scene->name, strlen(argv[2]))) continue;
         long before = runs;
         planned = 0;
-        do run(); while (next_path());
+        do run();
+        while (next_path());
         printf("%s: %ld runs\n", scene->name, runs - before);
         fflush(stdout);
     }
     return 0;
 }
-

@@ -10,9 +10,10 @@ struct clock {
     unsigned at[THREADS + 1];
 };
 
-/* What these threads do at the same time, each by its number, over a lock of this kind with these seats and bursts, which is opened at its first use or before;
- * or with a node each of a line of this kind. The places of a line share one bell or none. A lock whose line is never kept has had fewer turns than that takes.
- * Of two lines the places share their bells. */
+/* What these threads do at the same time, each by its number, over a lock of this kind with these seats and bursts,
+ * which is opened at its first use or before; or with a node each of a line of this kind. The places of a line share
+ * one bell or none. A lock whose line is never kept has had fewer turns than that takes. Of two lines the places share
+ * their bells. */
 enum { AT_FIRST_USE, BEFORE, BEFORE_AT_ONE_BELL, NEVER_KEPT, WITH_NODES, AT_ONE_BELL, TWO_LINES };
 struct scene {
     const char *name;
@@ -42,8 +43,8 @@ void __tsan_write_range(void *at, size_t size);
 void *model_malloc(size_t size);
 void model_free(void *block);
 
-/* For line.c: another thread may be next; an access, which must follow all that it races with; all stores of this thread are seen; what happened
- * before, as a call takes it over or hands it on. */
+/* For line.c: another thread may be next; an access, which must follow all that it races with; all stores of this
+ * thread are seen; what happened before, as a call takes it over or hands it on. */
 void step(int yields);
 void touch(const volatile void *where, unsigned size, int how);
 void show_all(void);

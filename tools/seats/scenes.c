@@ -1,22 +1,42 @@
-/* The actions of threads with a lock, or with a node each, in the runs that explorer.c makes. The library's files, or those that differ by a fault, are built
- * with -fsanitize=thread, by which the compiler reports each access to memory by a call, and explorer.c answers those calls. */
+/* The actions of threads with a lock, or with a node each, in the runs that explorer.c makes. The library's files, or
+ * those that differ by a fault, are built with -fsanitize=thread, by which the compiler reports each access to memory
+ * by a call, and explorer.c answers those calls. */
 #include <lock.h>
 #include <sched.h>
 #include "explorer.h"
 
-static struct { qolb_lock lock; qolb_cond cond; struct { _Alignas(QOLB_NODE_ALIGN) qolb_node node; } of[THREADS]; int turns, inside, users, has; atomic_int over;
+static struct {
+    qolb_lock lock;
+    qolb_cond cond;
+    struct {
+        _Alignas(QOLB_NODE_ALIGN) qolb_node node;
+    } of[THREADS];
+    int turns, inside, users, has;
+    atomic_int over;
     /* Of each task: whether its call was made, and how often since it wanted one. */
-    struct { atomic_uint word; int calls; } told[THREADS + 1]; atomic_uint mutex; int depth;
+    struct {
+        atomic_uint word;
+        int calls;
+    } told[THREADS + 1];
+    atomic_uint mutex;
+    int depth;
     qolb_task task[THREADS + 1];
-    struct { _Alignas(QOLB_NODE_ALIGN) qolb_node node; } other[2]; /* of a second line */ } it;
+    struct {
+        _Alignas(QOLB_NODE_ALIGN) qolb_node node;
+    } other[2]; /* of a second line */
+} it;
 
 BY_THREAD struct room qolb_room_;
 unsigned model_bells;
 
-/* Of each thread that waits in the queue, and whom the lock knows: since which time; how many turns it has seen of threads whose calls began later, and how many
- * threads go that were in their calls then. And since when a thread is in its call. A task counts as the thread that makes its calls; a thread may make those of
- * a second one. The hooks are put into the library's files (../seats.py). */
-static struct { int in_call, waits, passed, gone, is_task; long began, since; } order[THREADS + 1];
+/* Of each thread that waits in the queue, and whom the lock knows: since which time; how many turns it has seen of
+ * threads whose calls began later, and how many threads go that were in their calls then. And since when a thread is in
+ * its call. A task counts as the thread that makes its calls; a thread may make those of a second one. The hooks are
+ * put into the library's files (../seats.py). */
+static struct {
+    int in_call, waits, passed, gone, is_task;
+    long began, since;
+} order[THREADS + 1];
 static int for_second[THREADS];
 static long time_of_order;
 #define UNSEEN __attribute__((no_sanitize("thread")))
@@ -35,7 +55,8 @@ UNSEEN static void begins_call(void) {
 }
 UNSEEN void hook_waits(void) {
     int me = who();
-    if (order[me].in_call) order[me].waits = 1, order[me].since = ++time_of_order, order[me].passed = order[me].gone = 0;
+    if (order[me].in_call)
+        order[me].waits = 1, order[me].since = ++time_of_order, order[me].passed = order[me].gone = 0;
 }
 UNSEEN void hook_task_waits(void) { hook_waits(), order[who()].is_task = 1; }
 UNSEEN void hook_ends(void) { order[who()].waits = 0; }
@@ -45,13 +66,14 @@ UNSEEN static void ends_call(void) {
     order[me].in_call = order[me].waits = 0;
 }
 
-/* A burst of B turns has at most B - 1 turns of later calls, which did not wait. One ends when a thread goes that was there before. While a task waits there is
- * none. */
+/* A burst of B turns has at most B - 1 turns of later calls, which did not wait. One ends when a thread goes that was
+ * there before. While a task waits there is none. */
 UNSEEN static void enters_turn(void) {
     int me = who(), burst = (int)(it.lock.seats / BURST), later = burst ? burst - 1 : 0;
     for (int k = 0; k <= THREADS; k++) {
         if (!order[k].waits || !order[me].in_call || order[me].began < order[k].since) continue;
-        must(++order[k].passed <= (order[k].gone + 1) * (order[k].is_task ? 0 : later), "a thread that waits is overtaken too often");
+        must(++order[k].passed <= (order[k].gone + 1) * (order[k].is_task ? 0 : later),
+             "a thread that waits is overtaken too often");
         must(!order[me].waits, "a thread that waits is overtaken by one behind it");
     }
     ends_call();
@@ -100,7 +122,8 @@ static void enters_again(int self) {
     MUST(qolb_cond_wait(&it.cond, &it.lock) == QOLB_MISUSE);
     for (int k = 0; k < 2; k++) {
         MUST(qolb_lock_enter(&it.lock) == QOLB_GRANTED);
-        MUST(qolb_lock_enter(&it.lock) == QOLB_MISUSE && qolb_lock_enter_within(&it.lock, MS) == QOLB_MISUSE && qolb_lock_try(&it.lock) == QOLB_BUSY);
+        MUST(qolb_lock_enter(&it.lock) == QOLB_MISUSE && qolb_lock_enter_within(&it.lock, MS) == QOLB_MISUSE &&
+             qolb_lock_try(&it.lock) == QOLB_BUSY);
         turn();
         leave();
     }
@@ -222,13 +245,15 @@ static void one_closes(int self) {
         return;
     }
     MUST(qolb_lock_enter(&it.lock) == QOLB_GRANTED);
-    while (!somebody_waits() && !atomic_fetch_add(&it.over, 0)) sched_yield(); /* by a step that lets its own stores be seen */
+    while (!somebody_waits() && !atomic_fetch_add(&it.over, 0))
+        sched_yield(); /* by a step that lets its own stores be seen */
     leave();
     uint32_t got = qolb_lock_close(&it.lock);
     MUST(got == QOLB_DONE || got == QOLB_MISUSE);
 }
 
-/* One that has the first seat to itself tries to close the lock, while another leaves it and a third waits, whose turn lasts longer. */
+/* One that has the first seat to itself tries to close the lock, while another leaves it and a third waits, whose turn
+ * lasts longer. */
 static void one_closes_beside_two(int self) {
     if (self == 2) {
         while (qolb_lock_holder(&it.lock) != 101 && !somebody_waits()) sched_yield();
@@ -271,7 +296,8 @@ static void waits(int self) {
     if (self == 0) qolb_cond_signal(&it.cond), qolb_cond_signal(&it.cond);
 }
 
-/* One waits at the condition, and is signalled in the last turn of one that enters again and again: meanwhile the line may be kept. */
+/* One waits at the condition, and is signalled in the last turn of one that enters again and again: meanwhile the line
+ * may be kept. */
 static void waits_while_one_stays(int self) {
     if (self == 0) {
         MUST(qolb_lock_enter(&it.lock) == QOLB_GRANTED);
@@ -380,9 +406,13 @@ static void shuts_line(int self, uint32_t got) {
 
 static void one_shuts(int self) { shuts_line(self, qolb_acquire(&it.of[self].node)); }
 
-static void one_shuts_and_one_looks_on(int self) { shuts_line(self, self == 1 ? looks_on(1) : qolb_acquire(&it.of[self].node)); }
+static void one_shuts_and_one_looks_on(int self) {
+    shuts_line(self, self == 1 ? looks_on(1) : qolb_acquire(&it.of[self].node));
+}
 
-static void acquires_and_releases(qolb_node *node) { MUST(qolb_acquire(node) == QOLB_GRANTED && qolb_deqolb(node) == QOLB_DONE); }
+static void acquires_and_releases(qolb_node *node) {
+    MUST(qolb_acquire(node) == QOLB_GRANTED && qolb_deqolb(node) == QOLB_DONE);
+}
 
 /* One holds two lines, at which the others wait, and releases one after the other. */
 static void one_holds_two_lines(int self) {
@@ -428,7 +458,8 @@ static uint32_t is_notified(int self, uint64_t time) {
     while (got == QOLB_QUEUED || got == QOLB_WAITING) {
         got = wants_call(self, tells);
         if (got != QOLB_WAITING) break;
-        while (!is_told(self, time)) if (time != FOR_EVER) return takes_back(self);
+        while (!is_told(self, time))
+            if (time != FOR_EVER) return takes_back(self);
         MUST(qolb_notify_off(&it.of[self].node) == QOLB_DONE);
         MUST(it.told[self].calls-- == 1);
         got = qolb_poll(&it.of[self].node);
@@ -501,7 +532,8 @@ static void wants_two_calls(int self) {
     releases_turn(self);
 }
 
-/* The call has the task's turn, in the thread that released, and the task's thread does nothing more with the node. It is called for one turn after another. */
+/* The call has the task's turn, in the thread that released, and the task's thread does nothing more with the node. It
+ * is called for one turn after another. */
 static void has_turn(void *task) {
     int k = (int)(intptr_t)task;
     MUST(it.depth++ == 0);
@@ -601,7 +633,8 @@ static uint32_t task_enters(int k, uint64_t time) {
 }
 
 static void task_turn(int k) {
-    MUST(qolb_lock_leave(&it.lock) == QOLB_MISUSE && qolb_task_cancel(&it.task[k]) == QOLB_MISUSE && qolb_lock_holder(&it.lock) == UINT64_MAX);
+    MUST(qolb_lock_leave(&it.lock) == QOLB_MISUSE && qolb_task_cancel(&it.task[k]) == QOLB_MISUSE &&
+         qolb_lock_holder(&it.lock) == UINT64_MAX);
     turn();
     MUST(qolb_task_leave(&it.task[k]) == QOLB_DONE);
 }
@@ -636,9 +669,13 @@ static void a_task_beside_one_that_stays(int self) { self == 1 ? by_task(self) :
 
 static void a_task_gives_up_between_threads(int self) { self == 1 ? by_task_or_gives_up(self) : enters(self); }
 
-static void a_task_gives_up_beside_one_that_yields(int self) { self == 0 ? enters_with(3) : a_task_gives_up_between_threads(self); }
+static void a_task_gives_up_beside_one_that_yields(int self) {
+    self == 0 ? enters_with(3) : a_task_gives_up_between_threads(self);
+}
 
-static void a_task_gives_up_before_one_beside_one_that_yields(int self) { self == 0 ? enters_with(3) : self == 1 ? by_task_or_gives_up(self) : by_task(self); }
+static void a_task_gives_up_before_one_beside_one_that_yields(int self) {
+    self == 0 ? enters_with(3) : self == 1 ? by_task_or_gives_up(self) : by_task(self);
+}
 
 static void a_task_gives_up_and_asks_again(int self) {
     if (self == 1) by_task_or_gives_up(self);
@@ -647,7 +684,9 @@ static void a_task_gives_up_and_asks_again(int self) {
 
 static void a_thread_is_late_between_tasks(int self) { self == 1 ? is_late(self) : by_task(self); }
 
-static void a_thread_is_late_before_a_task(int self) { self == 2 ? by_task(self) : self == 1 ? is_late(self) : enters_with(3); }
+static void a_thread_is_late_before_a_task(int self) {
+    self == 2 ? by_task(self) : self == 1 ? is_late(self) : enters_with(3);
+}
 
 static void a_thread_is_late_or_a_task_waits(int self) { self == 2 ? by_task(self) : is_late(self); }
 
@@ -781,7 +820,8 @@ static void a_task_signals(int self) {
     leave();
 }
 
-/* The call has the task's turn, in the thread that let it through, and may ask again, once. The task's thread does nothing more with it. */
+/* The call has the task's turn, in the thread that let it through, and may ask again, once. The task's thread does
+ * nothing more with it. */
 static void has_task_turn(void *task) {
     int k = (int)(intptr_t)task;
     uint32_t got = qolb_task_poll(&it.task[k]);
@@ -792,7 +832,8 @@ static void has_task_turn(void *task) {
         it.turns++;
         MUST(--it.inside == 0);
         MUST(qolb_task_leave(&it.task[k]) == QOLB_DONE);
-        got = it.has && ++it.told[k].calls == 1 ? qolb_task_enter(&it.task[k], &it.lock, has_task_turn, task) : QOLB_BUSY;
+        got = it.has && ++it.told[k].calls == 1 ? qolb_task_enter(&it.task[k], &it.lock, has_task_turn, task)
+                                                : QOLB_BUSY;
     } while (got == QOLB_GRANTED);
     if (got == QOLB_WAITING) return;
     it.told[k].calls = 0;
@@ -966,13 +1007,16 @@ const struct scene scenes[] = {
     {"tasks: one closes while both wait, two seats", closes_while_both_wait, QOLB_TICKET, 2, 3, BEFORE, 0},
     {"tasks: calls have turns, two seats", has_task_turn_in_call, QOLB_TICKET, 2, 3, BEFORE, 0},
     {"tasks: one and two threads, who link", a_task_beside_threads, QOLB_LINK, 2, 3, BEFORE, 0},
-    {"tasks: one gives up beside one that yields", a_task_gives_up_beside_one_that_yields, QOLB_TICKET, 1, 3, BEFORE, 0},
-    {"tasks: one gives up before another", a_task_gives_up_before_one_beside_one_that_yields, QOLB_TICKET, 1, 3, BEFORE, 0},
+    {"tasks: one gives up beside one that yields", a_task_gives_up_beside_one_that_yields, QOLB_TICKET, 1, 3, BEFORE,
+     0},
+    {"tasks: one gives up before another", a_task_gives_up_before_one_beside_one_that_yields, QOLB_TICKET, 1, 3, BEFORE,
+     0},
     {"tasks: one gives up and asks again", a_task_gives_up_and_asks_again, QOLB_TICKET, 1, 3, BEFORE, 0},
     {"tasks: the second of two gives up", second_of_two_gives_up, QOLB_TICKET, 1, 3, BEFORE, 0},
     {"tasks: both of two give up", both_of_two_give_up, QOLB_TICKET, 1, 3, BEFORE, 0},
     {"tasks: three, three seats at one bell", by_task, QOLB_TICKET, 3, 3, BEFORE_AT_ONE_BELL, 0},
-    {"tasks: one and two threads, three seats at one bell", a_task_beside_threads, QOLB_TICKET, 3, 3, BEFORE_AT_ONE_BELL, 0},
+    {"tasks: one and two threads, three seats at one bell", a_task_beside_threads, QOLB_TICKET, 3, 3,
+     BEFORE_AT_ONE_BELL, 0},
     {"tasks: calls ask again, one seat", task_asks_again_in_call, QOLB_TICKET, 1, 3, BEFORE, 0},
     {"tasks: calls ask again, two seats", task_asks_again_in_call, QOLB_TICKET, 2, 3, BEFORE, 0},
     {"tasks: one tries beside one", one_tries_beside_a_task, QOLB_TICKET, 2, 3, BEFORE, 0},
@@ -981,7 +1025,8 @@ const struct scene scenes[] = {
     {"tasks: one closes beside one at the door", one_closes_beside_a_task, QOLB_TICKET, 1, 3, BEFORE, 0},
     {"tasks: one and two threads, never kept", a_task_beside_threads, QOLB_TICKET, 1, 3, NEVER_KEPT, 0},
     {"tasks: two and a thread, never kept", tasks_beside_a_thread, QOLB_TICKET, 2, 3, NEVER_KEPT, 0},
-    {"tasks: a thread is late or one waits, never kept", a_thread_is_late_or_a_task_waits, QOLB_TICKET, 1, 3, NEVER_KEPT, 0},
+    {"tasks: a thread is late or one waits, never kept", a_thread_is_late_or_a_task_waits, QOLB_TICKET, 1, 3,
+     NEVER_KEPT, 0},
     {"tasks: one signals", a_task_signals, QOLB_TICKET, 2, 3, BEFORE, 0},
     {"tasks, bursts: three", by_task, QOLB_TICKET, 2, 3, BEFORE, 2},
     {"tasks, bursts: one and two threads", a_task_beside_threads, QOLB_TICKET, 2, 3, BEFORE, 2},
@@ -1006,11 +1051,16 @@ const struct scene scenes[] = {
 void set_up(const struct scene *scene) {
     static const qolb_bytes zeros;
     qolb_node nodes[THREADS] = {{0}}, more[2] = {{0}};
-    memset(qolb_bells_, 0, sizeof qolb_bells_), memset(&it, 0, sizeof it), memset(order, 0, sizeof order), memset(for_second, 0, sizeof for_second);
+    memset(qolb_bells_, 0, sizeof qolb_bells_), memset(&it, 0, sizeof it), memset(order, 0, sizeof order),
+        memset(for_second, 0, sizeof for_second);
     qolb_own_ = (struct own){0, 0, 0}, time_of_order = 0;
-    model_bells = scene->opens == TWO_LINES ? 3 : scene->opens == AT_ONE_BELL || scene->opens == BEFORE_AT_ONE_BELL ? 1 : BELLS;
-    it.lock.kind = scene->kind, it.lock.seats = scene->seats + BURST * scene->burst, it.users = scene->threads, it.has = scene->does == task_asks_again_in_call;
-    if (scene->opens != AT_FIRST_USE && scene->opens < WITH_NODES) MUST(qolb_lock_open(&it.lock, scene->kind, 0, it.lock.seats, &zeros) == QOLB_DONE);
+    model_bells = scene->opens == TWO_LINES                                           ? 3
+                  : scene->opens == AT_ONE_BELL || scene->opens == BEFORE_AT_ONE_BELL ? 1
+                                                                                      : BELLS;
+    it.lock.kind = scene->kind, it.lock.seats = scene->seats + BURST * scene->burst, it.users = scene->threads,
+    it.has = scene->does == task_asks_again_in_call;
+    if (scene->opens != AT_FIRST_USE && scene->opens < WITH_NODES)
+        MUST(qolb_lock_open(&it.lock, scene->kind, 0, it.lock.seats, &zeros) == QOLB_DONE);
     if (scene->opens == NEVER_KEPT) hall_of(&it.lock)->calm = UINT32_MAX;
     if (scene->opens < WITH_NODES) return;
     MUST(qolb_open(scene->kind, 0, (uint64_t)scene->threads, QOLB_NO_LEASE, &zeros, nodes, THREADS) == QOLB_DONE);
@@ -1022,9 +1072,12 @@ void set_up(const struct scene *scene) {
 }
 
 static void check_hall(struct hall *hall) {
-    MUST(!hall->waits && !hall->first && !hall->last && !hall->at_door && !hall->guests && !hall->tasks && !hall->sleepers && !hall->guard);
-    for (unsigned k = 0; k < hall->seats; k++) MUST(hall->seat[k]->holder == 0 && (hall->gate & OPEN || hall->seat[k]->state == FREE));
-    MUST(hall->gate == QUEUED_UP || hall->gate == OPEN || (hall->burst && (hall->gate - OPEN) % NUMBER <= WAITED && !in_of(hall->gate)));
+    MUST(!hall->waits && !hall->first && !hall->last && !hall->at_door && !hall->guests && !hall->tasks &&
+         !hall->sleepers && !hall->guard);
+    for (unsigned k = 0; k < hall->seats; k++)
+        MUST(hall->seat[k]->holder == 0 && (hall->gate & OPEN || hall->seat[k]->state == FREE));
+    MUST(hall->gate == QUEUED_UP || hall->gate == OPEN ||
+         (hall->burst && (hall->gate - OPEN) % NUMBER <= WAITED && !in_of(hall->gate)));
     MUST(!hall->keepers);
 }
 
@@ -1037,12 +1090,31 @@ UNSEEN static void check_bells(void) {
 
 /* All threads have ended. */
 void check_end(const struct scene *scene) {
-    static const struct { void (*does)(int); int turns; } each[] = {
-        {enters, 1}, {acquires_once, 1}, {enters_twice, 2}, {acquires_twice, 2}, {notified, 1}, {notified_twice, 2}, {one_notified_beside_threads, 1},
-        {wants_two_calls, 1}, {has_turn_in_call, 1}, {by_task, 1}, {by_task_twice, 2}, {a_task_beside_threads, 1}, {tasks_beside_a_thread, 1},
-        {a_task_beside_threads_twice, 2}, {tasks_beside_a_thread_twice, 2}, {a_task_beside_one_that_yields, 1}, {tasks_beside_one_that_yields, 1},
-        {closes_while_both_wait, 1}, {a_task_signals, 1}, {has_task_turn_in_call, 1}};
-    for (size_t k = 0; k < sizeof each / sizeof each[0]; k++) MUST(scene->does != each[k].does || it.turns == each[k].turns * scene->threads);
+    static const struct {
+        void (*does)(int);
+        int turns;
+    } each[] = {{enters, 1},
+                {acquires_once, 1},
+                {enters_twice, 2},
+                {acquires_twice, 2},
+                {notified, 1},
+                {notified_twice, 2},
+                {one_notified_beside_threads, 1},
+                {wants_two_calls, 1},
+                {has_turn_in_call, 1},
+                {by_task, 1},
+                {by_task_twice, 2},
+                {a_task_beside_threads, 1},
+                {tasks_beside_a_thread, 1},
+                {a_task_beside_threads_twice, 2},
+                {tasks_beside_a_thread_twice, 2},
+                {a_task_beside_one_that_yields, 1},
+                {tasks_beside_one_that_yields, 1},
+                {closes_while_both_wait, 1},
+                {a_task_signals, 1},
+                {has_task_turn_in_call, 1}};
+    for (size_t k = 0; k < sizeof each / sizeof each[0]; k++)
+        MUST(scene->does != each[k].does || it.turns == each[k].turns * scene->threads);
     for (int k = 0; k <= THREADS; k++) MUST(qolb_task_cancel(&it.task[k]) == QOLB_DONE && !qolb_task_turn(&it.task[k]));
     for (int k = 0; k <= THREADS; k++) MUST(it.told[k].calls == 0 || scene->does == takes_back_under_a_lock);
     check_bells();
@@ -1053,7 +1125,9 @@ void check_end(const struct scene *scene) {
     MUST(qolb_lock_close(&it.lock) == QOLB_DONE && it.lock.own == NULL);
 }
 
-int is_own(uintptr_t at) { return at - (uintptr_t)&qolb_own_ < sizeof qolb_own_ || at - (uintptr_t)&qolb_room_ < sizeof qolb_room_; }
+int is_own(uintptr_t at) {
+    return at - (uintptr_t)&qolb_own_ < sizeof qolb_own_ || at - (uintptr_t)&qolb_room_ < sizeof qolb_room_;
+}
 
 UNSEEN void change_thread(struct own_data *from, const struct own_data *to) {
     *from = (struct own_data){qolb_own_.number, qolb_own_.last_seat, qolb_own_.by_seat};

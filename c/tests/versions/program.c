@@ -1,5 +1,5 @@
-/* A program that is linked with the library of one release, and runs with that of another. With -DCALLS_OF_1_1 it makes calls that came with 1.1, and so
- * with -DCALLS_OF_1_3 to -DCALLS_OF_1_8. */
+/* A program that is linked with the library of one release, and runs with that of another. With -DCALLS_OF_1_1 it makes
+ * calls that came with 1.1, and so with -DCALLS_OF_1_3 to -DCALLS_OF_1_8. */
 #include <qolb.h>
 #include <stdio.h>
 
@@ -14,7 +14,9 @@ int main(void) {
 #endif
 #ifdef CALLS_OF_1_3
     static qolb_lock lock = QOLB_LOCK_INIT(2);
-    if (qolb_lock_enter(&lock) != QOLB_GRANTED || qolb_lock_leave(&lock) != QOLB_DONE || qolb_lock_close(&lock) != QOLB_DONE) return 5;
+    if (qolb_lock_enter(&lock) != QOLB_GRANTED || qolb_lock_leave(&lock) != QOLB_DONE ||
+        qolb_lock_close(&lock) != QOLB_DONE)
+        return 5;
 #endif
 #ifdef CALLS_OF_1_4
     if (qolb_deqolb(&node) != QOLB_DONE || qolb_acquire_within(&node, 1) != QOLB_GRANTED) return 6;
@@ -33,9 +35,12 @@ int main(void) {
 #endif
 #ifdef CALLS_OF_1_8
     qolb_notify_done();
-    if (qolb_notify_fd(&node, 0) != QOLB_MISUSE || qolb_notify_off(&node) != QOLB_DONE || qolb_version() < 10800) return 12;
+    if (qolb_notify_fd(&node, 0) != QOLB_MISUSE || qolb_notify_off(&node) != QOLB_DONE || qolb_version() < 10800)
+        return 12;
     static qolb_task task = QOLB_TASK_INIT;
-    if (qolb_task_poll(&task) != QOLB_MISUSE || qolb_task_leave(&task) != QOLB_MISUSE || qolb_task_cancel(&task) != QOLB_DONE) return 13;
+    if (qolb_task_poll(&task) != QOLB_MISUSE || qolb_task_leave(&task) != QOLB_MISUSE ||
+        qolb_task_cancel(&task) != QOLB_DONE)
+        return 13;
 #endif
     if (qolb_deqolb(&node) != QOLB_DONE || qolb_close(&node) != QOLB_DONE) return 4;
     puts("ends");
