@@ -222,7 +222,6 @@ FAULTS |= {
     "the first sleeps though it met a seat that is about to be free": ("    if (got == QOLB_WAITING && !me->seat && me->met) {\n", "    if (0) {\n"),
     "a seat is freed by a relaxed store where somebody is at the door": (FREE_THEN_TOLD, FREE_THEN_TOLD.replace("_release", "_relaxed")),
     "who frees a seat looks at the door after that": (FREES, f"    {FREED}{FREES}"),
-    "who frees a seat returns the guard after that though nobody is there": (GUARDED, "        guarded = 1;\n"),
     "who frees a seat takes no guard": ("    if (guarded) {\n        take_guard(&hall->guard);\n", "    if (guarded) {\n"),
     "who frees a seat wakes nobody": ("    return_guard(&hall->guard);\n    carry_out(told);\n}\n\n/* ---- Waiting", "    return_guard(&hall->guard);\n}\n\n/* ---- Waiting"),
     "who frees a seat tells nobody, though it wakes": ("atomic_exchange(&first->told, TOLD) == ASLEEP_UNTOLD", "atomic_load(&first->told) == ASLEEP_UNTOLD"),
@@ -385,7 +384,6 @@ IN_TWO_TURNS = {
     "who comes to the door does not look at the gate": "two of three yield, and there is one seat",
     "an open gate is closed though a thread went in": "two of three yield",
     "the line is released before the gate is closed": "two want the only seat twice",
-    "who frees a seat returns the guard after that though nobody is there": "the last frees, and each yields",
     "who goes from the door tells nobody": "one is late beside one that yields",
     "who goes looks for free seats before it is out of the list": "one is late beside one that yields",
     "who sleeps at the door says so by two steps": "one is late beside one that yields",
@@ -406,6 +404,8 @@ HARMLESS = {
     "the node of a kept turn is told after the gate is set": ("    hall->held_by = kept;\n    atomic_store_explicit(&kept->holder, 0, memory_order_release);\n    atomic_exchange(&hall->gate, own_number());\n", "    atomic_store_explicit(&kept->holder, 0, memory_order_release);\n    atomic_exchange(&hall->gate, own_number());\n    hall->held_by = kept;\n"),
     # Who goes with a seat tells the next when it frees that seat. Who goes without one has looked at all seats, and was told of those that were freed since.
     "who goes from the door tells of no seat": (GOES, GOES.replace("(is_told(my) || has_free_seat(hall))", "is_told(my)")),
+    # Who closes the lock takes the guard, too, before it frees the hall.
+    "who frees a seat returns the guard after that though nobody is there": (GUARDED, "        guarded = 1;\n"),
     # That task serves the next when it frees its seat, and nobody takes a seat before those at the door.
     "behind a task that got a seat nobody is served": (SERVES, "    if (hall->first && hall->first->is_task) {\n        told.met = qolb_seat_first_(hall, &told.due) == MEETS;\n        return told;\n    }\n"),
     # Of what it was told, a seat is free, or its new thread tells the next when it leaves.
