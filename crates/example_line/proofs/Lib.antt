@@ -1,3 +1,4 @@
 mod Counting
+mod Exchanging
 mod Leaving
 mod Selling

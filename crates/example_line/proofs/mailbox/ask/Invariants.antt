@@ -1,5 +1,7 @@
 use Rattle.std.proofs.Common.{◌≡◌, ◌+◌}
 use Rattle.qolb_model.specs.declared.answer.PortState.TheVariants.{Queued}
+use Rattle.qolb_model.specs.Views.{Extends}
+use Rattle.qolb_model.specs.Enqueueing.{Asks}
 use Rattle.example_line.proofs.mailbox.ask.Given as goal
 
 abbrev pub invariant-loop : goal.invariant-loop
@@ -8,4 +10,6 @@ invariant-loop g l = record {
   state : (g.L.LineSync.view l.port).state ≡ Queued;
   count : (g.L.LineSync.view l.port).count ≡ (g.L.LineSync.view l.fn.port).count + 1;
   poll_count : (g.L.LineSync.counters l.port).poll_count ≡ (g.L.LineSync.counters l.fn.port).poll_count + l.counter;
+  extends : Extends (g.L.LineSync.view l.fn.port) (g.L.LineSync.view l.port);
+  asks : Asks (g.L.LineSync.view l.fn.port) (g.L.LineSync.view l.port);
 }
