@@ -179,7 +179,7 @@ def ran(words, folder):
 
 
 def is_of_tests(crate, text):
-    """Returns True if an edit changes what the root of its crate reads only for the tests."""
+    """Returns True if an edit changes only what the root of its crate reads for its tests."""
     root = next(it for it in crate.files() if it.name in ("lib.rt", "main.rt") and it.parent.name == "src")
     read = re.findall(r"^#\[cfg\(test\)\]\nmod (\w+);", root.read_text(), re.M)
     return any(it in read for it in re.findall(r"^file: src/(\w+)", text, re.M))

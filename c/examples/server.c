@@ -4,7 +4,7 @@
  * and ends the turn. A client may go at any time. No loop ever waits for a turn: it watches an eventfd of each
  * connection beside its socket.
  *
- * By a line each connection has a node of its own; by a lock a task, of which there may be any number.
+ * With a line, each connection has a node of its own. With a lock it has a task, and there may be any number of tasks.
  *
  *   build/server_c [CONNECTIONS [ROUNDS]]
  *

@@ -75,7 +75,7 @@ static inline void return_guard(atomic_uint *word) {
 
 /* ---- Bells ---- */
 
-/* A power of two, and more than the places of a line: 256, or in a link line 201. */
+/* A power of two. A line has fewer places: at most 256, a link line 201. */
 enum { BELLS = 1024 };
 /* The distance in words of two places of a line, in each kind. If it is wrong, places share bells. */
 enum { PLACE_WORDS = 16 };
@@ -113,7 +113,7 @@ struct notice {
     uint64_t key;                  /* of line and place: lines that share a bell make no calls for each other */
     void (*call)(void *);          /* NULL if none is wanted since the last off; written by the node's caller alone */
     void *arg;
-    atomic_uint *in_line, *in_all; /* the counts that have it while it is in a list; written once. The second or NULL */
+    atomic_uint *in_line, *in_all; /* the counts of listed notices, written once; in_all may be NULL */
 };
 
 _Static_assert(sizeof(struct notice) <= NOTICE_BYTES, "a notice is in its node's block");

@@ -90,8 +90,8 @@ static int apart(const qolb_node *node, uint64_t nodes) {
     return 1;
 }
 
-/* Returns whether qolb_memory returns what a line of this many nodes has allocated and keeps, and allocates nothing
- * itself; and whether opening asks for no more than three times that at a time. */
+/* Opens a line of this many nodes. Returns true if qolb_memory tells what it keeps and allocates nothing itself, and if
+ * no allocation of the opening is more than three times as large. */
 static int is_told(uint32_t kind, uint64_t nodes) {
     qolb_bytes zeros = {{0}};
     qolb_node node[200] = {{0}};

@@ -210,7 +210,7 @@ static void of_destroying(void) {
     WANT(pthread_mutex_destroy(&mutex), 0);
 }
 
-/* As the child of a fork does with a mutex that a thread of its parent holds: by the call, and by assignment. */
+/* Initialises a mutex again that another thread held, by the call and by assignment, as the child of a fork does. */
 static void of_initialising_again(void) {
     static pthread_mutex_t mutex = PTHREAD_MUTEX_INITIALIZER;
     for (int k = 0; k < 3; k++) {

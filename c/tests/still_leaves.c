@@ -1,5 +1,5 @@
-/* A thread that has left a lock, and is stopped in that call while it wakes the next holder: the lock is free for all
- * others, by each call, and is closed only once that thread is out. Linked with --wrap for syscall. Prints only
+/* A thread leaves a lock, and is stopped in that call while it wakes the next holder. All others can enter, whichever
+ * call the thread left by. The lock is closed only once that thread is out. Linked with --wrap for syscall. Prints only
  * errors. */
 #define _GNU_SOURCE
 #include <qolb.h>
