@@ -33,8 +33,7 @@
  *
  * LOCKS
  *
- * If threads come and go, take a lock instead of nodes. A lock is a line and its nodes in one object, which any thread
- * may enter and leave:
+ * If threads come and go, take a lock. It is a line and its nodes in one object, which any thread may enter and leave:
  *
  *     static qolb_lock lock = QOLB_LOCK_INIT_DEFAULT;      // for any number of threads, first come, first served
  *
@@ -42,10 +41,9 @@
  *     table[key % SIZE] = value;
  *     qolb_lock_leave(&lock);
  *
- * So a pthread_mutex_t becomes a qolb_lock by its type, its initialiser, the names of its calls and the tests of their
- * answers: success is QOLB_GRANTED, which is not 0. A condition, qolb_cond, is for a lock what a pthread_cond_t is for
- * a mutex. Times are lengths in nanoseconds from the call on, not points in time. A lock in a struct starts as the same
- * value:
+ * So a pthread_mutex_t becomes a qolb_lock by type, initialiser, names of calls and tests of answers: success is
+ * QOLB_GRANTED, not 0. A condition, qolb_cond, is for a lock what a pthread_cond_t is for a mutex. Times are lengths in
+ * nanoseconds from the call on, not points in time. A lock in a struct starts as the same value:
  *
  *     bucket->lock = (qolb_lock)QOLB_LOCK_INIT_DEFAULT;    // in C++ qolb_lock QOLB_LOCK_INIT_DEFAULT
  *
@@ -56,8 +54,8 @@
  * A thread that enters takes a free seat, which is a node of the lock's line, and makes a request. If no seat is free
  * it waits at the lock's door, in order: so a few seats serve any number of threads first come, first served. No thread
  * whose call begins later is served before one that has made its request or has come to the door, unless that one gives
- * up. With a seat for each thread a waiter sleeps and wakes once for a turn, and at the door once more. The seat of a
- * thread that was late stays busy (BUSY, below) until a release has passed its request.
+ * up. With a seat for each thread a waiter sleeps once a turn, and at the door once more. The seat of a thread that was
+ * late stays busy (BUSY, below) until a release has passed its request.
  *
  * While no thread waits, a lock keeps its line for whoever enters next: entering and leaving are then one change of a
  * word each. Threads that wait at a condition do not count.
@@ -74,18 +72,17 @@
  *     (p + 1) * (burst - 1)
  *
  * turns of calls that began later: to enter, to try, or the end of a wait at a condition. The hard limit, `burst`, is 2
- * to 65,535 turns. Usually fewer are made: one of the waiting threads watches, and while it runs ends the burst after a
- * sixteenth of the limit, after 1 ms, and once it finds the lock open and unused. A strict lock has a burst of 0. There
- * must be 2 seats or more.
+ * to 65,535 turns. Usually fewer are made: a waiting thread watches, and while it runs ends the burst after a sixteenth
+ * of the limit, after 1 ms, and once it finds the lock open and unused. A strict lock has a burst of 0. There must be 2
+ * seats or more.
  *
  * Only the thread that entered may leave. A thread that enters a lock which it holds is told MISUSE. A thread that ends
  * while it holds a lock releases nothing, and all others wait; qolb_lock_holder returns its number, on Linux gettid's.
  *
- * A static lock is opened at its first use. If there is no memory, each use is answered QOLB_NO_MEMORY, until there is
- * some.
+ * A static lock is opened at its first use. While there is no memory, each use is answered QOLB_NO_MEMORY.
  *
- * The holder may use the line's 64 bytes too: qolb_lock_turn lends it the node, to read and to write the line. For
- * every other call that node is misuse, and after the holder has left it is misuse for all.
+ * The holder may use the line's 64 bytes too: qolb_lock_turn lends it the node, to read and to write the line. Every
+ * other call on that node is misuse, and after the holder has left, all are.
  *
  * Seats and the sleeping of threads are tested and not proved; every step on a line is a proved call.
  *
@@ -169,14 +166,13 @@
  *
  * A call that releases the line wakes at most two sleepers: the next holder, and the waiter behind it, which can wake
  * up during the holder's turn. Such calls are qolb_deqolb, qolb_shut, and every call that answers CLOSED. Leaving a
- * lock also wakes the first two threads at its door; in a burst it wakes only the thread that watches. Lines may share
- * bells, and wake each other's waiters without effect.
+ * lock also wakes the first two threads at its door; in a burst it wakes only the thread that watches. Lines may wake
+ * each other's waiters, without effect.
  *
  * No call wakes the thread of a busy node, and no notification tells of its end. That thread makes its request again 16
  * times, and then every 200 us.
  *
- * A granted line is its node's, even if the node has not polled: all nodes behind wait until its thread has woken up
- * and had its turn.
+ * A granted line is its node's, even before it polls: all behind wait until its thread has woken up and had its turn.
  *
  * No turn is promised: a request reaches its turn once each earlier one has ended.
  *
@@ -186,50 +182,52 @@
  *
  * EVENT LOOPS
  *
- * A thread that serves many tasks, as an event loop does, must not wait for one of them. qolb_enqolb, qolb_poll and
- * qolb_withdraw never wait, and qolb_notify tells when the request is at its turn. Here an eventfd tells it, which
- * epoll, poll or io_uring watches:
+ * An event loop, which serves many tasks, must not wait for one of them. qolb_enqolb, qolb_poll and qolb_withdraw never
+ * wait, and qolb_notify tells when the request is at its turn. Here an eventfd tells it, which epoll, poll or io_uring
+ * watches:
  *
  *     uint32_t got = qolb_enqolb(&node);
  *     if (got == QOLB_QUEUED) got = qolb_notify_fd(&node, fd);   // WAITING: once fd is readable, read it and repeat
  *     if (got == QOLB_GRANTED) turn(&node);                      // and qolb_deqolb
  *
- * To give up: qolb_notify_off, then qolb_withdraw, and if that answers GRANTED, qolb_deqolb. No step of it waits for a
- * turn of another node.
+ * To give up, make qolb_notify_off first, as a wish that stays may be called for a later request; then qolb_withdraw,
+ * and if that answers GRANTED, qolb_deqolb. None waits for a turn.
  *
- * A notification is one call, `call(arg)`. The thread that releases the line makes it, after the release and inside the
- * call that released, under whatever locks that thread holds. So:
+ * A notification is one call, `call(arg)`. The thread that releases the line makes it, inside the call that released,
+ * after the release, under whatever locks it holds. So:
  *
  * - The call passes the news on: it sets a flag, makes a task ready, writes to a descriptor. It does not wait for
  *   another thread, throw, jump out or end the thread, which is not cancelled in it.
  * - The call may use any node that its thread may use, by calls that do not wait. A release in it makes its own calls
  *   after this one has returned, or, if 32 are already put off, at once.
- * - qolb_notify, qolb_notify_fd, qolb_notify_off and qolb_close wait for a call of the same node in another thread,
- *   until it has returned or has said qolb_notify_done. A call says that before it takes a lock under which one of
- *   these four is made, before it resumes a coroutine, and before it makes one.
- * - A call may be early, though this is rare: then the request still waits. Call qolb_notify again, which polls and
- *   wants another call in one step.
+ * - qolb_notify, qolb_notify_fd, qolb_notify_off, qolb_close, qolb_task_poll and qolb_task_cancel wait for a call of
+ *   the same node or task in another thread, until it has returned or said qolb_notify_done. A call says that before it
+ *   takes a lock under which one of these six is made, before it resumes a coroutine, and before it makes one.
+ * - A call may come before the call that asked for it has returned, and may use the node or task even then.
+ * - A call may be early, though rarely: the request still waits. Call qolb_notify again, which polls and wants another
+ *   call in one step.
  * - Poll after the call: all behind wait for it, also after a shut: each is told CLOSED once the one before has polled.
- * - A call may be late: after a turn that qolb_poll granted it is still made, until qolb_notify_off. Whatever `arg` is
- *   must last until then.
- * - Take a descriptor off before you close it. Call nothing from a signal handler. After a fork a release in the child
- *   writes to the parent's eventfd, too.
+ * - A call may be late: after a turn that qolb_poll granted it is still made, until qolb_notify_off. `arg` must last
+ *   until then; for a task until qolb_task_poll answers GRANTED or CLOSED, or qolb_task_cancel returns: then no call
+ *   is made.
+ * - Open an eventfd with EFD_NONBLOCK: else a full count makes the release wait. Take it off before you close it. After
+ *   a fork a release in the child writes to the parent's eventfd, too.
  *
- * Tasks enter a lock, too, beside threads, in one queue: qolb_task_enter asks for it, and a call tells when the task
- * has it. No thread owns the turn: any thread may go on with the task, one call at a time, and leave for it.
+ * Tasks enter a lock, too, beside threads, in one queue. qolb_task_enter asks for it, and a call tells when the task
+ * has it. No thread owns the turn: any may go on with the task, one call at a time, and leave for it.
  *
  *     uint32_t got = qolb_task_enter(&task, &lock, make_ready, &task);   // WAITING: after the call, qolb_task_poll
  *     if (got == QOLB_GRANTED) work(), qolb_task_leave(&task);
  *
- * What is said above of qolb_notify holds for that call; qolb_task_poll, qolb_task_cancel and qolb_task_leave wait for
- * one in another thread. And:
+ * What is said above of qolb_notify holds for that call. And:
  *
  * - Every call by which a thread or a task enters, leaves, gives up or closes a lock may make calls of tasks. While a
- *   task waits no burst begins, and one that goes on ends with its turn.
- * - qolb_task_enter, qolb_task_cancel and qolb_task_leave wait for the end of other threads' calls at the door, and for
- *   no turn.
- * - A thread that waits for a lock which one of its own tasks holds waits for ever, if it would have to leave for that
- *   task. In an event loop let tasks enter, and never the loop's thread.
+ *   task waits no burst begins, and a running one ends with the turn of who is in.
+ * - qolb_task_enter, qolb_task_cancel, qolb_task_leave and qolb_task_shut may wait for a thread that is freeing its
+ *   seat, but for no turn.
+ * - A lock that a task holds is not held by its thread: qolb_lock_enter there waits, for ever if that thread would have
+ *   to leave for the task; qolb_lock_enter_within is LATE, qolb_lock_try BUSY; leave, shut and waits at a condition are
+ *   MISUSE. In an event loop let only tasks enter.
  * - qolb_cond_wait is for threads alone. A task may signal.
  *
  * The thread sanitizer is told that what precedes qolb_notify precedes the call, and that the call precedes what
@@ -242,30 +240,30 @@
  * node before the withdrawn request never releases, for ever. qolb_acquire and qolb_acquire_within ask again by
  * themselves. qolb_clear tells if a node is busy, and makes no request.
  *
- * A thread whose node is busy is in no queue, and may be overtaken. Of a pool, take a node for which qolb_clear answers
+ * A thread with a busy node is in no queue, and may be overtaken. Of a pool, take a node for which qolb_clear answers
  * DONE.
  *
  * THREADS THAT END
  *
  * A thread that ends while its node holds the line, or waits for it, releases and withdraws nothing: the line stays
- * with that node, and all nodes behind it wait. Any thread that has the handle, and got it in one of the ways above,
- * may go on with it: qolb_state tells the node's state.
+ * with that node, and all nodes behind it wait. Any thread that got the handle in one of the ways above may go on with
+ * it: qolb_state tells its state.
  *
  * PROCESSES
  *
  * A line is of one process. A fork copies it: parent and child then have a line each, in the same state, which guards
  * nothing that both share. The child of a process with one thread may go on with its copy, and close its nodes. In the
- * child of a process with threads call nothing: a thread that was not copied may have been in the midst of a call.
+ * child of a process with threads call nothing: another thread may have been in a call.
  *
  * SPEED
  *
  * Handles of different threads may be side by side: only qolb_open, qolb_close and qolb_move write to them. But what a
- * thread writes beside another's handle slows its calls. So keep what each thread writes on its stack, or
- * QOLB_NODE_ALIGN bytes apart:
+ * thread writes beside another's handle slows its calls. So keep what it writes on its stack, or QOLB_NODE_ALIGN bytes
+ * apart:
  *
  *     struct worker { _Alignas(QOLB_NODE_ALIGN) qolb_node node; long count; };
  *
- * A release calls the system only if a thread sleeps that it may have to wake.
+ * A release calls the system only if it may have to wake a sleeper.
  *
  * Only qolb_open, qolb_close, qolb_lock_open, qolb_lock_close and the first use of a lock use the heap.
  *
@@ -274,8 +272,8 @@
  * The thread sanitizer (-fsanitize=thread) is told of each grant and release. Lines of one label are one to it, and so
  * are a few of different labels: between these it may miss a race. Each lock is separate. Helgrind and drd of valgrind
  * are told the same in files that are compiled with -DQOLB_HELGRIND or -DQOLB_DRD, and must suppress the library's own
- * words: valgrind --tool=helgrind --suppressions=PREFIX/share/qolb/valgrind.supp. The library has no tables for
- * unwinding, so a backtrace that begins inside one of its calls may end there.
+ * words: valgrind --tool=helgrind --suppressions=PREFIX/share/qolb/valgrind.supp. The library has no unwind tables, so
+ * a backtrace from inside its calls may end there.
  *
  * bpftrace, perf and gdb find probes where a thread waits (provider qolb: wait, sleep, wake, granted, withdrawn,
  * closed), if the library was built with <sys/sdt.h>.
@@ -283,8 +281,8 @@
  * PROCESSOR
  *
  * Linux on x86-64, with the instructions of x86-64-v2 (SSE4.2 and POPCNT among them), which processors have since 2009.
- * On an older processor the first call that needs one ends the program by SIGILL. A program that may run on one asks
- * first: __builtin_cpu_supports("sse4.2") && __builtin_cpu_supports("popcnt"). */
+ * On an older one the first call that needs one ends the program by SIGILL. If yours may run there, ask first:
+ * __builtin_cpu_supports("sse4.2") && __builtin_cpu_supports("popcnt"). */
 #ifndef QOLB_H
 #define QOLB_H
 
@@ -391,8 +389,8 @@ uint32_t qolb_open(uint32_t kind, uint64_t label, uint64_t nodes, uint64_t lease
                    qolb_node *out, size_t handles) QOLB_LOOK;
 
 /* Returns the bytes of heap that an open line of this kind and this number of nodes keeps, as the library asks malloc
- * for them. 0 if opening answers BAD_KIND or BAD_NODES. Opening takes more for a moment. This call allocates nothing,
- * and needs no line. */
+ * for them. 0 if opening answers BAD_KIND or BAD_NODES. Opening takes more for a moment. It allocates nothing, and
+ * needs no line. */
 uint64_t qolb_memory(uint32_t kind, uint64_t nodes);
 
 /* Requests the line, and does not wait. If the node may ask: GRANTED, QUEUED, CLOSED, BUSY. Else MISUSE. */
@@ -473,8 +471,8 @@ uint32_t qolb_notify_off(qolb_node *node);
  * Elsewhere it does nothing. */
 void qolb_notify_done(void);
 
-/* Frees the node and empties the handle. In the states IDLE, LEFT, ROLLED, SHUT: DONE, after qolb_notify_off. Else
- * MISUSE. The last node frees the line. */
+/* Frees the node and empties the handle. In the states IDLE, LEFT, ROLLED, SHUT: DONE; it makes qolb_notify_off first.
+ * Else MISUSE. The last node frees the line. */
 uint32_t qolb_close(qolb_node *node);
 
 /* The node's number, from 1; 0 for an empty handle. */
@@ -536,13 +534,13 @@ uint32_t qolb_lock_enter_within(qolb_lock *lock, uint64_t nanoseconds) QOLB_LOOK
 /* Leaves the lock, which goes to the first thread in its queue. DONE; MISUSE if the calling thread does not hold it. */
 uint32_t qolb_lock_leave(qolb_lock *lock);
 
-/* Leaves the lock and closes it: all waiting threads, also at a condition, and all later ones are answered CLOSED.
- * DONE; MISUSE if the calling thread does not hold it. */
+/* Leaves the lock and closes it: all that wait, also at a condition, and all later ones are answered CLOSED, one by
+ * one, each after the one before has polled. DONE; MISUSE if the calling thread does not hold it. */
 uint32_t qolb_lock_shut(qolb_lock *lock);
 
 /* Frees the lock's memory: it is unopened again. Its next use opens it with zeros, the label 0, and the kind, seats and
- * burst that it had. The thread that was granted the lock last may close it while another is still in qolb_lock_leave.
- * DONE, also if it was unopened; MISUSE, and nothing changed, if a thread or a task holds it or waits, also at a
+ * burst that it had. Whoever was granted the lock last, and left it, may close it while another thread is still leaving
+ * it. DONE, also if it was unopened; MISUSE, and nothing changed, if a thread or a task holds it or waits, also at a
  * condition of it. */
 uint32_t qolb_lock_close(qolb_lock *lock);
 
@@ -572,8 +570,8 @@ uint32_t qolb_cond_broadcast(qolb_cond *cond);
 
 /* clang-format off */
 
-/* A task that enters locks: nobody waits in it. It starts as QOLB_TASK_INIT. It stays where it is while it waits, and
- * while its node is lent (qolb_task_turn). Only these calls read or change its contents. */
+/* A task that enters locks: nobody waits in it. It starts as QOLB_TASK_INIT. It stays where it is while it waits. Once
+ * it is moved, ask for its lent node again (qolb_task_turn). Only these calls read or change its contents. */
 typedef struct qolb_task {
     void *own[16];
 } qolb_task;
@@ -582,16 +580,16 @@ typedef struct qolb_task {
 /* clang-format on */
 
 /* Asks for the lock for a task, and does not wait for a turn. GRANTED: the task holds it. WAITING: `call(arg)` will be
- * called once, when the task has it or the lock is shut; then qolb_task_poll tells which. CLOSED. MISUSE: the task
- * waits or holds, or `call` is null. At the first use also NO_MEMORY, BAD_NODES, BAD_KIND. */
+ * called once, when the task has it or is told that the lock is shut; then qolb_task_poll tells which. CLOSED. MISUSE:
+ * the task waits or holds, or `call` is null. At the first use also NO_MEMORY, BAD_NODES, BAD_KIND. */
 uint32_t qolb_task_enter(qolb_task *task, qolb_lock *lock, void (*call)(void *arg), void *arg) QOLB_LOOK;
 
 /* The same, and 1 is added to the eventfd `fd`, which is not negative, in place of a call. Close it only after the
  * task's turn or qolb_task_cancel. */
 uint32_t qolb_task_enter_fd(qolb_task *task, qolb_lock *lock, int fd) QOLB_LOOK;
 
-/* Polls for a task that waits: GRANTED, and it holds the lock; CLOSED; WAITING, and the call will be made, maybe again.
- * MISUSE if it does not wait. */
+/* Polls for a task that waits: GRANTED, and it holds the lock; CLOSED; WAITING, and the call will be made; again, if it
+ * was too early. MISUSE if it does not wait. */
 uint32_t qolb_task_poll(qolb_task *task) QOLB_LOOK;
 
 /* Gives up, for a task that waits: no call is made afterwards. WITHDRAWN, also if it was at its turn: it leaves then.

@@ -82,7 +82,7 @@ class Misuse : public std::logic_error {
     explicit Misuse(const char *what) : std::logic_error(what) {}
 };
 
-// A thread enters a lock that it holds. It holds it as before.
+// A thread enters a lock that it holds. It holds it as before. Not thrown if a task of that thread holds it: it waits.
 class Deadlock : public Misuse {
   public:
     Deadlock() : Misuse("qolb: the thread holds the lock") {}

@@ -771,7 +771,8 @@ fn no_memory() -> ! {
 /// A mutex that is first come, first served.
 ///
 /// Nothing is poisoned: a panic while it is held releases it, with the writes until then. A thread that locks a mutex that it holds is told
-/// `Stopped::Misuse`, and holds it as before.
+/// `Stopped::Misuse`, and holds it as before; but if a task of that thread holds it, it waits, and for ever if that
+/// thread would have to drop the task's guard.
 pub struct Mutex<T: ?Sized> {
     raw: RawQolb,
     value: UnsafeCell<T>,
