@@ -89,12 +89,15 @@ impl Write for SlowWriter {
 static INTERRUPTIONS: [u64; 5] = [0, 1, 2, 1_000, 100_000];
 
 /// Errors that are not interruptions.
-static FAULTS: [ErrorKind; 5] = [
+static FAULTS: [ErrorKind; 8] = [
     ErrorKind::Other,
     ErrorKind::WouldBlock,
     ErrorKind::TimedOut,
     ErrorKind::UnexpectedEof,
     ErrorKind::ConnectionReset,
+    ErrorKind::PermissionDenied,
+    ErrorKind::IsADirectory,
+    ErrorKind::BrokenPipe,
 ];
 
 #[test]

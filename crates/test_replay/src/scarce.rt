@@ -5,8 +5,9 @@ use qolb_model::Free;
 use qolb_run::{KINDS, Kind, ReplayError, run_schedule, run_schedule_over};
 use qolb_script::Watched;
 use std::alloc::Global;
+use std::process::Abort;
 use std::test::Fail;
-use test_support::MemoryLimit;
+use test_support::{GRAIN, MemoryLimit};
 
 /// Eight lines for 200 nodes, and no command.
 const MANY_NODES: &str = "nodes 200 lines 8\n";
@@ -27,14 +28,15 @@ fn each_kind_has_its_size(rt: HostRuntime) -> Result<(), Fail> {
     Ok(())
 }
 
-/// Replays eight lines of this kind for 200 nodes in a room of `room` KB. Returns the error.
+/// Replays the script by lines of this kind in a room of `room` KB. Returns the error.
 fn replayed(
     alloc: Global,
     limit: &MemoryLimit,
+    script: &str,
     room: usize,
     kind: Kind,
 ) -> Result<Option<ReplayError>, Fail> {
-    let mut reader = Watched::new(MANY_NODES.as_bytes());
+    let mut reader = Watched::new(script.as_bytes());
     let mut text: Vec<u8> = Vec::with_capacity(alloc, 1 << 10)?;
     let rest = limit.leave(alloc, room << 10)?;
     let done = run_schedule(alloc, &mut reader, &mut Watched::new(&mut text), kind);
@@ -47,7 +49,7 @@ fn a_replay_takes_lines_of_its_kind(rt: HostRuntime) -> Result<(), Fail> {
     let limit = MemoryLimit::begin(rt.alloc(), 1 << 23)?;
     for (larger, room) in ROOMS.iter().enumerate() {
         for (place, kind) in BY_SIZE.iter().enumerate() {
-            let found = replayed(rt.alloc(), &limit, *room, *kind)?;
+            let found = replayed(rt.alloc(), &limit, MANY_NODES, *room, *kind)?;
             let wanted = if place <= larger {
                 None
             } else {
@@ -55,6 +57,84 @@ fn a_replay_takes_lines_of_its_kind(rt: HostRuntime) -> Result<(), Fail> {
             };
             expect_at(&rt, &(*kind, *room), found, wanted);
         }
+    }
+    Ok(())
+}
+
+/// The least room, in KB, in which a replay of one line of this kind for 200 nodes ends.
+fn least_room(alloc: Global, limit: &MemoryLimit, kind: Kind) -> Result<usize, Fail> {
+    for room in 1..1_000usize {
+        if replayed(alloc, limit, "nodes 200 lines 1\n", room, kind)?.is_none() {
+            return Ok(room);
+        }
+    }
+    Err(Fail::from("no room was large enough"))
+}
+
+#[test]
+fn a_replay_of_one_line_takes_one_of_its_kind(rt: HostRuntime) -> Result<(), Fail> {
+    let limit = MemoryLimit::begin(rt.alloc(), 1 << 21)?;
+    let mut before = 0usize;
+    for kind in &BY_SIZE {
+        let room = least_room(rt.alloc(), &limit, *kind)?;
+        expect_at(&rt, &(*kind, room, before), room > before, true);
+        before = room;
+    }
+    Ok(())
+}
+
+/// Two nodes take turns, and one withdraws.
+const SHORT: &str =
+    "nodes 2 lines 1\nenq 1 0\nwrite 1 0 0 07\nenq 2 0\nout 2 0\nenq 2 0\ndeq 1 0\nenq 2 0\n";
+
+const SHORT_REPLY: &str =
+    "granted\nok\nqueued\nwithdrawn\nbusy\nreleased\ngranted\nline 0 served 1 withdrawn 1 told 0 left 1\n";
+
+/// Replays `SHORT` in a room of `bytes` bytes. Returns the error, and what was written.
+fn short_in(
+    alloc: Global,
+    limit: &MemoryLimit,
+    bytes: usize,
+    kind: Kind,
+) -> Result<(Option<ReplayError>, Vec<u8>), Fail> {
+    let mut reader = Watched::new(SHORT.as_bytes());
+    let mut text: Vec<u8> = Vec::with_capacity(alloc, 1 << 10)?;
+    let rest = limit.leave(alloc, bytes)?;
+    let done = run_schedule(alloc, &mut reader, &mut Watched::new(&mut text), kind);
+    drop(rest);
+    Ok((done.err(), text))
+}
+
+/// Replays in rooms that grow by the heap's grain, so each allocation is refused once, until one has place for all. Returns the number of
+/// rooms that were too small.
+fn refusals_of<R: Abort>(
+    rt: &R,
+    alloc: Global,
+    limit: &MemoryLimit,
+    kind: Kind,
+) -> Result<usize, Fail> {
+    for grains in 2..8_000usize {
+        let (error, text) = short_in(alloc, limit, GRAIN * grains, kind)?;
+        if error.is_none() {
+            expect_at(rt, &kind, text.as_slice(), SHORT_REPLY.as_bytes());
+            return Ok(grains - 2);
+        }
+        expect_at(
+            rt,
+            &(kind, grains),
+            (error, text.len()),
+            (Some(ReplayError::Memory), 0),
+        );
+    }
+    Err(Fail::from("no room was large enough"))
+}
+
+#[test]
+fn each_allocation_of_a_replay_is_refused(rt: HostRuntime) -> Result<(), Fail> {
+    let limit = MemoryLimit::begin(rt.alloc(), 1 << 20)?;
+    for kind in &KINDS {
+        let refused = refusals_of(&rt, rt.alloc(), &limit, *kind)?;
+        expect_at(&rt, kind, refused > 100, true);
     }
     Ok(())
 }

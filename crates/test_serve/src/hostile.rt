@@ -3,10 +3,10 @@ use crate::runs::{KINDS, expect, run};
 use std::io::{self, Read, Write};
 use std::test::Fail;
 
-const HAND_OVER: &str =
+pub const HAND_OVER: &str =
     "nodes 2 lines 1\nenq 1 0\nwrite 1 0 0 a1b2\nenq 2 0\npoll 2 0\ndeq 1 0\npoll 2 0\nshow 2 0\ndeq 2 0\n";
 
-const HANDED_OVER: &str =
+pub const HANDED_OVER: &str =
     "granted\nok\nqueued\nwaiting\nreleased\ngranted\na1b20000000000000000000000000000000000000000000000000000000000000000000000000000000000000000000000000000000000000000000000000000\nreleased\nline 0 served 2 withdrawn 0 told 0 left 0\n";
 
 const LATE_LINK: &str =

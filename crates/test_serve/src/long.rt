@@ -1,5 +1,5 @@
 //! Long scripts and long answers.
-use crate::hostile::FailingWriter;
+use crate::hostile::{FailingWriter, HAND_OVER, HANDED_OVER};
 use crate::runs::{run, told};
 use std::alloc::Global;
 use std::process::Abort;
@@ -69,9 +69,14 @@ static ANSWERED: [(&[&str], Long, Long); 9] = [
 
 /// Returns the text.
 fn whole(alloc: Global, long: &Long) -> Result<String, Fail> {
+    repeated(alloc, long, TIMES)
+}
+
+/// Returns the text with its middle part repeated `times` times.
+fn repeated(alloc: Global, long: &Long, times: u32) -> Result<String, Fail> {
     let [first, middle, last] = *long;
     let mut text = first.to_string(alloc)?;
-    for _ in 0..TIMES {
+    for _ in 0..times {
         text.push_str(middle)?;
     }
     text.push_str(last)?;
@@ -116,6 +121,49 @@ fn a_long_script_is_answered_whole(rt: HostRuntime) -> Result<(), Fail> {
         let answer = whole(alloc, answer)?;
         let want = (0, answer.as_str(), "");
         expect_both(&rt, alloc, *words, script.as_str(), want, want)?;
+    }
+    Ok(())
+}
+
+/// 100,000 commands, which are as many as a script may have, with an answer of 12.9 MB.
+#[test]
+fn the_most_commands_are_answered(rt: HostRuntime) -> Result<(), Fail> {
+    let alloc = rt.alloc();
+    let script = repeated(alloc, &HELD, 99_999)?;
+    let answer = repeated(alloc, &SHOWN, 99_999)?;
+    let words = ["replay", "--kind", "plain"];
+    let want = (0, answer.as_str(), "");
+    expect(&rt, alloc, words.as_slice(), script.as_str(), want)
+}
+
+/// The number of bytes of a script that has most of its lines empty.
+const BYTES: usize = 1_500_000;
+
+/// Words, the last lines of such a script, and how the run ends. Of the refused script 1,499,976 lines before are empty.
+static BEHIND_EMPTY_LINES: [(&[&str], &str, (u8, &str, &str)); 2] = [
+    (
+        &["replay", "--kind", "plain"],
+        HAND_OVER,
+        (0, HANDED_OVER, ""),
+    ),
+    (
+        &["replay", "--kind", "plain", "--explain"],
+        "nodes 1 lines 1\nask 1 0\n",
+        (1, "", "bad line 1499978\n    ask 1 0\nword 1 is unknown\n"),
+    ),
+];
+
+#[test]
+fn what_is_behind_many_empty_lines_is_answered_or_explained(rt: HostRuntime) -> Result<(), Fail> {
+    let alloc = rt.alloc();
+    for (words, lines, want) in &BEHIND_EMPTY_LINES {
+        let mut script = vec![in alloc; b'\n'; BYTES.saturating_sub(lines.len())]?;
+        script.extend_from_slice(lines.as_bytes())?;
+        let mut reader = script.as_slice();
+        let mut out: Vec<u8> = Vec::new(alloc);
+        let (status, err) = run(&rt, alloc, *words, &mut reader, &mut out)?;
+        let out = String::from_utf8(out)?;
+        assert_eq!(rt; (status, out.as_str(), err.as_str()), *want, "of {words:?}");
     }
     Ok(())
 }

@@ -359,11 +359,11 @@ fn refuses_a_script_of_more_than_16_mebibytes(rt: HostRuntime) -> Result<(), Fai
 
 #[test]
 fn refuses_a_script_of_more_than_100_000_commands(rt: HostRuntime) -> Result<(), Fail> {
-    let mut script = String::from_str(rt.alloc(), "nodes 1 lines 1\nenq 1 0\n")?;
+    let mut script = String::from_str(rt.alloc(), "\nnodes 1 lines 1\nenq 1 0\n")?;
     for _ in 0..100_000 {
         script.push_str("show 1 0\n")?;
     }
-    let refused = (1, "", "bad line 100002\n");
+    let refused = (1, "", "bad line 100003\n");
     let words = ["replay", "--kind", "plain"];
     expect(&rt, rt.alloc(), words.as_slice(), script.as_str(), refused)
 }

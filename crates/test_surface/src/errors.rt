@@ -126,10 +126,11 @@ fn errors_of_runs_say_their_numbers(rt: HostRuntime) {
 }
 
 /// Errors of scripts, and what they say.
-static OF_SCRIPTS: [(ScriptError, &str); 4] = [
+static OF_SCRIPTS: [(ScriptError, &str); 5] = [
     (ScriptError::Memory, "out of memory"),
     (ScriptError::BadLine(3), "bad line 3"),
     (ScriptError::Number(4), "bad line 4"),
+    (ScriptError::TooMany(6), "bad line 6"),
     (ScriptError::TooMany(100_002), "bad line 100002"),
 ];
 

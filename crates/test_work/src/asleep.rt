@@ -94,6 +94,42 @@ impl Hooks for UntilLooked {
     }
 }
 
+/// How many times a job polls before it withdraws and asks again.
+const LOOKS: u64 = 64;
+
+/// Hooks by which a holder releases only after a waiter has polled 64 times without a grant, withdrawn, and asked again while busy. So work by
+/// two nodes does not end if the waiter withdraws earlier or later.
+#[derive(Drop)]
+struct UntilBusy {
+    poll_count: AtomicU64,
+    busy: AtomicU64,
+}
+
+impl Default for UntilBusy {
+    fn default() -> UntilBusy {
+        UntilBusy {
+            poll_count: AtomicU64::new(0),
+            busy: AtomicU64::new(0),
+        }
+    }
+}
+
+impl Hooks for UntilBusy {
+    fn on_busy<K: Keep, L: ParkingLine<K>>(&self, _line: &L, _port: &L::Port) {
+        if self.poll_count.load(Ordering::SeqCst) == LOOKS {
+            self.busy.fetch_add(1, Ordering::SeqCst);
+        }
+    }
+
+    fn on_waiting<K: Keep, L: ParkingLine<K>>(&self, _line: &L, _port: &L::Port) {
+        self.poll_count.fetch_add(1, Ordering::SeqCst);
+    }
+
+    fn on_release<K: Keep, L: ParkingLine<K>>(&self, _line: &L, _port: &L::Port) {
+        wait_until_some(&self.busy);
+    }
+}
+
 /// Hooks by which no release ends. So work ends only if no job is done.
 #[derive(Drop)]
 struct Kept;
@@ -281,6 +317,11 @@ fn workers_sleep_that_are_to(rt: HostRuntime) -> Result<(), Fail> {
 #[test]
 fn workers_stay_awake_that_are_to(rt: HostRuntime) -> Result<(), Fail> {
     expect_hooked::<HostRuntime, UntilLooked>(&rt, rt.alloc(), WaitMode::Awake)
+}
+
+#[test]
+fn a_job_withdraws_after_64_polls(rt: HostRuntime) -> Result<(), Fail> {
+    expect_hooked::<HostRuntime, UntilBusy>(&rt, rt.alloc(), WaitMode::Awake)
 }
 
 #[test]

@@ -38,7 +38,7 @@ where
     }
 }
 
-/// The second thread has its turn by node 3, after node 2 was busy once.
+/// The second thread has its turn by node 3, after node 2 was busy once. Each of the two turns ends in one release.
 pub(super) fn a_busy_port_is_passed_over<
     R: Threads + Wait + Clock + Abort + Sync,
     L: OpenLine<Free> + ParkingLine<Free> + Sync + Drop,
@@ -50,9 +50,9 @@ where
         let passed = pass_over::<R, L>(rt, alloc, limited);
         expect(
             rt,
-            "nodes that had the line, busy tries",
+            "nodes that had the line, busy tries, releases",
             passed,
-            Some(([1, 3], 1)),
+            Some(([1, 3], 1, 2)),
         );
     }
 }

@@ -6,7 +6,7 @@ use crate::tests::held::{expect, for_nodes, last_of};
 use crate::tests::noted::Ticking;
 use crate::tests::pool::one_thread::refusal;
 use line_lanes::Line64;
-use line_pool::{EnterError, Late, PortPool, PortSet};
+use line_pool::{Borrowed, EnterError, Late, PortPool, PortSet};
 use qolb_model::{FinishError, Free, LineConfig, LineSync, OpenLine, ParkingLine};
 use std::alloc::Global;
 use std::marker::Brand;
@@ -15,8 +15,13 @@ use std::rt::Clock;
 use std::sync::Wait;
 use std::time::Duration;
 
-/// A time limit in milliseconds. The clock moves a millisecond at each reading, and the first reading begins the time.
+/// A time limit in steps. The clock moves a step at each reading, and the first reading begins the time.
 const LIMIT: u64 = 20;
+
+/// Steps of the clock, in nanoseconds.
+const MILLISECOND: u64 = 1_000_000;
+
+const HOUR: u64 = 3_600_000_000_000;
 
 /// How many turns a lease has.
 const LEASE: u64 = 6;
@@ -29,18 +34,43 @@ pub(super) enum Rim {
     Missing,
 }
 
-/// Returns how `enter_within` refuses the thread in 20 milliseconds, and how often it read the clock.
+/// Returns how `enter_within` refuses the thread in 20 such steps, and how often it read the clock.
 fn late_after<R: Wait, L: ParkingLine<Free>, S: PortSet<L::Port>>(
     rt: &R,
     pool: &PortPool<Free, L, S>,
+    step: u64,
 ) -> (Option<EnterError>, u64) {
-    let clock = Ticking::new(rt, Some(1_000_000));
-    let refused = refusal(&clock, pool, Duration::from_millis(LIMIT));
+    let clock = Ticking::new(rt, Some(step));
+    let refused = refusal(&clock, pool, Duration::from_nanos(step.wrapping_mul(LIMIT)));
     (refused, clock.readings())
 }
 
-/// Node 1 holds the line of three. A thread is late after its whole time, and no later: behind it in the queue, by a busy port and then in
-/// the queue, by busy ports alone, and while no port is free. A pool with a lent port is late to finish, and is whole.
+/// Tries to finish a pool with a lent port for 20 such steps, and no longer. Returns the pool and the port as they were.
+fn late_to_finish<R: Wait + Abort, L: ParkingLine<Free> + Drop, S: PortSet<L::Port>>(
+    rt: &R,
+    alloc: Global,
+    pool: PortPool<Free, L, S>,
+    own: Borrowed<L::Port>,
+    step: u64,
+) -> Late<Free, L, S>
+where
+    L::Port: Drop,
+    requires own { MayAsk (L.belongs pool) L.view own.port }
+    ensures { (result.pool ≡ pool) × (result.own.port ≡ own.port) }
+{
+    let clock = Ticking::new(rt, Some(step));
+    let limit = Duration::from_nanos(step.wrapping_mul(LIMIT));
+    match pool.finish_within(&clock, alloc, own, limit) {
+        Ok(_) => panic!(rt; "the line is finished, and a port is lent"),
+        Err(late) => {
+            expect(rt, "readings", clock.readings(), LIMIT + 1);
+            late
+        }
+    }
+}
+
+/// A free line of three nodes is entered without any time. Then a node holds it, and a thread is late after its whole time, and no later:
+/// behind it in the queue, by a busy port and then in the queue, by busy ports alone, and while no port is free.
 fn keep_to_their_time<R: Wait + Clock + Abort, L: ParkingLine<Free> + Drop, S: PortSet<L::Port>>(
     rt: &R,
     alloc: Global,
@@ -50,28 +80,24 @@ where
     L::Port: Drop,
 {
     let wanted = (Some(EnterError::Late), LIMIT + 1);
+    expect(rt, "no time", refusal(rt, &pool, Duration::ZERO), None);
     let turn = pool.enter(rt)?;
-    expect(rt, "queued", late_after(rt, &pool), wanted);
-    // The port of node 2, which is busy, is to be the first.
-    let third = pool.borrow(rt);
-    pool.give_back(rt, third);
-    expect(rt, "busy, then queued", late_after(rt, &pool), wanted);
-    expect(rt, "busy", late_after(rt, &pool), wanted);
+    expect(rt, "queued", late_after(rt, &pool, MILLISECOND), wanted);
+    // The port that is busy is to be the first.
+    let other = pool.borrow(rt);
+    pool.give_back(rt, other);
+    expect(rt, "busy, then queued", late_after(rt, &pool, HOUR), wanted);
+    for step in [MILLISECOND, HOUR] {
+        expect(rt, "busy", late_after(rt, &pool, step), wanted);
+    }
     let own = pool.borrow(rt);
     let lent = pool.borrow(rt);
-    expect(rt, "no free port", late_after(rt, &pool), wanted);
+    for step in [MILLISECOND, HOUR] {
+        expect(rt, "no free port", late_after(rt, &pool, step), wanted);
+    }
     pool.leave(rt, turn);
-    let clock = Ticking::new(rt, Some(1_000_000));
-    let Late { pool, own } = match pool.finish_within(
-        &clock,
-        alloc,
-        own,
-        Duration::from_millis(LIMIT),
-    ) {
-        Ok(_) => panic!(rt; "the line is finished, and a port is lent"),
-        Err(late) => late,
-    };
-    expect(rt, "readings", clock.readings(), LIMIT + 1);
+    let Late { pool, own } = late_to_finish(rt, alloc, pool, own, MILLISECOND);
+    let Late { pool, own } = late_to_finish(rt, alloc, pool, own, HOUR);
     pool.give_back(rt, lent);
     match pool.finish_within(rt, alloc, own, Duration::ZERO) {
         Ok(ended) => ended.ok(),

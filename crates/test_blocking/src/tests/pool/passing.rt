@@ -15,13 +15,14 @@ use std::thread::Threads;
 use std::time::Duration;
 use test_support::{HookedLine, Hooks};
 
-/// How many times a node was busy, how many polls found that the request waits, and whether node 2 is busy. The second thread has a time
-/// limit, if `limited`.
+/// How many times a node was busy, how many polls found that the request waits, how many releases there were, and whether node 2 is busy.
+/// The second thread has a time limit, if `limited`.
 #[derive(Drop)]
 struct Seen {
     limited: bool,
     busy: AtomicU64,
     waited: AtomicU64,
+    releases: AtomicU64,
     ready: AtomicU64,
 }
 
@@ -32,6 +33,10 @@ impl Hooks for &Seen {
 
     fn on_waiting<K: Keep, L: ParkingLine<K>>(&self, _line: &L, _port: &L::Port) {
         self.waited.fetch_add(1, Ordering::SeqCst);
+    }
+
+    fn on_release<K: Keep, L: ParkingLine<K>>(&self, _line: &L, _port: &L::Port) {
+        self.releases.fetch_add(1, Ordering::SeqCst);
     }
 }
 
@@ -122,11 +127,11 @@ where
     two_at::<R, L, Brand>(rt, alloc, line, ports, seen)
 }
 
-/// Returns the nodes by which two threads held a new line of three nodes, and how many times a node was busy.
+/// Returns the nodes by which two threads held a new line of three nodes, how many times a node was busy, and how many releases there were.
 pub(super) fn pass_over<
     R: Threads + Wait + Clock + Sync,
     L: OpenLine<Free> + ParkingLine<Free> + Sync + Drop,
->(rt: &R, alloc: Global, limited: bool) -> Option<([u64; 2], u64)>
+>(rt: &R, alloc: Global, limited: bool) -> Option<([u64; 2], u64, u64)>
 where
     L::Port: Send + Drop,
 {
@@ -134,9 +139,14 @@ where
         limited,
         busy: AtomicU64::new(0),
         waited: AtomicU64::new(0),
+        releases: AtomicU64::new(0),
         ready: AtomicU64::new(0),
     };
     let (line, ports) = L::open_with(alloc, 1, for_nodes(3)).ok()?;
     let nodes = two(rt, alloc, HookedLine::with(&seen, line), ports, &seen)?;
-    Some((nodes, seen.busy.load(Ordering::SeqCst)))
+    Some((
+        nodes,
+        seen.busy.load(Ordering::SeqCst),
+        seen.releases.load(Ordering::SeqCst),
+    ))
 }
