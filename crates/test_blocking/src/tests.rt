@@ -7,6 +7,7 @@ mod again;
 mod ahead;
 mod asleep;
 mod counted;
+mod gated;
 mod held;
 mod kept;
 mod noted;
@@ -55,6 +56,7 @@ enum Row {
     BusyPort,
     OneThread,
     PoolRim,
+    Gate,
 }
 
 /// Runs `row` over lines of this type.
@@ -112,6 +114,7 @@ where
         Row::BusyPort => pool::a_busy_port_is_passed_over::<R, L>(rt, alloc),
         Row::OneThread => pool::one_thread_is_granted_late_and_told::<R, L>(rt, alloc),
         Row::PoolRim => pool::the_rim_is_seen::<R, L>(rt, alloc),
+        Row::Gate => gated::no_addition_is_lost::<R, L>(rt, alloc),
     }
     Ok(())
 }
@@ -386,6 +389,11 @@ fn one_thread_is_granted_late_and_told(rt: HostRuntime) -> Result<(), Fail> {
 #[test]
 fn lent_ports_keep_to_time_and_lease(rt: HostRuntime) -> Result<(), Fail> {
     over_each(&rt, rt.alloc(), Row::PoolRim)
+}
+
+#[test]
+fn no_addition_at_a_gate_is_lost(rt: HostRuntime) -> Result<(), Fail> {
+    over_each(&rt, rt.alloc(), Row::Gate)
 }
 
 #[test]

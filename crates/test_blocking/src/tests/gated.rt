@@ -1,0 +1,261 @@
+//! A line with a gate: threads add to one number, and then one thread is alone, over all lines.
+ghost use Rattle.std.specs.Prelude.{◌≡◌, ◌<◌, None, All, vec_len};
+ghost use Rattle.line_pool.specs.Lending.{MayAsk, IsPortSetOf};
+ghost use Rattle.line_pool.specs.Gated.{IsKeptSetOf};
+
+use crate::tests::held::{expect, expect_at, wait_until};
+use line_blocking::scoped::{ScopedTask, run_scoped};
+use line_lanes::{Line64, Mask, lane, with_lane};
+use line_pool::{GateSet, GateTurn, GatedPool};
+use qolb_model::{Free, Keep, LineConfig, LineSync, OpenLine, ParkingLine};
+use std::alloc::Global;
+use std::marker::Brand;
+use std::process::Abort;
+use std::sync::Wait;
+use std::sync::atomic::{AtomicU64, Ordering};
+use std::thread::Threads;
+use test_support::{HookedLine, Hooks};
+
+/// The bytes of the first lane.
+const FIRST_LANE: Mask = Mask(0xff);
+
+/// What the threads do before one is alone.
+#[derive(Clone, Copy)]
+enum Scene {
+    /// Each takes this number of turns.
+    Additions(u64),
+    /// The second asks while the first is in by the gate; then the first asks again.
+    InOrder,
+}
+
+/// How a line ends.
+#[derive(Clone, Copy)]
+enum Ends {
+    /// A turn by the gate shuts it.
+    Shut,
+    /// It is finished while a port lies in the gate.
+    Kept,
+}
+
+/// What happens at a line: its nodes, its threads, what they do, and how it ends.
+#[derive(Clone, Copy)]
+struct Plan(u64, usize, Scene, Ends);
+
+/// Plans, each with the number at the end: one alone adds 4, and 1 more if it leaves a port in the gate.
+static ROWS: [(Plan, u64); 5] = [
+    (Plan(1, 3, Scene::Additions(200), Ends::Shut), 604),
+    (Plan(2, 5, Scene::Additions(200), Ends::Kept), 1_005),
+    (Plan(3, 8, Scene::Additions(200), Ends::Shut), 1_604),
+    (Plan(200, 4, Scene::Additions(100), Ends::Kept), 405),
+    (Plan(2, 2, Scene::InOrder, Ends::Kept), 9),
+];
+
+/// How many polls found that the request waits, how many releases there were, and whether the second thread may ask.
+#[derive(Drop)]
+struct Seen {
+    waited: AtomicU64,
+    released: AtomicU64,
+    ready: AtomicU64,
+}
+
+impl Hooks for &Seen {
+    fn on_waiting<K: Keep, L: ParkingLine<K>>(&self, _line: &L, _port: &L::Port) {
+        self.waited.fetch_add(1, Ordering::SeqCst);
+    }
+
+    fn on_release<K: Keep, L: ParkingLine<K>>(&self, _line: &L, _port: &L::Port) {
+        self.released.fetch_add(1, Ordering::SeqCst);
+    }
+}
+
+/// Adds 1 to the first lane. Returns the number that was there.
+fn add_one<L: LineSync<Free>, S: GateSet<L::Port>>(turn: &mut GateTurn<'_, Free, L, S>) -> u64
+    ensures belongs { (line : L) → L.belongs line turn.old.port → L.belongs line turn.new.port }
+{
+    let held = *turn.bytes();
+    let number = lane(&held, 0);
+    turn.write(FIRST_LANE, &with_lane(&held, 0, number.wrapping_add(1)));
+    number
+}
+
+/// Takes one turn. Returns its node and the number that it found; `None` if the line is closed.
+fn visit<R: Wait, L: ParkingLine<Free>, S: GateSet<L::Port>>(
+    rt: &R,
+    pool: &GatedPool<Free, L, S>,
+) -> Option<(u64, u64)> {
+    let mut turn = pool.enter(rt)?;
+    let found = (turn.node(), add_one(&mut turn));
+    pool.leave(rt, turn);
+    Some(found)
+}
+
+/// The threads of a scene.
+#[derive(Drop)]
+struct Guests<'s> {
+    scene: Scene,
+    seen: &'s Seen,
+}
+
+impl Guests<'_> {
+    /// Takes a turn, and a second one by the gate until the other thread waits; then one more. Returns the number that the last one found.
+    fn go_first<R: Wait, L: ParkingLine<Free>, S: GateSet<L::Port>>(
+        &self,
+        rt: &R,
+        pool: &GatedPool<Free, L, S>,
+    ) -> Option<u64> {
+        visit(rt, pool)?;
+        let mut turn = pool.enter(rt)?;
+        add_one(&mut turn);
+        self.seen.ready.store(1, Ordering::SeqCst);
+        wait_until(rt, &self.seen.waited, 1);
+        pool.leave(rt, turn);
+        let (_, number) = visit(rt, pool)?;
+        Some(number)
+    }
+}
+
+impl<R: Wait + Abort, L: ParkingLine<Free>, S: GateSet<L::Port>> ScopedTask<
+    R,
+    GatedPool<Free, L, S>,
+    (),
+> for Guests<'_> {
+    type Output = ();
+
+    ghost pre = { λ _ _ _ _. Unit {0} };
+
+    ghost post = { λ _ _ _ _. Unit {0} };
+
+    fn work(&self, rt: &R, pool: &GatedPool<Free, L, S>, place: usize, _part: ()) {
+        match self.scene {
+            Scene::Additions(times) => {
+                for _ in 0..times {
+                    let _ = visit(rt, pool);
+                }
+            }
+            Scene::InOrder if place == 0 => {
+                expect(rt, "after who waits", self.go_first(rt, pool), Some(3));
+            }
+            Scene::InOrder => {
+                wait_until(rt, &self.seen.ready, 1);
+                let found = visit(rt, pool).map(|(_, number)| number);
+                expect(rt, "before who asks again", found, Some(2));
+            }
+        }
+    }
+}
+
+/// One thread is alone: its turns are by the port that it left in the gate, without a release, and each finds the number that the last one
+/// left. If it borrows a port that one is released, and the next turn finds the number too.
+fn stay_alone<R: Wait + Abort, L: ParkingLine<Free>, S: GateSet<L::Port>>(
+    rt: &R,
+    pool: &GatedPool<Free, L, S>,
+    seen: &Seen,
+) -> Option<()> {
+    let (node, number) = visit(rt, pool)?;
+    let before = seen.released.load(Ordering::SeqCst);
+    for more in [1, 2] {
+        let wanted = Some((node, number.wrapping_add(more)));
+        expect(rt, "by the gate", visit(rt, pool), wanted);
+    }
+    let released = seen.released.load(Ordering::SeqCst);
+    expect(rt, "not released", released, before);
+    let borrowed = pool.borrow(rt);
+    pool.give_back(rt, borrowed);
+    let released = seen.released.load(Ordering::SeqCst);
+    expect(rt, "released", released, before.wrapping_add(1));
+    let (_, last) = visit(rt, pool)?;
+    expect(rt, "after a release", last, number.wrapping_add(3));
+    Some(())
+}
+
+/// Runs the scene at the line, then one thread alone. Returns the first lane at the end.
+fn count_at<
+    R: Threads + Wait + Abort + Sync,
+    L: ParkingLine<Free> + Sync + Drop,
+    S: GateSet<L::Port> + Sync + Send,
+>(rt: &R, alloc: Global, line: L, ports: Vec<L::Port>, plan: Plan, seen: &Seen) -> Option<u64>
+where
+    L::Port: Send + Drop,
+    requires not_empty { 0 < vec_len ports }
+    requires set { IsPortSetOf (L.belongs line) L.view S.has }
+    requires many { vec_len ports ≡ S.many }
+    requires keeps { IsKeptSetOf (λ _ _. Unit {0}) (L.belongs line) L.view L.turn S.keeps }
+    requires lease { (L.config_of line).lease ≡ None }
+    requires ports { All (MayAsk (L.belongs line) L.view) ports.items }
+{
+    let Plan(_, threads, scene, ends) = plan;
+    let pool: GatedPool<Free, L, S> = GatedPool::new(alloc, line, ports).ok()?;
+    let parts = Vec::from_elem(alloc, (), threads).ok()?;
+    run_scoped(rt, alloc, &Guests { scene, seen }, &pool, parts)?;
+    stay_alone(rt, &pool, seen)?;
+    let own = match ends {
+        Ends::Shut => {
+            let turn = pool.enter(rt)?;
+            pool.shut(rt, turn);
+            expect(rt, "closed", visit(rt, &pool), None);
+            pool.borrow(rt)
+        }
+        Ends::Kept => {
+            let own = pool.borrow(rt);
+            visit(rt, &pool);
+            own
+        }
+    };
+    let last = pool.finish(rt, alloc, own).ok()?;
+    Some(lane(&last, 0))
+}
+
+/// Returns the same, with the set of the line's ports.
+fn count_by<R: Threads + Wait + Abort + Sync, L: ParkingLine<Free> + Sync + Drop>(
+    rt: &R,
+    alloc: Global,
+    line: L,
+    ports: Vec<L::Port>,
+    plan: Plan,
+    seen: &Seen,
+) -> Option<u64>
+where
+    L::Port: Send + Drop,
+    requires not_empty { 0 < vec_len ports }
+    requires lease { (L.config_of line).lease ≡ None }
+    requires ports { All (MayAsk (L.belongs line) L.view) ports.items }
+{
+    count_at::<R, L, Brand>(rt, alloc, line, ports, plan, seen)
+}
+
+/// Returns the same for a new line.
+fn count<R: Threads + Wait + Abort + Sync, L: OpenLine<Free> + ParkingLine<Free> + Sync + Drop>(
+    rt: &R,
+    alloc: Global,
+    plan: Plan,
+) -> Option<u64>
+where
+    L::Port: Send + Drop,
+{
+    let config = LineConfig {
+        nodes: plan.0,
+        opening: Line64::zero(),
+        lease: None,
+    };
+    let seen = Seen {
+        waited: AtomicU64::new(0),
+        released: AtomicU64::new(0),
+        ready: AtomicU64::new(0),
+    };
+    let (line, ports) = L::open_with(alloc, 1, config).ok()?;
+    count_by(rt, alloc, HookedLine::with(&seen, line), ports, plan, &seen)
+}
+
+/// Threads that enter by a gate lose no addition. One that waits is served before one that asks later, and one alone releases nothing.
+pub(super) fn no_addition_is_lost<
+    R: Threads + Wait + Abort + Sync,
+    L: OpenLine<Free> + ParkingLine<Free> + Sync + Drop,
+>(rt: &R, alloc: Global)
+where
+    L::Port: Send + Drop,
+{
+    for (plan, wanted) in &ROWS {
+        let counted = count::<R, L>(rt, alloc, *plan);
+        expect_at(rt, plan.0, counted, Some(*wanted));
+    }
+}
