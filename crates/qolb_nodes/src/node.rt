@@ -249,11 +249,7 @@ impl<Q: Discipline<Free>> Node<LineFor<Q>> {
         if self.state() != PortState::Holding {
             return Answer::Misuse;
         }
-        if shut {
-            self.line.shut(&mut self.port);
-        } else {
-            self.line.deqolb(&mut self.port);
-        }
+        self.line.release_with(&mut self.port, shut);
         Answer::Done
     }
 
