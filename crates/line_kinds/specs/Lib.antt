@@ -1,2 +1,1 @@
-pub mod Names
-pub mod Bytes
+pub mod Locks

@@ -1,10 +1,11 @@
-//! The locks by name: the one place where a lock is registered.
+//! The locks by name: code over any line learns from here which locks there are.
+//!
+//! What else names each lock is listed in docs/CHANGING.md, "Another lock".
 #![tactic(auto)]
 
 ghost use Rattle.std.specs.Prelude.{◌≡◌, ◌+◌, ◌*◌};
 ghost use Rattle.qolb_model.specs.Opening.{AreNodes};
-ghost use Rattle.line_kinds.specs.Names.{lock_named};
-ghost use Rattle.line_kinds.specs.Bytes.{words_of, slots_of, bytes_of};
+ghost use Rattle.line_kinds.specs.Locks.{lock_named, words_of, slots_of, bytes_of};
 
 use line_cells::{CELLS, cell_count, word_count};
 use line_generic::Payload;
@@ -17,7 +18,7 @@ pub use ticket_line::{TicketLine, TicketQueue};
 pub enum Lines {
     /// Rings: an array queue of tickets and cells.
     Ring,
-    /// Lists: a home word and reversed links.
+    /// Link lines: a home word and reversed links.
     Link,
     /// Ticket lines: tickets, and cells that are granted by a number.
     Ticket,

@@ -65,7 +65,7 @@ macro_rules! told {
 
 /// Opens a line, and puts its nodes into the first of the handles.
 ///
-/// Its first holder finds the bytes of `opening`. `kind` is 0 for a ring, 1 for a list, 2 for a ticket line. The line closes at the lease's
+/// Its first holder finds the bytes of `opening`. `kind` is 0 for a ring, 1 for a link line, 2 for a ticket line. The line closes at the lease's
 /// last turn; a lease of 2^64 - 1 is none.
 #[unsafe(no_mangle)]
 pub extern "C" fn qolb_open_proved_(
@@ -124,7 +124,7 @@ pub extern "C" fn qolb_wait_proved_(node: &mut Handle, polls: u64) -> u32
     told!(node, called => called.wait(polls))
 }
 
-/// Makes a request and leaves it to be linked to its predecessor's; only of a list.
+/// Makes a request and leaves it to be linked to its predecessor's; only of a link line.
 #[unsafe(no_mangle)]
 pub extern "C" fn qolb_prepend_proved_(node: &mut Handle) -> u32
     ensures { Calls Prepends node.old.held node.new.held result }
@@ -132,7 +132,7 @@ pub extern "C" fn qolb_prepend_proved_(node: &mut Handle) -> u32
     told!(node, called => called.prepend())
 }
 
-/// Links the request to its predecessor's; only of a list.
+/// Links the request to its predecessor's; only of a link line.
 #[unsafe(no_mangle)]
 pub extern "C" fn qolb_link_proved_(node: &mut Handle) -> u32
     ensures { Calls LinksUp node.old.held node.new.held result }

@@ -88,7 +88,7 @@ abbrev pub Waits : ℕ → AnyNode → AnyNode → Answer → Type 0
 Waits polls was now a =
     IsCall ((state_of was ≡ Queued) × (0 < polls)) poll_told (λ made. line.Polls anything (view_of was) (view_of now) (turn_of now) made × PollsWithin polls (poll_count_of was) (poll_count_of now) made × (made ≡ poll.Closed → NamesNext now)) was now a
 
--- `prepend` and `link`, of a list: allowed if the node neither waits nor holds; and if it is linking. Neither polls.
+-- `prepend` and `link`, of a link line: allowed if the node neither waits nor holds; and if it is linking. Neither polls.
 abbrev pub Prepends : AnyNode → AnyNode → Answer → Type 0
 Prepends was now a = IsCall ((kind_of was ≡ lines.Link) × (may_ask (state_of was) ≡ true)) prep_told (λ made. line.Prepends anything (view_of was) (view_of now) (turn_of now) made × CallsOnce was now × (made ≡ prep.Closed → NamesNext now)) was now a
 

@@ -1,7 +1,7 @@
 -- The memory of a line, as C is told. (Of this project.)
 use Rattle.std.specs.Prelude.{◌≡◌, ℕ, Some}
 use Rattle.qolb_model.specs.Opening.{AreNodes}
-use Rattle.line_kinds.specs.Bytes.{bytes_of}
+use Rattle.line_kinds.specs.Locks.{bytes_of}
 use Rattle.line_kinds.specs.declared.Lines.{Lines}
 use Rattle.qolb_nodes.specs.Opens.{lines_at, IsKind}
 

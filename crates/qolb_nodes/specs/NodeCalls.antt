@@ -21,7 +21,7 @@ use Rattle.line_generic.specs.declared.line.Line.{Line}
 use Rattle.line_generic.specs.declared.wake.WakePolicy as wake
 use Rattle.line_generic.specs.AtTurn.{Names, SeesTurn}
 use Rattle.line_generic.specs.Ports.{PortModel}
-use Rattle.link_line.specs.BetweenCalls as list
+use Rattle.link_line.specs.BetweenCalls as link_line
 use Rattle.qolb_nodes.specs.declared.answer.Answer.{Answer}
 use Rattle.qolb_nodes.specs.declared.answer.Answer.TheVariants as answer
 use Rattle.qolb_nodes.specs.Answers.{enq_told, poll_told, out_told, prep_told, clear_told}
@@ -121,13 +121,13 @@ module _ {K Q O W N : Type 0} {q : discipline.Ghosts Q K O} {w : wake.Ghosts W N
       (a ≡ answer.Done) × line.Releases anything shut was.port.view now.port.view was.port.turn
       × CallsOnce d.max_steps was now × NamesNext d.wake_word now
 
-  -- `prepend` and `link`, of a list
+  -- `prepend` and `link`, of a link line
   abbrev pub Prepends : Node q w → Node q w → Answer → Type 0
   Prepends was now a =
       (made : Prep) × (a ≡ prep_told made) × line.Prepends anything was.port.view now.port.view now.port.turn made
-      × CallsOnce list.max_steps was now × (made ≡ prep.Closed → NamesNext list.wake_word now)
+      × CallsOnce link_line.max_steps was now × (made ≡ prep.Closed → NamesNext link_line.wake_word now)
 
   abbrev pub LinksUp : Node q w → Node q w → Answer → Type 0
   LinksUp was now a =
       (made : Enq) × (a ≡ enq_told made) × line.LinksUp anything was.port.view now.port.view now.port.turn made
-      × CallsOnce list.max_steps was now × (made ≡ enq.Closed → NamesNext list.wake_word now)
+      × CallsOnce link_line.max_steps was now × (made ≡ enq.Closed → NamesNext link_line.wake_word now)

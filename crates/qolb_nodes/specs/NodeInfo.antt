@@ -41,7 +41,7 @@ info_by kind d make node = record {
 -- a node of any kind, by its discipline
 abbrev pub info_of : AnyNode → NodeInfo
 info_of (any.Ring node) = info_by lines.Ring ring.ghosts any.Ring node
-info_of (any.List node) = info_by lines.Link link.ghosts any.List node
+info_of (any.Link node) = info_by lines.Link link.ghosts any.Link node
 info_of (any.Ticket node) = info_by lines.Ticket ticket.ghosts any.Ticket node
 
 -- the kinds of line, in the order of C's numbers

@@ -23,7 +23,7 @@ const LANES: u64 = 8;
 type Ring = RingLine<Free, SleepersElsewhere>;
 
 /// A link line.
-pub(crate) type List = LinkLine<Free, SleepersElsewhere>;
+pub(crate) type Link = LinkLine<Free, SleepersElsewhere>;
 
 /// A ticket line.
 type Ticket = TicketLine<Free, SleepersElsewhere>;
@@ -33,8 +33,8 @@ type Ticket = TicketLine<Free, SleepersElsewhere>;
 pub enum AnyNode {
     /// A node of a ring.
     Ring(Node<Ring>),
-    /// A node of a list.
-    List(Node<List>),
+    /// A node of a link line.
+    Link(Node<Link>),
     /// A node of a ticket line.
     Ticket(Node<Ticket>),
 }
@@ -44,7 +44,7 @@ macro_rules! of_any {
     ($any:expr, $node:ident => $done:expr) => {
         match $any {
             AnyNode::Ring($node) => $done,
-            AnyNode::List($node) => $done,
+            AnyNode::Link($node) => $done,
             AnyNode::Ticket($node) => $done,
         }
     };
@@ -70,7 +70,7 @@ impl AnyNode {
     {
         match self {
             AnyNode::Ring(node) => node.enqolb(),
-            AnyNode::List(node) => ask_list(node),
+            AnyNode::Link(node) => ask_link(node),
             AnyNode::Ticket(node) => node.enqolb(),
         }
     }
@@ -90,22 +90,22 @@ impl AnyNode {
         of_any!(self, node => node.wait(polls))
     }
 
-    /// Makes a request without its link; only of a list.
+    /// Makes a request without its link; only of a link line.
     pub fn prepend(&mut self) -> Answer
         ensures { Prepends self.old self.new result }
     {
         match self {
-            AnyNode::List(node) => node.prepend(),
+            AnyNode::Link(node) => node.prepend(),
             _ => Answer::Misuse,
         }
     }
 
-    /// Links the request to its predecessor's; only of a list.
+    /// Links the request to its predecessor's; only of a link line.
     pub fn link(&mut self) -> Answer
         ensures { LinksUp self.old self.new result }
     {
         match self {
-            AnyNode::List(node) => node.link(),
+            AnyNode::Link(node) => node.link(),
             _ => Answer::Misuse,
         }
     }
@@ -218,13 +218,13 @@ impl AnyNode {
     {
         match self {
             AnyNode::Ring(node) => release_ring(node, shut),
-            AnyNode::List(node) => release_list(node, shut),
+            AnyNode::Link(node) => release_link(node, shut),
             AnyNode::Ticket(node) => node.release(shut),
         }
     }
 }
 
-/// Releases a ring's line, and closes it if `shut`.
+/// Releases a ring, and closes it if `shut`.
 ///
 /// Not inlined, so that the calls of other lines save no registers for it.
 #[inline(never)]
@@ -234,22 +234,22 @@ fn release_ring(node: &mut Node<Ring>, shut: bool) -> Answer
     node.release(shut)
 }
 
-/// Releases a list's line, and closes it if `shut`.
+/// Releases a link line, and closes it if `shut`.
 ///
 /// Not inlined, so that the calls of other lines save no registers for it.
 #[inline(never)]
-fn release_list(node: &mut Node<List>, shut: bool) -> Answer
-    ensures { Releases shut (AnyNode.List node.old) (AnyNode.List node.new) result }
+fn release_link(node: &mut Node<Link>, shut: bool) -> Answer
+    ensures { Releases shut (AnyNode.Link node.old) (AnyNode.Link node.new) result }
 {
     node.release(shut)
 }
 
-/// Requests a list's line.
+/// Requests a link line.
 ///
 /// Not inlined, so that the calls of other lines save no registers for it.
 #[inline(never)]
-fn ask_list(node: &mut Node<List>) -> Answer
-    ensures { Enqolbs (AnyNode.List node.old) (AnyNode.List node.new) result }
+fn ask_link(node: &mut Node<Link>) -> Answer
+    ensures { Enqolbs (AnyNode.Link node.old) (AnyNode.Link node.new) result }
 {
     node.enqolb()
 }
@@ -272,11 +272,11 @@ impl IntoAny for Node<Ring> {
     }
 }
 
-impl IntoAny for Node<List> {
-    ghost as_any = { λ node. AnyNode.List node };
+impl IntoAny for Node<Link> {
+    ghost as_any = { λ node. AnyNode.Link node };
 
     fn into_any(self) -> AnyNode {
-        AnyNode::List(self)
+        AnyNode::Link(self)
     }
 }
 
@@ -305,7 +305,7 @@ pub(crate) fn nodes_of_kind(
 {
     match lines {
         Lines::Ring => boxed(alloc, new_nodes::<Ring>(alloc, label, config)?),
-        Lines::Link => boxed(alloc, new_nodes::<List>(alloc, label, config)?),
+        Lines::Link => boxed(alloc, new_nodes::<Link>(alloc, label, config)?),
         Lines::Ticket => boxed(alloc, new_nodes::<Ticket>(alloc, label, config)?),
     }
 }

@@ -7,7 +7,7 @@ ghost use Rattle.qolb_nodes.specs.NodeCalls.{IsMisuse, Meets, MayAsk, IsLinking,
 ghost use Rattle.qolb_nodes.specs.Nodes.{anything, PollsWithin};
 
 use crate::answer::Answer;
-use crate::any_node::List;
+use crate::any_node::Link;
 use line_generic::{Discipline, Line, Port, SleepersElsewhere};
 use line_lanes::{Line64, Mask};
 use qolb_model::{Enq, Free, LineSync, Out, Poll, PortState, Prep};
@@ -276,7 +276,7 @@ impl<Q: Discipline<Free>> Node<LineFor<Q>> {
     }
 }
 
-impl Node<List> {
+impl Node<Link> {
     /// Makes a request and leaves it to be linked to its predecessor's.
     ///
     /// `Misuse` if the node waits or holds.

@@ -10,7 +10,7 @@ use Rattle.qolb_script.specs.declared.job.WorkKind.TheVariants.{Board, Bank}
 use Rattle.qolb_run.specs.Kinds.{kind_of}
 use Rattle.qolb_run.specs.declared.replay.Kind.{Kind}
 use Rattle.qolb_run.specs.declared.replay.Kind.TheVariants as kind
-use Rattle.line_kinds.specs.Names.{lock_named, lock_names}
+use Rattle.line_kinds.specs.Locks.{lock_named, lock_names}
 use Rattle.line_kinds.specs.declared.Lines.{Lines}
 use Rattle.line_kinds.specs.declared.Lines.TheVariants as lines
 use Rattle.qolb_shapes.specs.declared.form.Form.{Form}

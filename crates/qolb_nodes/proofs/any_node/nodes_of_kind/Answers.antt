@@ -11,7 +11,7 @@ returns-in_ok-new_nodes-in-Ring-clause-nodes c =
 pub returns-in_ok-new_nodes-in-Link-clause-nodes : goal.returns-in_ok-new_nodes-in-Link-clause-nodes
 returns-in_ok-new_nodes-in-Link-clause-nodes c =
     if_ok_then c.boxed-in-Link.result
-    (λ boxes is. new_nodes_of (λ p. p.view) any.List c.args.lines c.args.label c.args.config _ _ (λ n. refl) (λ n. sym c.in-Link.is) (λ line p q. refl) c.in_ok-new_nodes-in-Link.ensures.nodes is) c.boxed-in-Link.ensures.nodes
+    (λ boxes is. new_nodes_of (λ p. p.view) any.Link c.args.lines c.args.label c.args.config _ _ (λ n. refl) (λ n. sym c.in-Link.is) (λ line p q. refl) c.in_ok-new_nodes-in-Link.ensures.nodes is) c.boxed-in-Link.ensures.nodes
 
 pub returns-in_ok-new_nodes-in-Ticket-clause-nodes : goal.returns-in_ok-new_nodes-in-Ticket-clause-nodes
 returns-in_ok-new_nodes-in-Ticket-clause-nodes c =

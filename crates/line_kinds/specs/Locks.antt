@@ -1,5 +1,6 @@
--- The memory of a line's table.
-use Rattle.std.specs.Prelude.{ℕ, ◌+◌, ◌*◌}
+-- The locks: their names on command lines, and the memory of a line's table. (Of this project.)
+use Rattle.std.specs.Prelude.{if◌then◌else◌, List, [], ◌∷◌, Option, Some, None, codes, ℕ, ◌+◌, ◌*◌}
+use Rattle.std.specs.Str.{bytes_eq}
 use Rattle.line_cells.specs.Counting.{cells_for}
 use Rattle.ring_line.specs.Layout as ring
 use Rattle.link_line.specs.Layout as link
@@ -7,6 +8,15 @@ use Rattle.ticket_line.specs.Layout as ticket
 use Rattle.ticket_line.specs.Slots as slots
 use Rattle.line_kinds.specs.declared.Lines.{Lines}
 use Rattle.line_kinds.specs.declared.Lines.TheVariants as lines
+
+-- the locks' names
+abbrev pub lock_names : List (List ℕ)
+lock_names = codes "ring" ∷ codes "link" ∷ codes "ticket" ∷ []
+
+-- the lock of this name, if there is one
+abbrev pub lock_named : List ℕ → Option Lines
+lock_named name =
+    if bytes_eq name (codes "ring") then Some lines.Ring else if bytes_eq name (codes "link") then Some lines.Link else if bytes_eq name (codes "ticket") then Some lines.Ticket else None
 
 -- the numbers of words and slots of the table of a line of n nodes, as its lock says
 abbrev pub words_of : Lines → ℕ → ℕ
@@ -19,8 +29,8 @@ slots_of lines.Ring nodes = 1
 slots_of lines.Link nodes = 1
 slots_of lines.Ticket nodes = slots.slot_count nodes
 
--- the number of bytes of these together: for 2 nodes 32,896 in a ring, 512 in a list, 1,024 in a ticket line; for 200 nodes as many in a
--- ring, 25,856 in a list, 65,536 in a ticket line
+-- the number of bytes of these together: for 2 nodes 32,896 in a ring, 512 in a link line, 1,024 in a ticket line; for 200 nodes as many in a
+-- ring, 25,856 in a link line, 65,536 in a ticket line
 abbrev pub bytes_of : Lines → ℕ → ℕ
 bytes_of lines.Ring nodes = 32896
 bytes_of lines.Link nodes = 128 * (nodes + 2)
