@@ -3,8 +3,8 @@ use Rattle.line_kinds.specs.declared.Lines.{Lines}
 use Rattle.line_kinds.specs.declared.Lines.TheVariants as lines
 use Rattle.qolb_script.specs.declared.report.Report.{Report}
 use Rattle.qolb_script.specs.WorkScript.{WorkScript}
-use Rattle.qolb_run.specs.declared.replay.Kind.{Kind}
-use Rattle.qolb_run.specs.declared.replay.Kind.TheVariants as kind
+use Rattle.qolb_run.specs.declared.each_lock.Kind.{Kind}
+use Rattle.qolb_run.specs.declared.each_lock.Kind.TheVariants as kind
 
 -- the kind of lines that have this lock
 abbrev pub kind_of : Lines → Kind

@@ -2,11 +2,13 @@
 //! `qolb_work` have is given on under the same names.
 #![tactic(auto)]
 
+mod each_lock;
 mod replay;
 mod report;
 mod task;
 mod work;
 
+pub use each_lock::{KINDS, Kind, KindSpec, Locks};
 pub use line_blocking::{
     Got, ParkOnPoll, TimedAcquire, acquire, acquire_parking, acquire_timeout, meet_all, scoped,
 };
@@ -16,7 +18,7 @@ pub use qolb_replay::{
     run_schedule_over, run_steps, run_steps_with,
 };
 pub use qolb_work::{AlwaysOpen, Gate, MAX_REFUSALS, Progress, RunError, WaitMode, run_work_over};
-pub use replay::{KINDS, Kind, answer_schedule, run_schedule};
+pub use replay::{answer_schedule, run_schedule};
 pub use report::{TaskError, answer_work};
 pub use task::Task;
-pub use work::{KindSpec, Locks, run_work, run_work_with};
+pub use work::{run_work, run_work_with};

@@ -5,60 +5,16 @@ ghost use Rattle.qolb_script.specs.Watched.{inner_of, has_failed};
 ghost use Rattle.qolb_script.specs.Reply.{reply_to};
 ghost use Rattle.qolb_replay.specs.Outcome.{IsReply, HasNoReply};
 ghost use Rattle.qolb_run.specs.declared.task.Task.TheVariants as task;
-ghost use Rattle.qolb_run.specs.Kinds.{kind_of};
 ghost use Rattle.qolb_run.specs.Outcome.{MayFail};
 
+use crate::each_lock::Kind;
 use line_generic::{Discipline, Line};
-use line_kinds::{LOCKS, Lines, for_kind};
+use line_kinds::{Lines, for_kind};
 use qolb_model::Free;
 use qolb_replay::{ReplayError, answered_over, answered_plainly, read_input};
 use qolb_script::{ScriptError, Watched};
 use std::alloc::Global;
 use std::io::{Read, Write};
-
-/// The kind of lines by which a replay answers.
-///
-/// Nodes that share a line have a port each. The port that acts meets every other port before and after its call.
-#[derive(Clone, Copy, Debug, PartialEq, Eq)]
-pub enum Kind {
-    /// The plain reference, a line with one owner.
-    Plain,
-    /// Rings, which nodes share: Anderson's array, with tickets and cells.
-    Ring,
-    /// Lists, which nodes share: MCS' swap of a home word, with reversed links.
-    Link,
-    /// Ticket lines, which nodes share: a partitioned ticket lock, whose cells show by a number the node at its turn.
-    Ticket,
-}
-
-/// All kinds: the plain reference, and the kind of each lock in the order of `line_kinds::ALL`.
-pub static KINDS: [Kind; LOCKS + 1] = [Kind::Plain, Kind::Ring, Kind::Link, Kind::Ticket];
-
-impl Kind {
-    /// Returns the kind of lines that have this lock.
-    pub fn of(lines: Lines) -> Kind
-        ensures { result ≡ kind_of lines }
-    {
-        match lines {
-            Lines::Ring => Kind::Ring,
-            Lines::Link => Kind::Link,
-            Lines::Ticket => Kind::Ticket,
-        }
-    }
-
-    /// Returns the lock of this kind, or `None` for the plain reference.
-    fn shared(self) -> Option<Lines>
-        ensures plain { result ≡ None ↔ self ≡ Kind.Plain }
-        ensures lock { IfSome result (λ lines. kind_of lines ≡ self) }
-    {
-        match self {
-            Kind::Plain => None,
-            Kind::Ring => Some(Lines::Ring),
-            Kind::Link => Some(Lines::Link),
-            Kind::Ticket => Some(Lines::Ticket),
-        }
-    }
-}
 
 /// Replays the schedule that the reader gives, and writes its reply, which is the same for each kind.
 ///

@@ -6,7 +6,8 @@ ghost use Rattle.qolb_replay.specs.Outcome.{HasNoAnswer};
 ghost use Rattle.qolb_run.specs.declared.report.TaskError.TheVariants.{Replay};
 ghost use Rattle.qolb_run.specs.Outcome.{IsReplyOver, HasWorkFault, HasNoReport, task_error};
 
-use crate::work::{KindSpec, Locks, run_work_with};
+use crate::each_lock::{KindSpec, Locks};
+use crate::work::run_work_with;
 use line_kinds::Lines;
 use qolb_replay::ReplayError;
 use qolb_script::{Watched, Work, WorkKind, read_work, write_report};

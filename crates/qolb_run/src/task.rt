@@ -1,5 +1,5 @@
 //! The tasks that take a script.
-use crate::replay::Kind;
+use crate::each_lock::Kind;
 use line_kinds::Lines;
 use qolb_replay::Detail;
 use qolb_script::WorkKind;

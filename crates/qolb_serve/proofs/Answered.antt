@@ -2,7 +2,7 @@
 use Rattle.std.proofs.Common.{◌≡◌, ℕ, List, Option, Some, None, IfSome, inl, inr, subst, arith}
 use Rattle.qolb_replay.specs.declared.replay.ReplayError.{ReplayError}
 use Rattle.qolb_replay.specs.declared.replay.ReplayError.TheVariants as error
-use Rattle.qolb_run.specs.declared.replay.Kind.TheVariants.{Plain}
+use Rattle.qolb_run.specs.declared.each_lock.Kind.TheVariants.{Plain}
 use Rattle.qolb_run.specs.declared.report.TaskError.{TaskError}
 use Rattle.qolb_run.specs.declared.report.TaskError.TheVariants as ending
 use Rattle.qolb_replay.specs.declared.steps.Detail.TheVariants.{Words}

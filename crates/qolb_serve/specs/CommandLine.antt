@@ -8,8 +8,8 @@ use Rattle.clap.specs.declared.builder.ArgAction.TheVariants.{Set, SetTrue}
 use Rattle.clap.specs.declared.builder.value_parser.ValueParser.TheVariants as parser
 use Rattle.qolb_script.specs.declared.job.WorkKind.TheVariants.{Board, Bank}
 use Rattle.qolb_run.specs.Kinds.{kind_of}
-use Rattle.qolb_run.specs.declared.replay.Kind.{Kind}
-use Rattle.qolb_run.specs.declared.replay.Kind.TheVariants as kind
+use Rattle.qolb_run.specs.declared.each_lock.Kind.{Kind}
+use Rattle.qolb_run.specs.declared.each_lock.Kind.TheVariants as kind
 use Rattle.line_kinds.specs.Locks.{lock_named, lock_names}
 use Rattle.line_kinds.specs.declared.Lines.{Lines}
 use Rattle.line_kinds.specs.declared.Lines.TheVariants as lines

@@ -3,7 +3,7 @@ use Rattle.std.specs.Prelude.{ℕ, List, Option}
 use Rattle.line_kinds.specs.declared.Lines.{Lines}
 use Rattle.qolb_script.specs.declared.report.Report.{Report}
 use Rattle.qolb_script.specs.WorkScript.{WorkScript}
-use Rattle.qolb_run.specs.declared.replay.Kind.TheVariants.{Plain}
+use Rattle.qolb_run.specs.declared.each_lock.Kind.TheVariants.{Plain}
 use Rattle.qolb_explain.specs.Reasons.{Complaint, schedule_complaint, steps_complaint, work_complaint}
 use Rattle.qolb_replay.specs.declared.steps.Detail.TheVariants.{Words}
 use Rattle.qolb_run.specs.declared.task.Task.{Task}
