@@ -4,9 +4,11 @@ import os
 import subprocess
 import sys
 
+from crates import locks
+
 PROGRAM = os.path.join(os.path.dirname(os.path.abspath(__file__)), "..", "crates", "qolb", "out", "qolb")
 # The kinds of lines that nodes share, as `--kind` names them.
-LOCKS = ["ring", "link", "ticket"]
+LOCKS = [crate.removesuffix("_line") for crate in locks()]
 # A run at the least priority may get no processor for minutes on a busy machine.
 SECONDS = 600
 

@@ -12,6 +12,7 @@ kind: by the memory that it asks for, which differs between the kinds. Needs Lin
 
 import itertools
 import os
+import re
 import resource
 import signal
 import subprocess
@@ -19,6 +20,7 @@ import sys
 import tempfile
 import time
 
+from crates import ROOT
 from definitions import answer_to, is_right
 from program import LOCKS, run, the_program
 
@@ -134,21 +136,22 @@ def taken(program, library, words, script):
         return int(pipe.read())
 
 
-# With 200 nodes a link line takes 26 KB of words, a ring 33 KB, a ticket line as much as a ring and 33 KB of slots.
-BY_SIZE = ["link", "ring", "ticket"]
 APART = 10_000
 IDLE = {"board": b"board workers 200\n", "bank": b"bank workers 200 lines 1\n"}
 
 
 def kinds_by_memory(program, library):
-    """Checks that work over each kind of line asks for a different amount of memory."""
+    """Checks that work over each kind of line asks for a different amount of memory, in the order in which qolb.h has lines of 200 nodes."""
+    header = (ROOT / "c/include/qolb.h").read_text()
+    by_size = sorted(LOCKS, key=lambda kind: int(re.search(rf"^ \* +{kind}(?: +[\d,]+)+ +([\d,]+)$", header, re.M)[1].replace(",", "")))
     for task, script in IDLE.items():
-        took = [taken(program, library, [task, "--kind", kind], script) for kind in BY_SIZE]
-        if not all(more - less > APART for less, more in zip(took, took[1:])):
-            sys.exit(f"wrong: {task} over {BY_SIZE}: {took} bytes")
-        if abs(taken(program, library, [task], script) - took[0]) > APART:
+        took = {kind: taken(program, library, [task, "--kind", kind], script) for kind in by_size}
+        sizes = list(took.values())
+        if not all(more - less > APART for less, more in zip(sizes, sizes[1:])):
+            sys.exit(f"wrong: {task} over {by_size}: {sizes} bytes")
+        if abs(taken(program, library, [task], script) - took["link"]) > APART:
             sys.exit(f"wrong: {task} is not over link lines where no kind is named")
-        print(f"{task}: " + ", ".join(f"{kind} {bytes:,} bytes" for kind, bytes in zip(BY_SIZE, took)), flush=True)
+        print(f"{task}: " + ", ".join(f"{kind} {bytes:,} bytes" for kind, bytes in took.items()), flush=True)
 
 
 def main():
