@@ -30,15 +30,29 @@ pub last_taken : (text words pushed after : List ℕ) (n : ℕ) → pushed ≡ t
 last_taken text words pushed after n is count taken =
     taken ∙ ap (take n) (is ∙ sym (append_assoc text words (10 ∷ []))) ∙ ap (λ k. take k ((text ++ words) ++ 10 ∷ [])) count ∙ take-append_seam (text ++ words) (10 ∷ [])
 
--- one text more
-pub onward : (t p a : List ℕ) {s after : List ℕ} → s ≡ t ++ p → after ≡ s ++ a → after ≡ t ++ (p ++ a)
-onward t p a was pushed = pushed ∙ ap (λ x. x ++ a) was ∙ append_assoc t p a
+-- `now` is `start`, with `text` behind it
+pub record Written (start text now : List ℕ) : Type 0 where
+  pub is : now ≡ start ++ text
+
+-- a text was written as its first piece, and as one piece more: `begins start a why ▸ piece b why ▸ piece c why`
+pub record Piece (was a now : List ℕ) : Type 0 where
+  pub pushed : now ≡ was ++ a
+
+infixl 5 ◌▸◌
+pub begins : (start a : List ℕ) {now : List ℕ} → now ≡ start ++ a → Written start a now
+begins start a pushed = record { is = pushed }
+
+pub piece : (a : List ℕ) {was now : List ℕ} → now ≡ was ++ a → Piece was a now
+piece a pushed = record { pushed = pushed }
+
+pub ◌▸◌ : {start text was a now : List ℕ} → Written start text was → Piece was a now → Written start (text ++ a) now
+◌▸◌ {start = start} {text = text} {a = a} written more = record { is = more.pushed ∙ ap (λ x. x ++ a) written.is ∙ append_assoc start text a }
 
 -- the words of a write behind its line
 pub written_pushed : (node line : ℕ) (mask : Mask) (bytes : Line64) (c : Command) (places text a b after : List ℕ) (first : ℕ) → c ≡ Write node line mask bytes → places ≡ places_in mask.0 → first ≡ get_or places 0 0
     → a ≡ text ++ field (codes " ") first → b ≡ a ++ codes " " → after ≡ b ++ hex_of bytes.bytes places → after ≡ text ++ written_words c
-written_pushed node line mask bytes c places text a b after first is all at begins then last =
-    onward text (field (codes " ") first ++ codes " ") (hex_of bytes.bytes places) (onward text (field (codes " ") first) (codes " ") begins then) last
+written_pushed node line mask bytes c places text a b after first is all at begun then last =
+    (begins text (field (codes " ") first) begun ▸ piece (codes " ") then ▸ piece (hex_of bytes.bytes places) last).is
     ∙ ap (λ n. text ++ (field (codes " ") n ++ codes " " ++ hex_of bytes.bytes places)) at
     ∙ ap (λ ps. text ++ (field (codes " ") (get_or ps 0 0) ++ codes " " ++ hex_of bytes.bytes ps)) all
     ∙ ap (λ (b : Command). text ++ written_words b) (sym is)

@@ -1,34 +1,18 @@
-use Rattle.std.proofs.Common.{ℕ, List, ◌++◌, ◌-◌, ◌*◌}
+use Rattle.std.proofs.Common.{◌-◌, ◌*◌}
 use Rattle.std.specs.Prelude.{codes}
 use Rattle.qolb_shapes.specs.Svg.{field}
 use Rattle.qolb_draw_steps.specs.StepSvg.{class_at, point_words, step_x, step_y}
-use Rattle.qolb_shapes.proofs.Texts.{onward}
+use Rattle.qolb_shapes.proofs.Texts.{begins, piece, ◌▸◌}
 use Rattle.qolb_draw_steps.proofs.step_svg.push_at_bar.Goals as goal
 
 pub returns : goal.returns
 returns g c =
-    let p1 : List ℕ = codes "<rect class='" in
-    let a2 : List ℕ = class_at c.args.point in
-    let p2 : List ℕ = p1 ++ a2 in
-    let a3 : List ℕ = field (codes "' x='") (step_x c.args.start) in
-    let p3 : List ℕ = p2 ++ a3 in
-    let a4 : List ℕ = field (codes "' y='") (step_y c.args.node - 8) in
-    let p4 : List ℕ = p3 ++ a4 in
-    let a5 : List ℕ = field (codes "' width='") (72 * (c.args.end - c.args.start)) in
-    let p5 : List ℕ = p4 ++ a5 in
-    let a6 : List ℕ = field (codes "' height='16'><title>node ") c.args.node in
-    let p6 : List ℕ = p5 ++ a6 in
-    let a7 : List ℕ = codes ": " in
-    let p7 : List ℕ = p6 ++ a7 in
-    let a8 : List ℕ = point_words c.args.point in
-    let p8 : List ℕ = p7 ++ a8 in
-    let a9 : List ℕ = codes "</title></rect>\n" in
-    onward c.args.svg.now.items p8 a9 (onward c.args.svg.now.items p7 a8 (onward c.args.svg.now.items p6 a7 (onward c.args.svg.now.items p5 a6 (onward c.args.svg.now.items p4 a5 (onward c.args.svg.now.items p3 a4 (onward c.args.svg.now.items p2 a3 (onward c.args.svg.now.items p1 a2 (c.in_ok-extend_from_slice.ensures.items)
-    (rw c.class_at.ensures at c.in_ok-extend_from_slice-2.ensures.items))
-    (rw c.step_x.ensures at c.in_ok-push_field.ensures))
-    (rw c.step_y.ensures at c.in_ok-push_field-2.ensures))
-    (rw c.from.ensures at c.in_ok-push_field-3.ensures))
-    (c.in_ok-push_field-4.ensures))
-    (c.in_ok-extend_from_slice-3.ensures.items))
-    (c.in_ok-push_point.ensures))
-    (c.in_ok-extend_from_slice-4.ensures.items)
+    (begins c.args.svg.now.items (codes "<rect class='") c.in_ok-extend_from_slice.ensures.items
+    ▸ piece (class_at c.args.point) (rw c.class_at.ensures at c.in_ok-extend_from_slice-2.ensures.items)
+    ▸ piece (field (codes "' x='") (step_x c.args.start)) (rw c.step_x.ensures at c.in_ok-push_field.ensures)
+    ▸ piece (field (codes "' y='") (step_y c.args.node - 8)) (rw c.step_y.ensures at c.in_ok-push_field-2.ensures)
+    ▸ piece (field (codes "' width='") (72 * (c.args.end - c.args.start))) (rw c.from.ensures at c.in_ok-push_field-3.ensures)
+    ▸ piece (field (codes "' height='16'><title>node ") c.args.node) c.in_ok-push_field-4.ensures
+    ▸ piece (codes ": ") c.in_ok-extend_from_slice-3.ensures.items
+    ▸ piece (point_words c.args.point) c.in_ok-push_point.ensures
+    ▸ piece (codes "</title></rect>\n") c.in_ok-extend_from_slice-4.ensures.items).is

@@ -1,19 +1,12 @@
-use Rattle.std.proofs.Common.{ℕ, List, ◌++◌}
 use Rattle.std.specs.Prelude.{codes}
 use Rattle.qolb_shapes.specs.Svg.{field}
 use Rattle.qolb_draw_steps.specs.StepSvg.{step_x}
-use Rattle.qolb_shapes.proofs.Texts.{onward}
+use Rattle.qolb_shapes.proofs.Texts.{begins, piece, ◌▸◌}
 use Rattle.qolb_draw_steps.proofs.step_svg.push_home.Goals as goal
 
 pub returns : goal.returns
 returns g c =
-    let p1 : List ℕ = field (codes "<text class='small' x='") (step_x c.args.column) in
-    let a2 : List ℕ = field (codes "' y='57'><title>the home word is ") c.args.word in
-    let p2 : List ℕ = p1 ++ a2 in
-    let a3 : List ℕ = field (codes "</title>") c.args.word in
-    let p3 : List ℕ = p2 ++ a3 in
-    let a4 : List ℕ = codes "</text>\n" in
-    onward c.args.svg.now.items p3 a4 (onward c.args.svg.now.items p2 a3 (onward c.args.svg.now.items p1 a2 (rw c.step_x.ensures at c.in_ok-push_field.ensures)
-    (c.in_ok-push_field-2.ensures))
-    (c.in_ok-push_field-3.ensures))
-    (c.in_ok-extend_from_slice.ensures.items)
+    (begins c.args.svg.now.items (field (codes "<text class='small' x='") (step_x c.args.column)) (rw c.step_x.ensures at c.in_ok-push_field.ensures)
+    ▸ piece (field (codes "' y='57'><title>the home word is ") c.args.word) c.in_ok-push_field-2.ensures
+    ▸ piece (field (codes "</title>") c.args.word) c.in_ok-push_field-3.ensures
+    ▸ piece (codes "</text>\n") c.in_ok-extend_from_slice.ensures.items).is

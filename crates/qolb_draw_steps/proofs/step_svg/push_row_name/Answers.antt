@@ -1,22 +1,14 @@
-use Rattle.std.proofs.Common.{ℕ, List, ◌++◌, ◌-◌}
+use Rattle.std.proofs.Common.{◌-◌}
 use Rattle.std.specs.Prelude.{codes}
 use Rattle.qolb_shapes.specs.Svg.{field}
 use Rattle.qolb_draw_steps.specs.StepSvg.{row_name, row_name_y, step_x}
-use Rattle.qolb_shapes.proofs.Texts.{onward}
+use Rattle.qolb_shapes.proofs.Texts.{begins, piece, ◌▸◌}
 use Rattle.qolb_draw_steps.proofs.step_svg.push_row_name.Goals as goal
 
 pub returns : goal.returns
 returns g c =
-    let p1 : List ℕ = field (codes "<text class='name' x='") (step_x c.args.column - 88) in
-    let a2 : List ℕ = field (codes "' y='") (row_name_y c.args.row c.args.column) in
-    let p2 : List ℕ = p1 ++ a2 in
-    let a3 : List ℕ = codes "'>" in
-    let p3 : List ℕ = p2 ++ a3 in
-    let a4 : List ℕ = row_name c.args.row in
-    let p4 : List ℕ = p3 ++ a4 in
-    let a5 : List ℕ = codes "</text>\n" in
-    onward c.args.svg.now.items p4 a5 (onward c.args.svg.now.items p3 a4 (onward c.args.svg.now.items p2 a3 (onward c.args.svg.now.items p1 a2 (rw c.step_x.ensures at c.in_ok-push_field.ensures)
-    (rw c.row_name_y.ensures at c.in_ok-push_field-2.ensures))
-    (c.in_ok-extend_from_slice.ensures.items))
-    (c.in_ok-push_row_words.ensures))
-    (c.in_ok-extend_from_slice-2.ensures.items)
+    (begins c.args.svg.now.items (field (codes "<text class='name' x='") (step_x c.args.column - 88)) (rw c.step_x.ensures at c.in_ok-push_field.ensures)
+    ▸ piece (field (codes "' y='") (row_name_y c.args.row c.args.column)) (rw c.row_name_y.ensures at c.in_ok-push_field-2.ensures)
+    ▸ piece (codes "'>") c.in_ok-extend_from_slice.ensures.items
+    ▸ piece (row_name c.args.row) c.in_ok-push_row_words.ensures
+    ▸ piece (codes "</text>\n") c.in_ok-extend_from_slice-2.ensures.items).is

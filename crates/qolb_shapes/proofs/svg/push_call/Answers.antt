@@ -1,37 +1,18 @@
-use Rattle.std.proofs.Common.{ℕ, List, ◌++◌}
 use Rattle.std.specs.Prelude.{codes}
 use Rattle.qolb_script.specs.Said.{said_words}
 use Rattle.qolb_shapes.specs.Svg.{command_words, field, sign_of, x_of, y_of}
-use Rattle.qolb_shapes.proofs.Texts.{onward}
+use Rattle.qolb_shapes.proofs.Texts.{begins, piece, ◌▸◌}
 use Rattle.qolb_shapes.proofs.svg.push_call.Goals as goal
 
 pub returns : goal.returns
 returns g c =
-    let p1 : List ℕ = codes "<use href='#" in
-    let a2 : List ℕ = sign_of c.args.event.now.change.said in
-    let p2 : List ℕ = p1 ++ a2 in
-    let a3 : List ℕ = field (codes "' x='") (x_of c.args.column) in
-    let p3 : List ℕ = p2 ++ a3 in
-    let a4 : List ℕ = field (codes "' y='") (y_of c.args.row) in
-    let p4 : List ℕ = p3 ++ a4 in
-    let a5 : List ℕ = field (codes "'><title>") (c.args.event.now.number) in
-    let p5 : List ℕ = p4 ++ a5 in
-    let a6 : List ℕ = codes ": " in
-    let p6 : List ℕ = p5 ++ a6 in
-    let a7 : List ℕ = command_words c.args.event.now.command in
-    let p7 : List ℕ = p6 ++ a7 in
-    let a8 : List ℕ = codes ": " in
-    let p8 : List ℕ = p7 ++ a8 in
-    let a9 : List ℕ = said_words c.args.event.now.change.said in
-    let p9 : List ℕ = p8 ++ a9 in
-    let a10 : List ℕ = codes "</title></use>\n" in
-    onward c.args.svg.now.items p9 a10 (onward c.args.svg.now.items p8 a9 (onward c.args.svg.now.items p7 a8 (onward c.args.svg.now.items p6 a7 (onward c.args.svg.now.items p5 a6 (onward c.args.svg.now.items p4 a5 (onward c.args.svg.now.items p3 a4 (onward c.args.svg.now.items p2 a3 (onward c.args.svg.now.items p1 a2 (c.in_ok-extend_from_slice.ensures.items)
-    (rw c.sign.ensures at c.in_ok-extend_from_slice-2.ensures.items))
-    (rw c.x_of.ensures at c.in_ok-push_field.ensures))
-    (rw c.y_of.ensures at c.in_ok-push_field-2.ensures))
-    (c.in_ok-push_field-3.ensures))
-    (c.in_ok-extend_from_slice-3.ensures.items))
-    (c.in_ok-push_command.ensures))
-    (c.in_ok-extend_from_slice-4.ensures.items))
-    (c.in_ok-push_answer.ensures))
-    (c.in_ok-extend_from_slice-5.ensures.items)
+    (begins c.args.svg.now.items (codes "<use href='#") c.in_ok-extend_from_slice.ensures.items
+    ▸ piece (sign_of c.args.event.now.change.said) (rw c.sign.ensures at c.in_ok-extend_from_slice-2.ensures.items)
+    ▸ piece (field (codes "' x='") (x_of c.args.column)) (rw c.x_of.ensures at c.in_ok-push_field.ensures)
+    ▸ piece (field (codes "' y='") (y_of c.args.row)) (rw c.y_of.ensures at c.in_ok-push_field-2.ensures)
+    ▸ piece (field (codes "'><title>") (c.args.event.now.number)) c.in_ok-push_field-3.ensures
+    ▸ piece (codes ": ") c.in_ok-extend_from_slice-3.ensures.items
+    ▸ piece (command_words c.args.event.now.command) c.in_ok-push_command.ensures
+    ▸ piece (codes ": ") c.in_ok-extend_from_slice-4.ensures.items
+    ▸ piece (said_words c.args.event.now.change.said) c.in_ok-push_answer.ensures
+    ▸ piece (codes "</title></use>\n") c.in_ok-extend_from_slice-5.ensures.items).is
