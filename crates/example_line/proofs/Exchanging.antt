@@ -22,6 +22,7 @@ use Rattle.qolb_model.specs.Sums.{sum_of_all, KnowsOwnPlaces}
 use Rattle.qolb_model.proofs.Lists.{same_some}
 use Rattle.qolb_model.proofs.Sums.{sums_of_ports}
 use Rattle.qolb_model.proofs.OwnTurns.{NoneServedBeyond, places_same, places_asked, sums_kept, granted_beyond, withdrawn_beyond, told_beyond, busy_beyond, more_turns, unused_sum}
+use Rattle.example_line.proofs.Leaving.{Wrote}
 use Rattle.example_line.specs.Mailbox.{in_lane, lane_sum_of, Moves, puts, takes, fills, empties, Exchanges, HasExchanged, HasPut, HasTaken, sum_up_to}
 
 plus_none : (n : ℕ) → n ≡ n + 0
@@ -59,6 +60,10 @@ turn_moves allows old mid new turn write found left before granted releases lay 
       more_turns allows mid new write releases granted.at_turn (in_lane does)
       ∙ (ap (λ n. n + in_lane does (bytes_of mid) write.bytes.bytes) earlier ∙ ap (λ n. lane_sum_of does old + n) one);
 }
+
+pub wrote_moves : (allows : List ℕ → List ℕ → Type 0) (old mid new : View) (turn write : Write) (found left : ℕ) → Moves (λ _. 0) old mid → Wrote allows mid new turn write found left
+    → Moves (λ does. does found left) old new
+wrote_moves allows old mid new turn write found left before wrote = turn_moves allows old mid new turn write found left before wrote.granted wrote.releases wrote.lay wrote.lies
 
 -- one thing after another
 pub moves_on : (total : (ℕ → ℕ → ℕ) → ℕ) (old mid new : View) → Moves (λ _. 0) old mid → Moves total mid new → Moves total old new

@@ -1,15 +1,10 @@
 use Rattle.qolb_model.specs.contracts.keep.FreeKeep
-use Rattle.std.proofs.Common.{◌≡◌, ℕ, false, List, length, drop, rules, refl, sym, subst, ap, ◌∙◌}
-use Rattle.line_lanes.specs.declared.line.Line64.{Line64}
-use Rattle.line_lanes.specs.Lane.{lane_of}
-use Rattle.line_lanes.proofs.Masked.{merged-all}
-use Rattle.qolb_model.specs.declared.view.View.{View}
-use Rattle.qolb_model.specs.declared.write.Write.{Write}
+use Rattle.std.proofs.Common.{false, rules, refl, sym, subst, ap, ◌∙◌}
 use Rattle.qolb_model.specs.Calls.{Releases}
 use Rattle.qolb_model.specs.AtTurn.{IsGranted}
 use Rattle.example_line.proofs.Counting.{released_quiet}
-use Rattle.example_line.proofs.Leaving.{first_lane, had_turn}
-use Rattle.example_line.proofs.Exchanging.{turn_moves, same_moves}
+use Rattle.example_line.proofs.Leaving.{wrote, had_turn}
+use Rattle.example_line.proofs.Exchanging.{turn_moves, wrote_moves, same_moves}
 use Rattle.example_line.proofs.mailbox.try_put.Goals as goal
 use Rattle.example_line.proofs.mailbox.try_put.Goals.{then-is_free, else-is_free}
 
@@ -33,42 +28,21 @@ returns-clause-state g c = released_quiet _ _ _ _ c.deqolb.ensures.releases
 pub returns-clause-put : goal.returns-clause-put
 returns-clause-put g c = λ free. elim c.if-is_free.branch [
   | then-is_free w ↦
-      let allows = FreeKeep.TheImpl.ghosts.allows in
-      let new = g.L.LineSync.view c.deqolb.new.port in
-      let turn = g.L.LineSync.turn c.ask.new.port in
-      let write = g.L.LineSync.turn w.write.new.port in
-      let granted : IsGranted (g.L.LineSync.view c.ask.new.port) turn = c.ask.ensures.granted (search rules) in
-      let releases =
-      subst (λ (v : View). Releases allows false v new write) w.write.ensures.view
-      (subst (λ port. Releases allows false (g.L.LineSync.view port) new (g.L.LineSync.turn port)) w.port-is c.deqolb.ensures.releases) in
-      let long : length w.with_lane.result.bytes ≡ 64 = search in
-      let written = ap (λ (v : Write). v.bytes.bytes) w.write.ensures.turn ∙ merged-all turn.bytes.bytes w.with_lane.result.bytes long in
-      let lay = ap (λ (line : Line64). lane_of line.bytes 0) (sym c.bytes.ensures.bytes) ∙ (sym c.lane-is_free.ensures ∙ w.if-is_free.true) in
-      let lies =
-      ap (λ (b : List ℕ). lane_of b 0) (written ∙ w.with_lane.ensures) ∙ first_lane c.bytes.result.now.bytes c.args.value c.ranges.value.fits in
-      let others =
-      ap (drop 8) (written ∙ w.with_lane.ensures) ∙ ap (λ (line : Line64). drop 8 line.bytes) c.bytes.ensures.bytes in
-      had_turn allows _ new turn write 0 c.args.value granted releases lay lies others
+      had_turn _ _ _ _ _ 0 c.args.value
+      (wrote FreeKeep.TheImpl.ghosts.allows _ _ _ (g.L.LineSync.turn c.ask.new.port) (g.L.LineSync.turn w.write.new.port) c.bytes.result.now w.with_lane.result 0 c.args.value c.ranges.value.fits (search)
+      (c.ask.ensures.granted (search rules)) c.bytes.ensures.bytes (sym c.lane-is_free.ensures ∙ w.if-is_free.true) w.with_lane.ensures w.write.ensures.turn w.write.ensures.view
+      (subst (λ port. Releases FreeKeep.TheImpl.ghosts.allows false (g.L.LineSync.view port) (g.L.LineSync.view c.deqolb.new.port) (g.L.LineSync.turn port)) w.port-is c.deqolb.ensures.releases))
   | else-is_free w ↦ search rules
 ]
 
 pub returns-clause-moves : goal.returns-clause-moves
 returns-clause-moves g c known = elim c.if-is_free.branch [
   | then-is_free w ↦
-      let allows = FreeKeep.TheImpl.ghosts.allows in
-      let new = g.L.LineSync.view c.deqolb.new.port in
-      let turn = g.L.LineSync.turn c.ask.new.port in
-      let write = g.L.LineSync.turn w.write.new.port in
-      let granted : IsGranted (g.L.LineSync.view c.ask.new.port) turn = c.ask.ensures.granted (search rules) in
-      let releases =
-      subst (λ (v : View). Releases allows false v new write) w.write.ensures.view
-      (subst (λ port. Releases allows false (g.L.LineSync.view port) new (g.L.LineSync.turn port)) w.port-is c.deqolb.ensures.releases) in
-      let long : length w.with_lane.result.bytes ≡ 64 = search in
-      let written = ap (λ (v : Write). v.bytes.bytes) w.write.ensures.turn ∙ merged-all turn.bytes.bytes w.with_lane.result.bytes long in
-      let lay = ap (λ (line : Line64). lane_of line.bytes 0) (sym c.bytes.ensures.bytes) ∙ (sym c.lane-is_free.ensures ∙ w.if-is_free.true) in
-      let lies =
-      ap (λ (b : List ℕ). lane_of b 0) (written ∙ w.with_lane.ensures) ∙ first_lane c.bytes.result.now.bytes c.args.value c.ranges.value.fits in
-      (λ _. turn_moves allows _ _ new turn write 0 c.args.value (c.ask.ensures.moves known) granted releases lay lies, λ no. search rules)
+      let did =
+      wrote FreeKeep.TheImpl.ghosts.allows _ _ _ (g.L.LineSync.turn c.ask.new.port) (g.L.LineSync.turn w.write.new.port) c.bytes.result.now w.with_lane.result 0 c.args.value c.ranges.value.fits (search)
+      (c.ask.ensures.granted (search rules)) c.bytes.ensures.bytes (sym c.lane-is_free.ensures ∙ w.if-is_free.true) w.with_lane.ensures w.write.ensures.turn w.write.ensures.view
+      (subst (λ port. Releases FreeKeep.TheImpl.ghosts.allows false (g.L.LineSync.view port) (g.L.LineSync.view c.deqolb.new.port) (g.L.LineSync.turn port)) w.port-is c.deqolb.ensures.releases) in
+      (λ _. wrote_moves _ _ _ _ _ _ 0 c.args.value (c.ask.ensures.moves known) did, λ no. search rules)
   | else-is_free w ↦
       let allows = FreeKeep.TheImpl.ghosts.allows in
       let new = g.L.LineSync.view c.deqolb.new.port in
