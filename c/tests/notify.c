@@ -345,7 +345,7 @@ static int calls_in_both_processes(uint32_t kind) {
 int main(void) {
     alarm(120);
     if (refuses_lent()) return 1;
-    for (uint32_t kind = QOLB_RING; kind <= QOLB_TICKET; kind++) {
+    for (uint32_t kind = 0; kind < QOLB_KINDS; kind++) {
         if (refuses(kind) || calls_once(kind) || replaces(kind) || passes_withdrawn(kind) || shuts(kind)) return 1;
         if (nests_no_call(kind) || has_turns_of_many(kind) || tells_lines_apart(kind)) return 1;
         for (int done = 0; done < 2; done++)

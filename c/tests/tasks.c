@@ -299,7 +299,7 @@ static int keeps_the_order(uint32_t kind, uint32_t seats) {
 
 int main(void) {
     alarm(300);
-    for (uint32_t kind = QOLB_RING; kind <= QOLB_TICKET; kind++)
+    for (uint32_t kind = 0; kind < QOLB_KINDS; kind++)
         for (uint32_t seats = 1; seats <= 4; seats++)
             for (uint32_t burst = 0; burst < (seats > 1 ? 2 : 1); burst++) {
                 uint32_t all = seats + 65536 * 4 * burst;

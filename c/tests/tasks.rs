@@ -249,7 +249,7 @@ fn many_nodes(count: u64, rounds: u32, seed: u64) {
     let (pool, counts) = (Arc::new(Pool::default()), Arc::new(Counts::default()));
     let mut tasks = Vec::new();
     for line in 0..count.div_ceil(200) {
-        let nodes = opens([Kind::Ring, Kind::Link, Kind::Ticket][line as usize % 3], 200);
+        let nodes = opens(Kind::ALL[line as usize % Kind::ALL.len()], 200);
         for (k, node) in nodes.into_iter().enumerate() {
             tasks.push(pool.spawn(by_node(node, counts.clone(), rounds, Random(seed * 31 + line * 977 + k as u64 * 104_729 + 1))));
         }
@@ -267,7 +267,7 @@ fn main() {
     one_waits();
     guards_go();
     wakers_own_turns();
-    for kind in [Kind::Ring, Kind::Link, Kind::Ticket] {
+    for kind in Kind::ALL {
         a_node_waits(kind);
     }
     for seed in seed.. {

@@ -23,9 +23,8 @@ use example_line::{capacity, counter, fair, mailbox};
 use held::{expect, expect_at, open_one, open_two};
 use line_blocking::{Got, acquire};
 use line_generic::{Discipline, Line};
-use line_kinds::{ALL, Lines, for_kind};
+use line_kinds::{ALL, LinkQueue, for_kind};
 use line_lanes::Line64;
-use link_line::LinkQueue;
 use parked::NoHooks;
 use qolb_model::{Free, LineSync, OpenLine, PortState};
 use std::alloc::Global;
@@ -47,6 +46,8 @@ enum Row {
     Fairness,
     Patience,
     Waits,
+    Limits,
+    Leases,
     Sleeps,
     LongSleeps,
     Parking,
@@ -60,7 +61,7 @@ enum Row {
 }
 
 /// Runs `row` over lines of this type.
-fn try_over<R: Threads + Wait + Clock + Abort + Sync, L: Counting + Sync + Drop>(
+fn try_over<R: Threads + Wait + Clock + Abort + Sync, L: Counting + Sync>(
     rt: &R,
     alloc: Global,
     row: Row,
@@ -99,6 +100,8 @@ where
             expect(rt, "late", late_at_a_new_line::<L>(alloc), wanted);
         }
         Row::Waits => asleep::each_wait::<R, L>(rt, alloc),
+        Row::Limits => asleep::no_grant_is_lost_to_a_time_limit::<R, L>(rt, alloc),
+        Row::Leases => asleep::sleepers_and_late_ones_share_a_lease::<R, L>(rt, alloc),
         Row::Sleeps => noted::each_sleep::<R, L>(rt, alloc),
         Row::LongSleeps => {
             parked::a_sleep_lasts_as_long_as_it_may::<R, L>(rt, alloc);
@@ -119,16 +122,6 @@ where
     Ok(())
 }
 
-/// Runs `row` over lines of the kind `lines`.
-fn over<R: Threads + Wait + Clock + Abort + Sync>(
-    rt: &R,
-    alloc: Global,
-    lines: Lines,
-    row: Row,
-) -> Result<(), Fail> {
-    for_kind!(lines, try_by, [R], (rt, alloc, row))
-}
-
 /// Runs `row` over lines of this discipline.
 fn try_by<R: Threads + Wait + Clock + Abort + Sync, Q: Discipline<Free> + Send + Sync>(
     rt: &R,
@@ -145,7 +138,7 @@ fn over_each<R: Threads + Wait + Clock + Abort + Sync>(
     row: Row,
 ) -> Result<(), Fail> {
     for lines in ALL {
-        over(rt, alloc, lines, row)?;
+        for_kind!(lines, try_by, [R], (rt, alloc, row))?;
     }
     Ok(())
 }
@@ -183,11 +176,6 @@ where
         let found = capacity::sell::<R, H>(rt, alloc, clerks, customers);
         expect_at(rt, customers, found, sold);
     }
-}
-
-/// Sells the seats over lines of the kind `lines`.
-fn sell_over<R: Threads + Wait + Abort + Sync>(rt: &R, alloc: Global, lines: Lines) {
-    for_kind!(lines, sell_by, [R], (rt, alloc))
 }
 
 /// Sells the seats over lines of this discipline.
@@ -311,7 +299,7 @@ fn a_value_lies_in_its_lane(rt: HostRuntime) -> Result<(), Fail> {
 #[test]
 fn no_more_seats_are_sold_than_there_are(rt: HostRuntime) -> Result<(), Fail> {
     for lines in ALL {
-        sell_over(&rt, rt.alloc(), lines);
+        for_kind!(lines, sell_by, [HostRuntime], (&rt, rt.alloc()));
     }
     Ok(())
 }
@@ -332,18 +320,18 @@ fn a_late_node_asks_again(rt: HostRuntime) -> Result<(), Fail> {
 }
 
 #[test]
-fn waiters_sleep_at_a_ring(rt: HostRuntime) -> Result<(), Fail> {
-    over(&rt, rt.alloc(), Lines::Ring, Row::Waits)
+fn waiters_sleep_over_any_lock(rt: HostRuntime) -> Result<(), Fail> {
+    over_each(&rt, rt.alloc(), Row::Waits)
 }
 
 #[test]
-fn waiters_sleep_at_a_list(rt: HostRuntime) -> Result<(), Fail> {
-    over(&rt, rt.alloc(), Lines::Link, Row::Waits)
+fn no_grant_is_lost_to_a_time_limit(rt: HostRuntime) -> Result<(), Fail> {
+    over_each(&rt, rt.alloc(), Row::Limits)
 }
 
 #[test]
-fn waiters_sleep_at_a_ticket_line(rt: HostRuntime) -> Result<(), Fail> {
-    over(&rt, rt.alloc(), Lines::Ticket, Row::Waits)
+fn sleepers_and_late_ones_share_a_lease(rt: HostRuntime) -> Result<(), Fail> {
+    over_each(&rt, rt.alloc(), Row::Leases)
 }
 
 #[test]

@@ -12,15 +12,13 @@ mod script;
 
 use crate::checked_line::Instrumented;
 use line_generic::{Discipline, Line};
-use link_line::LinkQueue;
+use line_kinds::{ALL, Lines, for_kind};
 use qolb_model::{Free, ParkingLine};
-use ring_line::RingQueue;
 use rows::expect_eq;
 use std::alloc::Global;
 use std::process::Abort;
 use std::sync::Wait;
 use std::test::Fail;
-use ticket_line::TicketQueue;
 
 /// What differs between the locks: the word steps of a release that passes two withdrawn nodes of three, and of one that passes 199 of 200;
 /// and the bytes of the table of a line with four nodes.
@@ -102,61 +100,52 @@ fn names_over<R: Abort, Q: Discipline<Free>>(rt: &R, alloc: Global) {
     }
 }
 
-fn over_rings<R: Wait + Abort>(rt: &R, alloc: Global, part: Part) -> Result<(), Fail> {
-    // 256 cells, each with a node's word in 128 bytes, and a slot: as for 200 nodes.
-    let known = Known {
-        few: 8,
-        many: 599,
-        table: 257 * 128,
-    };
-    part_over::<_, RingQueue>(rt, alloc, &known, part)
+/// What differs between this lock and the others.
+fn known_of(lines: Lines) -> Known {
+    match lines {
+        // 256 cells, each with a node's word in 128 bytes, and a slot: as for 200 nodes.
+        Lines::Ring => Known {
+            few: 8,
+            many: 599,
+            table: 257 * 128,
+        },
+        // An entry of 128 bytes for each node, as much for the home word, and a slot.
+        Lines::Link => Known {
+            few: 9,
+            many: 797,
+            table: 6 * 128,
+        },
+        // Eight cells, each with a node's word in 128 bytes, and with a slot.
+        Lines::Ticket => Known {
+            few: 5,
+            many: 399,
+            table: 8 * 256,
+        },
+    }
 }
 
-fn over_lists<R: Wait + Abort>(rt: &R, alloc: Global, part: Part) -> Result<(), Fail> {
-    // An entry of 128 bytes for each node, as much for the home word, and a slot.
-    let known = Known {
-        few: 9,
-        many: 797,
-        table: 6 * 128,
-    };
-    part_over::<_, LinkQueue>(rt, alloc, &known, part)
-}
-
-fn over_ticket_lines<R: Wait + Abort>(rt: &R, alloc: Global, part: Part) -> Result<(), Fail> {
-    // Eight cells, each with a node's word in 128 bytes, and with a slot.
-    let known = Known {
-        few: 5,
-        many: 399,
-        table: 8 * 256,
-    };
-    part_over::<_, TicketQueue>(rt, alloc, &known, part)
-}
-
-#[test]
-fn a_ring_answers_each_call(rt: HostRuntime) -> Result<(), Fail> {
-    over_rings(&rt, rt.alloc(), Part::Calls)
-}
-
-#[test]
-fn a_list_answers_each_call(rt: HostRuntime) -> Result<(), Fail> {
-    over_lists(&rt, rt.alloc(), Part::Calls)
+/// Runs `part` over lines of each lock.
+fn over_each<R: Wait + Abort>(rt: &R, alloc: Global, part: Part) -> Result<(), Fail> {
+    for lines in ALL {
+        let known = known_of(lines);
+        for_kind!(lines, part_over, [R], (rt, alloc, &known, part))?;
+    }
+    Ok(())
 }
 
 #[test]
-fn a_ticket_line_answers_each_call(rt: HostRuntime) -> Result<(), Fail> {
-    over_ticket_lines(&rt, rt.alloc(), Part::Calls)
+fn each_lock_answers_each_call(rt: HostRuntime) -> Result<(), Fail> {
+    over_each(&rt, rt.alloc(), Part::Calls)
 }
 
 #[test]
 fn a_line_tells_to_whom_it_went(rt: HostRuntime) {
-    names_over::<_, RingQueue>(&rt, rt.alloc());
-    names_over::<_, LinkQueue>(&rt, rt.alloc());
-    names_over::<_, TicketQueue>(&rt, rt.alloc());
+    for lines in ALL {
+        for_kind!(lines, names_over, [HostRuntime], (&rt, rt.alloc()));
+    }
 }
 
 #[test]
 fn each_allocation_of_opening_is_refused(rt: HostRuntime) -> Result<(), Fail> {
-    over_rings(&rt, rt.alloc(), Part::OpeningWithoutMemory)?;
-    over_lists(&rt, rt.alloc(), Part::OpeningWithoutMemory)?;
-    over_ticket_lines(&rt, rt.alloc(), Part::OpeningWithoutMemory)
+    over_each(&rt, rt.alloc(), Part::OpeningWithoutMemory)
 }

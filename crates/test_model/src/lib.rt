@@ -4,26 +4,4 @@
 #![tactic(auto)]
 
 #[cfg(test)]
-mod board;
-#[cfg(test)]
-mod lanes;
-#[cfg(test)]
-mod links;
-#[cfg(test)]
-mod plain;
-#[cfg(test)]
-mod reasons;
-#[cfg(test)]
-mod replies;
-#[cfg(test)]
-mod reports;
-#[cfg(test)]
-mod rows;
-#[cfg(test)]
-mod schedules;
-#[cfg(test)]
-mod steps;
-#[cfg(test)]
-mod watching;
-#[cfg(test)]
-mod work;
+mod tests;

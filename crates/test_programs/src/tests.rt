@@ -8,15 +8,13 @@ mod rows;
 use line_accounts::AccountLaw;
 use line_board::BoardLaw;
 use line_generic::{Discipline, Line};
-use link_line::LinkQueue;
+use line_kinds::{ALL, LinkQueue, RingQueue, TicketQueue, for_kind};
 use qolb_model::{Free, OpenLine, ParkingLine};
-use ring_line::RingQueue;
 use std::alloc::Global;
 use std::process::Abort;
 use std::sync::Wait;
 use std::test::Fail;
 use std::thread::Threads;
-use ticket_line::TicketQueue;
 
 /// Runs each test of the board over lines of this type.
 fn each_board<
@@ -38,6 +36,8 @@ where
 #[derive(Clone, Copy)]
 enum Part {
     Rows,
+    /// A million transfers, in threads.
+    Transfers,
     /// The answers of settling while memory is refused. It takes all memory of the process.
     SettlingWithoutMemory,
 }
@@ -52,6 +52,7 @@ where
 {
     match part {
         Part::Rows => each_desk::<R, L>(rt, alloc),
+        Part::Transfers => desks::what_was_paid_in_is_settled::<R, L>(rt, alloc),
         Part::SettlingWithoutMemory => {
             desks::settling_is_refused_for_want_of_memory::<R, L>(rt, alloc)
         }
@@ -77,7 +78,7 @@ where
     desks::a_busy_desk_asks_once::<R, L>(rt, alloc);
     desks::the_lower_line_is_asked_for_first::<R, L>(rt, alloc, 0, 9);
     desks::the_lower_line_is_asked_for_first::<R, L>(rt, alloc, 9, 0);
-    desks::what_was_paid_in_is_settled::<R, L>(rt, alloc)
+    Ok(())
 }
 
 /// Runs each program of threads that count, over lines of this type.
@@ -109,6 +110,18 @@ fn desks_by<R: Threads + Wait + Sync + Abort, Q: Discipline<AccountLaw> + Send +
     try_desks::<R, Line<AccountLaw, Q>>(rt, alloc, part)
 }
 
+/// Runs `part` over lines of each lock.
+fn desks_over_each<R: Threads + Wait + Sync + Abort>(
+    rt: &R,
+    alloc: Global,
+    part: Part,
+) -> Result<(), Fail> {
+    for lines in ALL {
+        for_kind!(lines, desks_by, [R], (rt, alloc, part))?;
+    }
+    Ok(())
+}
+
 /// Runs each program of threads that count, over lines of this discipline.
 fn counts_by<R: Threads + Wait + Sync + Abort, Q: Discipline<Free> + Send + Sync>(
     rt: &R,
@@ -118,53 +131,43 @@ fn counts_by<R: Threads + Wait + Sync + Abort, Q: Discipline<Free> + Send + Sync
 }
 
 #[test]
-fn boards_over_rings(rt: HostRuntime) -> Result<(), Fail> {
-    boards_by::<_, RingQueue>(&rt, rt.alloc())
+fn boards_over_each_lock(rt: HostRuntime) -> Result<(), Fail> {
+    for lines in ALL {
+        for_kind!(lines, boards_by, [HostRuntime], (&rt, rt.alloc()))?;
+    }
+    Ok(())
 }
 
 #[test]
-fn desks_over_rings(rt: HostRuntime) -> Result<(), Fail> {
-    desks_by::<_, RingQueue>(&rt, rt.alloc(), Part::Rows)
+fn desks_over_each_lock(rt: HostRuntime) -> Result<(), Fail> {
+    desks_over_each(&rt, rt.alloc(), Part::Rows)
+}
+
+// A million transfers over each lock in one test would be out of time on a busy machine.
+#[test]
+fn transfers_over_rings(rt: HostRuntime) -> Result<(), Fail> {
+    desks_by::<_, RingQueue>(&rt, rt.alloc(), Part::Transfers)
 }
 
 #[test]
-fn counts_over_rings(rt: HostRuntime) -> Result<(), Fail> {
-    counts_by::<_, RingQueue>(&rt, rt.alloc())
+fn transfers_over_link_lines(rt: HostRuntime) -> Result<(), Fail> {
+    desks_by::<_, LinkQueue>(&rt, rt.alloc(), Part::Transfers)
 }
 
 #[test]
-fn boards_over_lists(rt: HostRuntime) -> Result<(), Fail> {
-    boards_by::<_, LinkQueue>(&rt, rt.alloc())
+fn transfers_over_ticket_lines(rt: HostRuntime) -> Result<(), Fail> {
+    desks_by::<_, TicketQueue>(&rt, rt.alloc(), Part::Transfers)
 }
 
 #[test]
-fn desks_over_lists(rt: HostRuntime) -> Result<(), Fail> {
-    desks_by::<_, LinkQueue>(&rt, rt.alloc(), Part::Rows)
-}
-
-#[test]
-fn counts_over_lists(rt: HostRuntime) -> Result<(), Fail> {
-    counts_by::<_, LinkQueue>(&rt, rt.alloc())
-}
-
-#[test]
-fn boards_over_ticket_lines(rt: HostRuntime) -> Result<(), Fail> {
-    boards_by::<_, TicketQueue>(&rt, rt.alloc())
-}
-
-#[test]
-fn desks_over_ticket_lines(rt: HostRuntime) -> Result<(), Fail> {
-    desks_by::<_, TicketQueue>(&rt, rt.alloc(), Part::Rows)
-}
-
-#[test]
-fn counts_over_ticket_lines(rt: HostRuntime) -> Result<(), Fail> {
-    counts_by::<_, TicketQueue>(&rt, rt.alloc())
+fn counts_over_each_lock(rt: HostRuntime) -> Result<(), Fail> {
+    for lines in ALL {
+        for_kind!(lines, counts_by, [HostRuntime], (&rt, rt.alloc()))?;
+    }
+    Ok(())
 }
 
 #[test]
 fn settling_is_refused_without_memory(rt: HostRuntime) -> Result<(), Fail> {
-    desks_by::<_, RingQueue>(&rt, rt.alloc(), Part::SettlingWithoutMemory)?;
-    desks_by::<_, LinkQueue>(&rt, rt.alloc(), Part::SettlingWithoutMemory)?;
-    desks_by::<_, TicketQueue>(&rt, rt.alloc(), Part::SettlingWithoutMemory)
+    desks_over_each(&rt, rt.alloc(), Part::SettlingWithoutMemory)
 }

@@ -2,12 +2,4 @@
 #![tactic(auto)]
 
 #[cfg(test)]
-mod helps;
-#[cfg(test)]
-mod hostile;
-#[cfg(test)]
-mod long;
-#[cfg(test)]
-mod runs;
-#[cfg(test)]
-mod scarce;
+mod tests;

@@ -2,26 +2,4 @@
 #![tactic(auto)]
 
 #[cfg(test)]
-mod accounts;
-#[cfg(test)]
-mod answers;
-#[cfg(test)]
-mod boards;
-#[cfg(test)]
-mod calls;
-#[cfg(test)]
-mod errors;
-#[cfg(test)]
-mod events;
-#[cfg(test)]
-mod lanes;
-#[cfg(test)]
-mod lines;
-#[cfg(test)]
-mod plain;
-#[cfg(test)]
-mod rows;
-#[cfg(test)]
-mod runs;
-#[cfg(test)]
-mod scripts;
+mod tests;

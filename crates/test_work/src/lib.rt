@@ -2,16 +2,4 @@
 #![tactic(auto)]
 
 #[cfg(test)]
-mod asleep;
-#[cfg(test)]
-mod eight;
-#[cfg(test)]
-mod gates;
-#[cfg(test)]
-mod progress;
-#[cfg(test)]
-mod rows;
-#[cfg(test)]
-mod scarce;
-#[cfg(test)]
-mod work;
+mod tests;

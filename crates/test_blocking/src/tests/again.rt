@@ -1,8 +1,8 @@
 //! A port whose withdrawn request is not passed yet asks again until it is, over all lines, with each blocking call.
-use crate::tests::held::{Scene, all_see, for_nodes, wait_until};
+use crate::tests::held::{Scene, SleepLine, all_see, for_nodes, wait_until};
 use example_line::timed::add_within;
 use line_blocking::{Got, TimedAcquire, acquire, acquire_parking};
-use qolb_model::{Free, Keep, OpenError, OpenLine, ParkingLine};
+use qolb_model::{Free, Keep, OpenError, ParkingLine};
 use std::alloc::Global;
 use std::process::Abort;
 use std::rt::Clock;
@@ -125,7 +125,7 @@ struct Found {
 }
 
 /// Node 1 of a new line holds it, and node 2 asks again until it is granted the line after node 1.
-fn ask_again<R: Threads + Wait + Clock + Sync, L: OpenLine<Free> + ParkingLine<Free> + Sync + Drop>(
+fn ask_again<R: Threads + Wait + Clock + Sync, L: SleepLine + Sync>(
     rt: &R,
     alloc: Global,
     again: Again,
@@ -153,10 +153,10 @@ where
 /// Asks again with each call, over lines of this type. A parking or timed call sleeps 200 microseconds between two tries: some hundred
 /// tries in 30 milliseconds, hasty only if a sleep ends early. Without the sleeps there would be thousands of tries. The shortest sleep
 /// takes less than `LONG`.
-pub(super) fn each_manner<
-    R: Threads + Wait + Clock + Abort + Sync,
-    L: OpenLine<Free> + ParkingLine<Free> + Sync + Drop,
->(rt: &R, alloc: Global)
+pub(super) fn each_manner<R: Threads + Wait + Clock + Abort + Sync, L: SleepLine + Sync>(
+    rt: &R,
+    alloc: Global,
+)
 where
     L::Port: Send + Drop,
 {

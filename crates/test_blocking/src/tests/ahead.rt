@@ -1,9 +1,9 @@
 //! A release also wakes the waiter behind the next holder, ahead of its turn, and none behind that waiter. Over all lines.
 ghost use Rattle.std.specs.Prelude.{◌≡◌};
 
-use crate::tests::held::{Scene, all_see, for_nodes, wait_until};
+use crate::tests::held::{Scene, SleepLine, all_see, for_nodes, wait_until};
 use crate::tests::parked::sleep_for;
-use qolb_model::{Enq, Free, OpenError, OpenLine, Out, ParkingLine, PortState};
+use qolb_model::{Enq, Free, OpenError, Out, ParkingLine, PortState};
 use std::alloc::Global;
 use std::process::Abort;
 use std::rt::Clock;
@@ -85,10 +85,7 @@ impl<R: Wait + Clock, L: ParkingLine<Free>> Scene<R, L> for Ahead {
 }
 
 /// Runs the scene on a new line. Returns `true` if each node saw what it should.
-fn wake_ahead<
-    R: Threads + Wait + Clock + Sync,
-    L: OpenLine<Free> + ParkingLine<Free> + Sync + Drop,
->(
+fn wake_ahead<R: Threads + Wait + Clock + Sync, L: SleepLine + Sync>(
     rt: &R,
     alloc: Global,
     next: u64,
@@ -115,7 +112,7 @@ where
 /// if it passes a withdrawn request, and if it closes the line.
 pub(super) fn each_release_wakes_one_ahead<
     R: Threads + Wait + Clock + Abort + Sync,
-    L: OpenLine<Free> + ParkingLine<Free> + Sync + Drop,
+    L: SleepLine + Sync,
 >(rt: &R, alloc: Global)
 where
     L::Port: Send + Drop,

@@ -3,14 +3,14 @@ ghost use Rattle.std.specs.Prelude.{◌≡◌, IsTrue};
 ghost use Rattle.qolb_model.specs.PortStates.{may_ask};
 ghost use Rattle.qolb_model.specs.AtTurn.{IsGranted};
 
-use crate::tests::held::{expect, expect_at, open_two};
+use crate::tests::held::{SleepLine, expect, expect_at, for_nodes, open_two};
 use crate::tests::passing::whoever_passes_a_closed_line_on_wakes;
 use example_line::counter::add_one;
 use example_line::timed::add_within;
 use line_blocking::scoped::{ScopedTask, run_scoped};
 use line_blocking::{Got, TimedAcquire, acquire_parking, acquire_timeout};
-use line_lanes::{Line64, lane};
-use qolb_model::{Free, LineConfig, OpenLine, ParkingLine, PortState};
+use line_lanes::lane;
+use qolb_model::{Free, LineConfig, ParkingLine, PortState};
 use std::alloc::Global;
 use std::process::Abort;
 use std::rt::Clock;
@@ -127,7 +127,7 @@ struct Outcome {
 }
 
 /// Runs `sharing` in a thread for each of `nodes` nodes of a new line.
-fn share<R: Threads + Wait + Clock + Sync, L: OpenLine<Free> + ParkingLine<Free> + Sync + Drop>(
+fn share<R: Threads + Wait + Clock + Sync, L: SleepLine + Sync>(
     rt: &R,
     alloc: Global,
     nodes: u64,
@@ -138,9 +138,8 @@ where
     L::Port: Send + Drop,
 {
     let config = LineConfig {
-        nodes,
-        opening: Line64::zero(),
         lease,
+        ..for_nodes(nodes)
     };
     let (line, ports) = L::open_with(alloc, 1, config).ok()?;
     let ports = run_scoped(rt, alloc, sharing, &line, ports)?;
@@ -210,10 +209,10 @@ static SHARED: [Shared; 4] = [
 ];
 
 /// Each row of `SHARED` has its outcome.
-fn each_waiter_is_woken<
-    R: Threads + Wait + Clock + Abort + Sync,
-    L: OpenLine<Free> + ParkingLine<Free> + Sync + Drop,
->(rt: &R, alloc: Global)
+fn each_waiter_is_woken<R: Threads + Wait + Clock + Abort + Sync, L: SleepLine + Sync>(
+    rt: &R,
+    alloc: Global,
+)
 where
     L::Port: Send + Drop,
 {
@@ -230,7 +229,7 @@ where
 }
 
 /// Time-outs race with grants, as the limit is about as long as a turn. Returns `true` if each try was either a turn or a time-out.
-fn race<R: Threads + Wait + Clock + Sync, L: OpenLine<Free> + ParkingLine<Free> + Sync + Drop>(
+fn race<R: Threads + Wait + Clock + Sync, L: SleepLine + Sync>(
     rt: &R,
     alloc: Global,
     micros: u64,
@@ -246,9 +245,9 @@ where
 }
 
 /// Time limits from none up to some turns.
-fn no_grant_is_lost_to_a_time_limit<
+pub(super) fn no_grant_is_lost_to_a_time_limit<
     R: Threads + Wait + Clock + Abort + Sync,
-    L: OpenLine<Free> + ParkingLine<Free> + Sync + Drop,
+    L: SleepLine + Sync,
 >(rt: &R, alloc: Global)
 where
     L::Port: Send + Drop,
@@ -259,9 +258,9 @@ where
 }
 
 /// Two thirds of the tries have no limit, the others have one, until the lease is used up.
-fn sleepers_and_late_ones_share_a_lease<
+pub(super) fn sleepers_and_late_ones_share_a_lease<
     R: Threads + Wait + Clock + Abort + Sync,
-    L: OpenLine<Free> + ParkingLine<Free> + Sync + Drop,
+    L: SleepLine + Sync,
 >(rt: &R, alloc: Global)
 where
     L::Port: Send + Drop,
@@ -299,7 +298,7 @@ fn late_and_later<R: Wait + Clock, L: ParkingLine<Free>>(
 }
 
 /// Runs `late_and_later` on a new line of two nodes.
-fn late_at_a_new_line<R: Wait + Clock, L: OpenLine<Free> + ParkingLine<Free> + Drop>(
+fn late_at_a_new_line<R: Wait + Clock, L: SleepLine>(
     rt: &R,
     alloc: Global,
 ) -> Option<[(TimedAcquire, PortState); 3]>
@@ -311,10 +310,7 @@ where
 }
 
 /// After a time-out the port is `Rolled`. It times out again while its withdrawn request is not passed, and is then granted.
-fn whoever_is_late_asks_again<
-    R: Wait + Clock + Abort,
-    L: OpenLine<Free> + ParkingLine<Free> + Drop,
->(rt: &R, alloc: Global)
+fn whoever_is_late_asks_again<R: Wait + Clock + Abort, L: SleepLine>(rt: &R, alloc: Global)
 where
     L::Port: Drop,
 {
@@ -326,17 +322,15 @@ where
     expect(rt, "late", late_at_a_new_line::<R, L>(rt, alloc), wanted);
 }
 
-/// Runs each of these tests over lines of this type.
-pub(super) fn each_wait<
-    R: Threads + Wait + Clock + Abort + Sync,
-    L: OpenLine<Free> + ParkingLine<Free> + Sync + Drop,
->(rt: &R, alloc: Global)
+/// Waiters are woken, ask again once they were late, and are told of a line that was closed.
+pub(super) fn each_wait<R: Threads + Wait + Clock + Abort + Sync, L: SleepLine + Sync>(
+    rt: &R,
+    alloc: Global,
+)
 where
     L::Port: Send + Drop,
 {
     each_waiter_is_woken::<R, L>(rt, alloc);
-    no_grant_is_lost_to_a_time_limit::<R, L>(rt, alloc);
-    sleepers_and_late_ones_share_a_lease::<R, L>(rt, alloc);
     whoever_is_late_asks_again::<R, L>(rt, alloc);
     whoever_passes_a_closed_line_on_wakes::<R, L>(rt, alloc);
 }

@@ -1,8 +1,8 @@
 //! A waiter is counted as a sleeper while it sleeps, and no longer, over all lines.
-use crate::tests::held::{Scene, all_see, expect, for_nodes};
+use crate::tests::held::{Scene, SleepLine, all_see, expect, for_nodes};
 use line_blocking::{Got, acquire_parking};
 use line_generic::{Discipline, Line};
-use qolb_model::{Free, OpenError, OpenLine, ParkingLine};
+use qolb_model::{Free, OpenError};
 use std::alloc::Global;
 use std::process::Abort;
 use std::sync::Wait;
@@ -10,7 +10,7 @@ use std::sync::atomic::{AtomicU64, Ordering};
 use std::thread::{Threads, yield_now};
 
 /// A line that counts its sleepers.
-pub(super) trait Counting: OpenLine<Free> + ParkingLine<Free> {
+pub(super) trait Counting: SleepLine {
     /// The number of waiters that sleep or are about to.
     fn sleepers(&self) -> u64;
 
@@ -87,7 +87,7 @@ struct Counts {
 }
 
 /// Runs the scene on a new line and returns the counts.
-fn count_sleepers<R: Threads + Wait + Sync, L: Counting + Sync + Drop>(
+fn count_sleepers<R: Threads + Wait + Sync, L: Counting + Sync>(
     rt: &R,
     alloc: Global,
 ) -> Result<Counts, OpenError>
@@ -108,7 +108,7 @@ where
 }
 
 /// Sleepers are counted while they sleep, and none afterwards: in all, and in each group. The words are spread evenly over the groups.
-pub(super) fn sleepers_are_counted<R: Threads + Wait + Abort + Sync, L: Counting + Sync + Drop>(
+pub(super) fn sleepers_are_counted<R: Threads + Wait + Abort + Sync, L: Counting + Sync>(
     rt: &R,
     alloc: Global,
 )

@@ -3,11 +3,11 @@ ghost use Rattle.std.specs.Prelude.{◌≡◌, ◌<◌, None, All, vec_len};
 ghost use Rattle.line_pool.specs.Lending.{MayAsk, IsPortSetOf};
 ghost use Rattle.line_pool.specs.Gated.{IsKeptSetOf};
 
-use crate::tests::held::{expect, expect_at, wait_until};
+use crate::tests::held::{SleepLine, expect, expect_at, for_nodes, wait_until};
 use line_blocking::scoped::{ScopedTask, run_scoped};
-use line_lanes::{Line64, Mask, lane, with_lane};
+use line_lanes::{Mask, lane, with_lane};
 use line_pool::{GateSet, GateTurn, GatedPool};
-use qolb_model::{Free, Keep, LineConfig, LineSync, OpenLine, ParkingLine};
+use qolb_model::{Free, Keep, LineSync, ParkingLine};
 use std::alloc::Global;
 use std::marker::Brand;
 use std::process::Abort;
@@ -224,7 +224,7 @@ where
 }
 
 /// Returns the same for a new line.
-fn count<R: Threads + Wait + Abort + Sync, L: OpenLine<Free> + ParkingLine<Free> + Sync + Drop>(
+fn count<R: Threads + Wait + Abort + Sync, L: SleepLine + Sync>(
     rt: &R,
     alloc: Global,
     plan: Plan,
@@ -232,25 +232,20 @@ fn count<R: Threads + Wait + Abort + Sync, L: OpenLine<Free> + ParkingLine<Free>
 where
     L::Port: Send + Drop,
 {
-    let config = LineConfig {
-        nodes: plan.0,
-        opening: Line64::zero(),
-        lease: None,
-    };
     let seen = Seen {
         waited: AtomicU64::new(0),
         released: AtomicU64::new(0),
         ready: AtomicU64::new(0),
     };
-    let (line, ports) = L::open_with(alloc, 1, config).ok()?;
+    let (line, ports) = L::open_with(alloc, 1, for_nodes(plan.0)).ok()?;
     count_by(rt, alloc, HookedLine::with(&seen, line), ports, plan, &seen)
 }
 
 /// Threads that enter by a gate lose no addition. One that waits is served before one that asks later, and one alone releases nothing.
-pub(super) fn no_addition_is_lost<
-    R: Threads + Wait + Abort + Sync,
-    L: OpenLine<Free> + ParkingLine<Free> + Sync + Drop,
->(rt: &R, alloc: Global)
+pub(super) fn no_addition_is_lost<R: Threads + Wait + Abort + Sync, L: SleepLine + Sync>(
+    rt: &R,
+    alloc: Global,
+)
 where
     L::Port: Send + Drop,
 {

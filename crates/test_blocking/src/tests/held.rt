@@ -1,5 +1,5 @@
 //! One node holds a line and others wait behind it, each in its own thread.
-ghost use Rattle.std.specs.Prelude.{◌≡◌, All, IfSome, IsTrue};
+ghost use Rattle.std.specs.Prelude.{◌≡◌, All, IfSome, IsTrue, None};
 ghost use Rattle.qolb_model.specs.PortStates.{may_ask};
 ghost use Rattle.line_blocking.specs.Places.{AllAt};
 ghost use Rattle.line_pool.specs.Lending.{MayAsk};
@@ -15,9 +15,15 @@ use std::sync::atomic::{AtomicU64, Ordering};
 use std::thread::{Threads, yield_now};
 use test_support::{HookedLine, Hooks};
 
+/// A line that a test opens, and at which waiters sleep.
+pub(super) trait SleepLine: OpenLine<Free> + ParkingLine<Free> + Drop {}
+
+impl<L: OpenLine<Free> + ParkingLine<Free> + Drop> SleepLine for L {}
+
 /// A line of zeros for `nodes` nodes, without a lease.
 pub(super) fn for_nodes(nodes: u64) -> LineConfig
     ensures nodes { result.nodes ≡ nodes }
+    ensures lease { result.lease ≡ None }
 {
     LineConfig {
         nodes,
@@ -220,7 +226,7 @@ where
 pub(super) fn all_see_hooked<
     R: Threads + Wait + Sync,
     H: Hooks + Sync + Drop,
-    L: OpenLine<Free> + ParkingLine<Free> + Sync + Drop,
+    L: SleepLine + Sync,
     S: Scene<R, HookedLine<H, L>> + Sync,
 >(
     rt: &R,

@@ -1,5 +1,5 @@
 //! A mailbox leaves the other lanes, each addition takes a turn, and values arrive in their order.
-use crate::tests::held::{expect, finish_one, open_one};
+use crate::tests::held::{SleepLine, expect, finish_one, open_one};
 use example_line::{counter, mailbox};
 use line_lanes::{Line64, lane, with_lane};
 use qolb_model::{Free, Keep, OpenLine, ParkingLine};
@@ -101,10 +101,10 @@ impl Hooks for InOrder {
 }
 
 /// The values 1 to 1,500 are handed over in their order; their sum is 1,125,750.
-pub(super) fn each_value_is_taken_up<
-    R: Threads + Wait + Abort + Sync,
-    L: OpenLine<Free> + ParkingLine<Free> + Sync + Drop,
->(rt: &R, alloc: Global)
+pub(super) fn each_value_is_taken_up<R: Threads + Wait + Abort + Sync, L: SleepLine + Sync>(
+    rt: &R,
+    alloc: Global,
+)
 where
     L::Port: Send + Drop,
 {

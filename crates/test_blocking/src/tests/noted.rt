@@ -2,7 +2,9 @@
 ghost use Rattle.std.specs.Prelude.{IfSome, IsTrue};
 ghost use Rattle.qolb_model.specs.PortStates.{may_ask};
 
-use crate::tests::held::{Scene, all_see_hooked, expect, expect_at, open_two, wait_until};
+use crate::tests::held::{
+    Scene, SleepLine, all_see_hooked, expect, expect_at, open_two, wait_until,
+};
 use example_line::timed::add_within;
 use line_blocking::{Deadline, Got, ParkOnPoll, TimedAcquire, acquire_parking, acquire_timeout};
 use qolb_model::{Enq, Free, Keep, LineSync, OpenError, OpenLine, Out, ParkingLine, Poll};
@@ -222,7 +224,7 @@ fn wait_behind<C: Wait + Clock, L: ParkingLine<Free>>(
 }
 
 /// Node 2 of a new line waits so. Returns its answer and the number of readings.
-fn wait_by<R: Wait, L: OpenLine<Free> + ParkingLine<Free> + Drop>(
+fn wait_by<R: Wait, L: SleepLine>(
     alloc: Global,
     notes: &Notes,
     clock: &Ticking<R>,
@@ -243,10 +245,7 @@ where
 /// awake for 288 polls (256 spins, then 32 yields), and sleeps after the 289th. A release also wakes the waiter behind the next holder, so the
 /// waiter then stays awake as long again: it sleeps after the 578th poll, with 6 ticks left. No sleep may take longer than the time left.
 /// All this holds for `acquire_timeout` and for `add_within`.
-fn a_wait_keeps_to_its_time<R: Wait + Abort, L: OpenLine<Free> + ParkingLine<Free> + Drop>(
-    rt: &R,
-    alloc: Global,
-)
+fn a_wait_keeps_to_its_time<R: Wait + Abort, L: SleepLine>(rt: &R, alloc: Global)
 where
     L::Port: Drop,
 {
@@ -268,10 +267,7 @@ where
 }
 
 /// A wait without time, or by a clock that can't be read, times out without a sleep.
-fn no_time_is_over_at_once<R: Wait + Abort, L: OpenLine<Free> + ParkingLine<Free> + Drop>(
-    rt: &R,
-    alloc: Global,
-)
+fn no_time_is_over_at_once<R: Wait + Abort, L: SleepLine>(rt: &R, alloc: Global)
 where
     L::Port: Drop,
 {
@@ -311,7 +307,7 @@ fn ask_behind<N: Wait + Clock, C: Wait + Clock, L: ParkingLine<Free>>(
 }
 
 /// Returns node 2's second answer at a new line.
-fn ask_in_vain<R: Wait, L: OpenLine<Free> + ParkingLine<Free> + Drop>(
+fn ask_in_vain<R: Wait, L: SleepLine>(
     rt: &R,
     clock: &Ticking<R>,
     alloc: Global,
@@ -327,10 +323,7 @@ where
 }
 
 /// A busy node reads the clock once after each try, and times out when it reads the limit.
-fn a_busy_node_keeps_to_its_time<R: Wait + Abort, L: OpenLine<Free> + ParkingLine<Free> + Drop>(
-    rt: &R,
-    alloc: Global,
-)
+fn a_busy_node_keeps_to_its_time<R: Wait + Abort, L: SleepLine>(rt: &R, alloc: Global)
 where
     L::Port: Drop,
 {
@@ -421,7 +414,7 @@ impl<R: Wait + Clock, L: ParkingLine<Free>> Scene<R, L> for Renewing<'_> {
 }
 
 /// Runs the scene on a new line. Returns whether each node saw what it should, and how often node 2 read its clock.
-fn renew<R: Threads + Wait + Clock + Sync, L: OpenLine<Free> + ParkingLine<Free> + Sync + Drop>(
+fn renew<R: Threads + Wait + Clock + Sync, L: SleepLine + Sync>(
     rt: &R,
     alloc: Global,
     notes: &Notes,
@@ -442,10 +435,10 @@ where
 }
 
 /// Busy tries and polls share one time limit: 50 tries leave time for 534 polls, besides the first one.
-fn a_limit_does_not_begin_again<
-    R: Threads + Wait + Clock + Abort + Sync,
-    L: OpenLine<Free> + ParkingLine<Free> + Sync + Drop,
->(rt: &R, alloc: Global)
+fn a_limit_does_not_begin_again<R: Threads + Wait + Clock + Abort + Sync, L: SleepLine + Sync>(
+    rt: &R,
+    alloc: Global,
+)
 where
     L::Port: Send + Drop,
 {
@@ -488,11 +481,7 @@ fn look_behind<L: LineSync<Free>>(line: &L, one: &mut L::Port, two: &mut L::Port
 }
 
 /// Node 2 polls a new `ParkOnPoll` so.
-fn look_asleep<R: Wait, L: OpenLine<Free> + ParkingLine<Free> + Drop>(
-    rt: &R,
-    alloc: Global,
-    notes: &Notes,
-) -> Option<bool>
+fn look_asleep<R: Wait, L: SleepLine>(rt: &R, alloc: Global, notes: &Notes) -> Option<bool>
 where
     L::Port: Drop,
 {
@@ -502,10 +491,7 @@ where
 }
 
 /// A poll of a `ParkOnPoll` sleeps once if the request still waits, and else not at all.
-fn each_look_in_vain_sleeps_once<R: Wait + Abort, L: OpenLine<Free> + ParkingLine<Free> + Drop>(
-    rt: &R,
-    alloc: Global,
-)
+fn each_look_in_vain_sleeps_once<R: Wait + Abort, L: SleepLine>(rt: &R, alloc: Global)
 where
     L::Port: Drop,
 {
@@ -559,7 +545,7 @@ impl<C: Clock> Hooks for &Between<'_, C> {
 }
 
 /// Node 2 polls a new `ParkOnPoll` so, with these hooks.
-fn look_timed<R: Wait + Clock, L: OpenLine<Free> + ParkingLine<Free> + Drop>(
+fn look_timed<R: Wait + Clock, L: SleepLine>(
     rt: &R,
     alloc: Global,
     between: &Between<R>,
@@ -590,10 +576,7 @@ fn time_of_pauses<C: Clock>(clock: &C) -> u64 {
 
 /// Between a poll that finds the turn not there and its sleep, a `ParkOnPoll` takes at least half the time of 256 pauses, however often it
 /// is tried. A body that does not pause takes a small part of it.
-fn each_look_in_vain_pauses<R: Wait + Clock + Abort, L: OpenLine<Free> + ParkingLine<Free> + Drop>(
-    rt: &R,
-    alloc: Global,
-)
+fn each_look_in_vain_pauses<R: Wait + Clock + Abort, L: SleepLine>(rt: &R, alloc: Global)
 where
     L::Port: Drop,
 {
@@ -630,11 +613,7 @@ fn withdraw_behind<L: LineSync<Free>>(line: &L, one: &mut L::Port, two: &mut L::
 }
 
 /// Node 2 withdraws so at a new `ParkOnPoll`.
-fn withdraw_asleep<R: Wait, L: OpenLine<Free> + ParkingLine<Free> + Drop>(
-    rt: &R,
-    alloc: Global,
-    notes: &Notes,
-) -> Option<Out>
+fn withdraw_asleep<R: Wait, L: SleepLine>(rt: &R, alloc: Global, notes: &Notes) -> Option<Out>
 where
     L::Port: Drop,
 {
@@ -644,10 +623,7 @@ where
 }
 
 /// A withdrawal does not poll, sleep or release.
-fn no_withdrawal_sleeps<R: Wait + Abort, L: OpenLine<Free> + ParkingLine<Free> + Drop>(
-    rt: &R,
-    alloc: Global,
-)
+fn no_withdrawal_sleeps<R: Wait + Abort, L: SleepLine>(rt: &R, alloc: Global)
 where
     L::Port: Drop,
 {
@@ -683,10 +659,7 @@ fn let_go_and_shut<L: LineSync<Free>>(
 }
 
 /// Returns these numbers for a new line.
-fn noted_releases<L: OpenLine<Free> + ParkingLine<Free> + Drop>(
-    alloc: Global,
-    notes: &Notes,
-) -> Option<(u64, u64)>
+fn noted_releases<L: SleepLine>(alloc: Global, notes: &Notes) -> Option<(u64, u64)>
 where
     L::Port: Drop,
 {
@@ -695,10 +668,7 @@ where
 }
 
 /// A line with hooks calls `on_release` once for each holder that releases or shuts the line.
-fn each_holder_that_lets_go_is_noted<R: Abort, L: OpenLine<Free> + ParkingLine<Free> + Drop>(
-    rt: &R,
-    alloc: Global,
-)
+fn each_holder_that_lets_go_is_noted<R: Abort, L: SleepLine>(rt: &R, alloc: Global)
 where
     L::Port: Drop,
 {
@@ -752,7 +722,7 @@ impl<R: Wait, L: ParkingLine<Free>> Scene<R, L> for Looking<'_> {
 }
 
 /// Returns `true` if node 1 of a new line held it, and node 2 still waited during node 1's hooks.
-fn look_before<R: Threads + Wait + Sync, L: OpenLine<Free> + ParkingLine<Free> + Sync + Drop>(
+fn look_before<R: Threads + Wait + Sync, L: SleepLine + Sync>(
     rt: &R,
     alloc: Global,
     hooks: &LooksBefore,
@@ -771,10 +741,10 @@ where
 }
 
 /// Hooks are called before the line is released or shut.
-fn hooks_are_told_before<
-    R: Threads + Wait + Abort + Sync,
-    L: OpenLine<Free> + ParkingLine<Free> + Sync + Drop,
->(rt: &R, alloc: Global)
+fn hooks_are_told_before<R: Threads + Wait + Abort + Sync, L: SleepLine + Sync>(
+    rt: &R,
+    alloc: Global,
+)
 where
     L::Port: Send + Drop,
 {
@@ -806,7 +776,7 @@ impl<R: Wait, L: ParkingLine<Free>> Scene<R, L> for Handing<'_> {
 }
 
 /// Returns `true` if both nodes of a new line had it, node 1 until node 2 was sent to sleep twice.
-fn hand_to_a_sleeper<R: Threads + Wait + Sync, L: OpenLine<Free> + ParkingLine<Free> + Sync + Drop>(
+fn hand_to_a_sleeper<R: Threads + Wait + Sync, L: SleepLine + Sync>(
     rt: &R,
     alloc: Global,
     notes: &Notes,
@@ -820,10 +790,7 @@ where
 
 /// `acquire_parking` sleeps after 289 polls that found the turn not there, without a limit. Woken ahead of its turn, it polls 289 times again
 /// before it sleeps again.
-fn a_long_wait_sleeps<
-    R: Threads + Wait + Abort + Sync,
-    L: OpenLine<Free> + ParkingLine<Free> + Sync + Drop,
->(rt: &R, alloc: Global)
+fn a_long_wait_sleeps<R: Threads + Wait + Abort + Sync, L: SleepLine + Sync>(rt: &R, alloc: Global)
 where
     L::Port: Send + Drop,
 {
@@ -844,10 +811,10 @@ where
 }
 
 /// Runs each of these tests over lines of this type.
-pub(super) fn each_sleep<
-    R: Threads + Wait + Clock + Abort + Sync,
-    L: OpenLine<Free> + ParkingLine<Free> + Sync + Drop,
->(rt: &R, alloc: Global)
+pub(super) fn each_sleep<R: Threads + Wait + Clock + Abort + Sync, L: SleepLine + Sync>(
+    rt: &R,
+    alloc: Global,
+)
 where
     L::Port: Send + Drop,
 {

@@ -1,9 +1,9 @@
 //! How long a sleep takes, over all lines, by the system's clock.
 ghost use Rattle.std.specs.Prelude.{◌≡◌};
 
-use crate::tests::held::{Scene, all_see, expect, for_nodes, open_three, wait_until};
+use crate::tests::held::{Scene, SleepLine, all_see, expect, for_nodes, open_three, wait_until};
 use example_line::counter::add;
-use qolb_model::{Enq, Free, OpenError, OpenLine, ParkingLine, PortState};
+use qolb_model::{Enq, Free, OpenError, ParkingLine, PortState};
 use std::alloc::Global;
 use std::process::Abort;
 use std::rt::Clock;
@@ -53,7 +53,7 @@ pub(super) fn sleep_for<R: Wait + Clock, L: ParkingLine<Free>>(
 
 /// Node 1 holds, nodes 2 and 3 queue. Node 2 sleeps `times` times with the limit `at_most`; then node 1 releases, and node 2 sleeps once
 /// more with a limit 1,000 times as long.
-fn sleep_behind_another<R: Wait + Clock, L: OpenLine<Free> + ParkingLine<Free> + Drop>(
+fn sleep_behind_another<R: Wait + Clock, L: SleepLine>(
     rt: &R,
     alloc: Global,
     times: u32,
@@ -99,10 +99,10 @@ static SLEEPS: [(u32, u64, u64); 4] = [
 ];
 
 /// The longest sleep takes at least its limit, and the shortest hardly longer. At its turn a node does not sleep.
-pub(super) fn a_sleep_lasts_as_long_as_it_may<
-    R: Wait + Clock + Abort,
-    L: OpenLine<Free> + ParkingLine<Free> + Drop,
->(rt: &R, alloc: Global)
+pub(super) fn a_sleep_lasts_as_long_as_it_may<R: Wait + Clock + Abort, L: SleepLine>(
+    rt: &R,
+    alloc: Global,
+)
 where
     L::Port: Drop,
 {
@@ -161,10 +161,10 @@ impl<R: Wait + Clock, L: ParkingLine<Free>> Scene<R, L> for Dozing {
 }
 
 /// Runs the scene on a new line. Returns `true` if all waiters slept long, at the same time, behind one holder.
-fn doze_together<
-    R: Threads + Wait + Clock + Sync,
-    L: OpenLine<Free> + ParkingLine<Free> + Sync + Drop,
->(rt: &R, alloc: Global) -> Result<bool, OpenError>
+fn doze_together<R: Threads + Wait + Clock + Sync, L: SleepLine + Sync>(
+    rt: &R,
+    alloc: Global,
+) -> Result<bool, OpenError>
 where
     L::Port: Send + Drop,
 {
@@ -179,7 +179,7 @@ where
 /// All 199 waiters sleep at the same time: none stays awake because others sleep.
 pub(super) fn all_sleep_at_the_same_time<
     R: Threads + Wait + Clock + Abort + Sync,
-    L: OpenLine<Free> + ParkingLine<Free> + Sync + Drop,
+    L: SleepLine + Sync,
 >(rt: &R, alloc: Global)
 where
     L::Port: Send + Drop,

@@ -2,7 +2,7 @@
 ghost use Rattle.std.specs.Prelude.{◌≡◌, IsTrue};
 ghost use Rattle.qolb_model.specs.PortStates.{may_ask};
 
-use crate::tests::held::{expect, for_nodes};
+use crate::tests::held::{SleepLine, expect, for_nodes};
 use line_blocking::scoped::{ScopedTask, run_scoped};
 use line_blocking::{Got, acquire_parking};
 use line_generic::{Line, Port, SplitEnqueue};
@@ -116,7 +116,7 @@ where
 }
 
 /// Runs the scene on a new line. Returns what each of the three nodes saw.
-fn pass<R: Threads + Wait + Clock + Sync, L: OpenLine<Free> + ParkingLine<Free> + Sync + Drop>(
+fn pass<R: Threads + Wait + Clock + Sync, L: SleepLine + Sync>(
     rt: &R,
     alloc: Global,
 ) -> Option<[bool; 3]>
@@ -134,7 +134,7 @@ where
 /// A waiter that sleeps behind a node that withdraws at a closed line is woken.
 pub(super) fn whoever_passes_a_closed_line_on_wakes<
     R: Threads + Wait + Clock + Abort + Sync,
-    L: OpenLine<Free> + ParkingLine<Free> + Sync + Drop,
+    L: SleepLine + Sync,
 >(rt: &R, alloc: Global)
 where
     L::Port: Send + Drop,

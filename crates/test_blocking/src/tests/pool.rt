@@ -4,12 +4,12 @@ mod limits;
 mod one_thread;
 mod passing;
 
-use crate::tests::held::{expect, expect_at};
+use crate::tests::held::{SleepLine, expect, expect_at};
 use counting::count;
 use limits::{Rim, try_one};
 use one_thread::see;
 use passing::pass_over;
-use qolb_model::{Free, OpenLine, ParkingLine};
+use qolb_model::{Free, OpenLine};
 use std::alloc::Global;
 use std::process::Abort;
 use std::rt::Clock;
@@ -41,7 +41,7 @@ where
 /// The second thread has its turn by node 3, after node 2 was busy once. Each of the two turns ends in one release.
 pub(super) fn a_busy_port_is_passed_over<
     R: Threads + Wait + Clock + Abort + Sync,
-    L: OpenLine<Free> + ParkingLine<Free> + Sync + Drop,
+    L: SleepLine + Sync,
 >(rt: &R, alloc: Global)
 where
     L::Port: Send + Drop,
@@ -58,10 +58,10 @@ where
 }
 
 /// One thread is granted the line, is late, and is told that the line is closed.
-pub(super) fn one_thread_is_granted_late_and_told<
-    R: Wait + Clock + Abort,
-    L: OpenLine<Free> + ParkingLine<Free> + Drop,
->(rt: &R, alloc: Global)
+pub(super) fn one_thread_is_granted_late_and_told<R: Wait + Clock + Abort, L: SleepLine>(
+    rt: &R,
+    alloc: Global,
+)
 where
     L::Port: Drop,
 {
@@ -69,10 +69,7 @@ where
 }
 
 /// A thread is late after its whole time, a turn is one of a lease, and a refused `finish` returns all ports.
-pub(super) fn the_rim_is_seen<
-    R: Wait + Clock + Abort,
-    L: OpenLine<Free> + ParkingLine<Free> + Drop,
->(rt: &R, alloc: Global)
+pub(super) fn the_rim_is_seen<R: Wait + Clock + Abort, L: SleepLine>(rt: &R, alloc: Global)
 where
     L::Port: Drop,
 {

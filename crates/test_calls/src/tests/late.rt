@@ -3,8 +3,8 @@
 use crate::checked_line::{CheckedLine, SplitCalls};
 use crate::tests::did::{CallOutcome, expect_by_halves};
 use crate::tests::rows::{expect_at, expect_eq};
+use line_kinds::LinkLine;
 use line_lanes::Line64;
-use link_line::LinkLine;
 use qolb_model::{Enq, FinishError, Free, LineConfig, Out, Poll, PortState, Prep};
 use std::alloc::Global;
 use std::process::Abort;

@@ -2,15 +2,13 @@
 
 use crate::tests::rows::{expect_at, expect_eq};
 use line_generic::{Discipline, Line, Payload};
+use line_kinds::{ALL, for_kind};
 use line_lanes::Line64;
-use link_line::LinkQueue;
 use qolb_model::{Free, LineSync, OpenError, PortState};
-use ring_line::RingQueue;
 use std::alloc::Global;
 use std::mem::size_of;
 use std::process::Abort;
 use std::test::Fail;
-use ticket_line::TicketQueue;
 
 fn a_line_is_opened<R: Abort, Q: Discipline<Free>>(rt: &R, alloc: Global) -> Result<(), Fail> {
     let (line, ports) = Line::<Free, Q>::open(alloc, 3, 2, Line64::zero())?;
@@ -58,9 +56,10 @@ fn each_opening<R: Abort, Q: Discipline<Free>>(rt: &R, alloc: Global) -> Result<
 
 #[test]
 fn lines_are_opened(rt: HostRuntime) -> Result<(), Fail> {
-    each_opening::<_, RingQueue>(&rt, rt.alloc())?;
-    each_opening::<_, TicketQueue>(&rt, rt.alloc())?;
-    each_opening::<_, LinkQueue>(&rt, rt.alloc())
+    for lines in ALL {
+        for_kind!(lines, each_opening, [HostRuntime], (&rt, rt.alloc()))?;
+    }
+    Ok(())
 }
 
 /// A slot takes two cache lines, so that no two slots share one.

@@ -2,7 +2,7 @@
 ghost use Rattle.std.specs.Prelude.{◌≡◌, ◌<◌, All, IfSome, vec_len};
 ghost use Rattle.line_pool.specs.Lending.{MayAsk, IsPortSetOf};
 
-use crate::tests::held::{expect, for_nodes, last_of};
+use crate::tests::held::{SleepLine, expect, for_nodes, last_of};
 use crate::tests::noted::Ticking;
 use crate::tests::pool::one_thread::refusal;
 use line_lanes::Line64;
@@ -190,7 +190,7 @@ where
 }
 
 /// Tries this at a new line.
-pub(super) fn try_one<R: Wait + Clock + Abort, L: OpenLine<Free> + ParkingLine<Free> + Drop>(
+pub(super) fn try_one<R: Wait + Clock + Abort, L: SleepLine>(
     rt: &R,
     alloc: Global,
     rim: Rim,

@@ -2,10 +2,10 @@
 ghost use Rattle.std.specs.Prelude.{◌≡◌, ◌<◌, All, vec_len};
 ghost use Rattle.line_pool.specs.Lending.{MayAsk, IsPortSetOf};
 
-use crate::tests::held::{expect, for_nodes};
+use crate::tests::held::{SleepLine, expect, for_nodes};
 use line_blocking::Deadline;
 use line_pool::{EnterError, PortPool, PortSet};
-use qolb_model::{Free, OpenLine, ParkingLine, PortState};
+use qolb_model::{Free, ParkingLine, PortState};
 use std::alloc::Global;
 use std::marker::Brand;
 use std::process::Abort;
@@ -84,10 +84,7 @@ where
 }
 
 /// Sees the same at a new line.
-pub(super) fn see<R: Wait + Clock + Abort, L: OpenLine<Free> + ParkingLine<Free> + Drop>(
-    rt: &R,
-    alloc: Global,
-) -> Option<()>
+pub(super) fn see<R: Wait + Clock + Abort, L: SleepLine>(rt: &R, alloc: Global) -> Option<()>
 where
     L::Port: Drop,
 {

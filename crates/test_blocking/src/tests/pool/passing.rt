@@ -2,10 +2,10 @@
 ghost use Rattle.std.specs.Prelude.{◌≡◌, ◌<◌, All, vec_len};
 ghost use Rattle.line_pool.specs.Lending.{MayAsk, IsPortSetOf};
 
-use crate::tests::held::{for_nodes, wait_until};
+use crate::tests::held::{SleepLine, for_nodes, wait_until};
 use line_blocking::scoped::{ScopedTask, run_scoped};
 use line_pool::{PortPool, PortSet};
-use qolb_model::{Free, Keep, OpenLine, ParkingLine};
+use qolb_model::{Free, Keep, ParkingLine};
 use std::alloc::Global;
 use std::marker::Brand;
 use std::rt::Clock;
@@ -128,10 +128,11 @@ where
 }
 
 /// Returns the nodes by which two threads held a new line of three nodes, how many times a node was busy, and how many releases there were.
-pub(super) fn pass_over<
-    R: Threads + Wait + Clock + Sync,
-    L: OpenLine<Free> + ParkingLine<Free> + Sync + Drop,
->(rt: &R, alloc: Global, limited: bool) -> Option<([u64; 2], u64, u64)>
+pub(super) fn pass_over<R: Threads + Wait + Clock + Sync, L: SleepLine + Sync>(
+    rt: &R,
+    alloc: Global,
+    limited: bool,
+) -> Option<([u64; 2], u64, u64)>
 where
     L::Port: Send + Drop,
 {

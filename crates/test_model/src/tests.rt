@@ -1,0 +1,14 @@
+//! The tests, by what they try.
+
+mod board;
+mod lanes;
+mod links;
+mod plain;
+mod reasons;
+mod replies;
+mod reports;
+mod rows;
+mod schedules;
+mod steps;
+mod watching;
+mod work;

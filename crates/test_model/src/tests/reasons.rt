@@ -1,0 +1,520 @@
+//! The reasons for refusing a script: the line, and the first thing that is wrong with it.
+use crate::tests::rows::{expect, expect_at};
+use qolb_explain::{Complaint, Reason, explain_schedule, explain_steps, explain_work};
+use qolb_script::{WorkKind, read_schedule};
+use std::alloc::Global;
+use std::process::Abort;
+use std::test::Fail;
+
+/// Schedules, with the number of the refused line and the reason.
+static SCHEDULES: [(&str, Option<(u64, Reason)>); 31] = [
+    ("", Some((1, Reason::Empty))),
+    ("\n  \n", Some((1, Reason::Empty))),
+    ("\n\t\n", Some((2, Reason::Byte))),
+    ("node 2 lines\n", Some((1, Reason::Word(1)))),
+    ("nodes 2 line 9\n", Some((1, Reason::Word(3)))),
+    ("nodes 2 lines\n", Some((1, Reason::Count))),
+    ("nodes 2 lines 1 1\n", Some((1, Reason::Count))),
+    ("nodes 0 line 9 leases 0\n", Some((1, Reason::Word(3)))),
+    ("nodes 0 lines 9 leases 0\n", Some((1, Reason::Word(5)))),
+    (
+        "nodes 201 lines 9\n",
+        Some((
+            1,
+            Reason::Number {
+                place: 2,
+                low: 1,
+                high: 200,
+            },
+        )),
+    ),
+    (
+        "nodes 200 lines 9\n",
+        Some((
+            1,
+            Reason::Number {
+                place: 4,
+                low: 1,
+                high: 8,
+            },
+        )),
+    ),
+    (
+        "nodes 0 lines 9 lease 0\n",
+        Some((
+            1,
+            Reason::Number {
+                place: 2,
+                low: 1,
+                high: 200,
+            },
+        )),
+    ),
+    (
+        "nodes 1 lines 9 lease 0\n",
+        Some((
+            1,
+            Reason::Number {
+                place: 4,
+                low: 1,
+                high: 8,
+            },
+        )),
+    ),
+    (
+        "nodes 1 lines 8 lease 0\n",
+        Some((
+            1,
+            Reason::Number {
+                place: 6,
+                low: 1,
+                high: 18446744073709551615,
+            },
+        )),
+    ),
+    ("nodes 2 lines 1\nask\n", Some((2, Reason::Word(1)))),
+    ("nodes 2 lines 1\n\nenq 3\n", Some((3, Reason::Count))),
+    ("nodes 2 lines 1\nenq 1 0 0\n", Some((2, Reason::Count))),
+    ("nodes 2 lines 1\nwrite 1 0 0\n", Some((2, Reason::Count))),
+    ("nodes 2 lines 1\nenq 1 0\r\n", Some((2, Reason::Byte))),
+    (
+        "nodes 2 lines 1\nenq 3 1\n",
+        Some((
+            2,
+            Reason::Number {
+                place: 2,
+                low: 1,
+                high: 2,
+            },
+        )),
+    ),
+    (
+        "nodes 2 lines 8\nenq 2 8\n",
+        Some((
+            2,
+            Reason::Number {
+                place: 3,
+                low: 0,
+                high: 7,
+            },
+        )),
+    ),
+    (
+        "nodes 2 lines 1\npoll +1 0\n",
+        Some((
+            2,
+            Reason::Number {
+                place: 2,
+                low: 1,
+                high: 2,
+            },
+        )),
+    ),
+    (
+        "nodes 2 lines 1\nwrite 0 1 64 f\n",
+        Some((
+            2,
+            Reason::Number {
+                place: 2,
+                low: 1,
+                high: 2,
+            },
+        )),
+    ),
+    (
+        "nodes 2 lines 1\nwrite 1 1 64 f\n",
+        Some((
+            2,
+            Reason::Number {
+                place: 3,
+                low: 0,
+                high: 0,
+            },
+        )),
+    ),
+    (
+        "nodes 2 lines 1\nwrite 1 0 64 f\n",
+        Some((
+            2,
+            Reason::Number {
+                place: 4,
+                low: 0,
+                high: 63,
+            },
+        )),
+    ),
+    (
+        "nodes 2 lines 1\nwrite 1 0 0 abc\n",
+        Some((2, Reason::Hex(5))),
+    ),
+    (
+        "nodes 2 lines 1\nwrite 1 0 63 fg\n",
+        Some((2, Reason::Hex(5))),
+    ),
+    (
+        "nodes 2 lines 1\nwrite 1 0 63 00fF\n",
+        Some((2, Reason::Fit(5))),
+    ),
+    ("nodes 2 lines 1\nwrite 1 0 63 fF\n", None),
+    ("nodes 200 lines 8 lease 18446744073709551615\n", None),
+    (
+        "nodes 2 lines 1\nenq 3 0\nenq\n",
+        Some((
+            2,
+            Reason::Number {
+                place: 2,
+                low: 1,
+                high: 2,
+            },
+        )),
+    ),
+];
+
+/// Step scripts, with the number of the refused line and the reason.
+static STEPS: [(&str, Option<(u64, Reason)>); 18] = [
+    ("\n", Some((1, Reason::Empty))),
+    ("nodes\t2\n", Some((1, Reason::Byte))),
+    ("node\n", Some((1, Reason::Word(1)))),
+    ("nodes\n", Some((1, Reason::Count))),
+    ("nodes 2 lease\n", Some((1, Reason::Count))),
+    ("nodes 0 leases 0\n", Some((1, Reason::Word(3)))),
+    (
+        "nodes 0\n",
+        Some((
+            1,
+            Reason::Number {
+                place: 2,
+                low: 1,
+                high: 200,
+            },
+        )),
+    ),
+    (
+        "nodes 0 lease 0\n",
+        Some((
+            1,
+            Reason::Number {
+                place: 2,
+                low: 1,
+                high: 200,
+            },
+        )),
+    ),
+    (
+        "nodes 1 lease 0\n",
+        Some((
+            1,
+            Reason::Number {
+                place: 4,
+                low: 1,
+                high: 18446744073709551615,
+            },
+        )),
+    ),
+    ("nodes 2\nenq\n", Some((2, Reason::Word(1)))),
+    ("nodes 2\nreset\n", Some((2, Reason::Count))),
+    ("nodes 2\nwrite 1 0\n", Some((2, Reason::Count))),
+    (
+        "nodes 2\nreset 3\n",
+        Some((
+            2,
+            Reason::Number {
+                place: 2,
+                low: 1,
+                high: 2,
+            },
+        )),
+    ),
+    (
+        "nodes 2\nwrite 3 64 f\n",
+        Some((
+            2,
+            Reason::Number {
+                place: 2,
+                low: 1,
+                high: 2,
+            },
+        )),
+    ),
+    (
+        "nodes 2\nwrite 1 64 f\n",
+        Some((
+            2,
+            Reason::Number {
+                place: 3,
+                low: 0,
+                high: 63,
+            },
+        )),
+    ),
+    ("nodes 2\nwrite 1 0 f\n", Some((2, Reason::Hex(4)))),
+    ("nodes 2\nwrite 1 63 ffff\n", Some((2, Reason::Fit(4)))),
+    ("nodes 2\nreset 1\nclose 2\nwrite 1 62 ffff\n", None),
+];
+
+/// Work scripts of boards, with the number of the refused line and the reason.
+static BOARDS: [(&str, Option<(u64, Reason)>); 12] = [
+    ("", Some((1, Reason::Empty))),
+    ("bank workers 1 lines 1\n", Some((1, Reason::Word(1)))),
+    ("board workers\n", Some((1, Reason::Count))),
+    ("board worker 0\n", Some((1, Reason::Word(2)))),
+    (
+        "board workers 0\n",
+        Some((
+            1,
+            Reason::Number {
+                place: 3,
+                low: 1,
+                high: 200,
+            },
+        )),
+    ),
+    ("board workers 1\n2\n", Some((2, Reason::Count))),
+    ("board workers 1\n2 give 3\n", Some((2, Reason::Word(2)))),
+    ("board workers 1\n2 take 3\n", Some((2, Reason::Count))),
+    ("board workers 1\n2 put\n", Some((2, Reason::Count))),
+    (
+        "board workers 1\n2 take\n",
+        Some((
+            2,
+            Reason::Number {
+                place: 1,
+                low: 1,
+                high: 1,
+            },
+        )),
+    ),
+    (
+        "board workers 3\n4 put x\n",
+        Some((
+            2,
+            Reason::Number {
+                place: 1,
+                low: 1,
+                high: 3,
+            },
+        )),
+    ),
+    (
+        "board workers 1\n1 take\n1 put x\n",
+        Some((
+            3,
+            Reason::Number {
+                place: 3,
+                low: 0,
+                high: 18446744073709551615,
+            },
+        )),
+    ),
+];
+
+/// Work scripts of banks, with the number of the refused line and the reason.
+static BANKS: [(&str, Option<(u64, Reason)>); 19] = [
+    ("board workers 1\n", Some((1, Reason::Word(1)))),
+    ("bank workers 1\n", Some((1, Reason::Count))),
+    ("bank worker 1 line 1\n", Some((1, Reason::Word(2)))),
+    ("bank workers 1 line 1\n", Some((1, Reason::Word(4)))),
+    (
+        "bank workers 0 lines 9\n",
+        Some((
+            1,
+            Reason::Number {
+                place: 3,
+                low: 1,
+                high: 200,
+            },
+        )),
+    ),
+    (
+        "bank workers 1 lines 9\n",
+        Some((
+            1,
+            Reason::Number {
+                place: 5,
+                low: 1,
+                high: 8,
+            },
+        )),
+    ),
+    ("bank workers 1 lines 2\n1\n", Some((2, Reason::Count))),
+    (
+        "bank workers 1 lines 2\n1 put 2\n",
+        Some((2, Reason::Word(2))),
+    ),
+    ("bank workers 1 lines 2\n1 in 2\n", Some((2, Reason::Count))),
+    (
+        "bank workers 1 lines 2\n2 in 16 x\n",
+        Some((
+            2,
+            Reason::Number {
+                place: 1,
+                low: 1,
+                high: 1,
+            },
+        )),
+    ),
+    (
+        "bank workers 1 lines 2\n1 in 16 x\n",
+        Some((
+            2,
+            Reason::Number {
+                place: 3,
+                low: 0,
+                high: 15,
+            },
+        )),
+    ),
+    (
+        "bank workers 1 lines 2\n1 out 15 x\n",
+        Some((
+            2,
+            Reason::Number {
+                place: 4,
+                low: 0,
+                high: 18446744073709551615,
+            },
+        )),
+    ),
+    (
+        "bank workers 1 lines 2\n1 move 1 2\n",
+        Some((2, Reason::Count)),
+    ),
+    (
+        "bank workers 1 lines 2\n2 move 16 16 x\n",
+        Some((
+            2,
+            Reason::Number {
+                place: 1,
+                low: 1,
+                high: 1,
+            },
+        )),
+    ),
+    (
+        "bank workers 1 lines 2\n1 move 16 16 x\n",
+        Some((
+            2,
+            Reason::Number {
+                place: 3,
+                low: 0,
+                high: 15,
+            },
+        )),
+    ),
+    (
+        "bank workers 1 lines 2\n1 move 15 16 x\n",
+        Some((
+            2,
+            Reason::Number {
+                place: 4,
+                low: 0,
+                high: 15,
+            },
+        )),
+    ),
+    (
+        "bank workers 1 lines 2\n1 move 15 15 x\n",
+        Some((
+            2,
+            Reason::Number {
+                place: 5,
+                low: 0,
+                high: 18446744073709551615,
+            },
+        )),
+    ),
+    (
+        "bank workers 1 lines 2\n1 in 0 5\t\n",
+        Some((2, Reason::Byte)),
+    ),
+    ("bank workers 1 lines 2\n1 move 0 15 5\n", None),
+];
+
+/// The number and the reason of a complaint.
+fn told(it: Option<Complaint<'_>>) -> Option<(u64, Reason)> {
+    it.map(|it| (it.number, it.reason))
+}
+
+#[test]
+fn tells_what_is_wrong(rt: HostRuntime) {
+    for (text, wanted) in &SCHEDULES {
+        expect(&rt, *text, told(explain_schedule(text.as_bytes())), *wanted);
+    }
+    for (text, wanted) in &STEPS {
+        expect(&rt, *text, told(explain_steps(text.as_bytes())), *wanted);
+    }
+    for (text, wanted) in &BOARDS {
+        let found = explain_work(text.as_bytes(), WorkKind::Board);
+        expect(&rt, *text, told(found), *wanted);
+    }
+    for (text, wanted) in &BANKS {
+        let found = explain_work(text.as_bytes(), WorkKind::Bank);
+        expect(&rt, *text, told(found), *wanted);
+    }
+}
+
+#[test]
+fn tells_of_too_many_commands(rt: HostRuntime) -> Result<(), Fail> {
+    let mut text = Vec::from_slice(rt.alloc(), b"nodes 2 lines 1\n")?;
+    for (more, wanted) in [(100_000, None), (1, Some((100_002, Reason::TooMany)))] {
+        for _ in 0..more {
+            text.extend_from_slice(b"poll 1 0\n")?;
+        }
+        expect(&rt, "many", told(explain_schedule(&text)), wanted);
+    }
+    Ok(())
+}
+
+#[test]
+fn says_of_too_many_commands(rt: HostRuntime) -> Result<(), Fail> {
+    let complaint = Complaint {
+        number: 100_002,
+        line: b"poll 1 0",
+        reason: Reason::TooMany,
+    };
+    let text = format!(in rt.alloc(); "{complaint}")?;
+    let wanted = "    poll 1 0\nmore than 100,000 commands";
+    expect(&rt, "the text", text.as_str(), wanted);
+    Ok(())
+}
+
+/// The text of a complaint.
+fn shown(alloc: Global, script: &[u8]) -> Result<String, Fail> {
+    let complaint = explain_schedule(script).ok_or("a complaint")?;
+    Ok(format!(in alloc; "{complaint}")?)
+}
+
+/// Expects this line in the complaint about a byte of the script.
+fn expect_shown<R: Abort>(rt: &R, alloc: Global, script: &[u8], line: &str) -> Result<(), Fail> {
+    let found = shown(alloc, script)?;
+    let wanted = format!(in alloc;
+        "{line}\na byte is neither a space nor a visible ASCII character"
+    )?;
+    expect(rt, "the complaint", found.as_str(), wanted.as_str());
+    Ok(())
+}
+
+#[test]
+fn shows_200_bytes_at_most(rt: HostRuntime) -> Result<(), Fail> {
+    let alloc = rt.alloc();
+    let mut script = Vec::new(alloc);
+    let mut wanted = "    ".to_string(alloc)?;
+    for _ in 0..199 {
+        script.push(b'x')?;
+        wanted.push('x')?;
+    }
+    script.push(b'\x1b')?;
+    wanted.push_str("\\x1b")?;
+    expect_shown(&rt, alloc, &script, wanted.as_str())?;
+    script.push(b'x')?;
+    wanted.push_str(" ..")?;
+    expect_shown(&rt, alloc, &script, wanted.as_str())
+}
+
+#[test]
+fn a_script_that_is_read_has_nothing_wrong(rt: HostRuntime) {
+    for (text, wanted) in &SCHEDULES {
+        let read = read_schedule(rt.alloc(), text.as_bytes());
+        expect_at(&rt, text, read.is_ok(), wanted.is_none());
+    }
+}

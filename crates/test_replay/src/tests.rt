@@ -1,0 +1,9 @@
+//! The tests, by what they try.
+
+mod pictures;
+mod replays;
+mod rows;
+mod scarce;
+mod step_pictures;
+mod steps;
+mod styles;

@@ -1,0 +1,470 @@
+//! Pictures of schedules.
+use crate::tests::rows::{expect, expect_at};
+use crate::tests::styles::{Sheet, are_seen, signs_differ};
+use linked_list_allocator::LocalHeap;
+use qolb_draw::{Form, draw_schedule};
+use qolb_run::ReplayError;
+use qolb_script::ScriptError;
+use std::alloc::Global;
+use std::test::Fail;
+
+/// The picture of the script.
+fn drawn(alloc: Global, script: &str, form: Form) -> Result<String, Fail> {
+    Ok(String::from_utf8(draw_schedule(alloc, script.as_bytes(), form)?)?)
+}
+
+const LETTERS: &str =
+    ". idle   w waits   t its turn has come   H holds   > hands over to <\nx withdrawn   c told that the line is closed   - closed\n";
+
+const HAND_OVER: &str = "nodes 2 lines 1\nenq 1 0\nenq 2 0\npoll 2 0\ndeq 1 0\npoll 2 0\n";
+
+/// Scripts and their pictures, without the legend.
+static PICTURES: [(&str, &str); 8] = [
+    // no command
+    ("nodes 1 lines 1\n", "line 0\n\n"),
+    // a hand-over
+    (
+        HAND_OVER,
+        "line 0\n\n         12345\nnode   1 HHH>.\nnode   2 .ww<H\n\n",
+    ),
+    // three nodes, each of which hands the line to the next
+    (
+        "nodes 3 lines 1\nenq 1 0\nenq 2 0\nenq 3 0\nwrite 1 0 0 01\ndeq 1 0\npoll 3 0\npoll 2 0\nwrite 2 0 1 02\ndeq 2 0\npoll 3 0\nshow 3 0\ndeq 3 0\n",
+        "line 0\n\n                  111\n         123456789012\nnode   1 HHHH>.......\nnode   2 .www<tHH>...\nnode   3 ..wwwwww<HH.\n\n",
+    ),
+    // a withdrawn node is passed, and asks again
+    (
+        "nodes 3 lines 1\nenq 1 0\nenq 2 0\nenq 3 0\nout 2 0\nenq 2 0\ndeq 1 0\nenq 2 0\npoll 3 0\ndeq 3 0\npoll 2 0\n",
+        "line 0\n\n                  1\n         1234567890\nnode   1 HHHHH>....\nnode   2 .wwxx.ww<H\nnode   3 ..www<tH>.\n\n",
+    ),
+    // a node that withdraws at its turn holds the line
+    (
+        "nodes 2 lines 1\nenq 1 0\nenq 2 0\ndeq 1 0\nout 2 0\ndeq 2 0\n",
+        "line 0\n\n         12345\nnode   1 HH>..\nnode   2 .w<H.\n\n",
+    ),
+    // each waiter is told of a closed line in turn, and a told node passes the withdrawn node behind it
+    (
+        "nodes 4 lines 1\nenq 1 0\nenq 2 0\nenq 3 0\nenq 4 0\nout 3 0\nshut 1 0\nenq 3 0\npoll 2 0\nenq 3 0\npoll 4 0\n",
+        "line 0\n\n                  1\n         1234567890\nnode   1 HHHHH>----\nnode   2 .wwww<tc--\nnode   3 ..wwxxx-w<\nnode   4 ...wwww<tc\n\n",
+    ),
+    // the last turn of a lease closes the line
+    (
+        "nodes 2 lines 1 lease 1\nenq 1 0\nenq 2 0\ndeq 1 0\npoll 2 0\nenq 1 0\n",
+        "line 0\n\n         12345\nnode   1 HH>-c\nnode   2 .w<c-\n\n",
+    ),
+    // commands on two lines; a command that is not allowed changes nothing
+    (
+        "nodes 12 lines 2\nenq 12 1\nenq 3 0\ndeq 3 1\ndeq 12 1\ndeq 3 0\n",
+        "line 0\n\n         25\nnode   3 H.\n\nline 1\n\n         134\nnode   3 ...\nnode  12 HH.\n\n",
+    ),
+];
+
+#[test]
+fn draws_scripts(rt: HostRuntime) -> Result<(), Fail> {
+    for (script, picture) in &PICTURES {
+        let whole = format!(in rt.alloc(); "{picture}{LETTERS}")?;
+        expect(&rt, script, drawn(rt.alloc(), script, Form::Text)?, whole);
+    }
+    Ok(())
+}
+
+#[test]
+fn draws_long_scripts_in_blocks(rt: HostRuntime) -> Result<(), Fail> {
+    let mut script = String::from_str(rt.alloc(), "nodes 1 lines 1\nenq 1 0\n")?;
+    for _ in 0..70 {
+        script.push_str("show 1 0\n")?;
+    }
+    let picture = drawn(rt.alloc(), script.as_str(), Form::Text)?;
+    let blocks = "line 0
+
+                  1111111111222222222233333333334444444444555555555566666666667
+         1234567890123456789012345678901234567890123456789012345678901234567890
+node   1 HHHHHHHHHHHHHHHHHHHHHHHHHHHHHHHHHHHHHHHHHHHHHHHHHHHHHHHHHHHHHHHHHHHHHH
+
+         7
+         1
+node   1 H
+
+";
+    let whole = format!(in rt.alloc(); "{blocks}{LETTERS}")?;
+    expect(&rt, "the picture", picture.as_str(), whole.as_str());
+    for line in picture.lines() {
+        expect(&rt, "the width of a line", line.len() <= 79, true);
+    }
+    Ok(())
+}
+
+#[test]
+fn draws_the_last_of_200_nodes(rt: HostRuntime) -> Result<(), Fail> {
+    let script = "nodes 200 lines 1\nenq 200 0\n";
+    let picture = drawn(rt.alloc(), script, Form::Text)?;
+    expect(
+        &rt,
+        "the last node",
+        picture.contains("\nnode 200 H\n"),
+        true,
+    );
+    Ok(())
+}
+
+/// A script of 100,000 commands on the last of eight lines.
+fn longest_script(alloc: Global) -> Result<String, Fail> {
+    let mut script = String::from_str(alloc, "nodes 2 lines 8\nenq 2 7\n")?;
+    for _ in 2..100_000 {
+        script.push_str("poll 2 7\n")?;
+    }
+    script.push_str("poll 1 7\n")?;
+    Ok(script)
+}
+
+/// The number of the picture's rows for node 2, and of the commands in them.
+fn rows_of_node_2(picture: &str) -> (u32, usize) {
+    let mut rows = 0u32;
+    let mut letters = 0usize;
+    for line in picture.lines() {
+        if let Some(held) = line.strip_prefix("node   2 ") {
+            rows = rows.saturating_add(1);
+            letters = letters.saturating_add(held.len());
+        }
+    }
+    (rows, letters)
+}
+
+#[test]
+fn draws_the_longest_script(rt: HostRuntime) -> Result<(), Fail> {
+    let script = longest_script(rt.alloc())?;
+    let picture = drawn(rt.alloc(), script.as_str(), Form::Text)?;
+    // A row has 70 commands.
+    expect(
+        &rt,
+        "rows and letters",
+        rows_of_node_2(picture.as_str()),
+        (1_429, 100_000),
+    );
+    Ok(())
+}
+
+#[test]
+fn draws_the_longest_script_as_an_svg(rt: HostRuntime) -> Result<(), Fail> {
+    let script = longest_script(rt.alloc())?;
+    let svg = drawn(rt.alloc(), script.as_str(), Form::Svg)?;
+    // Seven lines without rows, and one with two.
+    expect(
+        &rt,
+        "the size",
+        svg.contains(" width='3200128' height='624' "),
+        true,
+    );
+    expect(
+        &rt,
+        "a bar",
+        svg.contains(
+            "<rect class='holds' x='96' y='100' width='3200000' height='16'><title>node 2 holds the line</title></rect>\n",
+        ),
+        true,
+    );
+    expect(&rt, "the end", svg.ends_with("</svg>\n"), true);
+    Ok(())
+}
+
+/// A script of 100,000 commands by 200 nodes. The first node holds the line, and each other node waits from its first command on.
+fn largest_script(alloc: Global) -> Result<String, Fail> {
+    let mut script = String::from_str(alloc, "nodes 200 lines 1\n")?;
+    for node in 1..201u64 {
+        script.push_str(format!(in alloc; "enq {node} 0\n")?.as_str())?;
+    }
+    for _ in 200..100_000 {
+        script.push_str("poll 200 0\n")?;
+    }
+    Ok(script)
+}
+
+#[test]
+fn draws_as_many_marks_as_there_may_be(rt: HostRuntime) -> Result<(), Fail> {
+    let script = largest_script(rt.alloc())?;
+    let picture = drawn(rt.alloc(), script.as_str(), Form::Text)?;
+    // a row has 70 commands, behind a label of nine letters
+    let mut letters = 0usize;
+    for line in picture.lines() {
+        if line.starts_with("node ") {
+            letters = letters.saturating_add(line.len().saturating_sub(9));
+        }
+    }
+    expect(&rt, "letters", letters, 20_000_000);
+    Ok(())
+}
+
+#[test]
+fn draws_as_many_marks_as_an_svg(rt: HostRuntime) -> Result<(), Fail> {
+    let script = largest_script(rt.alloc())?;
+    let svg = drawn(rt.alloc(), script.as_str(), Form::Svg)?;
+    // 200 rows
+    expect(
+        &rt,
+        "the size",
+        svg.contains(" width='3200128' height='8124' "),
+        true,
+    );
+    // from the last node's request to the end
+    expect(
+        &rt,
+        "a bar",
+        svg.contains(
+            "<rect class='waits' x='6464' y='8020' width='3193632' height='16'><title>node 200 waits</title></rect>\n",
+        ),
+        true,
+    );
+    expect(
+        &rt,
+        "the end",
+        svg.ends_with("<title>100000: poll 200 0: waiting</title></use>\n</g>\n</svg>\n"),
+        true,
+    );
+    Ok(())
+}
+
+#[test]
+fn refuses_what_a_replay_refuses(rt: HostRuntime) {
+    for (script, error) in [
+        ("", ScriptError::BadLine(1)),
+        ("nodes 2 lines 1\nenq 3 0", ScriptError::Number(2)),
+        ("nodes 2 lines 1\nenq 1", ScriptError::BadLine(2)),
+    ] {
+        let done = draw_schedule(rt.alloc(), script.as_bytes(), Form::Text);
+        expect(&rt, script, done.err(), Some(ReplayError::Script(error)));
+    }
+}
+
+/// The outcome of drawing a hand-over on a heap of this many bytes.
+#[derive(Clone, Copy, Debug, PartialEq, Eq)]
+struct OnHeap {
+    error: Option<ReplayError>,
+    is_whole: bool,
+    /// The bytes of the heap that are in use at the end.
+    used: usize,
+}
+
+fn drawn_within(alloc: Global, bytes: usize, whole: &str) -> Option<OnHeap> {
+    let heap = LocalHeap::new(alloc, bytes).ok()?;
+    let (error, is_whole) = match draw_schedule(&heap, HAND_OVER.as_bytes(), Form::Svg) {
+        Ok(text) => (None, text.as_slice() == whole.as_bytes()),
+        Err(error) => (Some(error), false),
+    };
+    Some(OnHeap {
+        error,
+        is_whole,
+        used: heap.used(),
+    })
+}
+
+#[test]
+fn each_allocation_is_refused(rt: HostRuntime) -> Result<(), Fail> {
+    let whole = drawn(rt.alloc(), HAND_OVER, Form::Svg)?;
+    let refused = OnHeap {
+        error: Some(ReplayError::Memory),
+        is_whole: false,
+        used: 0,
+    };
+    let served = OnHeap {
+        error: None,
+        is_whole: true,
+        used: 0,
+    };
+    let mut refusals = 0usize;
+    for step in 1..1600usize {
+        let found = drawn_within(rt.alloc(), 32 * step, whole.as_str()).ok_or("a heap")?;
+        if refusals.saturating_add(1) == step && found == refused {
+            refusals = step;
+        } else {
+            expect_at(&rt, &step, found, served);
+        }
+    }
+    expect(&rt, "refusals", refusals > 5 && refusals < 1599, true);
+    Ok(())
+}
+
+/// The part of a timeline after its legend.
+fn body_of(svg: &str) -> Option<&str> {
+    svg.split_once("not allowed</text>\n").map(|parts| parts.1)
+}
+
+#[test]
+fn draws_a_timeline(rt: HostRuntime) -> Result<(), Fail> {
+    let script = "nodes 2 lines 1\nenq 1 0\nenq 2 0\ndeq 1 0\n";
+    let svg = drawn(rt.alloc(), script, Form::Svg)?;
+    // At least as wide as the legend. A line takes 60 pixels and each of its rows 40, below the legend of 64.
+    expect(
+        &rt,
+        "the size",
+        svg.starts_with("<svg xmlns='http://www.w3.org/2000/svg' width='640' height='204' "),
+        true,
+    );
+    let want = "<g transform='translate(0,64)'><text x='8' y='16'>line 0</text>
+<path class='lane' d='M96 68H192'/>
+<rect class='holds' x='96' y='60' width='64' height='16'><title>node 1 holds the line</title></rect>
+<text class='name' x='8' y='72'>node 1</text>
+<path class='lane' d='M96 108H192'/>
+<rect class='waits' x='128' y='100' width='32' height='16'><title>node 2 waits</title></rect>
+<rect class='turn' x='160' y='100' width='32' height='16'><title>node 2 may take its turn</title></rect>
+<text class='name' x='8' y='112'>node 2</text>
+<text class='small' x='96' y='36'>1</text>
+<use href='#call' x='96' y='68'><title>1: enq 1 0: granted</title></use>
+<text class='small' x='128' y='36'>2</text>
+<use href='#call' x='128' y='108'><title>2: enq 2 0: queued</title></use>
+<text class='small' x='160' y='36'>3</text>
+<path class='arrow' d='M160 68V108'><title>3: node 1 hands over to node 2</title></path>
+<use href='#call' x='160' y='68'><title>3: deq 1 0: released</title></use>
+</g>
+</svg>
+";
+    expect(&rt, "the body", body_of(svg.as_str()), Some(want));
+    Ok(())
+}
+
+/// Scripts, each with a part of its timeline.
+static SHAPES: [(&str, &str); 11] = [
+    // two bytes up to place 63, as they were written, and the first two of three
+    (
+        "nodes 1 lines 1\nenq 1 0\nwrite 1 0 62 0aF0\n",
+        "<text class='small' x='128' y='55'>0af0</text>\n<use href='#call' x='128' y='68'><title>2: write 1 0 62 0af0: ok</title></use>\n",
+    ),
+    (
+        "nodes 1 lines 1\nenq 1 0\nwrite 1 0 5 010203\n",
+        "<text class='small' x='128' y='55'>0102&#8230;</text>\n<use href='#call' x='128' y='68'><title>2: write 1 0 5 010203: ok</title></use>\n",
+    ),
+    // a whole line
+    (
+        "nodes 1 lines 1\nenq 1 0\nwrite 1 0 0 000102030405060708090a0b0c0d0e0f101112131415161718191a1b1c1d1e1f202122232425262728292a2b2c2d2e2f303132333435363738393a3b3c3d3e3f\n",
+        "<text class='small' x='128' y='55'>0001&#8230;</text>\n<use href='#call' x='128' y='68'><title>2: write 1 0 0 000102030405060708090a0b0c0d0e0f101112131415161718191a1b1c1d1e1f202122232425262728292a2b2c2d2e2f303132333435363738393a3b3c3d3e3f: ok</title></use>\n",
+    ),
+    // an unwritten byte is not shown beside the bar
+    (
+        "nodes 1 lines 1\nwrite 1 0 0 01\n",
+        "<text class='small' x='96' y='36'>1</text>\n<use href='#misuse' x='96' y='68'><title>1: write 1 0 0 01: misuse</title></use>\n",
+    ),
+    // a withdrawn node has its bar until it is passed
+    (
+        "nodes 2 lines 1\nenq 1 0\nenq 2 0\nout 2 0\npoll 1 0\ndeq 1 0\n",
+        "<rect class='withdrawn' x='160' y='100' width='64' height='16'><title>node 2 has withdrawn</title></rect>\n",
+    ),
+    (
+        "nodes 2 lines 1\nenq 1 0\nenq 2 0\nout 2 0\n",
+        "<use href='#out' x='160' y='108'><title>3: out 2 0: withdrawn</title></use>\n",
+    ),
+    // a node that is told that the line is closed
+    (
+        "nodes 2 lines 1\nenq 1 0\nshut 1 0\nenq 2 0\n",
+        "<use href='#told' x='160' y='108'><title>3: enq 2 0: closed</title></use>\n",
+    ),
+    // each calling node has a row; the second line is below the first, which has one row
+    (
+        "nodes 9 lines 2\nenq 7 0\nenq 9 1\nenq 8 1\n",
+        "<g transform='translate(0,164)'><text x='8' y='16'>line 1</text>\n<path class='lane' d='M96 68H160'/>\n<rect class='waits' x='128' y='60' width='32' height='16'><title>node 8 waits</title></rect>\n<text class='name' x='8' y='72'>node 8</text>\n<path class='lane' d='M96 108H160'/>\n<rect class='holds' x='96' y='100' width='64' height='16'><title>node 9 holds the line</title></rect>\n<text class='name' x='8' y='112'>node 9</text>\n<text class='small' x='96' y='36'>2</text>\n",
+    ),
+    // an arrow upwards
+    (
+        "nodes 2 lines 1\nenq 2 0\nenq 1 0\nshut 2 0\n",
+        "<path class='arrow' d='M160 108V68'><title>3: node 2 hands over to node 1</title></path>\n<use href='#call' x='160' y='108'><title>3: shut 2 0: shut</title></use>\n",
+    ),
+    // a node that polls
+    (
+        "nodes 2 lines 1\nenq 1 0\nenq 2 0\npoll 2 0\n",
+        "<use href='#call' x='160' y='108'><title>3: poll 2 0: waiting</title></use>\n",
+    ),
+    // the bytes of a line
+    (
+        "nodes 1 lines 1\nenq 1 0\nwrite 1 0 1 0a\nshow 1 0\n",
+        "<title>3: show 1 0: 000a0000000000000000000000000000000000000000000000000000000000000000000000000000000000000000000000000000000000000000000000000000</title></use>\n",
+    ),
+];
+
+#[test]
+fn timelines_have_their_shapes(rt: HostRuntime) -> Result<(), Fail> {
+    for (script, shape) in &SHAPES {
+        let svg = drawn(rt.alloc(), script, Form::Svg)?;
+        expect(&rt, shape, svg.contains(*shape), true);
+    }
+    Ok(())
+}
+
+/// The name is at the first column and at each twentieth after it.
+#[test]
+fn names_stand_again(rt: HostRuntime) -> Result<(), Fail> {
+    let mut script = String::from_str(rt.alloc(), "nodes 1 lines 1\nenq 1 0\n")?;
+    for _ in 1..20 {
+        script.push_str("show 1 0\n")?;
+    }
+    let names = "<text class='name' x='8' y='72'>node 1</text>\n<text class='small'";
+    let svg = drawn(rt.alloc(), script.as_str(), Form::Svg)?;
+    expect(&rt, "the names", svg.contains(names), true);
+    script.push_str("show 1 0\n")?;
+    let names =
+        "<text class='name' x='8' y='72'>node 1</text>\n<text class='name' x='648' y='87'>node 1</text>\n<text class='small'";
+    let svg = drawn(rt.alloc(), script.as_str(), Form::Svg)?;
+    expect(&rt, "the names", svg.contains(names), true);
+    // 21 columns, and a margin on both sides
+    expect(
+        &rt,
+        "the size",
+        svg.contains(" width='800' height='164' "),
+        true,
+    );
+    Ok(())
+}
+
+/// The legend: a bar or a sign, with its meaning beside it.
+const LEGEND: &str =
+    "<rect class='waits' x='8' y='8' width='32' height='16'/><text x='46' y='20'>waits</text>
+<rect class='turn' x='112' y='8' width='32' height='16'/><text x='150' y='20'>may take its turn</text>
+<rect class='holds' x='304' y='8' width='32' height='16'/><text x='342' y='20'>holds the line</text>
+<rect class='withdrawn' x='476' y='8' width='32' height='16'/><text x='514' y='20'>has withdrawn</text>
+<path class='arrow' d='M24 32V50'/><text x='46' y='46'>hands over</text>
+<use href='#call' x='144' y='42'/><text x='156' y='46'>a call</text>
+<use href='#out' x='228' y='42'/><text x='240' y='46'>withdraws</text>
+<use href='#told' x='330' y='42'/><text x='342' y='46'>is told: line closed</text>
+<use href='#misuse' x='508' y='42'/><text x='520' y='46'>not allowed</text>
+";
+
+#[test]
+fn a_timeline_has_its_style_and_its_legend(rt: HostRuntime) -> Result<(), Fail> {
+    let alloc = rt.alloc();
+    let svg = drawn(alloc, "nodes 1 lines 1\n", Form::Svg)?;
+    let (front, sheet, behind) = Sheet::first(svg.as_str()).ok_or("a style sheet")?;
+    // as wide as the legend, and 60 high for a line without rows
+    expect(
+        &rt,
+        "before the sheet",
+        front,
+        "<svg xmlns='http://www.w3.org/2000/svg' width='640' height='124' font-family='monospace' font-size='12'>\n",
+    );
+    are_seen(&rt, sheet);
+    let (signs, behind) = behind.split_once("</defs>\n").ok_or("signs")?;
+    signs_differ(&rt, signs);
+    let whole = format!(in alloc;
+        "{LEGEND}<g transform='translate(0,64)'><text x='8' y='16'>line 0</text>\n</g>\n</svg>\n"
+    )?;
+    expect(&rt, "behind the sheet", behind, whole.as_str());
+    Ok(())
+}
+
+/// Scripts with some commands on line 0 and one on line 1, and the size of their timelines.
+static SIZES: [(usize, &str); 3] = [
+    // 96 pixels before the first column and 32 for each column and behind the last
+    (16, " width='640' height='264' "),
+    (17, " width='672' height='264' "),
+    (100, " width='3328' height='264' "),
+];
+
+#[test]
+fn a_timeline_is_as_wide_as_its_longest_line(rt: HostRuntime) -> Result<(), Fail> {
+    for (commands, size) in &SIZES {
+        let mut script = String::from_str(rt.alloc(), "nodes 2 lines 2\n")?;
+        for _ in 0..*commands {
+            script.push_str("poll 1 0\n")?;
+        }
+        script.push_str("enq 2 1\n")?;
+        let svg = drawn(rt.alloc(), script.as_str(), Form::Svg)?;
+        expect(&rt, size, svg.contains(*size), true);
+    }
+    Ok(())
+}

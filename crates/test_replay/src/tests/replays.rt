@@ -1,0 +1,523 @@
+//! Replays of scripts by lines of each kind.
+use crate::tests::rows::{expect, expect_at};
+use line_kinds::{ALL, TicketLine};
+use linked_list_allocator::LocalHeap;
+use qolb_model::{Free, OpenLine};
+use qolb_run::{KINDS, Kind, ReplayError, read_all, run_schedule, run_schedule_over};
+use qolb_script::{ScriptError, Watched};
+use std::alloc::Global;
+use std::io;
+use std::io::{Read, Write};
+use std::test::Fail;
+
+#[test]
+fn kinds_are_the_plain_one_and_each_lock(rt: HostRuntime) -> Result<(), Fail> {
+    expect(&rt, "kinds", KINDS.len(), ALL.len() + 1);
+    expect(&rt, "the first", KINDS[0], Kind::Plain);
+    for (lines, kind) in ALL.iter().zip(KINDS.iter().skip(1)) {
+        expect(&rt, "a lock's kind", *kind, Kind::of(*lines));
+    }
+    Ok(())
+}
+
+/// The reply to the script.
+fn reply_to(alloc: Global, script: &str, kind: Kind) -> Result<String, Fail> {
+    let mut reader = Watched::new(script.as_bytes());
+    let mut text: Vec<u8> = Vec::new(alloc);
+    run_schedule(alloc, &mut reader, &mut Watched::new(&mut text), kind)?;
+    Ok(String::from_utf8(text)?)
+}
+
+/// The error of a replay of the script, and the number of bytes that were written.
+fn refused(alloc: Global, script: &str, kind: Kind) -> (Option<ReplayError>, usize) {
+    let mut reader = Watched::new(script.as_bytes());
+    let mut text: Vec<u8> = Vec::new(alloc);
+    let done = run_schedule(alloc, &mut reader, &mut Watched::new(&mut text), kind);
+    (done.err(), text.len())
+}
+
+/// The length of the reply to a `show`: the digits of 64 bytes, and a newline.
+const ROW_OF_DIGITS: usize = 129;
+
+#[test]
+fn the_longest_reply_is_whole(rt: HostRuntime) -> Result<(), Fail> {
+    let mut script = String::from_str(rt.alloc(), "nodes 1 lines 1\nenq 1 0\n")?;
+    for _ in 1..100_000 {
+        script.push_str("show 1 0\n")?;
+    }
+    let reply = reply_to(rt.alloc(), script.as_str(), Kind::Plain)?;
+    let ends = "line 0 served 0 withdrawn 0 told 0 left 1\n";
+    expect(&rt, "the begin", reply.starts_with("granted\n0000"), true);
+    expect(&rt, "the end", reply.ends_with(ends), true);
+    expect(
+        &rt,
+        "bytes of the reply",
+        reply.len(),
+        "granted\n".len() + 99_999 * ROW_OF_DIGITS + ends.len(),
+    );
+    Ok(())
+}
+
+/// The text `first`, then `same` `times` times, then `last`.
+pub(crate) fn repeated(
+    alloc: Global,
+    first: &str,
+    times: u32,
+    same: &str,
+    last: &str,
+) -> Result<String, Fail> {
+    let mut text = first.to_string(alloc)?;
+    for _ in 0..times {
+        text.push_str(same)?;
+    }
+    text.push_str(last)?;
+    Ok(text)
+}
+
+#[test]
+fn the_longest_script_is_replayed_by_shared_lines(rt: HostRuntime) -> Result<(), Fail> {
+    let alloc = rt.alloc();
+    let turn = "enq 1 0\ndeq 1 0\n";
+    let script = repeated(alloc, "nodes 1 lines 1\n", 50_000, turn, "")?;
+    let summary = "line 0 served 50000 withdrawn 0 told 0 left 0\n";
+    let wanted = repeated(alloc, "", 50_000, "granted\nreleased\n", summary)?;
+    let reply = reply_to(alloc, script.as_str(), Kind::Ring)?;
+    expect(&rt, "the reply", reply == wanted, true);
+    Ok(())
+}
+
+const HAND_OVER: &str =
+    "nodes 2 lines 1\nenq 1 0\nwrite 1 0 0 a1b2\nenq 2 0\npoll 2 0\ndeq 1 0\npoll 2 0\nshow 2 0\ndeq 2 0\n";
+
+/// Scripts and their replies.
+static REPLIES: [(&str, &str); 14] = [
+    // no command
+    (
+        "nodes 1 lines 1\n",
+        "line 0 served 0 withdrawn 0 told 0 left 0\n",
+    ),
+    // states that do not allow a command
+    (
+        "nodes 1 lines 1\npoll 1 0\ndeq 1 0\nenq 1 0\nenq 1 0\ndeq 1 0\n",
+        "misuse\nmisuse\ngranted\nmisuse\nreleased\nline 0 served 1 withdrawn 0 told 0 left 0\n",
+    ),
+    // the oldest request is served first, whatever its node
+    (
+        "nodes 4 lines 1\nenq 4 0\nenq 3 0\nenq 1 0\nenq 2 0\ndeq 4 0\npoll 1 0\npoll 3 0\ndeq 3 0\npoll 2 0\npoll 1 0\ndeq 1 0\npoll 2 0\n",
+        "granted\nqueued\nqueued\nqueued\nreleased\nwaiting\ngranted\nreleased\nwaiting\ngranted\nreleased\ngranted\nline 0 served 3 withdrawn 0 told 0 left 1\n",
+    ),
+    // a withdrawn node is busy until a release passes it
+    (
+        "nodes 3 lines 1\nenq 1 0\nenq 2 0\nenq 3 0\nout 2 0\nenq 2 0\ndeq 1 0\nenq 2 0\npoll 3 0\ndeq 3 0\npoll 2 0\n",
+        "granted\nqueued\nqueued\nwithdrawn\nbusy\nreleased\nqueued\ngranted\nreleased\ngranted\nline 0 served 2 withdrawn 1 told 0 left 1\n",
+    ),
+    // a release passes all that have withdrawn
+    (
+        "nodes 3 lines 1\nenq 1 0\nenq 2 0\nenq 3 0\nout 2 0\nout 3 0\ndeq 1 0\nenq 3 0\n",
+        "granted\nqueued\nqueued\nwithdrawn\nwithdrawn\nreleased\ngranted\nline 0 served 1 withdrawn 2 told 0 left 1\n",
+    ),
+    // a node that withdraws at its turn holds the line
+    (
+        "nodes 2 lines 1\nenq 1 0\nenq 2 0\ndeq 1 0\nout 2 0\ndeq 2 0\n",
+        "granted\nqueued\nreleased\ngranted\nreleased\nline 0 served 2 withdrawn 0 told 0 left 0\n",
+    ),
+    // each waiter is told of a closed line in turn
+    (
+        "nodes 3 lines 1\nenq 1 0\nenq 2 0\nenq 3 0\nshut 1 0\npoll 3 0\npoll 2 0\npoll 3 0\nenq 1 0\nenq 2 0\n",
+        "granted\nqueued\nqueued\nshut\nwaiting\nclosed\nclosed\nclosed\nclosed\nline 0 served 1 withdrawn 0 told 4 left 0\n",
+    ),
+    // and so is a node that withdraws at its turn
+    (
+        "nodes 2 lines 1\nenq 1 0\nenq 2 0\nshut 1 0\nout 2 0\n",
+        "granted\nqueued\nshut\nclosed\nline 0 served 1 withdrawn 0 told 1 left 0\n",
+    ),
+    // lines are independent
+    (
+        "nodes 2 lines 2\nenq 1 0\nenq 2 1\nenq 1 1\ndeq 2 1\npoll 1 1\nshut 1 1\nenq 2 1\nenq 2 0\nout 2 0\n",
+        "granted\ngranted\nqueued\nreleased\ngranted\nshut\nclosed\nqueued\nwithdrawn\nline 0 served 0 withdrawn 1 told 0 left 1\nline 1 served 2 withdrawn 0 told 1 left 0\n",
+    ),
+    // a told node passes the withdrawn nodes behind it, so that they may ask again
+    (
+        "nodes 4 lines 1\nenq 1 0\nenq 2 0\nenq 3 0\nenq 4 0\nout 3 0\nshut 1 0\nenq 3 0\npoll 2 0\nenq 3 0\npoll 4 0\n",
+        "granted\nqueued\nqueued\nqueued\nwithdrawn\nshut\nbusy\nclosed\nqueued\nclosed\nline 0 served 1 withdrawn 1 told 2 left 1\n",
+    ),
+    // the second of two turns closes the line
+    (
+        "nodes 2 lines 1 lease 2\nenq 1 0\nwrite 1 0 0 07\nenq 2 0\ndeq 1 0\npoll 2 0\nenq 1 0\ndeq 2 0\npoll 1 0\nenq 2 0\n",
+        "granted\nok\nqueued\nreleased\ngranted\nqueued\nreleased\nclosed\nclosed\nline 0 served 2 withdrawn 0 told 2 left 0\n",
+    ),
+    // each line has its own lease; a withdrawn request uses no turn of it
+    (
+        "nodes 3 lines 2 lease 1\nenq 1 0\nenq 2 1\nenq 1 1\nout 1 1\ndeq 2 1\nenq 1 1\ndeq 1 0\nenq 3 0\n",
+        "granted\ngranted\nqueued\nwithdrawn\nreleased\nclosed\nreleased\nclosed\nline 0 served 1 withdrawn 0 told 1 left 0\nline 1 served 1 withdrawn 1 told 1 left 0\n",
+    ),
+    // more than 32 nodes
+    (
+        "nodes 33 lines 1",
+        "line 0 served 0 withdrawn 0 told 0 left 0\n",
+    ),
+    // the last newline may be missing, and blanks do not count as words
+    (
+        "\n  nodes  1 lines 1  \n\n enq 1 0",
+        "granted\nline 0 served 0 withdrawn 0 told 0 left 1\n",
+    ),
+];
+
+#[test]
+fn answers_scripts(rt: HostRuntime) -> Result<(), Fail> {
+    for (script, reply) in &REPLIES {
+        for kind in &KINDS {
+            expect(
+                &rt,
+                script,
+                reply_to(rt.alloc(), script, *kind)?.as_str(),
+                *reply,
+            );
+        }
+    }
+    Ok(())
+}
+
+/// Pushes a line of text for each node from `first` to before `end`: a word, the node and the rest.
+fn push_each(
+    alloc: Global,
+    text: &mut String,
+    first: u64,
+    end: u64,
+    word: &str,
+    rest: &str,
+) -> Result<(), Fail> {
+    for node in first..end {
+        text.push_str(word)?;
+        text.push(' ')?;
+        text.push_str(node.to_string(alloc)?.as_str())?;
+        text.push_str(rest)?;
+    }
+    Ok(())
+}
+
+/// A script in which 199 of 200 nodes withdraw behind the first, which then releases.
+fn withdrawn_behind_one(alloc: Global) -> Result<String, Fail> {
+    let mut script = "nodes 200 lines 1\n".to_string(alloc)?;
+    push_each(alloc, &mut script, 1, 201, "enq", " 0\n")?;
+    push_each(alloc, &mut script, 2, 201, "out", " 0\n")?;
+    script.push_str("deq 1 0\n")?;
+    Ok(script)
+}
+
+/// The reply to `withdrawn_behind_one`.
+fn passed_behind_one(alloc: Global) -> Result<String, Fail> {
+    let mut reply = "granted\n".to_string(alloc)?;
+    for _ in 2..201 {
+        reply.push_str("queued\n")?;
+    }
+    for _ in 2..201 {
+        reply.push_str("withdrawn\n")?;
+    }
+    reply.push_str("released\nline 0 served 1 withdrawn 199 told 0 left 0\n")?;
+    Ok(reply)
+}
+
+#[test]
+fn a_release_passes_199_withdrawn_nodes(rt: HostRuntime) -> Result<(), Fail> {
+    let script = withdrawn_behind_one(rt.alloc())?;
+    let reply = passed_behind_one(rt.alloc())?;
+    for kind in &KINDS {
+        let found = reply_to(rt.alloc(), script.as_str(), *kind)?;
+        expect_at(&rt, kind, found.as_str(), reply.as_str());
+    }
+    Ok(())
+}
+
+/// The hex digits of a line that has `digits` at `place`, and zeros elsewhere.
+fn line_of(alloc: Global, place: usize, digits: &str) -> Result<String, Fail> {
+    let mut line = String::new(alloc);
+    for _ in 0..place {
+        line.push_str("00")?;
+    }
+    line.push_str(digits)?;
+    for _ in line.len()..128 {
+        line.push('0')?;
+    }
+    Ok(line)
+}
+
+/// Scripts with a `show`: the reply before it, the place and digits of the bytes that are not zero, and the reply after it.
+static SHOWN: [(&str, &str, usize, &str, &str); 3] = [
+    (
+        HAND_OVER,
+        "granted\nok\nqueued\nwaiting\nreleased\ngranted\n",
+        0,
+        "a1b2",
+        "released\nline 0 served 2 withdrawn 0 told 0 left 0\n",
+    ),
+    // masked writes leave the other bytes as they were, in this turn and in earlier ones
+    (
+        "nodes 2 lines 1\nenq 1 0\nwrite 1 0 0 a1b2c3d4\nwrite 1 0 2 FF\nenq 2 0\ndeq 1 0\npoll 2 0\nwrite 2 0 1 0e\nshow 2 0\n",
+        "granted\nok\nok\nqueued\nreleased\ngranted\nok\n",
+        0,
+        "a10effd4",
+        "line 0 served 1 withdrawn 0 told 0 left 1\n",
+    ),
+    // the last place of a line
+    (
+        "nodes 1 lines 1\nenq 1 0\nwrite 1 0 63 ff\nshow 1 0\n",
+        "granted\nok\n",
+        63,
+        "ff",
+        "line 0 served 0 withdrawn 0 told 0 left 1\n",
+    ),
+];
+
+#[test]
+fn shows_what_holders_wrote(rt: HostRuntime) -> Result<(), Fail> {
+    let alloc = rt.alloc();
+    for (script, before, place, digits, behind) in &SHOWN {
+        let line = line_of(alloc, *place, digits)?;
+        let reply = format!(in alloc; "{before}{line}\n{behind}")?;
+        for kind in &KINDS {
+            expect(
+                &rt,
+                script,
+                reply_to(alloc, script, *kind)?.as_str(),
+                reply.as_str(),
+            );
+        }
+    }
+    Ok(())
+}
+
+/// Scripts that are refused.
+static FAULTS: [(&str, ScriptError); 8] = [
+    ("", ScriptError::BadLine(1)),
+    ("nodes 201 lines 1", ScriptError::Number(1)),
+    ("nodes 1 lines 1 lease 0", ScriptError::Number(1)),
+    ("nodes 1 lines 1 lease", ScriptError::BadLine(1)),
+    ("nodes 2 lines 1\nenq 3 0", ScriptError::Number(2)),
+    ("nodes 2 lines 1\nenq 1", ScriptError::BadLine(2)),
+    (
+        "nodes 1 lines 1\nenq 1 0\nwrite 1 0 63 ffff\nshow 1 0",
+        ScriptError::BadLine(3),
+    ),
+    ("nodes 2 lines 1\n\n\nenq 9 0\nenq", ScriptError::Number(4)),
+];
+
+#[test]
+fn names_the_first_fault(rt: HostRuntime) -> Result<(), Fail> {
+    for (script, error) in &FAULTS {
+        for kind in &KINDS {
+            expect(
+                &rt,
+                script,
+                refused(rt.alloc(), script, *kind),
+                (Some(ReplayError::Script(*error)), 0),
+            );
+        }
+    }
+    Ok(())
+}
+
+/// A reader of `left` newlines, at most `part` at a read, that then fails or ends.
+#[derive(Drop)]
+struct Newlines {
+    left: u64,
+    part: usize,
+    fails: bool,
+}
+
+impl Read for Newlines {
+    fn read(&mut self, buf: &mut [u8]) -> io::Result<usize> {
+        if self.left == 0 && self.fails {
+            return Err(io::Error::from(io::ErrorKind::Other));
+        }
+        let room = self.part.min(buf.len());
+        let given = self.left.min(room as u64) as usize;
+        buf[..given].fill(b'\n');
+        self.left -= given as u64;
+        Ok(given)
+    }
+}
+
+/// A writer that takes `left` writes of one byte, and then fails.
+#[derive(Drop)]
+struct Failing {
+    left: u64,
+}
+
+impl Write for Failing {
+    fn write(&mut self, buf: &[u8]) -> io::Result<usize> {
+        if self.left == 0 || buf.is_empty() {
+            return Err(io::Error::from(io::ErrorKind::Other));
+        }
+        self.left -= 1;
+        Ok(1)
+    }
+
+    fn flush(&mut self) -> io::Result<()> {
+        Ok(())
+    }
+}
+
+#[test]
+fn tells_faults_of_reader_and_writer(rt: HostRuntime) -> Result<(), Fail> {
+    for left in 0..5u64 {
+        let mut reader = Watched::new(Newlines {
+            left,
+            part: 1,
+            fails: true,
+        });
+        let mut text: Vec<u8> = Vec::new(rt.alloc());
+        let done = run_schedule(
+            rt.alloc(),
+            &mut reader,
+            &mut Watched::new(&mut text),
+            Kind::Plain,
+        );
+        expect_at(&rt, &left, done, Err(ReplayError::Read));
+        expect(&rt, "the reader failed", reader.failed(), true);
+        expect(&rt, "bytes written", text.len(), 0);
+    }
+    for left in 0..5u64 {
+        let mut reader = Watched::new(HAND_OVER.as_bytes());
+        let mut writer = Watched::new(Failing { left });
+        let done = run_schedule(rt.alloc(), &mut reader, &mut writer, Kind::Plain);
+        expect_at(&rt, &left, done, Err(ReplayError::Write));
+        expect(&rt, "the writer failed", writer.failed(), true);
+    }
+    Ok(())
+}
+
+#[test]
+fn takes_inputs_up_to_the_limit(rt: HostRuntime) -> Result<(), Fail> {
+    for (left, error) in [
+        (16_777_216u64, ReplayError::Script(ScriptError::BadLine(1))),
+        (16_777_217, ReplayError::Long),
+    ] {
+        let mut reader = Watched::new(Newlines {
+            left,
+            part: 65_536,
+            fails: false,
+        });
+        let mut text: Vec<u8> = Vec::new(rt.alloc());
+        let done = run_schedule(
+            rt.alloc(),
+            &mut reader,
+            &mut Watched::new(&mut text),
+            Kind::Plain,
+        );
+        expect_at(&rt, &left, done, Err(error));
+        expect(&rt, "bytes written", text.len(), 0);
+    }
+    Ok(())
+}
+
+#[test]
+fn an_input_may_come_byte_by_byte(rt: HostRuntime) -> Result<(), Fail> {
+    let mut reader = Watched::new(Newlines {
+        left: 10_000,
+        part: 1,
+        fails: false,
+    });
+    let input = read_all(rt.alloc(), &mut reader).ok().ok_or("an input")?;
+    expect(&rt, "bytes read", input.len(), 10_000);
+    Ok(())
+}
+
+#[test]
+fn each_growth_of_an_input_is_refused(rt: HostRuntime) -> Result<(), Fail> {
+    let mut refused = 0u32;
+    for step in 1..400usize {
+        let heap = LocalHeap::new(rt.alloc(), 32 * step)?;
+        let mut reader = Watched::new(HAND_OVER.as_bytes());
+        match read_all(&heap, &mut reader) {
+            Ok(input) => expect_at(&rt, &step, input.as_slice(), HAND_OVER.as_bytes()),
+            Err(error) => {
+                expect_at(&rt, &step, error, ReplayError::Memory);
+                refused = refused.saturating_add(1);
+            }
+        }
+    }
+    expect(&rt, "refused", refused > 0, true);
+    Ok(())
+}
+
+/// The number of newlines, how many of them are read or why not, and how many the reader keeps: of two parts of 4,096 bytes beyond the
+/// limit the second.
+static LENGTHS: [(u64, Result<usize, ReplayError>, u64); 3] = [
+    (16_777_216, Ok(16_777_216), 0),
+    (16_777_217, Err(ReplayError::Long), 0),
+    (16_777_216 + 8_192, Err(ReplayError::Long), 4_096),
+];
+
+#[test]
+fn an_input_is_read_up_to_the_limit_and_no_further(rt: HostRuntime) {
+    for (newlines, wanted, left) in &LENGTHS {
+        let mut reader = Watched::new(Newlines {
+            left: *newlines,
+            part: 65_536,
+            fails: false,
+        });
+        let read = read_all(rt.alloc(), &mut reader).map(|input| input.len());
+        expect_at(
+            &rt,
+            newlines,
+            (read, reader.into_inner().left),
+            (*wanted, *left),
+        );
+    }
+}
+
+/// A reader that gives all its bytes at once, says once that it is at its end, and then fails.
+#[derive(Drop)]
+struct EndsOnce<'a> {
+    rest: &'a [u8],
+    ended: bool,
+}
+
+impl Read for EndsOnce<'_> {
+    fn read(&mut self, buf: &mut [u8]) -> io::Result<usize> {
+        if self.ended {
+            return Err(io::Error::from(io::ErrorKind::Other));
+        }
+        let given = self.rest.len().min(buf.len());
+        buf[..given].copy_from_slice(&self.rest[..given]);
+        self.rest = &self.rest[given..];
+        self.ended = given == 0;
+        Ok(given)
+    }
+}
+
+#[test]
+fn an_input_is_not_read_behind_its_end(rt: HostRuntime) {
+    let mut reader = Watched::new(EndsOnce {
+        rest: HAND_OVER.as_bytes(),
+        ended: false,
+    });
+    let refused = read_all(rt.alloc(), &mut reader).err();
+    expect(
+        &rt,
+        "refused, failed",
+        (refused, reader.failed()),
+        (None, false),
+    );
+}
+
+/// The reply to the script over lines of this type.
+fn reply_over<L: OpenLine<Free> + Drop>(alloc: Global, script: &str) -> Result<String, Fail>
+where
+    L::Port: Drop,
+{
+    let mut reader = Watched::new(script.as_bytes());
+    let mut text: Vec<u8> = Vec::new(alloc);
+    run_schedule_over::<L, _, _>(alloc, &mut reader, &mut Watched::new(&mut text))?;
+    Ok(String::from_utf8(text)?)
+}
+
+#[test]
+fn answers_scripts_over_lines_of_a_type(rt: HostRuntime) -> Result<(), Fail> {
+    for (script, reply) in &REPLIES {
+        let found = reply_over::<TicketLine<Free>>(rt.alloc(), script)?;
+        expect(&rt, script, found.as_str(), *reply);
+    }
+    Ok(())
+}

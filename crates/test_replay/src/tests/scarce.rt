@@ -1,0 +1,165 @@
+//! Replays in a room of memory, which show that a replay opens lines of its kind or type.
+use crate::tests::rows::{expect, expect_at};
+use line_kinds::TicketLine;
+use qolb_model::Free;
+use qolb_run::{KINDS, Kind, ReplayError, run_schedule, run_schedule_over};
+use qolb_script::Watched;
+use std::alloc::Global;
+use std::process::Abort;
+use std::test::Fail;
+use test_support::{GRAIN, MemoryLimit};
+
+/// Eight lines for 200 nodes, and no command.
+const MANY_NODES: &str = "nodes 200 lines 8\n";
+
+/// The kinds of lines, by the memory that they take. With 200 nodes a plain line takes 3.3 KB, a list 26 KB of words, a ring 33 KB of
+/// words, a ticket line as much and 33 KB of slots; the last three also take 25 KB of ports each.
+static BY_SIZE: [Kind; 4] = [Kind::Plain, Kind::Link, Kind::Ring, Kind::Ticket];
+
+/// Rooms in KB, each of which holds eight lines of one kind more.
+static ROOMS: [usize; 4] = [300, 450, 650, 1_200];
+
+#[test]
+fn each_kind_has_its_size(rt: HostRuntime) -> Result<(), Fail> {
+    expect(&rt, "kinds", BY_SIZE.len(), KINDS.len());
+    for kind in &KINDS {
+        expect_at(&rt, kind, BY_SIZE.contains(kind), true);
+    }
+    Ok(())
+}
+
+/// Replays the script by lines of this kind in a room of `room` KB. Returns the error.
+fn replayed(
+    alloc: Global,
+    limit: &MemoryLimit,
+    script: &str,
+    room: usize,
+    kind: Kind,
+) -> Result<Option<ReplayError>, Fail> {
+    let mut reader = Watched::new(script.as_bytes());
+    let mut text: Vec<u8> = Vec::with_capacity(alloc, 1 << 10)?;
+    let rest = limit.leave(alloc, room << 10)?;
+    let done = run_schedule(alloc, &mut reader, &mut Watched::new(&mut text), kind);
+    drop(rest);
+    Ok(done.err())
+}
+
+#[test]
+fn a_replay_takes_lines_of_its_kind(rt: HostRuntime) -> Result<(), Fail> {
+    let limit = MemoryLimit::begin(rt.alloc(), 1 << 23)?;
+    for (larger, room) in ROOMS.iter().enumerate() {
+        for (place, kind) in BY_SIZE.iter().enumerate() {
+            let found = replayed(rt.alloc(), &limit, MANY_NODES, *room, *kind)?;
+            let wanted = if place <= larger {
+                None
+            } else {
+                Some(ReplayError::Memory)
+            };
+            expect_at(&rt, &(*kind, *room), found, wanted);
+        }
+    }
+    Ok(())
+}
+
+/// The least room, in KB, in which a replay of one line of this kind for 200 nodes ends.
+fn least_room(alloc: Global, limit: &MemoryLimit, kind: Kind) -> Result<usize, Fail> {
+    for room in 1..1_000usize {
+        if replayed(alloc, limit, "nodes 200 lines 1\n", room, kind)?.is_none() {
+            return Ok(room);
+        }
+    }
+    Err(Fail::from("no room was large enough"))
+}
+
+#[test]
+fn a_replay_of_one_line_takes_one_of_its_kind(rt: HostRuntime) -> Result<(), Fail> {
+    let limit = MemoryLimit::begin(rt.alloc(), 1 << 21)?;
+    let mut before = 0usize;
+    for kind in &BY_SIZE {
+        let room = least_room(rt.alloc(), &limit, *kind)?;
+        expect_at(&rt, &(*kind, room, before), room > before, true);
+        before = room;
+    }
+    Ok(())
+}
+
+/// Two nodes take turns, and one withdraws.
+const SHORT: &str =
+    "nodes 2 lines 1\nenq 1 0\nwrite 1 0 0 07\nenq 2 0\nout 2 0\nenq 2 0\ndeq 1 0\nenq 2 0\n";
+
+const SHORT_REPLY: &str =
+    "granted\nok\nqueued\nwithdrawn\nbusy\nreleased\ngranted\nline 0 served 1 withdrawn 1 told 0 left 1\n";
+
+/// Replays `SHORT` in a room of `bytes` bytes. Returns the error, and what was written.
+fn short_in(
+    alloc: Global,
+    limit: &MemoryLimit,
+    bytes: usize,
+    kind: Kind,
+) -> Result<(Option<ReplayError>, Vec<u8>), Fail> {
+    let mut reader = Watched::new(SHORT.as_bytes());
+    let mut text: Vec<u8> = Vec::with_capacity(alloc, 1 << 10)?;
+    let rest = limit.leave(alloc, bytes)?;
+    let done = run_schedule(alloc, &mut reader, &mut Watched::new(&mut text), kind);
+    drop(rest);
+    Ok((done.err(), text))
+}
+
+/// Replays in rooms that grow by the heap's grain, so each allocation is refused once, until one has place for all. Returns the number of
+/// rooms that were too small.
+fn refusals_of<R: Abort>(
+    rt: &R,
+    alloc: Global,
+    limit: &MemoryLimit,
+    kind: Kind,
+) -> Result<usize, Fail> {
+    for grains in 2..8_000usize {
+        let (error, text) = short_in(alloc, limit, GRAIN * grains, kind)?;
+        if error.is_none() {
+            expect_at(rt, &kind, text.as_slice(), SHORT_REPLY.as_bytes());
+            return Ok(grains - 2);
+        }
+        expect_at(
+            rt,
+            &(kind, grains),
+            (error, text.len()),
+            (Some(ReplayError::Memory), 0),
+        );
+    }
+    Err(Fail::from("no room was large enough"))
+}
+
+#[test]
+fn each_allocation_of_a_replay_is_refused(rt: HostRuntime) -> Result<(), Fail> {
+    let limit = MemoryLimit::begin(rt.alloc(), 1 << 20)?;
+    for kind in &KINDS {
+        let refused = refusals_of(&rt, rt.alloc(), &limit, *kind)?;
+        expect_at(&rt, kind, refused > 100, true);
+    }
+    Ok(())
+}
+
+/// Does so over ticket lines, named by their type.
+fn replayed_over_tickets(
+    alloc: Global,
+    limit: &MemoryLimit,
+    room: usize,
+) -> Result<Option<ReplayError>, Fail> {
+    let mut reader = Watched::new(MANY_NODES.as_bytes());
+    let mut text: Vec<u8> = Vec::with_capacity(alloc, 1 << 10)?;
+    let mut writer = Watched::new(&mut text);
+    let rest = limit.leave(alloc, room << 10)?;
+    let done = run_schedule_over::<TicketLine<Free>, _, _>(alloc, &mut reader, &mut writer);
+    drop(rest);
+    Ok(done.err())
+}
+
+#[test]
+fn a_replay_takes_lines_of_its_type(rt: HostRuntime) -> Result<(), Fail> {
+    let limit = MemoryLimit::begin(rt.alloc(), 1 << 22)?;
+    for (room, wanted) in [(650, Some(ReplayError::Memory)), (1_200, None)] {
+        let found = replayed_over_tickets(rt.alloc(), &limit, room)?;
+        expect_at(&rt, &room, found, wanted);
+    }
+    Ok(())
+}

@@ -1,0 +1,7 @@
+//! The tests, by what they try.
+
+mod helps;
+mod hostile;
+mod long;
+mod runs;
+mod scarce;

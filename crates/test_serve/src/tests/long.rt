@@ -1,0 +1,288 @@
+//! Long scripts and long answers.
+use crate::tests::hostile::{FailingWriter, HAND_OVER, HANDED_OVER};
+use crate::tests::runs::{run, told};
+use std::alloc::Global;
+use std::process::Abort;
+use std::rt::Clock;
+use std::sync::Wait;
+use std::test::Fail;
+use std::thread::Threads;
+
+/// How often the line of a script is repeated.
+const TIMES: u32 = 20_000;
+
+/// What `show` answers of a line that no node wrote.
+const ZEROS: &str =
+    "00000000000000000000000000000000000000000000000000000000000000000000000000000000000000000000000000000000000000000000000000000000\n";
+
+/// A text: its first part, a part that is repeated, and the last part.
+type Long = [&'static str; 3];
+
+const HELD: Long = ["nodes 1 lines 1\nenq 1 0\n", "show 1 0\n", ""];
+
+const SHOWN: Long = [
+    "granted\n",
+    ZEROS,
+    "line 0 served 0 withdrawn 0 told 0 left 1\n",
+];
+
+/// Words, a long script, and its answer. The answers of replays have 2.6 MB.
+static ANSWERED: [(&[&str], Long, Long); 9] = [
+    (&["replay", "--kind", "plain"], HELD, SHOWN),
+    (&["replay", "--kind", "ring"], HELD, SHOWN),
+    (&["replay", "--kind", "link"], HELD, SHOWN),
+    (&["replay", "--kind", "ticket"], HELD, SHOWN),
+    (
+        &["steps"],
+        ["nodes 1\n", "link 1\n", ""],
+        [
+            "",
+            "refused\n",
+            "line 0 served 0 withdrawn 0 told 0 left 0\n",
+        ],
+    ),
+    (
+        &["steps", "--rank"],
+        ["nodes 1\nreset 1\nprepend 1\n", "link 1\n", "home 1\n"],
+        [
+            "went 0\ngranted 1\n",
+            "refused 1\n",
+            "released 0\nline 0 served 1 withdrawn 0 told 0 left 0\n",
+        ],
+    ),
+    (
+        &["board"],
+        ["board workers 1\n", "1 take\n", ""],
+        ["stored 0\nfull 0\ntaken 0\nempty 20000\nleft 0\n", "", ""],
+    ),
+    (
+        &["bank", "--kind", "ring"],
+        ["bank workers 1 lines 1\n", "1 in 0 1\n", "1 out 0 7\n"],
+        ["in 20000\nout 7\ntotal 19993\n", "", ""],
+    ),
+    (
+        &["bank", "--sleep"],
+        ["bank workers 1 lines 1\n", "1 in 0 1\n", "1 out 0 7\n"],
+        ["in 20000\nout 7\ntotal 19993\n", "", ""],
+    ),
+];
+
+/// Returns the text.
+fn whole(alloc: Global, long: &Long) -> Result<String, Fail> {
+    repeated(alloc, long, TIMES)
+}
+
+/// Returns the text with its middle part repeated `times` times.
+fn repeated(alloc: Global, long: &Long, times: u32) -> Result<String, Fail> {
+    let [first, middle, last] = *long;
+    let mut text = first.to_string(alloc)?;
+    for _ in 0..times {
+        text.push_str(middle)?;
+    }
+    text.push_str(last)?;
+    Ok(text)
+}
+
+/// Checks that a run on these words ends so. If it does not, the text is not printed.
+fn expect<T: Threads + Wait + Clock + Eprint + Abort + Sync>(
+    rt: &T,
+    alloc: Global,
+    words: &[&str],
+    script: &str,
+    want: (u8, &str, &str),
+) -> Result<(), Fail> {
+    let (status, out, err) = told(rt, alloc, words, script)?;
+    assert_eq!(rt; (status, err.as_str()), (want.0, want.2), "of {words:?}");
+    assert!(rt; out.as_str() == want.1, "the answer of {words:?}");
+    Ok(())
+}
+
+/// Checks that a run on these words ends so, and one on these words and `--explain`.
+fn expect_both<T: Threads + Wait + Clock + Eprint + Abort + Sync>(
+    rt: &T,
+    alloc: Global,
+    words: &[&str],
+    script: &str,
+    want: (u8, &str, &str),
+    explained: (u8, &str, &str),
+) -> Result<(), Fail> {
+    expect(rt, alloc, words, script, want)?;
+    let mut all = Vec::new(alloc);
+    all.extend_from_slice(words)?;
+    all.push("--explain")?;
+    expect(rt, alloc, all.as_slice(), script, explained)
+}
+
+#[test]
+fn a_long_script_is_answered_whole(rt: HostRuntime) -> Result<(), Fail> {
+    let alloc = rt.alloc();
+    for (words, script, answer) in &ANSWERED {
+        let script = whole(alloc, script)?;
+        let answer = whole(alloc, answer)?;
+        let want = (0, answer.as_str(), "");
+        expect_both(&rt, alloc, *words, script.as_str(), want, want)?;
+    }
+    Ok(())
+}
+
+/// 100,000 commands, which are as many as a script may have, with an answer of 12.9 MB.
+#[test]
+fn the_most_commands_are_answered(rt: HostRuntime) -> Result<(), Fail> {
+    let alloc = rt.alloc();
+    let script = repeated(alloc, &HELD, 99_999)?;
+    let answer = repeated(alloc, &SHOWN, 99_999)?;
+    let words = ["replay", "--kind", "plain"];
+    let want = (0, answer.as_str(), "");
+    expect(&rt, alloc, words.as_slice(), script.as_str(), want)
+}
+
+/// The number of bytes of a script that has most of its lines empty.
+const BYTES: usize = 1_500_000;
+
+/// Words, the last lines of such a script, and how the run ends. Of the refused script 1,499,976 lines before are empty.
+static BEHIND_EMPTY_LINES: [(&[&str], &str, (u8, &str, &str)); 2] = [
+    (
+        &["replay", "--kind", "plain"],
+        HAND_OVER,
+        (0, HANDED_OVER, ""),
+    ),
+    (
+        &["replay", "--kind", "plain", "--explain"],
+        "nodes 1 lines 1\nask 1 0\n",
+        (1, "", "bad line 1499978\n    ask 1 0\nword 1 is unknown\n"),
+    ),
+];
+
+#[test]
+fn what_is_behind_many_empty_lines_is_answered_or_explained(rt: HostRuntime) -> Result<(), Fail> {
+    let alloc = rt.alloc();
+    for (words, lines, want) in &BEHIND_EMPTY_LINES {
+        let mut script = vec![in alloc; b'\n'; BYTES.saturating_sub(lines.len())]?;
+        script.extend_from_slice(lines.as_bytes())?;
+        let mut reader = script.as_slice();
+        let mut out: Vec<u8> = Vec::new(alloc);
+        let (status, err) = run(&rt, alloc, *words, &mut reader, &mut out)?;
+        let out = String::from_utf8(out)?;
+        assert_eq!(rt; (status, out.as_str(), err.as_str()), *want, "of {words:?}");
+    }
+    Ok(())
+}
+
+/// Words, a long script whose last line is refused, and what is said of that line.
+static REFUSED: [(&[&str], Long, &str); 6] = [
+    (
+        &["replay", "--kind", "link"],
+        ["nodes 1 lines 1\n", "show 1 0\n", "ask 1 0\n"],
+        "    ask 1 0\nword 1 is unknown\n",
+    ),
+    (
+        &["draw", "--svg"],
+        ["nodes 1 lines 1\n", "show 1 0\n", "ask 1 0\n"],
+        "    ask 1 0\nword 1 is unknown\n",
+    ),
+    (
+        &["steps"],
+        ["nodes 1\n", "link 1\n", "ask 1\n"],
+        "    ask 1\nword 1 is unknown\n",
+    ),
+    (
+        &["draw", "--steps"],
+        ["nodes 1\n", "link 1\n", "ask 1\n"],
+        "    ask 1\nword 1 is unknown\n",
+    ),
+    (
+        &["board"],
+        ["board workers 1\n", "1 take\n", "1 ask\n"],
+        "    1 ask\nword 2 is unknown\n",
+    ),
+    (
+        &["bank"],
+        ["bank workers 1 lines 1\n", "1 in 0 1\n", "1 ask\n"],
+        "    1 ask\nword 2 is unknown\n",
+    ),
+];
+
+#[test]
+fn the_last_line_of_a_long_script_is_refused(rt: HostRuntime) -> Result<(), Fail> {
+    let alloc = rt.alloc();
+    let bad_line = "bad line 20002\n";
+    for (words, script, reason) in &REFUSED {
+        let script = whole(alloc, script)?;
+        let mut all = bad_line.to_string(alloc)?;
+        all.push_str(*reason)?;
+        let explained = (1, "", all.as_str());
+        expect_both(
+            &rt,
+            alloc,
+            *words,
+            script.as_str(),
+            (1, "", bad_line),
+            explained,
+        )?;
+    }
+    Ok(())
+}
+
+/// After how many writes of 4,096 bytes the next one fails.
+static GOOD_WRITES: [usize; 5] = [0, 1, 16, 17, 600];
+
+#[test]
+fn a_beginning_of_a_long_answer_is_written(rt: HostRuntime) -> Result<(), Fail> {
+    let alloc = rt.alloc();
+    let script = whole(alloc, &HELD)?;
+    let answer = whole(alloc, &SHOWN)?;
+    for good in &GOOD_WRITES {
+        let mut out = FailingWriter {
+            taken: Vec::new(alloc),
+            part: 4096,
+            good: *good,
+            fails: true,
+        };
+        let mut reader = script.as_bytes();
+        let words = ["replay", "--kind", "ring"];
+        let (status, err) = run(&rt, alloc, words.as_slice(), &mut reader, &mut out)?;
+        assert_eq!(rt;
+            (status, err.as_str()),
+            (4, "write fault\n"),
+            "after {good} writes"
+        );
+        let length = good.saturating_mul(4096);
+        let is_beginning = out.taken.len() == length
+            && answer.as_bytes().starts_with(out.taken.as_slice());
+        assert!(rt; is_beginning, "after {good} writes");
+    }
+    Ok(())
+}
+
+/// Words of drawings, a long script, and the beginning and the end of its picture.
+static DRAWN: [(&[&str], Long, &str, &str); 4] = [
+    (&["draw"], HELD, "line 0\n\n", "- closed\n"),
+    (&["draw", "--svg"], HELD, "<svg ", "</g>\n</svg>\n"),
+    (
+        &["draw", "--steps"],
+        ["nodes 1\n", "link 1\n", ""],
+        "1\n.  1: link 1: refused; the line lies at home\n",
+        "- Shut\n",
+    ),
+    (
+        &["draw", "--steps", "--svg"],
+        ["nodes 1\n", "link 1\n", ""],
+        "<svg ",
+        "<title>20000: link 1: refused</title></use>\n</g>\n</svg>\n",
+    ),
+];
+
+#[test]
+fn a_long_script_is_drawn(rt: HostRuntime) -> Result<(), Fail> {
+    let alloc = rt.alloc();
+    for (words, script, first, last) in &DRAWN {
+        let script = whole(alloc, script)?;
+        let (status, picture, err) = told(&rt, alloc, *words, script.as_str())?;
+        assert_eq!(rt; (status, err.as_str()), (0, ""), "of {words:?}");
+        let is_whole = picture.starts_with(*first) && picture.ends_with(*last);
+        assert!(rt; is_whole && picture.len() > 65_536, "of {words:?}");
+        let want = (0, picture.as_str(), "");
+        expect_both(&rt, alloc, *words, script.as_str(), want, want)?;
+    }
+    Ok(())
+}

@@ -1,0 +1,131 @@
+//! The program in rooms of memory that grow.
+use crate::tests::hostile::RUNS;
+use qolb_serve::serve;
+use std::alloc::Global;
+use std::process::Abort;
+use std::rt::Clock;
+use std::sync::Wait;
+use std::test::Fail;
+use std::thread::Threads;
+use test_support::MemoryLimit;
+
+/// Rooms, in bytes: the first, a bound that no room reaches, and the step from one room to the next. In the last rooms threads find place
+/// for their stacks.
+static ROOMS: [(usize, usize, usize); 3] = [
+    (1 << 6, 1 << 16, 1 << 6),
+    (1 << 16, 1 << 18, 1 << 10),
+    (1 << 20, 1 << 26, 1 << 20),
+];
+
+/// Runs the script in a room of `bytes` bytes. Returns the status, the output and the complaint.
+fn run_in<T: Threads + Wait + Clock + Eprint + Sync>(
+    rt: &T,
+    alloc: Global,
+    limit: &MemoryLimit,
+    bytes: usize,
+    words: &[String],
+    script: &str,
+) -> Result<(u8, Vec<u8>, Vec<u8>), Fail> {
+    let mut reader = script.as_bytes();
+    let mut out: Vec<u8> = Vec::with_capacity(alloc, 1 << 10)?;
+    let mut err: Vec<u8> = Vec::with_capacity(alloc, 1 << 10)?;
+    let rest = limit.leave(alloc, bytes)?;
+    let status = serve(rt, alloc, words, &mut reader, &mut out, &mut err);
+    drop(rest);
+    Ok((status, out, err))
+}
+
+/// Runs the script in a room of `bytes` bytes. Returns `true` if it was answered; else it was refused for want of memory, with no output.
+fn is_answered<T: Threads + Wait + Clock + Eprint + Sync + Abort>(
+    rt: &T,
+    alloc: Global,
+    limit: &MemoryLimit,
+    bytes: usize,
+    words: &[String],
+    script: &str,
+    reply: &str,
+) -> Result<bool, Fail> {
+    let (status, out, err) = run_in(rt, alloc, limit, bytes, words, script)?;
+    let answered = status == 0;
+    let (text, complaint) = if answered {
+        (reply, "")
+    } else {
+        ("", "out of memory\n")
+    };
+    let is_right = out.as_slice() == text.as_bytes() && err.as_slice() == complaint.as_bytes();
+    assert!(rt;
+        is_right && (answered || status == 3),
+        "{words:?} in {bytes} bytes: {status}"
+    );
+    Ok(answered)
+}
+
+#[test]
+fn each_allocation_is_refused(rt: HostRuntime) -> Result<(), Fail> {
+    let alloc = rt.alloc();
+    let limit = MemoryLimit::begin(alloc, 1 << 28)?;
+    for (words, script, reply) in &RUNS {
+        let mut all = vec![in alloc; "qolb".to_string(alloc)?]?;
+        for word in *words {
+            all.push(word.to_string(alloc)?)?;
+        }
+        let mut refused = 0u32;
+        let mut answered = false;
+        for (first, end, step) in &ROOMS {
+            for bytes in (*first..*end).step_by(*step) {
+                if !answered {
+                    answered = is_answered(
+                        &rt,
+                        alloc,
+                        &limit,
+                        bytes,
+                        all.as_slice(),
+                        *script,
+                        *reply,
+                    )?;
+                    refused = refused.saturating_add(1);
+                }
+            }
+        }
+        assert!(rt; answered && refused > 100, "{words:?}");
+    }
+    Ok(())
+}
+
+/// The kinds of lines, in the order of the memory that they take. With 200 nodes a plain line takes 3.3 KB, a list 26 KB of words, a ring
+/// 33 KB, a ticket line as many and 33 KB of slots; and each of the last three 25 KB of ports.
+static BY_SIZE: [&str; 4] = ["plain", "link", "ring", "ticket"];
+
+/// Rooms, in KB, each of which has place for eight lines of one kind more.
+static LARGER_ROOMS: [usize; 4] = [300, 478, 650, 1_200];
+
+/// The reply of a replay of eight lines for 200 nodes.
+const EIGHT_LINES: &str =
+    "line 0 served 0 withdrawn 0 told 0 left 0\nline 1 served 0 withdrawn 0 told 0 left 0\nline 2 served 0 withdrawn 0 told 0 left 0\nline 3 served 0 withdrawn 0 told 0 left 0\nline 4 served 0 withdrawn 0 told 0 left 0\nline 5 served 0 withdrawn 0 told 0 left 0\nline 6 served 0 withdrawn 0 told 0 left 0\nline 7 served 0 withdrawn 0 told 0 left 0\n";
+
+#[test]
+fn a_replay_takes_lines_of_the_kind_that_is_named(rt: HostRuntime) -> Result<(), Fail> {
+    let alloc = rt.alloc();
+    let limit = MemoryLimit::begin(alloc, 1 << 22)?;
+    for (place, kind) in BY_SIZE.iter().enumerate() {
+        let words = vec![in alloc;
+            "qolb".to_string(alloc)?,
+            "replay".to_string(alloc)?,
+            "--kind".to_string(alloc)?,
+            kind.to_string(alloc)?,
+        ]?;
+        for (larger, room) in LARGER_ROOMS.iter().enumerate() {
+            let answered = is_answered(
+                &rt,
+                alloc,
+                &limit,
+                room << 10,
+                words.as_slice(),
+                "nodes 200 lines 8\n",
+                EIGHT_LINES,
+            )?;
+            assert_eq!(rt; answered, place <= larger, "{kind} in {room} KB");
+        }
+    }
+    Ok(())
+}

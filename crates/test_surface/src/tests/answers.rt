@@ -1,0 +1,232 @@
+//! The variants of each answer and state, in their order.
+use crate::tests::rows::expect_at;
+use line_accounts::Reply;
+use line_board::{Put, Take};
+use line_kinds::ALL;
+use link_core::Place;
+use link_line::Prep;
+use qolb_model::{Enq, Out, Poll, PortState};
+use qolb_run::{Got, KINDS, Kind, Lines};
+use qolb_script::WorkKind;
+use std::fmt::Debug;
+use std::process::Abort;
+
+/// A type whose variants are all known.
+trait Listed {
+    /// The variant's place in the order.
+    fn place(&self) -> usize;
+}
+
+impl Listed for Enq {
+    fn place(&self) -> usize {
+        match self {
+            Enq::Granted => 0,
+            Enq::Queued => 1,
+            Enq::Closed => 2,
+            Enq::Busy => 3,
+        }
+    }
+}
+
+impl Listed for Prep {
+    fn place(&self) -> usize {
+        match self {
+            Prep::Granted => 0,
+            Prep::Closed => 1,
+            Prep::Busy => 2,
+            Prep::Linking => 3,
+        }
+    }
+}
+
+impl Listed for Poll {
+    fn place(&self) -> usize {
+        match self {
+            Poll::Granted => 0,
+            Poll::Waiting => 1,
+            Poll::Closed => 2,
+        }
+    }
+}
+
+impl Listed for Out {
+    fn place(&self) -> usize {
+        match self {
+            Out::Withdrawn => 0,
+            Out::Granted => 1,
+            Out::Closed => 2,
+        }
+    }
+}
+
+impl Listed for PortState {
+    fn place(&self) -> usize {
+        match self {
+            PortState::Idle => 0,
+            PortState::Linking => 1,
+            PortState::Queued => 2,
+            PortState::Holding => 3,
+            PortState::Left => 4,
+            PortState::Rolled => 5,
+            PortState::Shut => 6,
+        }
+    }
+}
+
+impl Listed for Place {
+    fn place(&self) -> usize {
+        match self {
+            Place::Home => 0,
+            Place::Mailbox(_) => 1,
+            Place::Hand(_) => 2,
+        }
+    }
+}
+
+impl Listed for Put {
+    fn place(&self) -> usize {
+        match self {
+            Put::Stored => 0,
+            Put::Full => 1,
+            Put::Late => 2,
+            Put::Closed => 3,
+            Put::Busy => 4,
+        }
+    }
+}
+
+impl Listed for Take {
+    fn place(&self) -> usize {
+        match self {
+            Take::Task(_) => 0,
+            Take::Empty => 1,
+            Take::Late => 2,
+            Take::Closed => 3,
+            Take::Busy => 4,
+        }
+    }
+}
+
+impl Listed for Reply {
+    fn place(&self) -> usize {
+        match self {
+            Reply::Done => 0,
+            Reply::Short => 1,
+            Reply::Over => 2,
+            Reply::Late => 3,
+            Reply::Closed => 4,
+            Reply::Busy => 5,
+            Reply::NoAccount => 6,
+            Reply::SameAccount => 7,
+        }
+    }
+}
+
+impl Listed for WorkKind {
+    fn place(&self) -> usize {
+        match self {
+            WorkKind::Board => 0,
+            WorkKind::Bank => 1,
+        }
+    }
+}
+
+impl Listed for Got {
+    fn place(&self) -> usize {
+        match self {
+            Got::Granted => 0,
+            Got::Closed => 1,
+        }
+    }
+}
+
+/// The variants of `Lines` with their numbers. Locks that come later stand behind them.
+static LINES: [(Lines, usize); 3] = [(Lines::Ring, 0), (Lines::Link, 1), (Lines::Ticket, 2)];
+
+/// The variants of `Kind` with their numbers.
+static KINDS_SO_FAR: [(Kind, usize); 4] = [
+    (Kind::Plain, 0),
+    (Kind::Ring, 1),
+    (Kind::Link, 2),
+    (Kind::Ticket, 3),
+];
+
+/// Expects that `all` are the type's variants, in their order.
+fn expect_order<R: Abort, T: Listed + Debug>(rt: &R, all: &[T]) {
+    for (place, one) in all.iter().enumerate() {
+        expect_at(rt, one, one.place(), place);
+    }
+}
+
+#[test]
+fn variants_with_fields_stand_so(rt: HostRuntime) {
+    expect_order(&rt, &[Place::Home, Place::Mailbox(1), Place::Hand(1)]);
+    expect_order(
+        &rt,
+        &[
+            Take::Task(5),
+            Take::Empty,
+            Take::Late,
+            Take::Closed,
+            Take::Busy,
+        ],
+    );
+}
+
+#[test]
+fn variants_are_declared_in_this_order(rt: HostRuntime) {
+    for one in [Enq::Granted, Enq::Queued, Enq::Closed, Enq::Busy] {
+        expect_at(&rt, &one, one as usize, one.place());
+    }
+    for one in [Prep::Granted, Prep::Closed, Prep::Busy, Prep::Linking] {
+        expect_at(&rt, &one, one as usize, one.place());
+    }
+    for one in [Poll::Granted, Poll::Waiting, Poll::Closed] {
+        expect_at(&rt, &one, one as usize, one.place());
+    }
+    for one in [Out::Withdrawn, Out::Granted, Out::Closed] {
+        expect_at(&rt, &one, one as usize, one.place());
+    }
+    for one in [
+        PortState::Idle,
+        PortState::Linking,
+        PortState::Queued,
+        PortState::Holding,
+        PortState::Left,
+        PortState::Rolled,
+        PortState::Shut,
+    ] {
+        expect_at(&rt, &one, one as usize, one.place());
+    }
+}
+
+#[test]
+fn variants_of_runs_are_declared_in_this_order(rt: HostRuntime) {
+    for one in [Got::Granted, Got::Closed] {
+        expect_at(&rt, &one, one as usize, one.place());
+    }
+    for (one, place) in LINES {
+        expect_at(&rt, &one, (one as usize, ALL[place]), (place, one));
+    }
+    for (one, place) in KINDS_SO_FAR {
+        expect_at(&rt, &one, (one as usize, KINDS[place]), (place, one));
+    }
+    for one in [WorkKind::Board, WorkKind::Bank] {
+        expect_at(&rt, &one, one as usize, one.place());
+    }
+    for one in [Put::Stored, Put::Full, Put::Late, Put::Closed, Put::Busy] {
+        expect_at(&rt, &one, one as usize, one.place());
+    }
+    for one in [
+        Reply::Done,
+        Reply::Short,
+        Reply::Over,
+        Reply::Late,
+        Reply::Closed,
+        Reply::Busy,
+        Reply::NoAccount,
+        Reply::SameAccount,
+    ] {
+        expect_at(&rt, &one, one as usize, one.place());
+    }
+}

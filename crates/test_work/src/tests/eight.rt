@@ -1,0 +1,269 @@
+//! Eight workers at a gate: each is asked for like the first.
+use crate::tests::gates::Closed;
+use crate::tests::rows::{expect, expect_at};
+use line_kinds::{ALL, Lines};
+use qolb_run::{Gate, RunError, WaitMode, run_work, run_work_with};
+use qolb_script::{Report, WorkKind, read_work};
+use std::alloc::Global;
+use std::sync::atomic::{AtomicU64, Ordering};
+use std::test::Fail;
+use std::thread::yield_now;
+
+/// Work whose gate is closed, with the first worker that has a job.
+static FIRST_TO_STALL: [(WorkKind, &str, u64); 6] = [
+    (WorkKind::Board, "board workers 2\n2 put 5\n", 2),
+    (
+        WorkKind::Board,
+        "board workers 8\n8 put 1\n4 put 1\n6 take\n",
+        4,
+    ),
+    (WorkKind::Board, "board workers 8\n7 take\n5 put 1\n", 5),
+    (WorkKind::Board, "board workers 200\n200 put 1\n", 200),
+    (
+        WorkKind::Bank,
+        "bank workers 8 lines 1\n8 in 0 1\n6 in 0 1\n",
+        6,
+    ),
+    (WorkKind::Bank, "bank workers 8 lines 2\n8 move 0 8 0\n", 8),
+];
+
+#[test]
+fn the_first_of_many_that_stalls_is_named(rt: HostRuntime) -> Result<(), Fail> {
+    for (kind, script, worker) in &FIRST_TO_STALL {
+        let work = read_work(rt.alloc(), script.as_bytes(), *kind)?;
+        let found = run_work(&rt, rt.alloc(), &Closed, &work, Lines::Ticket);
+        expect(&rt, script, found, Err(RunError::Stalled(*worker)));
+    }
+    Ok(())
+}
+
+/// A count for each of eight workers.
+type Eight = [AtomicU64; 8];
+
+fn zeros() -> Eight {
+    [
+        AtomicU64::new(0),
+        AtomicU64::new(0),
+        AtomicU64::new(0),
+        AtomicU64::new(0),
+        AtomicU64::new(0),
+        AtomicU64::new(0),
+        AtomicU64::new(0),
+        AtomicU64::new(0),
+    ]
+}
+
+fn loaded(counts: &Eight) -> [u64; 8] {
+    let mut all = [0; 8];
+    for worker in 0..8 {
+        all[worker] = counts[worker].load(Ordering::SeqCst);
+    }
+    all
+}
+
+/// A gate that counts the questions of each worker. It refuses `slow` before each job until the `opens_at`-th question.
+#[derive(Drop)]
+struct Counts {
+    slow: u64,
+    opens_at: u64,
+    /// How often `slow` has asked for the same job.
+    again: AtomicU64,
+    asked: Eight,
+    /// The number of each worker's next job, and how many questions were for neither that job nor the one before.
+    next: Eight,
+    jumps: AtomicU64,
+    begun: AtomicU64,
+    jobs: AtomicU64,
+}
+
+impl Counts {
+    fn new(slow: u64, opens_at: u64) -> Counts {
+        Counts {
+            slow,
+            opens_at,
+            again: AtomicU64::new(0),
+            asked: zeros(),
+            next: zeros(),
+            jumps: AtomicU64::new(0),
+            begun: AtomicU64::new(0),
+            jobs: AtomicU64::new(0),
+        }
+    }
+
+    /// How often the gate was told that work begins, of how many jobs, and `jumps`.
+    fn told(&self) -> [u64; 3] {
+        [
+            self.begun.load(Ordering::SeqCst),
+            self.jobs.load(Ordering::SeqCst),
+            self.jumps.load(Ordering::SeqCst),
+        ]
+    }
+}
+
+impl Gate for Counts {
+    ghost may_refuse = { λ gate worker. Unit {0} };
+
+    fn begins(&self, jobs: usize) {
+        self.begun.fetch_add(1, Ordering::SeqCst);
+        self.jobs.store(jobs as u64, Ordering::SeqCst);
+    }
+
+    fn may(&self, worker: u64, at: u64) -> bool {
+        let place = (worker.wrapping_sub(1) % 8) as usize;
+        self.asked[place].fetch_add(1, Ordering::SeqCst);
+        let next = self.next[place].load(Ordering::SeqCst);
+        let is_next = at == next;
+        if is_next {
+            self.next[place].store(at.wrapping_add(1), Ordering::SeqCst);
+        } else if at.wrapping_add(1) != next {
+            self.jumps.fetch_add(1, Ordering::SeqCst);
+        }
+        if worker != self.slow {
+            return true;
+        }
+        if is_next {
+            self.again.store(0, Ordering::SeqCst);
+        }
+        let asks = self.again.fetch_add(1, Ordering::SeqCst).wrapping_add(1);
+        asks >= self.opens_at
+    }
+}
+
+/// Work of 1,500 jobs, which eight workers share: two of each 16 a worker, of which the first is `first` and the other `second`.
+fn many_jobs(alloc: Global, head: &str, first: &str, second: &str) -> Result<String, Fail> {
+    let mut script = head.to_string(alloc)?;
+    for job in 0..1_500u64 {
+        let worker = (job % 8).saturating_add(1);
+        let word = if job % 16 < 8 { first } else { second };
+        script.push_str(format!(in alloc; "{worker} {word}\n")?.as_str())?;
+    }
+    Ok(script)
+}
+
+/// The header of work, and what its workers do in turn.
+static MANY: [(WorkKind, &str, &str, &str); 2] = [
+    (WorkKind::Board, "board workers 8\n", "put 5", "take"),
+    (
+        WorkKind::Bank,
+        "bank workers 8 lines 2\n",
+        "in 0 1",
+        "move 0 8 1",
+    ),
+];
+
+/// Of 1,500 jobs each worker has 187, and the first four have one more. Each asks once more behind its last job.
+const ASKED: [u64; 8] = [189, 189, 189, 189, 188, 188, 188, 188];
+
+#[test]
+fn each_of_eight_workers_asks_before_each_job(rt: HostRuntime) -> Result<(), Fail> {
+    let alloc = rt.alloc();
+    for (kind, head, first, second) in &MANY {
+        let script = many_jobs(alloc, *head, *first, *second)?;
+        let work = read_work(alloc, script.as_bytes(), *kind)?;
+        for lines in ALL {
+            let gate = Counts::new(0, 1);
+            let done = run_work_with(&rt, alloc, &gate, &work, lines, WaitMode::Asleep);
+            let found = (done.is_ok(), gate.told(), loaded(&gate.asked));
+            expect_at(&rt, &(*kind, lines), found, (true, [1, 1_500, 0], ASKED));
+        }
+    }
+    Ok(())
+}
+
+#[test]
+fn the_last_of_eight_waits_for_the_millionth_ask(rt: HostRuntime) -> Result<(), Fail> {
+    let script = b"board workers 8\n8 put 5\n8 take\n";
+    let work = read_work(rt.alloc(), script, WorkKind::Board)?;
+    let report = Report::Board {
+        stored: 1,
+        full: 0,
+        taken: 1,
+        empty: 0,
+        left: 0,
+    };
+    let gate = Counts::new(8, 1_000_000);
+    let found = run_work(&rt, rt.alloc(), &gate, &work, Lines::Ring);
+    let asked = [1, 1, 1, 1, 1, 1, 1, 2_000_001];
+    let found = (found, gate.told(), loaded(&gate.asked));
+    expect(&rt, "two jobs", found, (Ok(report), [1, 2, 0], asked));
+    Ok(())
+}
+
+/// A gate at which eight workers, each with one job, do their jobs one after the other, the last worker first if it is `backwards`.
+#[derive(Drop)]
+struct InOrder {
+    backwards: bool,
+    done: AtomicU64,
+}
+
+impl Gate for InOrder {
+    ghost may_refuse = { λ gate worker. Unit {0} };
+
+    fn may(&self, worker: u64, at: u64) -> bool {
+        let place = if self.backwards {
+            8u64.wrapping_sub(worker)
+        } else {
+            worker.wrapping_sub(1)
+        };
+        if at > 0 {
+            self.done.store(place.wrapping_add(1), Ordering::SeqCst);
+            return true;
+        }
+        for _ in 0..100 {
+            if self.done.load(Ordering::SeqCst) == place {
+                return true;
+            }
+            yield_now();
+        }
+        false
+    }
+}
+
+/// Puts of the first four workers, and takes of the others.
+const PUTS_FIRST: &str =
+    "board workers 8\n1 put 1\n2 put 2\n3 put 3\n4 put 4\n5 take\n6 take\n7 take\n8 take\n";
+
+/// Takes of the first four workers, and puts of the others.
+const TAKES_FIRST: &str =
+    "board workers 8\n1 take\n2 take\n3 take\n4 take\n5 put 5\n6 put 6\n7 put 7\n8 put 8\n";
+
+/// Each task is taken; or each take finds none, and each task is left.
+const ALL_TAKEN: Report = Report::Board {
+    stored: 4,
+    full: 0,
+    taken: 4,
+    empty: 0,
+    left: 0,
+};
+
+const NONE_TAKEN: Report = Report::Board {
+    stored: 4,
+    full: 0,
+    taken: 0,
+    empty: 4,
+    left: 4,
+};
+
+/// Work, whether it is done backwards, and its report. A job that is done before its gate is passed changes one of them.
+static IN_ORDER: [(&str, bool, Report); 4] = [
+    (PUTS_FIRST, false, ALL_TAKEN),
+    (PUTS_FIRST, true, NONE_TAKEN),
+    (TAKES_FIRST, false, NONE_TAKEN),
+    (TAKES_FIRST, true, ALL_TAKEN),
+];
+
+#[test]
+fn no_job_of_eight_is_done_before_its_gate_is_passed(rt: HostRuntime) -> Result<(), Fail> {
+    for (script, backwards, report) in &IN_ORDER {
+        let work = read_work(rt.alloc(), script.as_bytes(), WorkKind::Board)?;
+        for lines in ALL {
+            let gate = InOrder {
+                backwards: *backwards,
+                done: AtomicU64::new(0),
+            };
+            let found = run_work(&rt, rt.alloc(), &gate, &work, lines);
+            expect_at(&rt, &(*script, *backwards, lines), found, Ok(*report));
+        }
+    }
+    Ok(())
+}

@@ -1,0 +1,273 @@
+//! The messages about the progress of work, and their times.
+use crate::tests::rows::{expect, expect_at};
+use line_blocking::scoped::{ScopedTask, run_scoped};
+use qolb_run::{Gate, Progress};
+use std::alloc::Global;
+use std::fmt::Display;
+use std::hint::spin_loop;
+use std::io;
+use std::rt::Clock;
+use std::sync::Wait;
+use std::sync::atomic::{AtomicBool, AtomicU64, Ordering};
+use std::test::Fail;
+use std::thread::{Threads, yield_now};
+use std::time::Duration;
+
+/// A clock whose second is set, and a standard error that expects these lines in this order.
+#[derive(Drop)]
+struct Console<'a> {
+    alloc: Global,
+    second: AtomicU64,
+    expected: &'a [&'a str],
+    /// The expected lines that were written, and the others.
+    came: AtomicU64,
+    others: AtomicU64,
+}
+
+impl Clock for Console<'_> {
+    fn monotonic(&self) -> io::Result<Duration> {
+        Ok(Duration::from_secs(self.second.load(Ordering::SeqCst)))
+    }
+
+    fn since_1970(&self) -> io::Result<Duration> {
+        self.monotonic()
+    }
+}
+
+impl Eprint for Console<'_> {
+    fn eprint<D: Display + Drop>(&self, _value: D) -> io::Result<()> {
+        self.others.fetch_add(1, Ordering::SeqCst);
+        Ok(())
+    }
+
+    fn eprintln<D: Display + Drop>(&self, value: D) -> io::Result<()> {
+        let at = self.came.load(Ordering::SeqCst) as usize;
+        let is_expected = match (format!(in self.alloc; "{value}"), self.expected.get(at)) {
+            (Ok(line), Some(expected)) => line.as_str() == *expected,
+            _ => false,
+        };
+        let count = if is_expected {
+            &self.came
+        } else {
+            &self.others
+        };
+        count.fetch_add(1, Ordering::SeqCst);
+        Ok(())
+    }
+}
+
+impl Console<'_> {
+    /// The number of expected lines that were written, and of others.
+    fn lines(&self) -> (u64, u64) {
+        (
+            self.came.load(Ordering::SeqCst),
+            self.others.load(Ordering::SeqCst),
+        )
+    }
+}
+
+/// A console at second 0 that expects these lines.
+fn expecting<'a>(alloc: Global, expected: &'a [&'a str]) -> Console<'a> {
+    Console {
+        alloc,
+        second: AtomicU64::new(0),
+        expected,
+        came: AtomicU64::new(0),
+        others: AtomicU64::new(0),
+    }
+}
+
+/// The number of seconds in which two workers meet, and below how often two workers start anew: on a busy machine some pairs get two
+/// processors.
+const SECONDS: u64 = 200;
+
+const PAIRS: u32 = 30;
+
+/// The most pauses by which one worker is later than the other.
+const PAUSES: u64 = 64;
+
+/// A clock at which two workers meet: each reading waits for the other worker's, and the n-th reading of each is n seconds. Before they
+/// meet it reads 0 seconds. It counts the printed lines.
+///
+/// The last worker at a meeting would go on some steps before the other, which has to see it first. So it pauses, a little longer in each
+/// second, and in some seconds both go on at the same time.
+#[derive(Drop)]
+struct Meeting {
+    meets: AtomicBool,
+    readings: AtomicU64,
+    lines: AtomicU64,
+}
+
+impl Clock for Meeting {
+    fn monotonic(&self) -> io::Result<Duration> {
+        if !self.meets.load(Ordering::SeqCst) {
+            return Ok(Duration::ZERO);
+        }
+        let reading = self.readings.fetch_add(1, Ordering::SeqCst);
+        let second = reading / 2;
+        if reading % 2 == 0 {
+            self.wait_for_the_other(second);
+        } else {
+            for _ in 0..second % PAUSES {
+                spin_loop();
+            }
+        }
+        Ok(Duration::from_secs(second.saturating_add(1)))
+    }
+
+    fn since_1970(&self) -> io::Result<Duration> {
+        self.monotonic()
+    }
+}
+
+impl Meeting {
+    /// Waits until both workers have read the clock in this second: at first by spinning, to see it at once, and then by yielding.
+    fn wait_for_the_other(&self, second: u64) {
+        for waits in 0..u64::MAX {
+            if self.readings.load(Ordering::SeqCst) / 2 > second {
+                return;
+            }
+            if waits < 1_000 {
+                spin_loop();
+            } else {
+                yield_now();
+            }
+        }
+    }
+}
+
+impl Eprint for Meeting {
+    fn eprint<D: Display + Drop>(&self, _value: D) -> io::Result<()> {
+        Ok(())
+    }
+
+    fn eprintln<D: Display + Drop>(&self, _value: D) -> io::Result<()> {
+        self.lines.fetch_add(1, Ordering::SeqCst);
+        Ok(())
+    }
+}
+
+/// Asks this many times: before each job except the first, or once in each second in which the workers meet.
+#[derive(Drop)]
+struct Asking {
+    times: u64,
+}
+
+impl<R: Wait, G: Gate> ScopedTask<R, G, u64> for Asking {
+    type Output = bool;
+
+    ghost pre = { λ _ _ _ _. Unit {0} };
+
+    ghost post = { λ _ _ _ _. Unit {0} };
+
+    fn work(&self, _rt: &R, gate: &G, _place: usize, worker: u64) -> bool {
+        let mut may = true;
+        for at in 0..self.times {
+            may = may && gate.may(worker, at + 1);
+        }
+        may
+    }
+}
+
+/// The number of lines that two workers print if they meet in each second; `None` if a thread is refused, or a worker was not allowed a
+/// job.
+fn said_by_two<T: Threads + Wait + Sync>(rt: &T, alloc: Global) -> Option<u64> {
+    let clock = Meeting {
+        meets: AtomicBool::new(false),
+        readings: AtomicU64::new(0),
+        lines: AtomicU64::new(0),
+    };
+    let gate = Progress::new(&clock).ok()?;
+    gate.begins(1_000);
+    clock.meets.store(true, Ordering::SeqCst);
+    let workers = vec![in alloc; 1, 2].ok()?;
+    let asked = run_scoped(rt, alloc, &Asking { times: SECONDS }, &gate, workers)?;
+    if asked.iter().all(|may| *may) {
+        Some(clock.lines.load(Ordering::SeqCst))
+    } else {
+        None
+    }
+}
+
+#[test]
+fn two_workers_say_each_second_once(rt: HostRuntime) -> Result<(), Fail> {
+    for _ in 0..PAIRS {
+        let said = said_by_two(&rt, rt.alloc());
+        expect(&rt, "two workers", said, Some(SECONDS));
+    }
+    Ok(())
+}
+
+/// The jobs of each of four workers.
+const JOBS: u64 = 20_000;
+
+/// Returns `Some(true)` if all questions of four workers were allowed, and `None` if a thread is refused.
+fn asked_by_four<T: Threads + Wait + Sync, G: Gate + Sync>(
+    rt: &T,
+    alloc: Global,
+    gate: &G,
+) -> Option<bool> {
+    let workers = vec![in alloc; 1, 2, 3, 4].ok()?;
+    let asked = run_scoped(rt, alloc, &Asking { times: JOBS }, gate, workers)?;
+    Some(asked.iter().all(|may| *may))
+}
+
+#[test]
+fn no_job_of_four_workers_is_forgotten(rt: HostRuntime) -> Result<(), Fail> {
+    let expected = ["80001 of 100000 jobs done"];
+    let console = expecting(rt.alloc(), expected.as_slice());
+    let gate = Progress::new(&console)?;
+    gate.begins(100_000);
+    let asked = asked_by_four(&rt, rt.alloc(), &gate);
+    console.second.store(1, Ordering::SeqCst);
+    let may = gate.may(1, 1);
+    let found = (asked, may, console.lines());
+    expect(&rt, "four workers", found, (Some(true), true, (1, 0)));
+    Ok(())
+}
+
+#[test]
+fn progress_is_said_once_a_second(rt: HostRuntime) -> Result<(), Fail> {
+    let expected = ["2 of 5 jobs done", "4 of 5 jobs done"];
+    let console = expecting(rt.alloc(), expected.as_slice());
+    let gate = Progress::new(&console)?;
+    gate.begins(5);
+    // The second, the worker, the place of the job that it asks for, and the number of lines printed after that.
+    let rows = [
+        (0, 1, 0, 0),
+        (0, 1, 1, 0),
+        (1, 2, 0, 0),
+        (1, 2, 1, 1),
+        (1, 1, 2, 1),
+        (3, 1, 3, 2),
+        (3, 2, 2, 2),
+    ];
+    for (second, worker, at, lines) in rows {
+        console.second.store(second, Ordering::SeqCst);
+        let may = gate.may(worker, at);
+        let row = (second, worker, at);
+        expect_at(&rt, &row, (may, console.lines()), (true, (lines, 0)));
+    }
+    Ok(())
+}
+
+#[test]
+fn progress_is_said_after_hours(rt: HostRuntime) -> Result<(), Fail> {
+    let expected = [
+        "1 of 9 jobs done",
+        "2 of 9 jobs done",
+        "3 of 9 jobs done",
+        "5 of 9 jobs done",
+    ];
+    let console = expecting(rt.alloc(), expected.as_slice());
+    let gate = Progress::new(&console)?;
+    gate.begins(9);
+    // The second, and the number of lines printed after a worker has asked for its next job: at an hour, at two hours, and at two days.
+    let rows = [(3_600, 1), (7_199, 2), (7_200, 3), (7_200, 3), (172_800, 4)];
+    for (second, lines) in rows {
+        console.second.store(second, Ordering::SeqCst);
+        let may = gate.may(1, 1);
+        expect_at(&rt, &second, (may, console.lines()), (true, (lines, 0)));
+    }
+    Ok(())
+}

@@ -1,0 +1,237 @@
+//! Workers that share lines, over lines of each kind, awake and asleep.
+ghost use Rattle.std.specs.Prelude.{◌<◌};
+
+use crate::tests::rows::{expect, expect_at};
+use line_kinds::{ALL, Lines, NAMES};
+use qolb_run::{AlwaysOpen, Gate, RunError, WaitMode, run_work, run_work_with};
+use qolb_script::{Report, WorkKind, read_work};
+use std::alloc::Global;
+use std::process::Abort;
+use std::sync::Wait;
+use std::test::Fail;
+use std::thread::Threads;
+
+/// The ways in which workers wait.
+pub(crate) static EITHER: [WaitMode; 2] = [WaitMode::Awake, WaitMode::Asleep];
+
+/// Expects this outcome of the script's workers behind the gate, over lines of each kind, awake and asleep.
+pub(crate) fn expect_work<R: Threads + Wait + Abort + Sync, G: Gate + Sync>(
+    rt: &R,
+    alloc: Global,
+    gate: &G,
+    script: &str,
+    kind: WorkKind,
+    want: Result<Report, RunError>,
+) -> Result<(), Fail> {
+    let work = read_work(alloc, script.as_bytes(), kind)?;
+    for lines in ALL {
+        for waits in EITHER {
+            let found = run_work_with(rt, alloc, gate, &work, lines, waits);
+            expect_at(rt, &(lines, waits), found, want);
+        }
+    }
+    Ok(())
+}
+
+/// The test of `--version` says which names there are.
+#[test]
+fn each_name_is_that_of_the_lock_at_its_place(rt: HostRuntime) -> Result<(), Fail> {
+    for (lines, name) in ALL.iter().zip(NAMES.iter()) {
+        expect_at(&rt, name, Lines::named(name), Some(*lines));
+    }
+    Ok(())
+}
+
+/// A script with the report of its workers.
+type Row = (WorkKind, &'static str, Report);
+
+/// Scripts of one worker.
+static OF_ONE: [Row; 4] = [
+    (
+        WorkKind::Board,
+        "board workers 1\n1 put 5\n1 put 9\n1 take\n1 take\n1 take\n",
+        Report::Board {
+            stored: 2,
+            full: 0,
+            taken: 2,
+            empty: 1,
+            left: 0,
+        },
+    ),
+    // a full board
+    (
+        WorkKind::Board,
+        "board workers 1\n1 put 3\n1 put 3\n1 put 3\n1 put 3\n1 put 3\n1 put 3\n1 put 3\n1 put 3\n",
+        Report::Board {
+            stored: 7,
+            full: 1,
+            taken: 0,
+            empty: 0,
+            left: 7,
+        },
+    ),
+    (
+        WorkKind::Bank,
+        "bank workers 1 lines 2\n1 in 0 10\n1 move 0 9 4\n1 out 9 9\n1 out 9 1\n",
+        Report::Bank {
+            paid_in: 10,
+            paid_out: 1,
+            total: 9,
+        },
+    ),
+    // 10 into account 0; 4 from there to account 9; 5 from account 0 to itself; 9 out of account 9, which has 4; 1 out of it; 2^48 into account 0,
+    // which has 6; 6 from account 0 to 1, and out of it
+    (
+        WorkKind::Bank,
+        "bank workers 1 lines 2\n1 in 0 10\n1 move 0 9 4\n1 move 0 0 5\n1 out 9 9\n1 out 9 1\n1 in 0 281474976710656\n1 move 0 1 6\n1 out 1 6\n",
+        Report::Bank {
+            paid_in: 10,
+            paid_out: 7,
+            total: 3,
+        },
+    ),
+];
+
+#[test]
+fn one_worker_does_its_jobs(rt: HostRuntime) -> Result<(), Fail> {
+    for (kind, script, report) in &OF_ONE {
+        expect_work(&rt, rt.alloc(), &AlwaysOpen, *script, *kind, Ok(*report))?;
+    }
+    Ok(())
+}
+
+/// Scripts of two workers whose report is the same in any order of jobs.
+static OF_TWO: [Row; 2] = [
+    // a late put does not find the board full
+    (
+        WorkKind::Board,
+        "board workers 2\n1 put 1\n1 put 2\n1 put 3\n2 put 4\n2 put 5\n2 put 6\n2 put 7\n",
+        Report::Board {
+            stored: 7,
+            full: 0,
+            taken: 0,
+            empty: 0,
+            left: 7,
+        },
+    ),
+    // payments that fit after any of the moves are all made: into account 0 2^48 - 110, 60 and 10, 20 of it to account 8, and 10 into
+    // account 9 and from there to account 0; 2^48 - 30 are paid in, and with the moves 2^48
+    (
+        WorkKind::Bank,
+        "bank workers 2 lines 2\n1 in 0 281474976710546\n2 in 0 60\n2 in 9 10\n2 move 0 8 20\n1 move 9 0 10\n1 in 0 10\n",
+        Report::Bank {
+            paid_in: 281_474_976_710_626,
+            paid_out: 0,
+            total: 281_474_976_710_626,
+        },
+    ),
+];
+
+#[test]
+fn two_workers_do_theirs_in_any_order(rt: HostRuntime) -> Result<(), Fail> {
+    for (kind, script, report) in &OF_TWO {
+        for _ in 0..100 {
+            expect_work(&rt, rt.alloc(), &AlwaysOpen, *script, *kind, Ok(*report))?;
+        }
+    }
+    Ok(())
+}
+
+/// Runs a bank with `workers` workers and `accounts` accounts, eight to a line. Each worker pays in 1 `times` times, into one account after
+/// another, in all `paid`.
+fn expect_payments<R: Threads + Wait + Abort + Sync>(
+    rt: &R,
+    alloc: Global,
+    workers: u64,
+    accounts: u64,
+    times: u64,
+    paid: u128,
+) -> Result<(), Fail>
+    requires { 0 < accounts }
+{
+    let lines = accounts / 8;
+    let mut script = format!(in alloc; "bank workers {workers} lines {lines}\n")?;
+    for worker in 1..workers.saturating_add(1) {
+        for turn in 0..times {
+            let account = worker.wrapping_add(turn) % accounts;
+            script.push_str(format!(in alloc; "{worker} in {account} 1\n")?.as_str())?;
+        }
+    }
+    let report = Report::Bank {
+        paid_in: paid,
+        paid_out: 0,
+        total: paid,
+    };
+    expect_work(
+        rt,
+        alloc,
+        &AlwaysOpen,
+        script.as_str(),
+        WorkKind::Bank,
+        Ok(report),
+    )
+}
+
+#[test]
+fn no_payment_of_many_workers_is_lost(rt: HostRuntime) -> Result<(), Fail> {
+    expect_payments(&rt, rt.alloc(), 4, 8, 100, 400)?;
+    expect_payments(&rt, rt.alloc(), 200, 8, 1, 200)?;
+    expect_payments(&rt, rt.alloc(), 200, 64, 1, 200)
+}
+
+/// One worker does these two jobs 50,000 times over rings, with this report.
+fn expect_longest<R: Threads + Wait + Abort + Sync>(
+    rt: &R,
+    alloc: Global,
+    header: &str,
+    jobs: &str,
+    kind: WorkKind,
+    report: Report,
+) -> Result<(), Fail> {
+    let mut script = header.to_string(alloc)?;
+    for _ in 0..50_000u32 {
+        script.push_str(jobs)?;
+    }
+    let work = read_work(alloc, script.as_bytes(), kind)?;
+    let found = run_work(rt, alloc, &AlwaysOpen, &work, Lines::Ring);
+    expect(rt, "50,000 times two jobs", found, Ok(report));
+    Ok(())
+}
+
+#[test]
+fn the_longest_work_of_a_board_is_done(rt: HostRuntime) -> Result<(), Fail> {
+    let report = Report::Board {
+        stored: 50_000,
+        full: 0,
+        taken: 50_000,
+        empty: 0,
+        left: 0,
+    };
+    let jobs = "1 put 5\n1 take\n";
+    expect_longest(
+        &rt,
+        rt.alloc(),
+        "board workers 1\n",
+        jobs,
+        WorkKind::Board,
+        report,
+    )
+}
+
+#[test]
+fn the_longest_work_of_a_bank_is_done(rt: HostRuntime) -> Result<(), Fail> {
+    let report = Report::Bank {
+        paid_in: 50_000,
+        paid_out: 0,
+        total: 50_000,
+    };
+    let jobs = "1 in 0 1\n1 move 0 63 1\n";
+    expect_longest(
+        &rt,
+        rt.alloc(),
+        "bank workers 1 lines 8\n",
+        jobs,
+        WorkKind::Bank,
+        report,
+    )
+}
