@@ -53,6 +53,9 @@ HOOKED = [
     ("YIELDS = 16", "YIELDS = 1"),
     ("CALM = 16", "CALM = 1"),
     ("WATCHES = 8", "WATCHES = 1"),
+    ("LOOKS_AT_DOOR = 16, YIELDS_AT_DOOR = 128", "LOOKS_AT_DOOR = 1, YIELDS_AT_DOOR = 1"),
+    ("NEAR = 12, DOOR_YIELDS = 32", "NEAR = 1, DOOR_YIELDS = 1"),
+    ("GUARD_LOOKS = 64", "GUARD_LOOKS = 1"),
     ("WATCHED_PART = 16", "WATCHED_PART = 2"),
     # Fewer bells are cleared sooner; in some scenes all places share one.
     ("enum { BELLS = 1024 };\n", "enum { BELLS = 32 };\nextern unsigned model_bells;\n"),
@@ -68,7 +71,8 @@ HOOKED = [
 
 LEAVING = "    atomic_store_explicit(&seat->state, LEAVING, memory_order_release);\n"
 FREED = "atomic_store_explicit(&seat->state, FREE, memory_order_release);\n"
-LEAVES = f"    if (atomic_load(&hall->sleepers)) ring_and_free(hall, seat);\n    else {FREED}"
+RINGS_IF = "    if (atomic_load(&hall->sleepers) || atomic_load(&hall->at_door)) ring_and_free(hall, seat);\n"
+LEAVES = f"{RINGS_IF}    else {FREED}"
 RINGS = "    struct next next = next_of(&seat->node);\n    wake_for(next);\n    qolb_free_seat_(hall, seat);\n    call_for(next);\n"
 TOLD_CLOSED = "    if (next.holder) wake_for(next);\n    atomic_exchange(&seat->state, LEAVING);\n"
 LOOK = "    unsigned word = atomic_load(&bell->word);\n    uint32_t got = qolb_poll_proved_(&seat->node);\n"
@@ -87,7 +91,9 @@ FAULTS = {
     "who leaves rings no bell of the line": (RINGS, "    qolb_free_seat_(hall, seat);\n"),
     "who leaves tells nobody at the door": (RINGS, RINGS.replace("    qolb_free_seat_(hall, seat);\n", f"    {FREED}")),
     "a seat is freed by a relaxed store where nobody sleeps": (LEAVES, LEAVES.replace("_release", "_relaxed")),
-    "who leaves looks for sleepers after the seat is free": (LEAVES, f"    {FREED}    if (atomic_load(&hall->sleepers)) ring_and_free(hall, seat);\n"),
+    "who leaves looks for sleepers after the seat is free": (LEAVES, f"    {FREED}{RINGS_IF}"),
+    "who leaves looks for sleepers at bells alone": (" || atomic_load(&hall->at_door)) ring_and_free", ") ring_and_free"),
+    "who leaves looks at the door alone": ("atomic_load(&hall->sleepers) || atomic_load(&hall->at_door)) ring_and_free", "atomic_load(&hall->at_door)) ring_and_free"),
     "who leaves asks for whom to ring after the seat is free": (RINGS, "    qolb_free_seat_(hall, seat);\n    ring_for(next_of(&seat->node));\n"),
     "who is told that it is closed rings no bell": (TOLD_CLOSED, TOLD_CLOSED.split("\n", 1)[1]),
     "who gives up says by a plain store that the seat is about to be free": (TOLD_CLOSED, TOLD_CLOSED.replace("atomic_exchange(&seat->state, LEAVING);", "atomic_store_explicit(&seat->state, LEAVING, memory_order_release);")),
@@ -109,7 +115,9 @@ FAULTS = {
     "only who is in by the gate may not enter again": ("is_in(hall) || own_seat(hall)", "is_in(hall)"),
     "a thread that holds by a seat is not counted": ("        qolb_own_.by_seat++;\n", ""),
     "a lock is not closed while a seat is about to be free": ("if (state != LEAVING) return k;", "if (state != FREE) return k;"),
-    "a lock is closed while it has guests": ("many < hall->seats || atomic_load(&hall->guests)", "many < hall->seats"),
+    "a lock is closed while it has guests": (" || atomic_load(&hall->guests); }", "; }"),
+    "a lock is closed while one is at its door": ("return atomic_load(&hall->at_door) || atomic_load", "return atomic_load"),
+    "who closes the lock looks for guests before it looks at the door": ("atomic_load(&hall->at_door) || atomic_load(&hall->guests); }", "atomic_load(&hall->guests) || atomic_load(&hall->at_door); }"),
     "who does not close the lock tells nobody of its seats": ("    qolb_free_seat_(hall, hall->seat[0]);\n", "    atomic_store(&hall->seat[0]->state, FREE);\n"),
     "who closes the lock leaves the gate open": ("    if (gate & OPEN) qolb_take_back_(hall, gate);\n    unsigned many", "    unsigned many"),
     "who waits stands in the list after it has left": (STANDS, "".join(STANDS.splitlines(True)[1:] + STANDS.splitlines(True)[:1])),
@@ -215,9 +223,10 @@ FREES = "    int guarded = atomic_load(&hall->at_door) != 0;\n"
 GUARDED = "        guarded = hall->first != NULL;\n        if (!guarded) return_guard(&hall->guard);\n"
 FREE_THEN_TOLD = f"    {FREED}    if (!guarded) return;\n    struct told told = serve(hall);\n"
 FORGETS = "    atomic_exchange(&my->told, UNTOLD);\n    me->is_first = 1;\n    uint32_t got = qolb_take_seat_(me);\n"
-GOES = "    if (atomic_load(&hall->at_door) && (is_told(my) || has_free_seat(hall))) qolb_admit_(hall);\n"
+GOES = "    if (hall->first && (is_told(my) || has_free_seat(hall))) told = serve(hall);\n"
+GOES_OUT = "    take_guard(&hall->guard);\n    qolb_go_out_(hall, my);\n"
 COMES = "static void come(struct hall *hall, struct caller *my) {\n    take_guard(&hall->guard);\n"
-COUNTS = "    atomic_fetch_add(&hall->at_door, 1);\n    atomic_fetch_add(&hall->sleepers, 1);\n    come(hall, &my);\n"
+COUNTS = "    int near = atomic_fetch_add(&hall->at_door, 1) < NEAR || hall->burst;\n    come(hall, &my);\n"
 FAULTS |= {
     "the first sleeps though it met a seat that is about to be free": ("    if (got == QOLB_WAITING && !me->seat && me->met) {\n", "    if (0) {\n"),
     "a seat is freed by a relaxed store where somebody is at the door": (FREE_THEN_TOLD, FREE_THEN_TOLD.replace("_release", "_relaxed")),
@@ -225,23 +234,25 @@ FAULTS |= {
     "who frees a seat takes no guard": ("    if (guarded) {\n        take_guard(&hall->guard);\n", "    if (guarded) {\n"),
     "who frees a seat wakes nobody": ("    return_guard(&hall->guard);\n    carry_out(told);\n}\n\n/* ---- Waiting", "    return_guard(&hall->guard);\n}\n\n/* ---- Waiting"),
     "who frees a seat tells nobody, though it wakes": ("atomic_exchange(&first->told, TOLD) == ASLEEP_UNTOLD", "atomic_load(&first->told) == ASLEEP_UNTOLD"),
-    "who goes from the door wakes nobody": ("        carry_out(told);\n", ""),
+    "who goes from the door wakes nobody": ("    carry_out(told);\n    if (told.met)", "    if (told.met)"),
+    "the second at the door is told so, and is not woken": ("        told->second = &second->told;\n", "        (void)told;\n"),
+    "the first at the door is told that it is the second": ("atomic_load(&second->told) != SECOND && atomic_exchange(&second->told, SECOND)", "atomic_exchange(&first->told, SECOND)"),
     "a later thread takes a seat before those at the door": ("    if (!me->is_first && atomic_load(&hall->at_door)) return QOLB_WAITING;\n", ""),
     "the last seat is asked though one is at the door": ("last < hall->seats && !atomic_load(&hall->at_door) ?", "last < hall->seats ?"),
     "who tries takes a seat before those at the door": ("atomic_load(&hall->gate) != QUEUED_UP || atomic_load(&hall->at_door) || qolb_lock_holder(lock)", "atomic_load(&hall->gate) != QUEUED_UP || qolb_lock_holder(lock)"),
     "who goes from the door tells nobody": (GOES, ""),
-    "who goes looks for free seats before it is out of the list": ("    take_guard(&hall->guard);\n    qolb_go_out_(hall, my);\n", "    int tells = is_told(my) || has_free_seat(hall);\n    take_guard(&hall->guard);\n    qolb_go_out_(hall, my);\n", GOES, GOES.replace("(is_told(my) || has_free_seat(hall))", "tells")),
+    "who goes looks for free seats before it is out of the list": (GOES_OUT, "    int tells = is_told(my) || has_free_seat(hall);\n" + GOES_OUT, GOES, GOES.replace("(is_told(my) || has_free_seat(hall))", "tells")),
     "the first at the door waits to be told": ("    if (!hall->first) atomic_store_explicit(&my->told, TOLD, memory_order_relaxed);\n", ""),
     "each at the door looks for itself": ("    if (!hall->first) atomic_store_explicit(&my->told, TOLD, memory_order_relaxed);\n", "    atomic_store_explicit(&my->told, TOLD, memory_order_relaxed);\n"),
     "what was told at the door is forgotten after the look": (FORGETS, "    me->is_first = 1;\n    uint32_t got = qolb_take_seat_(me);\n    atomic_exchange(&my->told, UNTOLD);\n"),
     "who comes to the door takes no guard": (COMES, COMES.split("\n")[0] + "\n"),
-    "who comes to the door counts itself behind the others": (COUNTS, "    come(hall, &my);\n    atomic_fetch_add(&hall->at_door, 1);\n    atomic_fetch_add(&hall->sleepers, 1);\n"),
-    "who is at the door does not count among those that sleep": (COUNTS, COUNTS.replace("    atomic_fetch_add(&hall->sleepers, 1);\n", ""), "    atomic_fetch_sub(&hall->sleepers, 1);\n    atomic_fetch_sub(&hall->at_door, 1);\n", "    atomic_fetch_sub(&hall->at_door, 1);\n"),
-    "who is at the door is no guest": ("        atomic_fetch_add(&me->hall->guests, 1);\n", "", "        atomic_fetch_sub(&me->hall->guests, 1);\n", ""),
+    "who comes to the door counts itself behind the others": (COUNTS, "    come(hall, &my);\n" + COUNTS.replace("    come(hall, &my);\n", "")),
+    "who goes from the door without a seat is no guest": ("    if (!me->seat) atomic_fetch_add(&hall->guests, 1);\n", "", "        if (!me->seat) atomic_fetch_sub(&me->hall->guests, 1);\n", ""),
+    "who goes from the door without a seat is a guest after that": ("    if (!me->seat) atomic_fetch_add(&hall->guests, 1);\n    go(hall, &my);\n", "    go(hall, &my);\n    if (!me->seat) atomic_fetch_add(&hall->guests, 1);\n"),
     "who comes to the door is put first": ("    me->before = hall->last;\n    me->next = NULL;\n    if (hall->last) hall->last->next = me;\n    else hall->first = me;\n    hall->last = me;\n", "    me->next = hall->first;\n    me->before = NULL;\n    if (hall->first) hall->first->before = me;\n    else hall->last = me;\n    hall->first = me;\n"),
     "who is woken early at the door is told nothing else": ("    atomic_compare_exchange_strong(&my->told, &asleep, UNTOLD);\n}\n", "    atomic_store(&my->told, UNTOLD);\n}\n"),
-    "who sleeps at the door says so by two steps": ("    if (!time || !atomic_compare_exchange_strong(&my->told, &untold, ASLEEP_UNTOLD)) return;\n", "    if (!time || atomic_load(&my->told) != UNTOLD) return;\n    atomic_store(&my->told, ASLEEP_UNTOLD);\n"),
-    "who is late at the door stays in the list": ("    take_guard(&hall->guard);\n    qolb_go_out_(hall, my);\n", "    take_guard(&hall->guard);\n    if (my->next || my->before) qolb_go_out_(hall, my);\n    else hall->first = hall->last = NULL;\n    if (my->next) my->next->before = my;\n"),
+    "who sleeps at the door says so by two steps": ("    if (!time || untold == TOLD || !atomic_compare_exchange_strong(&my->told, &untold, ASLEEP_UNTOLD)) return;\n", "    if (!time || untold == TOLD) return;\n    atomic_store(&my->told, ASLEEP_UNTOLD);\n"),
+    "who is late at the door stays in the list": (GOES_OUT, "    take_guard(&hall->guard);\n    if (my->next || my->before) qolb_go_out_(hall, my);\n    else hall->first = hall->last = NULL;\n    if (my->next) my->next->before = my;\n"),
 }
 
 # Bursts.
@@ -310,13 +321,11 @@ FAULTS |= {
     "tasks: a task has no look as the first": (LOOKS_AS_FIRST, ""),
     "tasks: a task that is not the first looks for a seat": (LOOKS_AS_FIRST, LOOKS_AS_FIRST.replace("if (!hall->first) ", "")),
     "tasks: a later task takes a seat before those at the door": ("    if (!me->is_first && atomic_load(&hall->at_door)) return QOLB_WAITING;\n", "    if (!me->is_first && !me->is_task && atomic_load(&hall->at_door)) return QOLB_WAITING;\n"),
-    "tasks: a task at the door does not count among those that sleep": ("    atomic_fetch_add(&hall->sleepers, by);\n", ""),
-    "tasks: a task at the door is not counted there": ("    atomic_fetch_add(&hall->at_door, by);\n", ""),
+    "tasks: a task at the door is not counted there": ("{ atomic_fetch_add(&hall->at_door, by); }", "{ (void)hall, (void)by; }"),
     "tasks: a task comes to the front": (STANDS_LAST, STANDS_LAST.splitlines(True)[0] + "        if (hall->first != &me->at) {\n            qolb_go_out_(hall, &me->at);\n            me->at.next = hall->first;\n            me->at.before = NULL;\n            hall->first->before = &me->at;\n            hall->first = &me->at;\n        }\n" + STANDS_LAST.splitlines(True)[1]),
     "tasks: a task says behind the guard that it is at the door": (SAYS_AT_DOOR, "        qolb_stand_(hall, &me->at);\n    }\n    return_guard(&hall->guard);\n    if (*stands) atomic_store(&me->state, AT_DOOR);\n    return waits;\n"),
     "tasks: a task that waits is read": (WAITS_ON, WAITS_ON.replace("return got;", "return me->hall ? got : (uint32_t)QOLB_MISUSE;")),
-    "tasks: a task at the door is no guest": ("    atomic_fetch_add(&hall->guests, by);\n", ""),
-    "tasks: who goes from the door waits for no seat that is about to be free": ("        met = told.met;\n", "        met = 0;\n"),
+    "tasks: who goes from the door waits for no seat that is about to be free": ("    if (told.met) qolb_admit_(hall);\n", ""),
     "tasks: who polls wants no other call": (POLLS, POLLS.replace("listen(me)", "qolb_poll_proved_(&me->seat->node)")),
     "tasks: who polls at the door does not wait for the guard": ("    if (state != AT_DOOR) return state;\n", "    return state;\n"),
     "tasks: who is due is not called": ("    for (unsigned k = 0; k < due.calls; k++)", "    for (unsigned k = 0; k < 0; k++)"),

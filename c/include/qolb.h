@@ -160,17 +160,16 @@
  * WAITING
  *
  * Of the calls on a node two wait for other threads: qolb_acquire and qolb_acquire_within. They poll for some 1.5 us,
- * with a pause of the processor between two polls, yield the processor 16 times with a poll after each, and then sleep
- * (on Linux by a futex, elsewhere for 200 us at a time) until the line is released; then they poll anew. So does a
- * thread that waits for a lock. At a condition it sleeps at once.
+ * yield the processor 16 times, polling after each, then sleep (on Linux by a futex, elsewhere for 200 us at a
+ * time) until the line is released; then they poll anew. So does a thread that waits for a lock. At a strict lock's
+ * door it yields 32 times, or, behind 12 others, never; meanwhile one with a seat, of at most 8, polls 16 times and
+ * yields 128. At a condition it sleeps at once.
  *
- * A call that releases the line wakes at most two sleepers: the next holder, and the waiter behind it, which can wake
- * up during the holder's turn. Such calls are qolb_deqolb, qolb_shut, and every call that answers CLOSED. Leaving a
- * lock also wakes the first two threads at its door; in a burst it wakes only the thread that watches. Lines may wake
- * each other's waiters, without effect.
+ * A call that releases the line (qolb_deqolb, qolb_shut, and any that answers CLOSED) wakes at most two sleepers: the
+ * next holder, and the waiter behind it ahead of its turn. Leaving a lock also wakes the first two threads at its door;
+ * in a burst only the thread that watches. Lines may wake each other's waiters, without effect.
  *
- * No call wakes the thread of a busy node, and no notification tells of its end. That thread makes its request again 16
- * times, and then every 200 us.
+ * No call wakes, and no notification tells, the thread of a busy node: it asks again 16 times, and then every 200 us.
  *
  * A granted line is its node's, even before it polls: all behind wait until its thread has woken up and had its turn.
  *

@@ -61,11 +61,19 @@ HIDDEN unsigned qolb_looks_(void);
 
 /* ---- Guards ---- */
 
+/* How often a thread looks at a taken guard before it sleeps: most are taken for a moment. */
+enum { GUARD_LOOKS = 64 };
+
 /* A mutex of three values: free, taken, taken with sleepers. */
 static inline void take_guard(atomic_uint *word) {
     unsigned was = 0;
-    if (!atomic_compare_exchange_strong(word, &was, 1))
-        while (atomic_exchange(word, 2)) qolb_sleep_at_(word, 2, FOR_EVER);
+    if (atomic_compare_exchange_strong(word, &was, 1)) return;
+    for (int k = 0; k < GUARD_LOOKS; k++) {
+        __builtin_ia32_pause();
+        was = atomic_load_explicit(word, memory_order_relaxed);
+        if (was == 0 && atomic_compare_exchange_strong(word, &was, 1)) return;
+    }
+    while (atomic_exchange(word, 2)) qolb_sleep_at_(word, 2, FOR_EVER);
 }
 
 /* The word need not exist any more when its sleeper is woken. */

@@ -6,7 +6,7 @@
  * first says that it is about to be free, and then looks whether one is there; who comes first counts itself, and then
  * looks at the seats: a Dekker handshake. The first that meets a seat that is about to be free looks again.
  *
- * A thread that is at the door counts as a guest until it has a seat, so the hall stays. A leaver therefore frees its
+ * A thread is counted at the door until it has a seat, or is a guest, so the hall stays. A leaver therefore frees its
  * seat under the guard: as long as the list is not empty, and cannot change, the hall is there. */
 #define _GNU_SOURCE
 #include "lock.h"
@@ -38,12 +38,12 @@ struct told {
     int met; /* the first is a task that has no seat, and one is about to be free */
 };
 
-/* Tells the first to look for a seat. The one behind it is woken, if it sleeps, and looks on for a while. */
+/* Tells the first to look for a seat. The one behind it is told that it is the second, and so is woken if it sleeps. */
 static void tell_first(struct hall *hall, struct told *told) {
     struct caller *first = hall->first, *second = first ? first->next : NULL;
-    unsigned asleep = ASLEEP_UNTOLD;
     if (first && atomic_exchange(&first->told, TOLD) == ASLEEP_UNTOLD) told->first = &first->told;
-    if (second && atomic_compare_exchange_strong(&second->told, &asleep, UNTOLD)) told->second = &second->told;
+    if (second && atomic_load(&second->told) != SECOND && atomic_exchange(&second->told, SECOND) == ASLEEP_UNTOLD)
+        told->second = &second->told;
 }
 
 /* Under the guard: serves those at the door, in their order. */
@@ -95,17 +95,35 @@ static void pause_once(void) { __builtin_ia32_pause(); }
 
 static int is_told(const struct caller *my) { return atomic_load_explicit(&my->told, memory_order_relaxed) == TOLD; }
 
-/* Waits at the door until it is told, or for a while. */
-static void await_word(struct hall *hall, struct caller *my, const struct limit *limit) {
-    for (unsigned k = qolb_looks_(); k > 0; k--, pause_once())
-        if (is_told(my)) return;
-    for (int k = 0; k < YIELDS; k++) {
+/* In a strict lock a thread sleeps at once if so many were at the door before it, and is woken as the second. Any other
+ * first yields so often, and looks so often for some 1.5 us, once it is the second. */
+enum { NEAR = 12, DOOR_YIELDS = 32, LONG_LOOKS = 4 };
+
+static int is_told_within(const struct caller *my, unsigned looks) {
+    for (; looks > 0; looks--, pause_once())
+        if (is_told(my)) return 1;
+    return 0;
+}
+
+/* Looks for a while; returns whether it was told. Threads outnumber the seats, and perhaps the processors. So a thread
+ * yields at once, to those before it; but the second will soon be told, and looks on. With bursts it looks first, as
+ * those that go in by the gate are no faster for more that want to. */
+static int looks_for_word(const struct hall *hall, const struct caller *my, const struct limit *limit) {
+    int bursts = hall->burst != 0, yields = bursts ? YIELDS : DOOR_YIELDS, longs = bursts ? 1 : LONG_LOOKS;
+    for (int k = 0; k < yields && left(limit); k++) {
+        int second = atomic_load_explicit(&my->told, memory_order_relaxed) == SECOND;
+        if (is_told_within(my, (bursts || second) && longs-- > 0 ? qolb_looks_() : 1)) return 1;
         sched_yield();
-        if (is_told(my)) return;
     }
+    return is_told(my);
+}
+
+/* Waits at the door until it is told, or for a while. */
+static void await_word(struct hall *hall, struct caller *my, int near, const struct limit *limit) {
+    if (near && looks_for_word(hall, my, limit)) return;
     uint64_t time = left(limit);
-    unsigned untold = UNTOLD, asleep = ASLEEP_UNTOLD;
-    if (!time || !atomic_compare_exchange_strong(&my->told, &untold, ASLEEP_UNTOLD)) return;
+    unsigned untold = atomic_load(&my->told), asleep = ASLEEP_UNTOLD;
+    if (!time || untold == TOLD || !atomic_compare_exchange_strong(&my->told, &untold, ASLEEP_UNTOLD)) return;
     PROBE(sleep, of_seat(hall, NULL));
     qolb_sleep_at_(&my->told, ASLEEP_UNTOLD, time);
     PROBE(wake, of_seat(hall, NULL));
@@ -125,14 +143,16 @@ static int has_free_seat(struct hall *hall) {
     return 0;
 }
 
-/* Who was told of a seat, and does not take it, or finds one more, tells the next. */
+/* Who was told of a seat, and does not take it, or finds one more, tells the next. It has a seat, or is a guest. */
 static void go(struct hall *hall, struct caller *my) {
+    struct told told = {NULL, NULL, {0, 0}, 0};
     take_guard(&hall->guard);
     qolb_go_out_(hall, my);
+    if (hall->first && (is_told(my) || has_free_seat(hall))) told = serve(hall);
     return_guard(&hall->guard);
-    atomic_fetch_sub(&hall->sleepers, 1);
     atomic_fetch_sub(&hall->at_door, 1);
-    if (atomic_load(&hall->at_door) && (is_told(my) || has_free_seat(hall))) qolb_admit_(hall);
+    carry_out(told);
+    if (told.met) qolb_admit_(hall);
 }
 
 /* The first looks for a seat: as qolb_take_seat_. What it was told before is for this look. */
@@ -151,16 +171,16 @@ uint32_t qolb_wait_at_door_(struct asking *me, const struct limit *limit) {
     struct hall *hall = me->hall;
     struct caller my = {NULL, NULL, UNTOLD, 0};
     uint32_t got = QOLB_WAITING;
-    atomic_fetch_add(&hall->at_door, 1);
-    atomic_fetch_add(&hall->sleepers, 1);
+    int near = atomic_fetch_add(&hall->at_door, 1) < NEAR || hall->burst;
     come(hall, &my);
     marks_gate(hall);
     while (got == QOLB_WAITING && !me->seat) {
         if (is_told(&my)) got = look_as_first(me, &my);
         if (got != QOLB_WAITING || me->seat) break;
         if (left(limit) == 0) got = QOLB_LATE;
-        else await_word(hall, &my, limit);
+        else await_word(hall, &my, near, limit), near = 1;
     }
+    if (!me->seat) atomic_fetch_add(&hall->guests, 1);
     go(hall, &my);
     return got;
 }

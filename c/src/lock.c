@@ -248,10 +248,20 @@ static uint32_t poll_and_watch(struct asking *me) {
     return got;
 }
 
-static uint32_t look_a_while(struct asking *me) {
-    int bursts = me->hall->burst != 0;
-    uint32_t got = bursts ? poll_and_watch(me) : qolb_wait_proved_(&me->seat->node, qolb_looks_());
-    for (int k = 0; got == QOLB_WAITING && k < YIELDS; k++) {
+/* In a strict lock of few seats, while others are at the door: how often a thread with a seat polls before it yields,
+ * and then yields before it sleeps. The threads before it are few, and are awake or woken; but threads outnumber the
+ * seats, and perhaps the processors. */
+enum { FEW_SEATS = 8, LOOKS_AT_DOOR = 16, YIELDS_AT_DOOR = 128 };
+
+static int is_crowded(const struct hall *hall) {
+    return !hall->burst && hall->seats <= FEW_SEATS && atomic_load_explicit(&hall->at_door, memory_order_relaxed);
+}
+
+static uint32_t look_a_while(struct asking *me, const struct limit *limit) {
+    int bursts = me->hall->burst != 0, crowded = is_crowded(me->hall), yields = crowded ? YIELDS_AT_DOOR : YIELDS;
+    unsigned looks = crowded ? LOOKS_AT_DOOR : qolb_looks_();
+    uint32_t got = bursts ? poll_and_watch(me) : qolb_wait_proved_(&me->seat->node, looks);
+    for (int k = 0; got == QOLB_WAITING && k < yields && left(limit); k++) {
         sched_yield();
         got = qolb_poll_proved_(&me->seat->node);
         if (got == QOLB_WAITING && bursts) qolb_watch_(me);
@@ -288,10 +298,9 @@ static uint32_t await(struct asking *me, uint64_t nanoseconds) {
     struct limit limit = from_now(nanoseconds);
     uint32_t got = QOLB_WAITING;
     if (!me->seat) {
-        atomic_fetch_add(&me->hall->guests, 1);
         got = qolb_wait_at_door_(me, &limit);
         if (got == QOLB_LATE) got = closed_or(me->hall, got);
-        atomic_fetch_sub(&me->hall->guests, 1);
+        if (!me->seat) atomic_fetch_sub(&me->hall->guests, 1);
     }
     if (me->seat && me->hall->burst)
         atomic_store_explicit(&me->seat->order, atomic_fetch_add(&me->hall->orders, 1), memory_order_relaxed);
@@ -299,7 +308,7 @@ static uint32_t await(struct asking *me, uint64_t nanoseconds) {
         if (left(&limit) == 0) {
             got = give_up(me->seat);
         } else {
-            got = look_a_while(me);
+            got = look_a_while(me, &limit);
             if (got == QOLB_WAITING) got = sleep_at_bell(me->hall, me->seat, &limit);
         }
     }
@@ -418,7 +427,7 @@ void qolb_end_turn_(struct hall *hall, struct seat *seat, uint32_t (*release)(qo
     atomic_store_explicit(&seat->holder, 0, memory_order_release);
     atomic_store_explicit(&seat->state, LEAVING, memory_order_release);
     release(&seat->node);
-    if (atomic_load(&hall->sleepers)) ring_and_free(hall, seat);
+    if (atomic_load(&hall->sleepers) || atomic_load(&hall->at_door)) ring_and_free(hall, seat);
     else atomic_store_explicit(&seat->state, FREE, memory_order_release);
 }
 
@@ -504,13 +513,17 @@ static unsigned take_all(struct hall *hall) {
     return hall->seats;
 }
 
+/* Who goes from the door without a seat is a guest before it is not at the door any more: a look at both in the other
+ * order might miss it. */
+static int is_visited(struct hall *hall) { return atomic_load(&hall->at_door) || atomic_load(&hall->guests); }
+
 uint32_t qolb_lock_close(qolb_lock *lock) {
     struct hall *hall = hall_of(lock);
     if (!hall) return QOLB_DONE;
     uint64_t gate = atomic_load(&hall->gate);
     if (gate & OPEN) qolb_take_back_(hall, gate);
     unsigned many = take_all(hall);
-    if (many < hall->seats || atomic_load(&hall->guests)) {
+    if (many < hall->seats || is_visited(hall)) {
         return_taken(hall, many);
         return QOLB_MISUSE;
     }

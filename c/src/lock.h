@@ -39,8 +39,9 @@ _Static_assert(sizeof(struct seat) <= SEAT_BYTES, "a seat is in its node's block
 
 /* ---- The door ---- */
 
-/* What a thread at the door was told: nothing, or to look for a seat. A task there is told nothing. */
-enum { UNTOLD, TOLD, ASLEEP_UNTOLD };
+/* What a thread at the door was told: nothing, that it is the second there, or to look for a seat. What a task there is
+ * told it does not read. */
+enum { UNTOLD, SECOND, TOLD, ASLEEP_UNTOLD };
 
 struct caller {
     struct caller *next, *before; /* at the door; NULL behind the last, and before the first */
@@ -57,11 +58,11 @@ struct hall {
     /* Written by the holder, when it keeps its turn, and when it waits at a condition. */
     _Alignas(QOLB_NODE_ALIGN) struct seat *held_by;
     struct waiter *waits;
-    /* The number of threads that sleep at any bell of the line, or are at the door. A leaver that finds none rings no
-     * bell. */
+    /* The number of threads that sleep at any bell of the line. A leaver that finds none, and nobody at the door, rings
+     * no bell. */
     atomic_uint sleepers;
-    atomic_uint at_door; /* the number of threads that are at the door, or about to be */
-    atomic_uint guests;  /* the number of threads that use the hall and have no seat, and of tasks at the door */
+    atomic_uint at_door; /* the number of threads and tasks that are at the door, or about to be */
+    atomic_uint guests;  /* the number of threads that use the hall, have no seat and are not at the door */
     atomic_uint tasks;   /* the number of tasks that wait. While there are any, no turn is kept */
     atomic_uint guard;   /* of the door's list (take_guard) */
     struct caller *first, *last;
@@ -197,7 +198,8 @@ static inline int waits_without_thread(struct hall *hall) { return atomic_load(&
 
 /* ---- door.c ---- */
 
-/* Waits for a seat: the answer of its request, WAITING for a turn, LATE, or GRANTED without a seat, by the gate. */
+/* Waits for a seat: the answer of its request, WAITING for a turn, LATE, or GRANTED without a seat, by the gate.
+ * Without a seat it is a guest then. */
 HIDDEN uint32_t qolb_wait_at_door_(struct asking *me, const struct limit *limit);
 
 /* Makes the requests of the tasks that are the first at the door, as long as there are seats, and tells a thread that

@@ -68,11 +68,7 @@ static uint32_t ask(struct task *me, int is_first, int *met) {
 /* Wants a call at the place of its request, and polls. After WAITING the call may be made, and the task be gone. */
 static uint32_t listen(struct task *me) { return qolb_listen_(&me->notice, &me->seat->node); }
 
-static void count_at_door(struct hall *hall, unsigned by) {
-    atomic_fetch_add(&hall->sleepers, by);
-    atomic_fetch_add(&hall->at_door, by);
-    atomic_fetch_add(&hall->guests, by);
-}
+static void count_at_door(struct hall *hall, unsigned by) { atomic_fetch_add(&hall->at_door, by); }
 
 /* One step at the door: makes the task's request if it is the first there, or stands there. Returns whether neither: a
  * seat is about to be free. */

@@ -35,6 +35,9 @@ static uint64_t now, clocks, yields, sleeps, longest, asks, spins, spun, looks, 
 /* How often a waiter yields before it sleeps, as qolb.h says; and how often it polls before it yields: for 1.5 us, by a
  * clock by which 64 pauses take 384 ns. */
 enum { YIELDS = 16, LOOKS = 250 };
+/* The same at the door of a strict lock, where who has so many before it does not yield; and with a seat of a lock at
+ * whose door somebody is. */
+enum { YIELDS_AT_DOOR = 32, FAR = 12, YIELDS_IN_CROWD = 128, LOOKS_IN_CROWD = 16 };
 
 /* How long 64 pauses take by the clock in each of the runs in which they are timed, between two clock calls; the number
  * of clock calls for that; and whether the next request begins it. */
@@ -662,18 +665,84 @@ static int wakes_whom_it_should(uint32_t kind) {
 
 /* ---- For a lock, and at a condition ---- */
 
-/* Without a grant for 20 ms, for a turn and for want of a seat; it polls as with a node. */
+/* Without a grant for 20 ms, for a turn and for want of a seat; with a seat it polls as with a node. */
 static int late_for_lock(qolb_lock *lock, unsigned has_seat) {
     uint64_t since = now;
     begins(NULL);
     WANT(qolb_lock_enter_unasked_(lock, 20 * MS), QOLB_LATE);
     WANT(now - since, 20 * MS);
-    WANT(yields, YIELDS);
+    WANT(yields, has_seat ? YIELDS : YIELDS_AT_DOOR);
     WANT(sleeps, 1);
     WANT(longest, 20 * MS);
     WANT(asks, has_seat);
     WANT(spun, has_seat ? LOOKS : 0);
     WANT(looks, has_seat ? YIELDS + 1 : 0);
+    return 0;
+}
+
+/* Each that sleeps at the door is joined by the next, until so many are before the last. */
+static void one_more_comes(void) {
+    if (sleeps < FAR) event.does = one_more_comes, event.at_sleep = sleeps + 1;
+    if (qolb_lock_enter_unasked_(held, MS) != QOLB_LATE) wrong++;
+}
+
+static int sleeps_far_from_door(uint32_t kind) {
+    qolb_lock lock = {NULL, kind, 1};
+    WANT(qolb_lock_enter(&lock), QOLB_GRANTED);
+    held = &lock;
+    begins(one_more_comes);
+    event.at_sleep = 1;
+    WANT(qolb_lock_enter_unasked_(&lock, MS), QOLB_LATE);
+    WANT(sleeps, FAR + 1);
+    WANT(yields, FAR * YIELDS_AT_DOOR);
+    WANT(qolb_lock_leave(&lock), QOLB_DONE);
+    WANT(qolb_lock_close(&lock), QOLB_DONE);
+    return 0;
+}
+
+static qolb_task task = QOLB_TASK_INIT;
+static int is_impatient;
+
+static void is_called(void *unused) {
+    (void)unused;
+    wrong++;
+}
+
+static void much_time_passes(void) { now += 20 * MS; }
+
+/* It stays at the door. From then on the other looks otherwise; its time ends while it yields, if it is impatient. */
+static void task_comes(void) {
+    if (qolb_task_enter(&task, held, is_called, NULL) != QOLB_WAITING) wrong++;
+    if (is_impatient) event.does = much_time_passes, event.at_yield = yields + 5;
+}
+
+static int late_in_crowd(uint32_t kind, uint32_t seats, int impatient) {
+    int crowd = seats <= 8;
+    qolb_lock lock = {NULL, kind, seats};
+    qolb_task others[8] = {QOLB_TASK_INIT};
+    WANT(qolb_lock_enter(&lock), QOLB_GRANTED);
+    held = &lock;
+    for (uint32_t k = 0; k + 2 < seats; k++) WANT(qolb_task_enter(&others[k], held, is_called, NULL), QOLB_WAITING);
+    uint64_t since = now;
+    is_impatient = impatient;
+    begins(task_comes);
+    event.at_sleep = 1;
+    WANT(qolb_lock_enter_unasked_(&lock, 20 * MS), QOLB_LATE);
+    WANT(now - since, 20 * MS);
+    WANT(yields, YIELDS + (impatient ? 5 : crowd ? YIELDS_IN_CROWD : YIELDS));
+    WANT(spun, LOOKS + (crowd ? LOOKS_IN_CROWD : LOOKS));
+    WANT(sleeps, impatient ? 1 : 2);
+    WANT(qolb_task_cancel(&task), QOLB_WITHDRAWN);
+    for (uint32_t k = 0; k + 2 < seats; k++) WANT(qolb_task_cancel(&others[k]), QOLB_WITHDRAWN);
+    WANT(qolb_lock_leave(&lock), QOLB_DONE);
+    WANT(qolb_lock_close(&lock), QOLB_DONE);
+    return 0;
+}
+
+/* With few seats, and with more. */
+static int late_in_each_crowd(uint32_t kind) {
+    for (int impatient = 0; impatient < 2; impatient++)
+        if (late_in_crowd(kind, 2, impatient) || late_in_crowd(kind, 9, impatient)) return 1;
     return 0;
 }
 
@@ -773,7 +842,7 @@ int main(void) {
     for (uint32_t kind = 0; kind < QOLB_KINDS; kind++)
         if (rests(kind) || withdraws_late(kind, 0) || withdraws_late(kind, 1) || each_passes_on(kind) ||
             wakes_whom_it_should(kind) || lock_rests(kind) || lock_at_the_end(kind, 0) || lock_at_the_end(kind, 1) ||
-            woken_for_nothing(kind))
+            woken_for_nothing(kind) || sleeps_far_from_door(kind) || late_in_each_crowd(kind))
             return 1;
     WANT(wrong, 0);
     return 0;

@@ -231,7 +231,7 @@ static void last_frees_after_more(int self) {
 
 static int somebody_waits(void) {
     struct hall *hall = hall_of(&it.lock);
-    unsigned many = atomic_load(&hall->guests);
+    unsigned many = atomic_load(&hall->guests) + atomic_load(&hall->at_door);
     for (unsigned k = 0; k < hall->seats; k++) many += atomic_load(&hall->seat[k]->state) == TAKEN;
     return many > 1;
 }
