@@ -333,7 +333,6 @@ FAULTS |= {
     "tasks: who got the lock with its seat is not due": ("    if (me->got != QOLB_WAITING) {\n", "    if (me->got == QOLB_CLOSED) {\n"),
     "tasks: who was told of a shut with its seat is not due": ("    if (me->got != QOLB_WAITING) {\n", "    if (me->got == QOLB_GRANTED) {\n"),
     "tasks: a task that gets a seat wants no call at its place": ("    me->got = got == QOLB_WAITING ? listen(me) : got;\n", "    me->got = got;\n"),
-    "tasks: a task is told before it is counted out": (COUNTED_OUT, COUNTED_OUT.splitlines(True)[1] + COUNTED_OUT.splitlines(True)[0] + COUNTED_OUT.splitlines(True)[2]),
     "tasks: a lock is closed while its guard is taken": ("    take_guard(&hall->guard); /* who served the last task returns it first */\n", ""),
     "tasks: a task counts itself behind its look at the gate": (AT_THE_GATE, "    int is_in = goes_in(hall);\n    atomic_fetch_add(&hall->tasks, 1);\n    if (is_in) {\n"),
     "tasks: a task does not call who is in": ("    while (gate != QUEUED_UP && !(gate & CALLED)) {\n        int opens", "    while (gate & OPEN) {\n        int opens"),
@@ -382,7 +381,6 @@ IN_TWO_TURNS = {
     "notices: a waiter for a call's end says so after the guard": "notices",
     "notices: a call that is done is still waited for": "notices",
     "notices: who is told that it is closed makes no call": "notices",
-    "tasks: a task is told before it is counted out": "tasks: the last frees, who polls, one seat",
     "tasks: a task that gives up at its turn keeps the line": "tasks: one gives up beside",
     "tasks: a lock is closed while its guard is taken": "tasks: the last frees, who polls, one seat",
     "tasks: who gives up leaves its notice": "tasks: one gives up, two seats",
@@ -393,6 +391,7 @@ IN_TWO_TURNS = {
     "who comes to the door does not look at the gate": "two of three yield, and there is one seat",
     "an open gate is closed though a thread went in": "two of three yield",
     "the line is released before the gate is closed": "two want the only seat twice",
+    "who goes from the door without a seat is no guest": "one closes, and there is one seat",
     "who goes from the door tells nobody": "one is late beside one that yields",
     "who goes looks for free seats before it is out of the list": "one is late beside one that yields",
     "who sleeps at the door says so by two steps": "one is late beside one that yields",
@@ -403,6 +402,12 @@ IN_TWO_TURNS = {
     "bursts: the watcher sleeps though it could not say so": "bursts: one yields",
     "bursts: a busy seat looks taken while it ends one": "bursts: one tries",
     "bursts: who opens the gate counts itself after that": "bursts: the last frees",
+}
+
+# The same of faults that take three turns.
+IN_THREE_TURNS = {
+    "who closes the lock looks for guests before it looks at the door": "one closes, and there is one seat",
+    "who goes from the door without a seat is a guest after that": "one closes, and there is one seat",
 }
 
 # Changes after which no run may fail.
@@ -417,6 +422,8 @@ HARMLESS = {
     "who frees a seat returns the guard after that though nobody is there": (GUARDED, "        guarded = 1;\n"),
     # That task serves the next when it frees its seat, and nobody takes a seat before those at the door.
     "behind a task that got a seat nobody is served": (SERVES, "    if (hall->first && hall->first->is_task) {\n        told.met = qolb_seat_first_(hall, &told.due) == MEETS;\n        return told;\n    }\n"),
+    # Until it is, who frees its seat waits for the guard, and so does who closes the lock after that.
+    "a task is told before it is counted out": (COUNTED_OUT, COUNTED_OUT.splitlines(True)[1] + COUNTED_OUT.splitlines(True)[0] + COUNTED_OUT.splitlines(True)[2]),
     # Of what it was told, a seat is free, or its new thread tells the next when it leaves.
     "who goes from the door does not tell what it was told": (GOES, GOES.replace("(is_told(my) || has_free_seat(hall))", "has_free_seat(hall)")),
 }
@@ -483,8 +490,8 @@ def goes_well(most, scenes, base):
 
 def is_found(fault, base):
     """Prints where a library with this fault fails; False if it does not."""
-    turns = 2 if fault in IN_TWO_TURNS else 1
-    scene = IN_TWO_TURNS.get(fault, fault.split(":")[0] if ":" in fault else "")
+    turns = 3 if fault in IN_THREE_TURNS else 2 if fault in IN_TWO_TURNS else 1
+    scene = (IN_TWO_TURNS | IN_THREE_TURNS).get(fault, fault.split(":")[0] if ":" in fault else "")
     with tempfile.TemporaryDirectory() as name:
         told, well = run(built(pathlib.Path(name), with_fault(FAULTS[fault]), base), turns, scene)
     print(f"{fault}: all runs go well" if well else f"{fault}: at {turns}, {last_of(told)}", flush=True)
