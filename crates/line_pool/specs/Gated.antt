@@ -1,5 +1,5 @@
 -- A port that a gate keeps between turns, and a turn that begins by it. (Of this project.)
-use Rattle.std.specs.Prelude.{◌≡◌, ℕ, Bool, false, List}
+use Rattle.std.specs.Prelude.{◌≡◌, ℕ, Bool, false, List, Option, Some}
 use Rattle.qolb_model.specs.declared.answer.PortState.TheVariants.{Holding}
 use Rattle.qolb_model.specs.declared.view.View.{View}
 use Rattle.qolb_model.specs.declared.write.Write.{Write}
@@ -7,6 +7,15 @@ use Rattle.qolb_model.specs.Counting.{Counters}
 use Rattle.qolb_model.specs.Kept.{MayRelease}
 use Rattle.line_blocking.specs.declared.spin.Got.TheVariants.{Granted}
 use Rattle.line_pool.specs.Entering.{Enters}
+
+-- what a gate has: the port that keeps the line, or whose turn it is, and whether the gate is open (nobody is in, and the port keeps the line)
+pub record Place (Port : Type 0) : Type 0 where
+  pub port : Option Port
+  pub open_now : Bool
+
+-- a turn is under way by this port
+abbrev pub in_by : {Port : Type 0} → Port → Place Port
+in_by port = record { port = Some port; open_now = false }
 
 -- a turn: its port, the line's bytes as it began, and whether its caller entered by the gate
 pub record TurnAt (Port : Type 0) : Type 0 where

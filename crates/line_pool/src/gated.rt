@@ -115,7 +115,7 @@ impl<K: Chains, L: LineSync<K>, S: GateSet<L::Port>> GatedPool<K, L, S> {
             sleepers: _,
             freed: _,
         } = self;
-        if let Some(port) = gate.into_inner().take_out() {
+        if let Some(port) = gate.into_inner().take_kept() {
             let mut port = port;
             pool.line().deqolb(&mut port);
             pool.give_back(rt, Borrowed::of(port));

@@ -1,9 +1,14 @@
 //! The law of a line with a gate, and the gate: the place of the port that keeps the line between turns.
-ghost use Rattle.std.specs.Prelude.{◌≡◌, Some, None, IfSome};
+ghost use Rattle.std.specs.Prelude.{◌≡◌, Some, None, true, false, IfSome, IsTrue};
+ghost use Rattle.qolb_model.specs.OneOwner.{turn_after};
+ghost use Rattle.qolb_model.specs.AtTurn.{IsTurn};
+ghost use Rattle.line_pool.specs.Gated.{in_by};
 
 use crate::ports::PortSet;
-use qolb_model::{Free, Keep};
+use line_lanes::{Line64, Mask};
+use qolb_model::{Free, Keep, LineSync, PortState};
 use std::marker::{Brand, Model, PhantomData};
+use std::snapshot::Snapshot;
 
 /// A law whose changes chain: two allowed changes after each other are one allowed change. Between two releases of the line the turns by
 /// the gate are one write of the line, so their changes have to be one.
@@ -29,65 +34,164 @@ impl<P> GateSet<P> for Brand {
     ghost keeps = { λ _. Unit {0} };
 }
 
-/// A port of the set that keeps the line between turns. Contracts see it as the port.
+/// The place of the port that keeps the line between turns, and by which a caller is in. The port stays there from turn to turn, and is
+/// used in place.
 #[derive(Drop)]
-pub(crate) struct KeptPort<P, S: GateSet<P>> {
-    port: P,
+pub(crate) struct Gate<P, S: GateSet<P>> {
+    port: Option<P>,
+    /// Nobody is in, and the port keeps the line.
+    is_open: bool,
     of: PhantomData<S>,
 }
 
-impl<P, S: GateSet<P>> Model for KeptPort<P, S> {
-    ghost Value = { P };
-
-    ghost view = { λ it. it.port };
-
-    ghost invariant = { λ it. S.keeps it.port };
-}
-
-/// The place of the port that keeps the line between turns.
-#[derive(Drop)]
-pub(crate) struct Gate<P, S: GateSet<P>> {
-    kept: Option<KeptPort<P, S>>,
-}
-
 impl<P, S: GateSet<P>> Model for Gate<P, S> {
-    ghost use Rattle.std.specs.Prelude.{Option};
+    ghost use Rattle.std.specs.Prelude.{◌≡◌, Some, IsTrue};
+    ghost use Rattle.line_pool.specs.Gated.{Place};
 
-    ghost Value = { Option P };
+    ghost Value = { Place P };
 
-    ghost view = { λ it. it.kept };
+    ghost view = { λ it. record { port = it.port; open_now = it.is_open } };
+
+    ghost invariant = { λ it. IsTrue it.is_open → (port : P) × (it.port ≡ Some port)
+        × S.keeps port };
 }
 
 impl<P, S: GateSet<P>> Gate<P, S> {
     /// Makes a gate without a port.
     pub(crate) fn new() -> Gate<P, S>
-        ensures { result ≡ None }
+        ensures { result.port ≡ None }
     {
-        Gate { kept: None }
-    }
-
-    /// Takes the port out, if there is one.
-    pub(crate) fn take_out(&mut self) -> Option<P>
-        ensures taken { result ≡ self.old }
-        ensures empty { self.new ≡ None }
-        ensures keeps { IfSome result S.keeps }
-    {
-        let KeptPort { port, of: _ } = self.kept.take()?;
-        Some(port)
-    }
-
-    /// Lays the port into the gate, and returns the one that was there.
-    pub(crate) fn lay(&mut self, port: P) -> Option<P>
-        requires { S.keeps port }
-        ensures laid { self.new ≡ Some port }
-        ensures found { result ≡ self.old }
-        ensures keeps { IfSome result S.keeps }
-    {
-        let laid = KeptPort {
-            port,
+        Gate {
+            port: None,
+            is_open: false,
             of: PhantomData,
-        };
-        let KeptPort { port, of: _ } = self.kept.replace(laid)?;
-        Some(port)
+        }
+    }
+
+    /// Returns `true` if no port is there.
+    #[inline(always)]
+    pub(crate) fn is_empty(&self) -> bool
+        ensures { IsTrue result → self.now.port ≡ None }
+    {
+        self.port.is_none()
+    }
+
+    /// Begins a turn by the port, if the gate is open.
+    #[inline(always)]
+    pub(crate) fn go_in(&mut self) -> Option<Snapshot<P>>
+        ensures kept { IfSome result (λ port. self.old.port ≡ Some port.value) }
+        ensures was_open { IfSome result (λ _. self.old.open_now ≡ true) }
+        ensures inside { IfSome result (λ port. self.new ≡ in_by port.value) }
+        ensures keeps { IfSome result (λ port. S.keeps port.value) }
+    {
+        if !self.is_open {
+            return None;
+        }
+        self.is_open = false;
+        match &self.port {
+            Some(port) => Some(Snapshot::of(port)),
+            None => unreachable!(),
+        }
+    }
+
+    /// Puts a port in, whose turn begins.
+    #[inline(always)]
+    pub(crate) fn put(&mut self, port: P)
+        requires { self.old.port ≡ None }
+        ensures { self.new ≡ in_by port }
+    {
+        self.is_open = false;
+        match self.port.replace(port) {
+            None => {}
+            Some(_other) => unreachable!(),
+        }
+    }
+
+    /// Ends the turn by the port `kept`, which stays there and keeps the line: opens the gate.
+    #[inline(always)]
+    pub(crate) fn reopen(&mut self, kept: &Snapshot<P>)
+        requires inside { self.old ≡ in_by kept.now.value }
+        requires keeps { S.keeps kept.now.value }
+        ensures port { self.new.port ≡ Some kept.now.value }
+        ensures opened { self.new.open_now ≡ true }
+    {
+        let _ = kept;
+        self.is_open = true;
+    }
+
+    /// Takes the port out.
+    pub(crate) fn take(&mut self, kept: &Snapshot<P>) -> P
+        requires { self.old ≡ in_by kept.now.value }
+        ensures port { result ≡ kept.now.value }
+        ensures empty { self.new.port ≡ None }
+    {
+        let _ = kept;
+        match self.port.take() {
+            Some(port) => port,
+            None => unreachable!(),
+        }
+    }
+
+    /// Takes the port out, if the gate is open.
+    pub(crate) fn take_kept(&mut self) -> Option<P>
+        ensures kept { IfSome result (λ port. self.old.port ≡ Some port) }
+        ensures empty { IfSome result (λ _. self.new.port ≡ None) }
+        ensures keeps { IfSome result S.keeps }
+    {
+        let kept = self.go_in()?;
+        Some(self.take(&kept))
+    }
+
+    /// Returns the port whose turn it is.
+    #[inline(always)]
+    pub(crate) fn port(&self) -> &P
+        requires { (port : P) × (self.now ≡ in_by port) }
+        ensures { self.now.port ≡ Some result.now }
+    {
+        match &self.port {
+            Some(port) => port,
+            None => unreachable!(),
+        }
+    }
+}
+
+/// Returns the line's bytes, by the port in the gate.
+#[inline(always)]
+pub(crate) fn bytes_in<'g, K: Chains, L: LineSync<K>, S: GateSet<L::Port>>(
+    gate: &'g Gate<L::Port, S>,
+    port: &Snapshot<L::Port>,
+) -> &'g Line64
+    requires inside { gate.now ≡ in_by port.now.value }
+    requires holds { (L.view port.now.value).state ≡ PortState.Holding }
+    ensures bytes { result.now ≡ (L.turn port.now.value).bytes }
+    ensures turn { IsTurn (L.view port.now.value) (L.turn port.now.value) }
+{
+    let _ = port;
+    L::bytes(gate.port())
+}
+
+/// Writes the bytes of the mask into the line, by the port in the gate. Returns a snapshot of the port.
+#[inline(always)]
+pub(crate) fn write_in<K: Chains, L: LineSync<K>, S: GateSet<L::Port>>(
+    gate: &mut Gate<L::Port, S>,
+    port: &Snapshot<L::Port>,
+    mask: Mask,
+    bytes: &Line64,
+) -> Snapshot<L::Port>
+    requires inside { gate.old ≡ in_by port.now.value }
+    requires holds { (L.view port.now.value).state ≡ PortState.Holding }
+    ensures inside { gate.new ≡ in_by result.value }
+    ensures view { L.view result.value ≡ L.view port.now.value }
+    ensures turn { L.turn result.value ≡ turn_after (L.turn port.now.value) mask.0 bytes.now.bytes }
+    ensures counters { L.counters result.value ≡ L.counters port.now.value }
+    ensures belongs { (line : L) → L.belongs line port.now.value → L.belongs line result.value }
+{
+    let _ = port;
+    match &mut gate.port {
+        Some(port) => {
+            L::write(port, mask, bytes);
+            Snapshot::of(port)
+        }
+        None => unreachable!(),
     }
 }

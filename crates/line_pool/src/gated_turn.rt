@@ -1,11 +1,12 @@
 //! A turn at a line with a gate.
 ghost use Rattle.std.specs.Prelude.{◌≡◌, true, false};
+ghost use Rattle.std.specs.Sync.Mutex.{mutex_guard_value};
 ghost use Rattle.qolb_model.specs.OneOwner.{turn_after};
 ghost use Rattle.qolb_model.specs.AtTurn.{IsGranted, IsTurn};
 ghost use Rattle.qolb_model.specs.Kept.{MayRelease};
+ghost use Rattle.line_pool.specs.Gated.{in_by};
 
-use crate::gated_port::{Chains, Gate, GateSet};
-use crate::turn::Turn;
+use crate::gated_port::{Chains, Gate, GateSet, bytes_in, write_in};
 use line_lanes::{Line64, Mask};
 use qolb_model::{LineSync, PortState};
 use std::marker::Model;
@@ -14,100 +15,130 @@ use std::sync::MutexGuard;
 
 /// A turn at a line with a gate. A linear token: it can be neither copied nor dropped, so its thread has to leave. It borrows the pool, and
 /// so ends before the line is finished. Contracts see it as a `TurnAt`: its port, the line's bytes as it began, and how it began.
+///
+/// It has the gate, locked, in which its port lies; the rest is for proofs alone, and takes no memory.
 pub struct GateTurn<'p, K: Chains, L: LineSync<K>, S: GateSet<L::Port>> {
-    turn: Turn<K, L>,
-    /// The line's bytes as the turn began, for proofs alone.
+    gate: MutexGuard<'p, Gate<L::Port, S>>,
+    port: Snapshot<L::Port>,
     start: Snapshot<Line64>,
-    /// The gate, locked, if the caller entered by it.
-    gate: Option<MutexGuard<'p, Gate<L::Port, S>>>,
+    by_gate: Snapshot<bool>,
 }
 
 impl<'p, K: Chains, L: LineSync<K>, S: GateSet<L::Port>> Model for GateTurn<'p, K, L, S> {
-    ghost use Rattle.std.specs.Prelude.{is_some};
+    ghost use Rattle.std.specs.Prelude.{◌≡◌};
+    ghost use Rattle.std.specs.Sync.Mutex.{mutex_guard_value};
+    ghost use Rattle.qolb_model.specs.declared.answer.PortState.TheVariants.{Holding};
     ghost use Rattle.qolb_model.specs.Views.{bytes_of};
-    ghost use Rattle.line_pool.specs.Gated.{TurnAt};
+    ghost use Rattle.line_pool.specs.Gated.{TurnAt, in_by};
 
     ghost Value = { TurnAt L.Port };
 
     ghost view = { λ it. record {
-      port = it.turn;
+      port = it.port.value;
       start = it.start.value.bytes;
-      by_gate = is_some it.gate;
+      by_gate = it.by_gate.value;
     } };
 
-    ghost invariant = { λ it. K.allows (bytes_of (L.view it.turn)) it.start.value.bytes };
+    ghost invariant = { λ it. (mutex_guard_value it.gate ≡ in_by it.port.value)
+        × ((L.view it.port.value).state ≡ Holding)
+        × K.allows (bytes_of (L.view it.port.value)) it.start.value.bytes };
 }
 
 impl<'p, K: Chains, L: LineSync<K>, S: GateSet<L::Port>> GateTurn<'p, K, L, S> {
-    /// Begins a turn by a port that was granted the line.
-    pub(crate) fn by_port(line: &L, port: L::Port) -> GateTurn<'p, K, L, S>
-        requires belongs { L.belongs line.now port }
-        requires granted { IsGranted (L.view port) (L.turn port) }
-        ensures port { result.port ≡ port }
-        ensures start { result.start ≡ (L.turn port).bytes.bytes }
+    /// Begins a turn by a port that was granted the line, and lies in the gate.
+    pub(crate) fn by_port(
+        line: &L,
+        gate: MutexGuard<'p, Gate<L::Port, S>>,
+        port: Snapshot<L::Port>,
+    ) -> GateTurn<'p, K, L, S>
+        requires belongs { L.belongs line.now port.value }
+        requires granted { IsGranted (L.view port.value) (L.turn port.value) }
+        requires inside { mutex_guard_value gate ≡ in_by port.value }
+        ensures port { result.port ≡ port.value }
+        ensures start { result.start ≡ (L.turn port.value).bytes.bytes }
         ensures by_gate { result.by_gate ≡ false }
     {
         let _line = line;
-        let turn: Turn<K, L> = Turn::of(port);
-        let start = Snapshot::of(turn.bytes());
+        let start = Snapshot::of(bytes_in::<K, L, S>(&gate, &port));
         GateTurn {
-            turn,
+            gate,
+            port,
             start,
-            gate: None,
+            by_gate: Snapshot::of(&false),
         }
     }
 
     /// Begins a turn by the port that lay in the gate.
+    #[inline(always)]
     pub(crate) fn by_gate(
-        port: L::Port,
         gate: MutexGuard<'p, Gate<L::Port, S>>,
+        port: Snapshot<L::Port>,
     ) -> GateTurn<'p, K, L, S>
-        requires holds { (L.view port).state ≡ PortState.Holding }
-        requires allowed { MayRelease K.allows (L.view port) (L.turn port) }
-        ensures port { result.port ≡ port }
-        ensures start { result.start ≡ (L.turn port).bytes.bytes }
+        requires holds { (L.view port.value).state ≡ PortState.Holding }
+        requires allowed { MayRelease K.allows (L.view port.value) (L.turn port.value) }
+        requires inside { mutex_guard_value gate ≡ in_by port.value }
+        ensures port { result.port ≡ port.value }
+        ensures start { result.start ≡ (L.turn port.value).bytes.bytes }
         ensures by_gate { result.by_gate ≡ true }
     {
-        let turn: Turn<K, L> = Turn::of(port);
-        let start = Snapshot::of(turn.bytes());
+        let start = Snapshot::of(bytes_in::<K, L, S>(&gate, &port));
         GateTurn {
-            turn,
+            gate,
+            port,
             start,
-            gate: Some(gate),
+            by_gate: Snapshot::of(&true),
         }
     }
 
-    /// Ends the turn, and returns its port, with the gate if the caller entered by it.
-    pub(crate) fn into_parts(self) -> (L::Port, Option<MutexGuard<'p, Gate<L::Port, S>>>)
+    /// Ends the turn, and returns the gate, in which its port lies.
+    #[inline(always)]
+    pub(crate) fn into_gate(self) -> (MutexGuard<'p, Gate<L::Port, S>>, Snapshot<L::Port>)
         requires allowed { K.allows self.start (L.turn self.port).bytes.bytes }
-        ensures port { result.0 ≡ self.entry.port }
-        ensures holds { (L.view result.0).state ≡ PortState.Holding }
-        ensures allowed { MayRelease K.allows (L.view result.0) (L.turn result.0) }
+        ensures port { result.1.value ≡ self.entry.port }
+        ensures inside { mutex_guard_value result.0 ≡ in_by result.1.value }
+        ensures holds { (L.view result.1.value).state ≡ PortState.Holding }
+        ensures allowed { MayRelease K.allows (L.view result.1.value) (L.turn result.1.value) }
     {
+        let _ = self.bytes();
         let GateTurn {
-            turn,
-            start: _,
             gate,
+            port,
+            start: _,
+            by_gate: _,
         } = self;
-        (turn.into_port(), gate)
+        (gate, port)
+    }
+
+    /// Ends the turn, and takes its port out of the gate, which is then unlocked.
+    pub(crate) fn into_port(self) -> L::Port
+        requires allowed { K.allows self.start (L.turn self.port).bytes.bytes }
+        ensures port { result ≡ self.entry.port }
+        ensures holds { (L.view result).state ≡ PortState.Holding }
+        ensures allowed { MayRelease K.allows (L.view result) (L.turn result) }
+    {
+        let (gate, port) = self.into_gate();
+        let mut gate = gate;
+        gate.take(&port)
     }
 
     /// Returns the number of the node whose port the turn has.
     pub fn node(&self) -> u64
         ensures { result ≡ (L.view self.now.port).node }
     {
-        self.turn.node()
+        L::node(self.gate.port())
     }
 
     /// Returns the line's bytes, as the holder sees them.
+    #[inline(always)]
     pub fn bytes(&self) -> &Line64
         ensures bytes { result.now ≡ (L.turn self.now.port).bytes }
         ensures turn { IsTurn (L.view self.now.port) (L.turn self.now.port) }
     {
-        self.turn.bytes()
+        bytes_in::<K, L, S>(&self.gate, &self.port)
     }
 
     /// Writes the bytes of the mask into the line.
+    #[inline(always)]
     pub fn write(&mut self, mask: Mask, bytes: &Line64)
         ensures view { L.view self.new.port ≡ L.view self.old.port }
         ensures turn { L.turn self.new.port
@@ -118,6 +149,7 @@ impl<'p, K: Chains, L: LineSync<K>, S: GateSet<L::Port>> GateTurn<'p, K, L, S> {
         ensures start { self.new.start ≡ self.old.start }
         ensures by_gate { self.new.by_gate ≡ self.old.by_gate }
     {
-        self.turn.write(mask, bytes)
+        let written = write_in::<K, L, S>(&mut self.gate, &self.port, mask, bytes);
+        self.port = written;
     }
 }
