@@ -5,7 +5,9 @@ ghost use Rattle.std.specs.Prelude.{All, IsTrue};
 ghost use Rattle.qolb_model.specs.PortStates.{may_ask};
 
 mod enqueue;
+mod gate;
 mod law;
+mod mutex;
 mod pace;
 mod rounds;
 mod run;
@@ -14,12 +16,14 @@ mod workers;
 
 use clap::{Arg, ArgAction, ArgMatches, Command};
 use enqueue::{AtOnce, EnqueueStrategy, TwoCalls};
+use gate::run_gate;
 use law::NonDecreasing;
 use line_generic::{Discipline, Line};
 use line_kinds::{Lines, LinkLine, NAMES, for_kind};
-use line_lanes::lane;
+use line_lanes::{Line64, lane};
+use mutex::run_mutex;
 use pace::Pace;
-use qolb_model::{LineSync, OpenLine};
+use qolb_model::{Free, LineSync, OpenLine, ParkingLine};
 use rounds::Rounds;
 use run::{RunError, open, run_task};
 use std::alloc::{AllocError, Global};
@@ -43,9 +47,20 @@ enum Wanted {
     /// Runs a few rounds and prints the lane, to show that no addition is lost.
     Sums,
     /// Times this many rounds of each thread.
-    Times(u64),
+    Times(Way, u64),
     /// Puts the line under stress for this many seconds.
     Stress(u64),
+}
+
+/// What a timed round is of.
+#[derive(Clone, Copy)]
+enum Way {
+    /// Each thread asks by a port of its own.
+    Ports,
+    /// The threads enter through a gate of the line.
+    Gate,
+    /// The threads lock the toolchain's mutex. There is no line.
+    Mutex,
 }
 
 /// The lock, and how its nodes ask under stress.
@@ -100,6 +115,18 @@ fn command<'a>(alloc: Global) -> Result<Command<'a>, AllocError> {
     )?;
     let command = with_kind(alloc, command)?;
     let command = with_apart(alloc, command)?;
+    let command = with_way(
+        alloc,
+        command,
+        "gate",
+        "Rounds through a gate of the line, whose port keeps it between turns",
+    )?;
+    let command = with_way(
+        alloc,
+        command,
+        "mutex",
+        "Rounds of the toolchain's mutex, in place of a line",
+    )?;
     with_number(
         alloc,
         command,
@@ -145,6 +172,32 @@ fn with_apart<'a>(alloc: Global, command: Command<'a>) -> Result<Command<'a>, Al
     command.arg(apart)
 }
 
+/// Adds an option that says what the timed rounds are of.
+fn with_way<'a>(
+    alloc: Global,
+    command: Command<'a>,
+    name: &'a str,
+    help: &'a str,
+) -> Result<Command<'a>, AllocError> {
+    let way = Arg::new(alloc, name)
+        .long(name)
+        .help(help)
+        .action(ArgAction::SetTrue)
+        .requires_arg("rounds")?;
+    command.arg(way)
+}
+
+/// What the timed rounds are of; of ports if neither `--gate` nor `--mutex` is given.
+fn way_of(matches: &ArgMatches) -> Way {
+    if matches.get_flag("mutex") {
+        Way::Mutex
+    } else if matches.get_flag("gate") {
+        Way::Gate
+    } else {
+        Way::Ports
+    }
+}
+
 /// What the command line asks for.
 fn wanted_of(matches: &ArgMatches) -> Wanted {
     match (
@@ -152,7 +205,7 @@ fn wanted_of(matches: &ArgMatches) -> Wanted {
         matches.get_one::<u64>("rounds"),
     ) {
         (Some(seconds), _) => Wanted::Stress(seconds),
-        (None, Some(rounds)) => Wanted::Times(rounds),
+        (None, Some(rounds)) => Wanted::Times(way_of(matches), rounds),
         (None, None) => Wanted::Sums,
     }
 }
@@ -193,9 +246,15 @@ fn run_kind<R: Threads + Wait + Clock + Print + Sync>(
 /// Runs what is asked for on a line of this discipline, whose nodes ask by one call.
 fn bench_at_once<
     R: Threads + Wait + Clock + Print + Sync,
-    Q: Discipline<NonDecreasing> + Send + Sync,
+    Q: Discipline<NonDecreasing> + Discipline<Free> + Send + Sync,
 >(rt: &R, alloc: Global, threads: u64, wanted: Wanted) -> anyhow::Result<()> {
-    bench::<R, AtOnce, Line<NonDecreasing, Q>>(rt, alloc, AtOnce, threads, wanted)
+    match wanted {
+        Wanted::Times(Way::Gate, rounds) => {
+            measure_gate::<R, Line<Free, Q>>(rt, alloc, threads, rounds)
+        }
+        Wanted::Times(Way::Mutex, rounds) => measure_mutex(rt, alloc, threads, rounds),
+        _ => bench::<R, AtOnce, Line<NonDecreasing, Q>>(rt, alloc, AtOnce, threads, wanted),
+    }
 }
 
 /// Opens a line of `threads` nodes, and runs what is asked for on it.
@@ -210,7 +269,7 @@ where
     let (line, ports) = open::<L>(alloc, threads)?;
     match wanted {
         Wanted::Sums => show(rt, alloc, line, ports, threads),
-        Wanted::Times(rounds) => measure(rt, alloc, line, ports, threads, rounds),
+        Wanted::Times(_, rounds) => measure(rt, alloc, line, ports, threads, rounds),
         Wanted::Stress(seconds) => {
             put_under_stress(rt, alloc, line, ports, asking, threads, seconds)
         }
@@ -252,11 +311,47 @@ where
 {
     let start = Instant::now(rt)?;
     let last = run_task(rt, alloc, line, ports, &Rounds { rounds })?;
-    let pace = Pace::of(threads, rounds, start.elapsed(rt)?);
+    show_pace(rt, threads, rounds, start.elapsed(rt)?, &last)
+}
+
+/// Runs and prints the time of `rounds` rounds through a gate.
+fn measure_gate<
+    R: Threads + Wait + Clock + Print + Sync,
+    L: OpenLine<Free> + ParkingLine<Free> + Sync + Drop,
+>(rt: &R, alloc: Global, threads: u64, rounds: u64) -> anyhow::Result<()>
+where
+    L::Port: Send + Drop,
+{
+    let start = Instant::now(rt)?;
+    let last = run_gate::<R, L>(rt, alloc, threads, rounds)?;
+    show_pace(rt, threads, rounds, start.elapsed(rt)?, &last)
+}
+
+/// Runs and prints the time of `rounds` rounds of the toolchain's mutex.
+fn measure_mutex<R: Threads + Wait + Clock + Print + Sync>(
+    rt: &R,
+    alloc: Global,
+    threads: u64,
+    rounds: u64,
+) -> anyhow::Result<()> {
+    let start = Instant::now(rt)?;
+    let last = run_mutex(rt, alloc, threads as usize, rounds)?;
+    show_pace(rt, threads, rounds, start.elapsed(rt)?, &last)
+}
+
+/// Prints the first lane, and the time of `rounds` rounds by each thread.
+fn show_pace<R: Print>(
+    rt: &R,
+    threads: u64,
+    rounds: u64,
+    time: Duration,
+    last: &Line64,
+) -> anyhow::Result<()> {
+    let pace = Pace::of(threads, rounds, time);
     println!(rt;
         "threads {threads} rounds {} lane sum {} ns a round {}.{} rounds a second {}",
         pace.rounds,
-        lane(&last, 0),
+        lane(last, 0),
         pace.tenths / 10,
         pace.tenths % 10,
         pace.each_second
