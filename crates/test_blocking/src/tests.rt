@@ -23,7 +23,7 @@ use example_line::{capacity, counter, fair, mailbox};
 use held::{expect, expect_at, open_one, open_two};
 use line_blocking::{Got, acquire};
 use line_generic::{Discipline, Line};
-use line_kinds::{ALL, LinkQueue, for_kind};
+use line_kinds::{ALL, LinkLine, LinkQueue, for_kind};
 use line_lanes::Line64;
 use parked::NoHooks;
 use qolb_model::{Free, LineSync, OpenLine, PortState};
@@ -377,6 +377,11 @@ fn one_thread_is_granted_late_and_told(rt: HostRuntime) -> Result<(), Fail> {
 #[test]
 fn lent_ports_keep_to_time_and_lease(rt: HostRuntime) -> Result<(), Fail> {
     over_each(&rt, rt.alloc(), Row::PoolRim)
+}
+
+#[test]
+fn callers_at_a_gate_sleep(rt: HostRuntime) {
+    gated::asleep::eight_waiters_sleep::<HostRuntime, LinkLine<Free>>(&rt, rt.alloc());
 }
 
 #[test]

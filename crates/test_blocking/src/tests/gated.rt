@@ -3,6 +3,8 @@ ghost use Rattle.std.specs.Prelude.{◌≡◌, ◌<◌, None, All, vec_len};
 ghost use Rattle.line_pool.specs.Lending.{MayAsk, IsPortSetOf};
 ghost use Rattle.line_pool.specs.Gated.{IsKeptSetOf};
 
+pub(super) mod asleep;
+
 use crate::tests::held::{SleepLine, expect, expect_at, for_nodes, wait_until};
 use line_blocking::scoped::{ScopedTask, run_scoped};
 use line_lanes::{Mask, lane, with_lane};
