@@ -10,6 +10,8 @@ TEST = re.compile(HEAD + r"(\w+)")
 # variant whose name ends so asks for that: a test that names it takes all memory, and a function that has an arm for it does so by that arm alone.
 TAKES_ALL = re.compile(r"\b(?:MemoryHog|MemoryLimit)::|\b\w+::\w+WithoutMemory\b")
 ARM = re.compile(r"^( *)\w+::\w+WithoutMemory =>.*?(?=^\1\w|^ *\}$)", re.M | re.S)
+# A crate whose tests take longest, and the file whose tests are tried apart from its others, beside them.
+APART = {"test_replay": "step_pictures"}
 
 
 def code_of(crate):
@@ -46,11 +48,21 @@ def left_out(crate):
     return [it for it in tests_of(crate) if it in takers]
 
 
+def without(text, names=r"\w+"):
+    """The text of a file without the tests of these names: from their comment to the closing brace, as rt fmt lays them out."""
+    return re.sub(rf"^(?: *///[^\n]*\n)*( *){HEAD}(?:{names})\(.*?^\1}}\n", "", text, flags=re.M | re.S)
+
+
 def leave_out(folder, names):
-    """Removes these tests from a copy of their crate: from their comment to the closing brace, as rt fmt lays them out."""
+    """Removes these tests from a copy of their crate."""
     if not names:
         return
-    whole = re.compile(rf"^(?: *///[^\n]*\n)*( *){HEAD}(?:{'|'.join(names)})\(.*?^\1}}\n", re.M | re.S)
     for file in (folder / "src").rglob("*.rt"):
-        text = file.read_text()
-        file.write_text(whole.sub("", text))
+        file.write_text(without(file.read_text(), "|".join(names)))
+
+
+def leave_out_of_files(folder, is_left_out):
+    """Removes all tests from those files of a copy of their crate whose name without its end is left out."""
+    for file in (folder / "src").rglob("*.rt"):
+        if is_left_out(file.stem):
+            file.write_text(without(file.read_text()))

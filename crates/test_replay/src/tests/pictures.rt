@@ -6,6 +6,7 @@ use qolb_draw::{Form, draw_schedule};
 use qolb_run::ReplayError;
 use qolb_script::ScriptError;
 use std::alloc::Global;
+use std::str;
 use std::test::Fail;
 
 /// The picture of the script.
@@ -107,119 +108,93 @@ fn draws_the_last_of_200_nodes(rt: HostRuntime) -> Result<(), Fail> {
     Ok(())
 }
 
-/// A script of 100,000 commands on the last of eight lines.
-fn longest_script(alloc: Global) -> Result<String, Fail> {
-    let mut script = String::from_str(alloc, "nodes 2 lines 8\nenq 2 7\n")?;
-    for _ in 2..100_000 {
-        script.push_str("poll 2 7\n")?;
-    }
-    script.push_str("poll 1 7\n")?;
-    Ok(script)
-}
-
-/// The number of the picture's rows for node 2, and of the commands in them.
-fn rows_of_node_2(picture: &str) -> (u32, usize) {
-    let mut rows = 0u32;
-    let mut letters = 0usize;
-    for line in picture.lines() {
-        if let Some(held) = line.strip_prefix("node   2 ") {
-            rows = rows.saturating_add(1);
-            letters = letters.saturating_add(held.len());
-        }
-    }
-    (rows, letters)
-}
-
-#[test]
-fn draws_the_longest_script(rt: HostRuntime) -> Result<(), Fail> {
-    let script = longest_script(rt.alloc())?;
-    let picture = drawn(rt.alloc(), script.as_str(), Form::Text)?;
-    // A row has 70 commands.
-    expect(
-        &rt,
-        "rows and letters",
-        rows_of_node_2(picture.as_str()),
-        (1_429, 100_000),
-    );
-    Ok(())
-}
-
-#[test]
-fn draws_the_longest_script_as_an_svg(rt: HostRuntime) -> Result<(), Fail> {
-    let script = longest_script(rt.alloc())?;
-    let svg = drawn(rt.alloc(), script.as_str(), Form::Svg)?;
-    // Seven lines without rows, and one with two.
-    expect(
-        &rt,
-        "the size",
-        svg.contains(" width='3200128' height='624' "),
-        true,
-    );
-    expect(
-        &rt,
-        "a bar",
-        svg.contains(
-            "<rect class='holds' x='96' y='100' width='3200000' height='16'><title>node 2 holds the line</title></rect>\n",
-        ),
-        true,
-    );
-    expect(&rt, "the end", svg.ends_with("</svg>\n"), true);
-    Ok(())
-}
-
-/// A script of 100,000 commands by 200 nodes. The first node holds the line, and each other node waits from its first command on.
+/// A script of 100,000 commands by 200 nodes, on the last of eight lines. The first node holds the line, and each other node waits from its
+/// first command on.
 fn largest_script(alloc: Global) -> Result<String, Fail> {
-    let mut script = String::from_str(alloc, "nodes 200 lines 1\n")?;
+    let mut script = String::from_str(alloc, "nodes 200 lines 8\n")?;
     for node in 1..201u64 {
-        script.push_str(format!(in alloc; "enq {node} 0\n")?.as_str())?;
+        script.push_str(format!(in alloc; "enq {node} 7\n")?.as_str())?;
     }
     for _ in 200..100_000 {
-        script.push_str("poll 200 0\n")?;
+        script.push_str("poll 200 7\n")?;
     }
     Ok(script)
 }
+
+/// The size of the largest picture, without the legend: eight lines take eight letters each. The blocks of the last line have a row for each
+/// of the 200 nodes, and as many above as the largest number has digits; such a row has a letter for each command of the block, a label of
+/// nine and a newline, and a newline is above each block. 1,428 blocks have 70 commands: the first has two digits, 13 have three, 128 four
+/// and 1,286 five. The last has 40 commands, and six digits.
+const LARGEST: usize = 8 * 8 + 1_429 + 80 * (202 + 13 * 203 + 128 * 204 + 1_286 * 205) + 50 * 206;
+
+/// How the last line begins, after seven without rows.
+const FIRST_ROWS: &str =
+    "line 0\n\nline 1\n\nline 2\n\nline 3\n\nline 4\n\nline 5\n\nline 6\n\nline 7\n
+                  1111111111222222222233333333334444444444555555555566666666667
+         1234567890123456789012345678901234567890123456789012345678901234567890
+node   1 HHHHHHHHHHHHHHHHHHHHHHHHHHHHHHHHHHHHHHHHHHHHHHHHHHHHHHHHHHHHHHHHHHHHHH
+node   2 .wwwwwwwwwwwwwwwwwwwwwwwwwwwwwwwwwwwwwwwwwwwwwwwwwwwwwwwwwwwwwwwwwwwww
+";
+
+/// How it ends.
+const LAST_ROWS: &str =
+    "node 199 wwwwwwwwwwwwwwwwwwwwwwwwwwwwwwwwwwwwwwww\nnode 200 wwwwwwwwwwwwwwwwwwwwwwwwwwwwwwwwwwwwwwww\n\n";
 
 #[test]
 fn draws_as_many_marks_as_there_may_be(rt: HostRuntime) -> Result<(), Fail> {
     let script = largest_script(rt.alloc())?;
-    let picture = drawn(rt.alloc(), script.as_str(), Form::Text)?;
-    // a row has 70 commands, behind a label of nine letters
-    let mut letters = 0usize;
-    for line in picture.lines() {
-        if line.starts_with("node ") {
-            letters = letters.saturating_add(line.len().saturating_sub(9));
-        }
-    }
-    expect(&rt, "letters", letters, 20_000_000);
+    let picture = draw_schedule(rt.alloc(), script.as_bytes(), Form::Text)?;
+    expect(&rt, "the size", picture.len(), LARGEST + LETTERS.len());
+    expect(
+        &rt,
+        "the first rows",
+        picture.starts_with(FIRST_ROWS.as_bytes()),
+        true,
+    );
+    let end = format!(in rt.alloc(); "{LAST_ROWS}{LETTERS}")?;
+    expect(
+        &rt,
+        "the last rows",
+        picture.ends_with(end.as_bytes()),
+        true,
+    );
     Ok(())
 }
+
+/// How many bytes are behind the bar of the last node: its name above each twentieth command, and then the shapes of 100,000 commands. To look
+/// for the bar from the front would take long.
+const BEHIND_THE_LAST_BAR: usize = 14_086_112;
 
 #[test]
 fn draws_as_many_marks_as_an_svg(rt: HostRuntime) -> Result<(), Fail> {
     let script = largest_script(rt.alloc())?;
-    let svg = drawn(rt.alloc(), script.as_str(), Form::Svg)?;
-    // 200 rows
+    let svg = draw_schedule(rt.alloc(), script.as_bytes(), Form::Svg)?;
+    // seven lines without rows, and one with 200
+    let head = "<svg xmlns='http://www.w3.org/2000/svg' width='3200128' height='8544' ";
+    expect(&rt, "the size", svg.starts_with(head.as_bytes()), true);
+    let first = svg.get(..10_000).ok_or("a beginning")?;
     expect(
         &rt,
-        "the size",
-        svg.contains(" width='3200128' height='8124' "),
-        true,
-    );
-    // from the last node's request to the end
-    expect(
-        &rt,
-        "a bar",
-        svg.contains(
-            "<rect class='waits' x='6464' y='8020' width='3193632' height='16'><title>node 200 waits</title></rect>\n",
+        "the first bar",
+        str::from_utf8(first)?.contains(
+            "<rect class='holds' x='96' y='60' width='3200000' height='16'><title>node 1 holds the line</title></rect>\n",
         ),
         true,
     );
+    // from the last node's request to the end
+    let last =
+        "<rect class='waits' x='6464' y='8020' width='3193632' height='16'><title>node 200 waits</title></rect>\n";
+    let to_last = svg
+        .get(..svg.len().saturating_sub(BEHIND_THE_LAST_BAR))
+        .ok_or("a last bar")?;
     expect(
         &rt,
-        "the end",
-        svg.ends_with("<title>100000: poll 200 0: waiting</title></use>\n</g>\n</svg>\n"),
+        "the last bar",
+        to_last.ends_with(last.as_bytes()),
         true,
     );
+    let end = "<title>100000: poll 200 7: waiting</title></use>\n</g>\n</svg>\n";
+    expect(&rt, "the end", svg.ends_with(end.as_bytes()), true);
     Ok(())
 }
 

@@ -317,22 +317,27 @@ fn names_the_first_fault(rt: HostRuntime) -> Result<(), Fail> {
     Ok(())
 }
 
-/// A reader of `left` newlines, at most `part` at a read, that then fails or ends.
+/// A reader of `left` bytes, at most `part` at a read, that then fails or ends. The first byte of each read is an `x`, and the others are
+/// newlines. So the first line of such a script is bad, and no time is spent on those behind it.
 #[derive(Drop)]
-struct Newlines {
+struct BadLines {
     left: u64,
     part: usize,
     fails: bool,
 }
 
-impl Read for Newlines {
+impl Read for BadLines {
     fn read(&mut self, buf: &mut [u8]) -> io::Result<usize> {
         if self.left == 0 && self.fails {
             return Err(io::Error::from(io::ErrorKind::Other));
         }
         let room = self.part.min(buf.len());
         let given = self.left.min(room as u64) as usize;
-        buf[..given].fill(b'\n');
+        let read = &mut buf[..given];
+        read.fill(b'\n');
+        if let Some(first) = read.first_mut() {
+            *first = b'x';
+        }
         self.left -= given as u64;
         Ok(given)
     }
@@ -361,7 +366,7 @@ impl Write for Failing {
 #[test]
 fn tells_faults_of_reader_and_writer(rt: HostRuntime) -> Result<(), Fail> {
     for left in 0..5u64 {
-        let mut reader = Watched::new(Newlines {
+        let mut reader = Watched::new(BadLines {
             left,
             part: 1,
             fails: true,
@@ -393,7 +398,7 @@ fn takes_inputs_up_to_the_limit(rt: HostRuntime) -> Result<(), Fail> {
         (16_777_216u64, ReplayError::Script(ScriptError::BadLine(1))),
         (16_777_217, ReplayError::Long),
     ] {
-        let mut reader = Watched::new(Newlines {
+        let mut reader = Watched::new(BadLines {
             left,
             part: 65_536,
             fails: false,
@@ -413,7 +418,7 @@ fn takes_inputs_up_to_the_limit(rt: HostRuntime) -> Result<(), Fail> {
 
 #[test]
 fn an_input_may_come_byte_by_byte(rt: HostRuntime) -> Result<(), Fail> {
-    let mut reader = Watched::new(Newlines {
+    let mut reader = Watched::new(BadLines {
         left: 10_000,
         part: 1,
         fails: false,
@@ -441,8 +446,8 @@ fn each_growth_of_an_input_is_refused(rt: HostRuntime) -> Result<(), Fail> {
     Ok(())
 }
 
-/// The number of newlines, how many of them are read or why not, and how many the reader keeps: of two parts of 4,096 bytes beyond the
-/// limit the second.
+/// The number of bytes, how many of them are read or why not, and how many the reader keeps: of two parts of 4,096 bytes beyond the limit
+/// the second.
 static LENGTHS: [(u64, Result<usize, ReplayError>, u64); 3] = [
     (16_777_216, Ok(16_777_216), 0),
     (16_777_217, Err(ReplayError::Long), 0),
@@ -451,16 +456,16 @@ static LENGTHS: [(u64, Result<usize, ReplayError>, u64); 3] = [
 
 #[test]
 fn an_input_is_read_up_to_the_limit_and_no_further(rt: HostRuntime) {
-    for (newlines, wanted, left) in &LENGTHS {
-        let mut reader = Watched::new(Newlines {
-            left: *newlines,
+    for (bytes, wanted, left) in &LENGTHS {
+        let mut reader = Watched::new(BadLines {
+            left: *bytes,
             part: 65_536,
             fails: false,
         });
         let read = read_all(rt.alloc(), &mut reader).map(|input| input.len());
         expect_at(
             &rt,
-            newlines,
+            bytes,
             (read, reader.into_inner().left),
             (*wanted, *left),
         );

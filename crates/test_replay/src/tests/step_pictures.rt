@@ -1,4 +1,5 @@
 //! Pictures of step scripts. The expected pictures were written by hand, from what each event does.
+use crate::tests::replays::repeated;
 use crate::tests::rows::{expect, expect_at};
 use crate::tests::styles::{Sheet, are_seen, signs_differ, steps_are_seen};
 use linked_list_allocator::LocalHeap;
@@ -272,85 +273,43 @@ fn names_of_rows_stand_again(rt: HostRuntime) -> Result<(), Fail> {
     Ok(())
 }
 
-/// A script of 100,000 events, of which all except the first are refused.
-fn longest_script(alloc: Global) -> Result<String, Fail> {
-    let mut script = String::from_str(alloc, "nodes 1\nreset 1\n")?;
-    for _ in 1..100_000 {
-        script.push_str("load 1\n")?;
-    }
-    Ok(script)
-}
-
-#[test]
-fn draws_the_longest_step_script(rt: HostRuntime) -> Result<(), Fail> {
-    let script = longest_script(rt.alloc())?;
-    let text = drawn(rt.alloc(), script.as_str(), Form::Text)?;
-    // One line of the node's number, and after the events an empty line and two of the letters' meaning.
-    expect(&rt, "lines", text.lines().count(), 100_004);
-    Ok(())
-}
-
 /// A script of 100,000 events of the last of 200 nodes, of which all except the first are refused.
 fn largest_script(alloc: Global) -> Result<String, Fail> {
-    let mut script = String::from_str(alloc, "nodes 200\nreset 200\n")?;
-    for _ in 1..100_000 {
-        script.push_str("load 200\n")?;
-    }
-    Ok(script)
+    repeated(alloc, "nodes 200\nreset 200\n", 99_999, "load 200\n", "")
 }
+
+/// The size of its picture, without the legend of letters: three lines of the digits of 200 nodes; and for each event 200 letters, its number,
+/// for which 488,895 digits are needed, and 45 bytes, of which the first event has two fewer.
+const LARGEST: usize = 3 * 201 + 100_000 * (200 + 45) + 488_895 - 2;
+
+/// The first line of digits.
+const HUNDREDS: &str =
+    "                                                                                                   11111111111111111111111111111111111111111111111111111111111111111111111111111111111111111111111111112\n";
 
 #[test]
 fn draws_as_many_letters_as_there_may_be(rt: HostRuntime) -> Result<(), Fail> {
-    let script = largest_script(rt.alloc())?;
-    let text = drawn(rt.alloc(), script.as_str(), Form::Text)?;
-    let mut letters = 0usize;
-    for line in text.lines() {
-        if let Some((points, _)) = line.split_once("  ") {
-            if points.ends_with(".r") {
-                letters = letters.saturating_add(points.len());
-            }
-        }
-    }
-    expect(&rt, "letters", letters, 20_000_000);
+    let alloc = rt.alloc();
+    let script = largest_script(alloc)?;
+    let text = draw_steps(alloc, script.as_bytes(), Form::Text)?;
+    expect(&rt, "the size", text.len(), LARGEST + LETTERS.len());
+    let first = text.starts_with(HUNDREDS.as_bytes());
+    expect(&rt, "the first line", first, true);
+    let event = "r  100000: load 200: refused; the line lies at home\n";
+    let end = repeated(alloc, "\n", 199, ".", event)?;
+    let end = format!(in alloc; "{end}{LETTERS}")?;
+    expect(&rt, "the last line", text.ends_with(end.as_bytes()), true);
     Ok(())
 }
 
 #[test]
 fn draws_as_many_events_of_as_many_nodes_as_an_svg(rt: HostRuntime) -> Result<(), Fail> {
     let script = largest_script(rt.alloc())?;
-    let svg = drawn(rt.alloc(), script.as_str(), Form::Svg)?;
+    let svg = draw_steps(rt.alloc(), script.as_bytes(), Form::Svg)?;
     // 200 rows below the home word
-    expect(
-        &rt,
-        "the size",
-        svg.contains(" width='7200128' height='9768' "),
-        true,
-    );
-    expect(
-        &rt,
-        "the end",
-        svg.ends_with("<title>100000: load 200: refused</title></use>\n</g>\n</svg>\n"),
-        true,
-    );
-    Ok(())
-}
-
-#[test]
-fn draws_the_longest_step_script_as_an_svg(rt: HostRuntime) -> Result<(), Fail> {
-    let script = longest_script(rt.alloc())?;
-    let svg = drawn(rt.alloc(), script.as_str(), Form::Svg)?;
-    expect(
-        &rt,
-        "the size",
-        svg.contains(" width='7200128' height='216' "),
-        true,
-    );
-    expect(
-        &rt,
-        "the end",
-        svg.ends_with("<title>100000: load 1: refused</title></use>\n</g>\n</svg>\n"),
-        true,
-    );
+    let head = "<svg xmlns='http://www.w3.org/2000/svg' width='7200128' height='9768' ";
+    expect(&rt, "the size", svg.starts_with(head.as_bytes()), true);
+    let end = "<title>100000: load 200: refused</title></use>\n</g>\n</svg>\n";
+    expect(&rt, "the end", svg.ends_with(end.as_bytes()), true);
     Ok(())
 }
 

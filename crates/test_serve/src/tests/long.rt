@@ -1,6 +1,6 @@
 //! Long scripts and long answers.
 use crate::tests::hostile::{FailingWriter, HAND_OVER, HANDED_OVER};
-use crate::tests::runs::{run, told};
+use crate::tests::runs::run;
 use std::alloc::Global;
 use std::process::Abort;
 use std::rt::Clock;
@@ -9,7 +9,7 @@ use std::test::Fail;
 use std::thread::Threads;
 
 /// How often the line of a script is repeated.
-const TIMES: u32 = 20_000;
+const TIMES: u32 = 10_000;
 
 /// What `show` answers of a line that no node wrote.
 const ZEROS: &str =
@@ -26,7 +26,7 @@ const SHOWN: Long = [
     "line 0 served 0 withdrawn 0 told 0 left 1\n",
 ];
 
-/// Words, a long script, and its answer. The answers of replays have 2.6 MB.
+/// Words, a long script, and its answer. The answers of replays have 1.3 MB.
 static ANSWERED: [(&[&str], Long, Long); 9] = [
     (&["replay", "--kind", "plain"], HELD, SHOWN),
     (&["replay", "--kind", "ring"], HELD, SHOWN),
@@ -53,17 +53,17 @@ static ANSWERED: [(&[&str], Long, Long); 9] = [
     (
         &["board"],
         ["board workers 1\n", "1 take\n", ""],
-        ["stored 0\nfull 0\ntaken 0\nempty 20000\nleft 0\n", "", ""],
+        ["stored 0\nfull 0\ntaken 0\nempty 10000\nleft 0\n", "", ""],
     ),
     (
         &["bank", "--kind", "ring"],
         ["bank workers 1 lines 1\n", "1 in 0 1\n", "1 out 0 7\n"],
-        ["in 20000\nout 7\ntotal 19993\n", "", ""],
+        ["in 10000\nout 7\ntotal 9993\n", "", ""],
     ),
     (
         &["bank", "--sleep"],
         ["bank workers 1 lines 1\n", "1 in 0 1\n", "1 out 0 7\n"],
-        ["in 20000\nout 7\ntotal 19993\n", "", ""],
+        ["in 10000\nout 7\ntotal 9993\n", "", ""],
     ),
 ];
 
@@ -83,18 +83,39 @@ fn repeated(alloc: Global, long: &Long, times: u32) -> Result<String, Fail> {
     Ok(text)
 }
 
+/// Returns the status, standard output and standard error of a run.
+fn answered<T: Threads + Wait + Clock + Eprint + Sync>(
+    rt: &T,
+    alloc: Global,
+    words: &[&str],
+    script: &str,
+) -> Result<(u8, Vec<u8>, String), Fail> {
+    let mut reader = script.as_bytes();
+    let mut out: Vec<u8> = Vec::new(alloc);
+    let (status, err) = run(rt, alloc, words, &mut reader, &mut out)?;
+    Ok((status, out, err))
+}
+
 /// Checks that a run on these words ends so. If it does not, the text is not printed.
 fn expect<T: Threads + Wait + Clock + Eprint + Abort + Sync>(
     rt: &T,
     alloc: Global,
     words: &[&str],
     script: &str,
-    want: (u8, &str, &str),
+    want: (u8, &[u8], &str),
 ) -> Result<(), Fail> {
-    let (status, out, err) = told(rt, alloc, words, script)?;
+    let (status, out, err) = answered(rt, alloc, words, script)?;
     assert_eq!(rt; (status, err.as_str()), (want.0, want.2), "of {words:?}");
-    assert!(rt; out.as_str() == want.1, "the answer of {words:?}");
+    assert!(rt; out.as_slice() == want.1, "the answer of {words:?}");
     Ok(())
+}
+
+/// Returns these words and `--explain`.
+fn with_explain<'a>(alloc: Global, words: &[&'a str]) -> Result<Vec<&'a str>, Fail> {
+    let mut all = Vec::new(alloc);
+    all.extend_from_slice(words)?;
+    all.push("--explain")?;
+    Ok(all)
 }
 
 /// Checks that a run on these words ends so, and one on these words and `--explain`.
@@ -103,13 +124,11 @@ fn expect_both<T: Threads + Wait + Clock + Eprint + Abort + Sync>(
     alloc: Global,
     words: &[&str],
     script: &str,
-    want: (u8, &str, &str),
-    explained: (u8, &str, &str),
+    want: (u8, &[u8], &str),
+    explained: (u8, &[u8], &str),
 ) -> Result<(), Fail> {
     expect(rt, alloc, words, script, want)?;
-    let mut all = Vec::new(alloc);
-    all.extend_from_slice(words)?;
-    all.push("--explain")?;
+    let all = with_explain(alloc, words)?;
     expect(rt, alloc, all.as_slice(), script, explained)
 }
 
@@ -119,7 +138,7 @@ fn a_long_script_is_answered_whole(rt: HostRuntime) -> Result<(), Fail> {
     for (words, script, answer) in &ANSWERED {
         let script = whole(alloc, script)?;
         let answer = whole(alloc, answer)?;
-        let want = (0, answer.as_str(), "");
+        let want = (0, answer.as_bytes(), "");
         expect_both(&rt, alloc, *words, script.as_str(), want, want)?;
     }
     Ok(())
@@ -132,7 +151,7 @@ fn the_most_commands_are_answered(rt: HostRuntime) -> Result<(), Fail> {
     let script = repeated(alloc, &HELD, 99_999)?;
     let answer = repeated(alloc, &SHOWN, 99_999)?;
     let words = ["replay", "--kind", "plain"];
-    let want = (0, answer.as_str(), "");
+    let want = (0, answer.as_bytes(), "");
     expect(&rt, alloc, words.as_slice(), script.as_str(), want)
 }
 
@@ -205,18 +224,18 @@ static REFUSED: [(&[&str], Long, &str); 6] = [
 #[test]
 fn the_last_line_of_a_long_script_is_refused(rt: HostRuntime) -> Result<(), Fail> {
     let alloc = rt.alloc();
-    let bad_line = "bad line 20002\n";
+    let bad_line = "bad line 10002\n";
     for (words, script, reason) in &REFUSED {
         let script = whole(alloc, script)?;
         let mut all = bad_line.to_string(alloc)?;
         all.push_str(*reason)?;
-        let explained = (1, "", all.as_str());
+        let explained = (1, b"".as_slice(), all.as_str());
         expect_both(
             &rt,
             alloc,
             *words,
             script.as_str(),
-            (1, "", bad_line),
+            (1, b"".as_slice(), bad_line),
             explained,
         )?;
     }
@@ -224,7 +243,7 @@ fn the_last_line_of_a_long_script_is_refused(rt: HostRuntime) -> Result<(), Fail
 }
 
 /// After how many writes of 4,096 bytes the next one fails.
-static GOOD_WRITES: [usize; 5] = [0, 1, 16, 17, 600];
+static GOOD_WRITES: [usize; 5] = [0, 1, 16, 17, 300];
 
 #[test]
 fn a_beginning_of_a_long_answer_is_written(rt: HostRuntime) -> Result<(), Fail> {
@@ -268,7 +287,7 @@ static DRAWN: [(&[&str], Long, &str, &str); 4] = [
         &["draw", "--steps", "--svg"],
         ["nodes 1\n", "link 1\n", ""],
         "<svg ",
-        "<title>20000: link 1: refused</title></use>\n</g>\n</svg>\n",
+        "<title>10000: link 1: refused</title></use>\n</g>\n</svg>\n",
     ),
 ];
 
@@ -277,12 +296,13 @@ fn a_long_script_is_drawn(rt: HostRuntime) -> Result<(), Fail> {
     let alloc = rt.alloc();
     for (words, script, first, last) in &DRAWN {
         let script = whole(alloc, script)?;
-        let (status, picture, err) = told(&rt, alloc, *words, script.as_str())?;
+        let (status, picture, err) = answered(&rt, alloc, *words, script.as_str())?;
         assert_eq!(rt; (status, err.as_str()), (0, ""), "of {words:?}");
-        let is_whole = picture.starts_with(*first) && picture.ends_with(*last);
+        let is_whole = picture.starts_with(first.as_bytes()) && picture.ends_with(last.as_bytes());
         assert!(rt; is_whole && picture.len() > 65_536, "of {words:?}");
-        let want = (0, picture.as_str(), "");
-        expect_both(&rt, alloc, *words, script.as_str(), want, want)?;
+        let all = with_explain(alloc, *words)?;
+        let want = (0, picture.as_slice(), "");
+        expect(&rt, alloc, all.as_slice(), script.as_str(), want)?;
     }
     Ok(())
 }
