@@ -144,7 +144,12 @@ const LAST_ROWS: &str =
 fn draws_as_many_marks_as_there_may_be(rt: HostRuntime) -> Result<(), Fail> {
     let script = largest_script(rt.alloc())?;
     let picture = draw_schedule(rt.alloc(), script.as_bytes(), Form::Text)?;
-    expect(&rt, "the size", picture.len(), LARGEST + LETTERS.len());
+    expect(
+        &rt,
+        "the size",
+        picture.len(),
+        LARGEST.saturating_add(LETTERS.len()),
+    );
     expect(
         &rt,
         "the first rows",

@@ -291,7 +291,12 @@ fn draws_as_many_letters_as_there_may_be(rt: HostRuntime) -> Result<(), Fail> {
     let alloc = rt.alloc();
     let script = largest_script(alloc)?;
     let text = draw_steps(alloc, script.as_bytes(), Form::Text)?;
-    expect(&rt, "the size", text.len(), LARGEST + LETTERS.len());
+    expect(
+        &rt,
+        "the size",
+        text.len(),
+        LARGEST.saturating_add(LETTERS.len()),
+    );
     let first = text.starts_with(HUNDREDS.as_bytes());
     expect(&rt, "the first line", first, true);
     let event = "r  100000: load 200: refused; the line lies at home\n";
