@@ -9,7 +9,7 @@ use std::test::Fail;
 use std::thread::Threads;
 
 /// How often the line of a script is repeated.
-const TIMES: u32 = 10_000;
+const TIMES: u32 = 12_000;
 
 /// What `show` answers of a line that no node wrote.
 const ZEROS: &str =
@@ -26,7 +26,7 @@ const SHOWN: Long = [
     "line 0 served 0 withdrawn 0 told 0 left 1\n",
 ];
 
-/// Words, a long script, and its answer. The answers of replays have 1.3 MB.
+/// Words, a long script, and its answer. The answers of replays have 1.5 MB.
 static ANSWERED: [(&[&str], Long, Long); 9] = [
     (&["replay", "--kind", "plain"], HELD, SHOWN),
     (&["replay", "--kind", "ring"], HELD, SHOWN),
@@ -53,17 +53,17 @@ static ANSWERED: [(&[&str], Long, Long); 9] = [
     (
         &["board"],
         ["board workers 1\n", "1 take\n", ""],
-        ["stored 0\nfull 0\ntaken 0\nempty 10000\nleft 0\n", "", ""],
+        ["stored 0\nfull 0\ntaken 0\nempty 12000\nleft 0\n", "", ""],
     ),
     (
         &["bank", "--kind", "ring"],
         ["bank workers 1 lines 1\n", "1 in 0 1\n", "1 out 0 7\n"],
-        ["in 10000\nout 7\ntotal 9993\n", "", ""],
+        ["in 12000\nout 7\ntotal 11993\n", "", ""],
     ),
     (
         &["bank", "--sleep"],
         ["bank workers 1 lines 1\n", "1 in 0 1\n", "1 out 0 7\n"],
-        ["in 10000\nout 7\ntotal 9993\n", "", ""],
+        ["in 12000\nout 7\ntotal 11993\n", "", ""],
     ),
 ];
 
@@ -224,7 +224,7 @@ static REFUSED: [(&[&str], Long, &str); 6] = [
 #[test]
 fn the_last_line_of_a_long_script_is_refused(rt: HostRuntime) -> Result<(), Fail> {
     let alloc = rt.alloc();
-    let bad_line = "bad line 10002\n";
+    let bad_line = "bad line 12002\n";
     for (words, script, reason) in &REFUSED {
         let script = whole(alloc, script)?;
         let mut all = bad_line.to_string(alloc)?;
@@ -287,7 +287,7 @@ static DRAWN: [(&[&str], Long, &str, &str); 4] = [
         &["draw", "--steps", "--svg"],
         ["nodes 1\n", "link 1\n", ""],
         "<svg ",
-        "<title>10000: link 1: refused</title></use>\n</g>\n</svg>\n",
+        "<title>12000: link 1: refused</title></use>\n</g>\n</svg>\n",
     ),
 ];
 
