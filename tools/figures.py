@@ -103,10 +103,10 @@ def times_of_mutex():
 
 
 def alone():
-    """Nanoseconds of a round by one thread: the lines in Rattle, and MCS."""
+    """Nanoseconds of a round by one thread: the lines in Rattle, from C, and MCS."""
     found = medians()
-    lines = [found[line, "1"] for line in LINES]
-    return f"{min(lines):.0f}", f"{max(lines):.0f}", f"{found['MCS', '1']:.0f}"
+    lines, from_c = [found[line, "1"] for line in LINES], [found[f"{line} from C", "1"] for line in LINES]
+    return *(f"{time:.0f}" for time in (min(lines), max(lines), min(from_c), max(from_c), found["MCS", "1"])),
 
 
 def to_mcs():
@@ -142,7 +142,7 @@ RATIOS = [
     ("README.md", "A mutex has {} to {} times the turns of a strict queue lock", times_of_mutex),
     ("README.md", "with three threads the ticket line takes {} times as long as MCS, the ring {}, the link line {}", to_mcs),
     ("README.md", "for two nodes {} and {} as a link line, {} and {} as a ticket line, {} and {} as a ring", for_two),
-    ("README.md", "With one thread a turn takes {} to {} ns, MCS's {}", alone),
+    ("README.md", "With one thread a turn takes {} to {} ns, from C {} to {}, MCS's {}", alone),
     ("README.md", "runs all tests but {} without a proof", tests_with_a_proof),
     ("docs/LOCKS.md", "a mutex has {} to {} times the turns of a strict lock", times_of_mutex),
     ("docs/LOCKS.md", "{} % of a mutex's turns; its longest wait is {} ms, the mutex's {} ms", long_turns),

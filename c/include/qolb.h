@@ -1,8 +1,8 @@
 /* QOLB for C and C++: a queue lock that hands over 64 bytes with the lock.
  *
  * A line is 64 bytes that 1 to 200 nodes share. A node requests it, waits for its turn, reads and writes it, and
- * releases it: lock and bytes are handed to the oldest request. No request is overtaken. The library behind this header
- * is proved; docs/PROVED.md says how far.
+ * releases it: lock and bytes are handed to the oldest request. No request is overtaken. The library is proved;
+ * docs/PROVED.md of its sources says how far.
  *
  * EXAMPLE
  *
@@ -160,10 +160,9 @@
  * WAITING
  *
  * Of the calls on a node two wait for other threads: qolb_acquire and qolb_acquire_within. They poll for some 1.5 us,
- * yield the processor 16 times, polling after each, then sleep (on Linux by a futex, elsewhere for 200 us at a
- * time) until the line is released; then they poll anew. So does a thread that waits for a lock. At a strict lock's
- * door it yields 32 times, or, behind 12 others, never; meanwhile one with a seat, of at most 8, polls 16 times and
- * yields 128. At a condition it sleeps at once.
+ * yield the processor 16 times, polling after each, then sleep by a futex until the line is released; then they poll
+ * anew. So does a thread that waits for a lock. At a strict lock's door it yields 32 times, or, behind 12 others,
+ * never; meanwhile one with a seat, of at most 8, polls 16 times and yields 128. At a condition it sleeps at once.
  *
  * A call that releases the line (qolb_deqolb, qolb_shut, and any that answers CLOSED) wakes at most two sleepers: the
  * next holder, and the waiter behind it ahead of its turn. Leaving a lock also wakes the first two threads at its door;
@@ -186,7 +185,7 @@
  * watches:
  *
  *     uint32_t got = qolb_enqolb(&node);
- *     if (got == QOLB_QUEUED) got = qolb_notify_fd(&node, fd);   // WAITING: once fd is readable, read it and repeat
+ *     if (got == QOLB_QUEUED) got = qolb_notify_fd(&node, fd);   // WAITING: once readable, read fd, call this again
  *     if (got == QOLB_GRANTED) turn(&node);                      // and qolb_deqolb
  *
  * To give up, make qolb_notify_off first, as a wish that stays may be called for a later request; then qolb_withdraw,
