@@ -12,6 +12,18 @@ TAKES_ALL = re.compile(r"\b(?:MemoryHog|MemoryLimit)::|\b\w+::\w+WithoutMemory\b
 ARM = re.compile(r"^( *)\w+::\w+WithoutMemory =>.*?(?=^\1\w|^ *\}$)", re.M | re.S)
 # A crate whose tests take longest, and the file whose tests are tried apart from its others, beside them.
 APART = {"test_replay": "step_pictures"}
+# The order in which tests that are tried side by side begin: those that take longest first. A crate that is not here begins before these.
+ORDER = (
+    "test_serve",
+    "test_replay",
+    "test_replay_step_pictures",
+    "test_work",
+    "test_model",
+    "test_blocking",
+    "test_programs",
+    "test_surface",
+    "test_calls",
+)
 
 
 def code_of(crate):
