@@ -118,7 +118,7 @@ where
     Some((line, one, two, three))
 }
 
-/// Expects that the value is the wanted one.
+/// Asserts that `found` is `wanted`; a failure prints `row`.
 pub(super) fn expect<R: Abort, T: PartialEq + Debug + Drop>(
     rt: &R,
     row: &str,
@@ -128,7 +128,7 @@ pub(super) fn expect<R: Abort, T: PartialEq + Debug + Drop>(
     assert_eq!(rt; found, wanted, "{row}");
 }
 
-/// Expects so in the row of this number.
+/// Asserts that `found` is `wanted`; a failure prints `at`.
 pub(super) fn expect_at<R: Abort, T: PartialEq + Debug + Drop>(
     rt: &R,
     at: u64,

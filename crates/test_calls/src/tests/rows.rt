@@ -2,7 +2,7 @@
 use std::fmt::Debug;
 use std::process::Abort;
 
-/// Expects that the value is the wanted one.
+/// Asserts that `found` is `wanted`; a failure prints `row`.
 pub(super) fn expect_eq<R: Abort, T: PartialEq + Debug + Drop>(
     rt: &R,
     row: &str,
@@ -12,7 +12,7 @@ pub(super) fn expect_eq<R: Abort, T: PartialEq + Debug + Drop>(
     assert_eq!(rt; found, wanted, "{row}");
 }
 
-/// Expects so in the row of this value.
+/// Asserts that `found` is `wanted`; a failure prints `at`.
 pub(super) fn expect_at<R: Abort, D: Debug, T: PartialEq + Debug + Drop>(
     rt: &R,
     at: &D,

@@ -7,7 +7,7 @@ use std::fmt::Debug;
 use std::process::Abort;
 use std::test::Fail;
 
-/// Expects that the value is the wanted one.
+/// Asserts that `found` is `wanted`; a failure prints `row`.
 pub(crate) fn expect<R: Abort, T: PartialEq + Debug + Drop>(
     rt: &R,
     row: &str,
@@ -17,7 +17,7 @@ pub(crate) fn expect<R: Abort, T: PartialEq + Debug + Drop>(
     assert_eq!(rt; found, wanted, "{row}");
 }
 
-/// Expects so in the row of this value.
+/// Asserts that `found` is `wanted`; a failure prints `at`.
 pub(crate) fn expect_at<R: Abort, D: Debug, T: PartialEq + Debug + Drop>(
     rt: &R,
     at: &D,
