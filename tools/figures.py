@@ -128,7 +128,7 @@ def bursts():
     rows = [row for row in rows_of("bursts.tsv") if row["lock"].startswith("link:4+")]
     empty = [float(row["of_mutex_turns"]) for row in rows if row["turn_us"] == "0"]
     waited = [float(row["of_mutex_wait"]) for row in rows if row["turn_us"] == "10"]
-    return f"{min(empty):.1f}", f"{max(empty):.1f}", f"{1 / max(waited):.0f}"
+    return f"{min(empty):.1f}", f"{max(empty):.1f}", f"{1 // max(waited):.0f}"
 
 
 def tests_with_a_proof():
@@ -139,12 +139,12 @@ def tests_with_a_proof():
 TABLES = {"rounds": rounds, "waits": waits, "memory": memory}
 # Of each sentence with figures: its page, the sentence with `{}` for each, and the figures.
 RATIOS = [
-    ("README.md", "A mutex has {} to {} times the turns of a strict queue lock", times_of_mutex),
+    ("README.md", "it makes {} to {} times the turns of a strict `qolb_lock`", times_of_mutex),
     ("README.md", "with three threads the ticket line takes {} times as long as MCS, the ring {}, the link line {}", to_mcs),
     ("README.md", "for two nodes {} and {} as a link line, {} and {} as a ticket line, {} and {} as a ring", for_two),
     ("README.md", "With one thread a turn takes {} to {} ns, from C {} to {}, MCS's {}", alone),
-    ("README.md", "runs all tests but {} without a proof", tests_with_a_proof),
-    ("docs/LOCKS.md", "a mutex has {} to {} times the turns of a strict lock", times_of_mutex),
+    ("README.md", "runs, without a proof, all tests but {},", tests_with_a_proof),
+    ("docs/LOCKS.md", "a mutex makes {} to {} times the turns of a strict `qolb_lock`", times_of_mutex),
     ("docs/LOCKS.md", "{} % of a mutex's turns; its longest wait is {} ms, the mutex's {} ms", long_turns),
     ("docs/LOCKS.md", "{} to {} times a mutex's empty turns; with turns of 10 us its longest wait is at most one {}th of a mutex's", bursts),
 ]
