@@ -65,6 +65,7 @@ fn run_gate_at<
     ports: Vec<L::Port>,
     threads: usize,
     rounds: u64,
+    burst: u64,
 ) -> Result<Line64, RunError>
 where
     L::Port: Send + Drop,
@@ -74,8 +75,9 @@ where
     requires keeps { IsKeptSetOf (λ _ _. Unit {0}) (L.belongs line) L.view L.turn S.keeps }
     requires lease { (L.config_of line).lease ≡ None }
     requires ports { All (MayAsk (L.belongs line) L.view) ports.items }
+    requires limit { 0 < burst }
 {
-    let Ok(pool) = GatedPool::<Free, L, S>::new(alloc, line, ports) else {
+    let Ok(pool) = GatedPool::<Free, L, S>::with_bursts(alloc, line, ports, burst) else {
         return Err(RunError::Refused);
     };
     let Ok(parts) = Vec::from_elem(alloc, (), threads) else {
@@ -89,15 +91,18 @@ where
     }
 }
 
-/// Runs `rounds` rounds by each of `threads` threads through a gate of a new line with as many nodes. Returns the line's last bytes.
+/// Runs `rounds` rounds by each of `threads` threads through a gate of a new line with as many nodes, which lets fewer than `burst` turns
+/// overtake those that wait. Returns the line's last bytes.
 pub fn run_gate<R: Threads + Wait + Sync, L: OpenLine<Free> + ParkingLine<Free> + Sync + Drop>(
     rt: &R,
     alloc: Global,
     threads: u64,
     rounds: u64,
+    burst: u64,
 ) -> Result<Line64, RunError>
 where
     L::Port: Send + Drop,
+    requires { 0 < burst }
 {
     let config = LineConfig {
         nodes: threads,
@@ -106,7 +111,7 @@ where
     };
     match L::open_with(alloc, 1, config) {
         Ok((line, ports)) => {
-            run_gate_at::<R, L, Brand>(rt, alloc, line, ports, threads as usize, rounds)
+            run_gate_at::<R, L, Brand>(rt, alloc, line, ports, threads as usize, rounds, burst)
         }
         Err(why) => Err(RunError::Open(why)),
     }

@@ -1,7 +1,7 @@
 //! Times a line, or puts it under stress.
 #![tactic(auto)]
 
-ghost use Rattle.std.specs.Prelude.{All, IsTrue};
+ghost use Rattle.std.specs.Prelude.{◌<◌, All, IsTrue};
 ghost use Rattle.qolb_model.specs.PortStates.{may_ask};
 
 mod enqueue;
@@ -38,6 +38,9 @@ static THREADS: [u64; 5] = [1, 2, 3, 4, 8];
 
 static STRESSED: [u64; 3] = [4, 8, 32];
 
+/// The limit of a burst.
+const BURST: u64 = 1024;
+
 /// The rounds of each thread if `--rounds` is not given: enough to show that no addition is lost.
 const FEW_ROUNDS: u64 = 100;
 
@@ -57,8 +60,10 @@ enum Wanted {
 enum Way {
     /// Each thread asks by a port of its own.
     Ports,
-    /// The threads enter through a gate of the line.
+    /// The threads enter through a strict gate of the line.
     Gate,
+    /// They enter through one that bursts.
+    Burst,
     /// The threads lock the toolchain's mutex. There is no line.
     Mutex,
 }
@@ -120,6 +125,12 @@ fn command<'a>(alloc: Global) -> Result<Command<'a>, AllocError> {
         command,
         "gate",
         "Rounds through a gate of the line, whose port keeps it between turns",
+    )?;
+    let command = with_way(
+        alloc,
+        command,
+        "burst",
+        "Rounds through a gate that lets a burst of 1024 turns overtake those that wait",
     )?;
     let command = with_way(
         alloc,
@@ -187,12 +198,14 @@ fn with_way<'a>(
     command.arg(way)
 }
 
-/// What the timed rounds are of; of ports if neither `--gate` nor `--mutex` is given.
+/// What the timed rounds are of; of ports if none of `--gate`, `--burst` and `--mutex` is given.
 fn way_of(matches: &ArgMatches) -> Way {
     if matches.get_flag("mutex") {
         Way::Mutex
     } else if matches.get_flag("gate") {
         Way::Gate
+    } else if matches.get_flag("burst") {
+        Way::Burst
     } else {
         Way::Ports
     }
@@ -250,7 +263,10 @@ fn bench_at_once<
 >(rt: &R, alloc: Global, threads: u64, wanted: Wanted) -> anyhow::Result<()> {
     match wanted {
         Wanted::Times(Way::Gate, rounds) => {
-            measure_gate::<R, Line<Free, Q>>(rt, alloc, threads, rounds)
+            measure_gate::<R, Line<Free, Q>>(rt, alloc, threads, rounds, 1)
+        }
+        Wanted::Times(Way::Burst, rounds) => {
+            measure_gate::<R, Line<Free, Q>>(rt, alloc, threads, rounds, BURST)
         }
         Wanted::Times(Way::Mutex, rounds) => measure_mutex(rt, alloc, threads, rounds),
         _ => bench::<R, AtOnce, Line<NonDecreasing, Q>>(rt, alloc, AtOnce, threads, wanted),
@@ -318,12 +334,13 @@ where
 fn measure_gate<
     R: Threads + Wait + Clock + Print + Sync,
     L: OpenLine<Free> + ParkingLine<Free> + Sync + Drop,
->(rt: &R, alloc: Global, threads: u64, rounds: u64) -> anyhow::Result<()>
+>(rt: &R, alloc: Global, threads: u64, rounds: u64, burst: u64) -> anyhow::Result<()>
 where
     L::Port: Send + Drop,
+    requires { 0 < burst }
 {
     let start = Instant::now(rt)?;
-    let last = run_gate::<R, L>(rt, alloc, threads, rounds)?;
+    let last = run_gate::<R, L>(rt, alloc, threads, rounds, burst)?;
     show_pace(rt, threads, rounds, start.elapsed(rt)?, &last)
 }
 

@@ -17,30 +17,35 @@ use std::sync::{Mutex, Wait};
 /// A line with its free ports and a gate. Contracts see it as the line.
 ///
 /// A caller who leaves while nobody waits does not release the line: its port keeps it and lies in the gate, where the next caller takes it
-/// up. A caller who has to wait asks for the line by a port of its own, and the port of the gate is then released. So between two releases
-/// there may be many turns, which are one turn of the line: its law has to chain, and it has no lease.
+/// up. A caller who has to wait asks for the line by a port of its own, and the port of the gate is then released: at once at a strict gate,
+/// and at one with bursts before as many turns as its limit have begun. So between two releases there may be many turns, which are one turn
+/// of the line: its law has to chain, and it has no lease.
 #[derive(Drop)]
 pub struct GatedPool<K: Chains, L: LineSync<K>, S: GateSet<L::Port>> {
     pub(crate) pool: PortPool<K, L, S>,
+    /// Fewer turns by the gate than this begin in a row while somebody waits.
+    pub(crate) burst: u64,
     /// The port that keeps the line between turns. A caller who is in by the gate keeps the lock.
     pub(crate) gate: Mutex<Gate<L::Port, S>>,
     /// The number of callers that have not entered by the gate, and wait.
     pub(crate) waiting: AtomicU64,
+    /// The number of these that are awake, and watch the gate. None does at a strict gate.
+    pub(crate) watching: AtomicU64,
     /// The number of callers that sleep until a port is free, and a number that changes when one is given back.
     pub(crate) sleepers: AtomicU64,
     pub(crate) freed: AtomicU64,
 }
 
 impl<K: Chains, L: LineSync<K>, S: GateSet<L::Port>> Model for GatedPool<K, L, S> {
-    ghost use Rattle.std.specs.Prelude.{◌≡◌, None};
-    ghost use Rattle.line_pool.specs.Gated.{IsKeptSetOf};
+    ghost use Rattle.std.specs.Prelude.{◌≡◌, ◌<◌, None};
+    ghost use Rattle.line_pool.specs.Gated.{Gated, IsKeptSetOf};
 
-    ghost Value = { L };
+    ghost Value = { Gated L };
 
-    ghost view = { λ it. it.pool };
+    ghost view = { λ it. record { line = it.pool; burst = it.burst } };
 
     ghost invariant = { λ it. IsKeptSetOf K.allows (L.belongs it.pool) L.view L.turn S.keeps
-        × ((L.config_of it.pool).lease ≡ None) };
+        × ((L.config_of it.pool).lease ≡ None) × (0 < it.burst) };
 }
 
 impl<K: Chains, L: LineSync<K>, S: GateSet<L::Port>> GatedPool<K, L, S> {
@@ -63,13 +68,44 @@ impl<K: Chains, L: LineSync<K>, S: GateSet<L::Port>> GatedPool<K, L, S> {
         requires keeps { IsKeptSetOf K.allows (L.belongs line) L.view L.turn S.keeps }
         requires lease { (L.config_of line).lease ≡ None }
         requires ports { All (MayAsk (L.belongs line) L.view) ports.items }
-        ensures { IfOk result (λ pool. pool ≡ line) }
+        ensures line { IfOk result (λ pool. pool.line ≡ line) }
+        ensures strict { IfOk result (λ pool. pool.burst ≡ 1) }
+    {
+        GatedPool::with_bursts(alloc, line, ports, 1)
+    }
+
+    /// Makes a pool as `new` does, with a gate that bursts: once somebody waits, fewer than `burst` turns by the gate begin before the line is
+    /// released. With 1 none does, as at a pool of `new`. Allocates as `PortPool::new` does.
+    ///
+    /// # Errors
+    ///
+    /// If memory was refused.
+    pub fn with_bursts(
+        alloc: Global,
+        line: L,
+        ports: Vec<L::Port>,
+        burst: u64,
+    ) -> Result<GatedPool<K, L, S>, AllocError>
+    where
+        L: Drop,
+        L::Port: Drop,
+        requires not_empty { 0 < vec_len ports }
+        requires set { IsPortSetOf (L.belongs line) L.view S.has }
+        requires many { vec_len ports ≡ S.many }
+        requires keeps { IsKeptSetOf K.allows (L.belongs line) L.view L.turn S.keeps }
+        requires lease { (L.config_of line).lease ≡ None }
+        requires ports { All (MayAsk (L.belongs line) L.view) ports.items }
+        requires limit { 0 < burst }
+        ensures line { IfOk result (λ pool. pool.line ≡ line) }
+        ensures limit { IfOk result (λ pool. pool.burst ≡ burst) }
     {
         let pool = PortPool::new(alloc, line, ports)?;
         Ok(GatedPool {
             pool,
+            burst,
             gate: Mutex::new(Gate::new()),
             waiting: AtomicU64::new(0),
+            watching: AtomicU64::new(0),
             sleepers: AtomicU64::new(0),
             freed: AtomicU64::new(0),
         })
@@ -77,7 +113,7 @@ impl<K: Chains, L: LineSync<K>, S: GateSet<L::Port>> GatedPool<K, L, S> {
 
     /// Returns the line.
     pub fn line(&self) -> &L
-        ensures { result.now ≡ self.now }
+        ensures { result.now ≡ self.now.line }
     {
         self.pool.line()
     }
@@ -95,23 +131,25 @@ impl<K: Chains, L: LineSync<K>, S: GateSet<L::Port>> GatedPool<K, L, S> {
     ) -> Result<Line64, Unfinished<L, L::Port>>
     where
         L::Port: Drop,
-        requires own { MayAsk (L.belongs self) L.view own.port }
+        requires own { MayAsk (L.belongs self.line) L.view own.port }
         ensures finished { IfOk result (λ last. (ports : List L.Port)
-            × All (MayAsk (L.belongs self) L.view) ports × Contains ports own.port
-            × IsFinished K.good K.allows (L.label_of self) (L.config_of self)
+            × All (MayAsk (L.belongs self.line) L.view) ports × Contains ports own.port
+            × IsFinished K.good K.allows (L.label_of self.line) (L.config_of self.line)
             (map L.view ports) last.bytes) }
         ensures why { IfErr result (λ back.
-            MayRefuse (L.label_of self) (L.config_of self).nodes
+            MayRefuse (L.label_of self.line) (L.config_of self.line).nodes
             (map L.view back.ports.items) back.why) }
-        ensures line { IfErr result (λ back. back.line ≡ self) }
+        ensures line { IfErr result (λ back. back.line ≡ self.line) }
         ensures ports { IfErr result (λ back.
-            All (MayAsk (L.belongs self) L.view) back.ports.items) }
+            All (MayAsk (L.belongs self.line) L.view) back.ports.items) }
         ensures all { IfErr result (λ back. vec_len back.ports ≡ S.many) }
     {
         let GatedPool {
             pool,
+            burst: _,
             gate,
             waiting: _,
+            watching: _,
             sleepers: _,
             freed: _,
         } = self;

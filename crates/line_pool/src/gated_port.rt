@@ -1,8 +1,8 @@
 //! The law of a line with a gate, and the gate: the place of the port that keeps the line between turns.
-ghost use Rattle.std.specs.Prelude.{◌≡◌, Some, None, true, false, IfSome, IsTrue};
+ghost use Rattle.std.specs.Prelude.{◌≡◌, ◌<◌, Some, None, true, false, IfSome, IsTrue};
 ghost use Rattle.qolb_model.specs.OneOwner.{turn_after};
 ghost use Rattle.qolb_model.specs.AtTurn.{IsTurn};
-ghost use Rattle.line_pool.specs.Gated.{in_by};
+ghost use Rattle.line_pool.specs.Gated.{in_by, one_more};
 
 use crate::ports::PortSet;
 use line_lanes::{Line64, Mask};
@@ -41,6 +41,8 @@ pub(crate) struct Gate<P, S: GateSet<P>> {
     port: Option<P>,
     /// Nobody is in, and the port keeps the line.
     is_open: bool,
+    /// How many turns by the gate have begun in a row, up to now, while somebody waited.
+    ahead: u64,
     of: PhantomData<S>,
 }
 
@@ -50,7 +52,7 @@ impl<P, S: GateSet<P>> Model for Gate<P, S> {
 
     ghost Value = { Place P };
 
-    ghost view = { λ it. record { port = it.port; open_now = it.is_open } };
+    ghost view = { λ it. record { port = it.port; open_now = it.is_open; ahead = it.ahead } };
 
     ghost invariant = { λ it. IsTrue it.is_open → (port : P) × (it.port ≡ Some port)
         × S.keeps port };
@@ -64,6 +66,7 @@ impl<P, S: GateSet<P>> Gate<P, S> {
         Gate {
             port: None,
             is_open: false,
+            ahead: 0,
             of: PhantomData,
         }
     }
@@ -76,12 +79,45 @@ impl<P, S: GateSet<P>> Gate<P, S> {
         self.port.is_none()
     }
 
-    /// Begins a turn by the port, if the gate is open.
+    /// Returns the count with one more turn by the gate, or `None` if a burst has no more.
     #[inline(always)]
-    pub(crate) fn go_in(&mut self) -> Option<Snapshot<P>>
+    fn count_on(&self, waited: bool, burst: u64) -> Option<u64>
+        requires { 0 < burst }
+        ensures counts { IfSome result (λ ahead. ahead ≡ one_more waited self.now.ahead) }
+        ensures bounded { IfSome result (λ ahead. ahead < burst) }
+    {
+        if !waited {
+            Some(0)
+        } else if self.ahead < burst - 1 {
+            Some(self.ahead + 1)
+        } else {
+            None
+        }
+    }
+
+    /// Begins a turn by the port, if the gate is open; while somebody waits, only if a burst has one more turn.
+    #[inline(always)]
+    pub(crate) fn go_in(&mut self, waited: bool, burst: u64) -> Option<Snapshot<P>>
+        requires limit { 0 < burst }
         ensures kept { IfSome result (λ port. self.old.port ≡ Some port.value) }
         ensures was_open { IfSome result (λ _. self.old.open_now ≡ true) }
-        ensures inside { IfSome result (λ port. self.new ≡ in_by port.value) }
+        ensures inside { IfSome result (λ port.
+            self.new ≡ in_by port.value (one_more waited self.old.ahead)) }
+        ensures bounded { IfSome result (λ _. self.new.ahead < burst) }
+        ensures keeps { IfSome result (λ port. S.keeps port.value) }
+    {
+        let ahead = self.count_on(waited, burst)?;
+        let port = self.close()?;
+        self.ahead = ahead;
+        Some(port)
+    }
+
+    /// Closes the gate, if it is open. Returns its port, which lies there.
+    #[inline(always)]
+    fn close(&mut self) -> Option<Snapshot<P>>
+        ensures kept { IfSome result (λ port. self.old.port ≡ Some port.value) }
+        ensures was_open { IfSome result (λ _. self.old.open_now ≡ true) }
+        ensures inside { IfSome result (λ port. self.new ≡ in_by port.value self.old.ahead) }
         ensures keeps { IfSome result (λ port. S.keeps port.value) }
     {
         if !self.is_open {
@@ -94,13 +130,28 @@ impl<P, S: GateSet<P>> Gate<P, S> {
         }
     }
 
-    /// Puts a port in, whose turn begins.
+    /// Returns the count of turns, if the gate is open.
+    pub(crate) fn open_count(&self) -> Option<u64>
+        ensures { IfSome result (λ ahead. ahead ≡ self.now.ahead) }
+    {
+        if self.is_open { Some(self.ahead) } else { None }
+    }
+
+    /// Returns how many turns by the gate have begun in a row, up to now, while somebody waited.
+    pub(crate) fn ahead(&self) -> u64
+        ensures { result ≡ self.now.ahead }
+    {
+        self.ahead
+    }
+
+    /// Puts a port in, whose turn begins. The count starts anew.
     #[inline(always)]
     pub(crate) fn put(&mut self, port: P)
         requires { self.old.port ≡ None }
-        ensures { self.new ≡ in_by port }
+        ensures { self.new ≡ in_by port 0 }
     {
         self.is_open = false;
+        self.ahead = 0;
         match self.port.replace(port) {
             None => {}
             Some(_other) => unreachable!(),
@@ -110,10 +161,11 @@ impl<P, S: GateSet<P>> Gate<P, S> {
     /// Ends the turn by the port `kept`, which stays there and keeps the line: opens the gate.
     #[inline(always)]
     pub(crate) fn reopen(&mut self, kept: &Snapshot<P>)
-        requires inside { self.old ≡ in_by kept.now.value }
+        requires inside { self.old ≡ in_by kept.now.value self.old.ahead }
         requires keeps { S.keeps kept.now.value }
         ensures port { self.new.port ≡ Some kept.now.value }
         ensures opened { self.new.open_now ≡ true }
+        ensures count { self.new.ahead ≡ self.old.ahead }
     {
         let _ = kept;
         self.is_open = true;
@@ -121,7 +173,7 @@ impl<P, S: GateSet<P>> Gate<P, S> {
 
     /// Takes the port out.
     pub(crate) fn take(&mut self, kept: &Snapshot<P>) -> P
-        requires { self.old ≡ in_by kept.now.value }
+        requires { self.old ≡ in_by kept.now.value self.old.ahead }
         ensures port { result ≡ kept.now.value }
         ensures empty { self.new.port ≡ None }
     {
@@ -138,14 +190,14 @@ impl<P, S: GateSet<P>> Gate<P, S> {
         ensures empty { IfSome result (λ _. self.new.port ≡ None) }
         ensures keeps { IfSome result S.keeps }
     {
-        let kept = self.go_in()?;
+        let kept = self.close()?;
         Some(self.take(&kept))
     }
 
     /// Returns the port whose turn it is.
     #[inline(always)]
     pub(crate) fn port(&self) -> &P
-        requires { (port : P) × (self.now ≡ in_by port) }
+        requires { (port : P) × (self.now ≡ in_by port self.now.ahead) }
         ensures { self.now.port ≡ Some result.now }
     {
         match &self.port {
@@ -161,7 +213,7 @@ pub(crate) fn bytes_in<'g, K: Chains, L: LineSync<K>, S: GateSet<L::Port>>(
     gate: &'g Gate<L::Port, S>,
     port: &Snapshot<L::Port>,
 ) -> &'g Line64
-    requires inside { gate.now ≡ in_by port.now.value }
+    requires inside { gate.now ≡ in_by port.now.value gate.now.ahead }
     requires holds { (L.view port.now.value).state ≡ PortState.Holding }
     ensures bytes { result.now ≡ (L.turn port.now.value).bytes }
     ensures turn { IsTurn (L.view port.now.value) (L.turn port.now.value) }
@@ -178,9 +230,9 @@ pub(crate) fn write_in<K: Chains, L: LineSync<K>, S: GateSet<L::Port>>(
     mask: Mask,
     bytes: &Line64,
 ) -> Snapshot<L::Port>
-    requires inside { gate.old ≡ in_by port.now.value }
+    requires inside { gate.old ≡ in_by port.now.value gate.old.ahead }
     requires holds { (L.view port.now.value).state ≡ PortState.Holding }
-    ensures inside { gate.new ≡ in_by result.value }
+    ensures inside { gate.new ≡ in_by result.value gate.old.ahead }
     ensures view { L.view result.value ≡ L.view port.now.value }
     ensures turn { L.turn result.value ≡ turn_after (L.turn port.now.value) mask.0 bytes.now.bytes }
     ensures counters { L.counters result.value ≡ L.counters port.now.value }

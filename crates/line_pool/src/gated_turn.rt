@@ -14,7 +14,8 @@ use std::snapshot::Snapshot;
 use std::sync::MutexGuard;
 
 /// A turn at a line with a gate. A linear token: it can be neither copied nor dropped, so its thread has to leave. It borrows the pool, and
-/// so ends before the line is finished. Contracts see it as a `TurnAt`: its port, the line's bytes as it began, and how it began.
+/// so ends before the line is finished. Contracts see it as a `TurnAt`: its port, the line's bytes as it began, how it began, and how many
+/// turns were ahead of who waits.
 ///
 /// It has the gate, locked, in which its port lies; the rest is for proofs alone, and takes no memory.
 pub struct GateTurn<'p, K: Chains, L: LineSync<K>, S: GateSet<L::Port>> {
@@ -37,9 +38,11 @@ impl<'p, K: Chains, L: LineSync<K>, S: GateSet<L::Port>> Model for GateTurn<'p, 
       port = it.port.value;
       start = it.start.value.bytes;
       by_gate = it.by_gate.value;
+      ahead = (mutex_guard_value it.gate).ahead;
     } };
 
-    ghost invariant = { λ it. (mutex_guard_value it.gate ≡ in_by it.port.value)
+    ghost invariant = { λ it.
+        (mutex_guard_value it.gate ≡ in_by it.port.value (mutex_guard_value it.gate).ahead)
         × ((L.view it.port.value).state ≡ Holding)
         × K.allows (bytes_of (L.view it.port.value)) it.start.value.bytes };
 }
@@ -53,10 +56,13 @@ impl<'p, K: Chains, L: LineSync<K>, S: GateSet<L::Port>> GateTurn<'p, K, L, S> {
     ) -> GateTurn<'p, K, L, S>
         requires belongs { L.belongs line.now port.value }
         requires granted { IsGranted (L.view port.value) (L.turn port.value) }
-        requires inside { mutex_guard_value gate ≡ in_by port.value }
+        requires inside { mutex_guard_value gate
+            ≡ in_by port.value (mutex_guard_value gate).ahead }
+        requires anew { (mutex_guard_value gate).ahead ≡ 0 }
         ensures port { result.port ≡ port.value }
         ensures start { result.start ≡ (L.turn port.value).bytes.bytes }
         ensures by_gate { result.by_gate ≡ false }
+        ensures anew { result.ahead ≡ 0 }
     {
         let _line = line;
         let start = Snapshot::of(bytes_in::<K, L, S>(&gate, &port));
@@ -76,10 +82,12 @@ impl<'p, K: Chains, L: LineSync<K>, S: GateSet<L::Port>> GateTurn<'p, K, L, S> {
     ) -> GateTurn<'p, K, L, S>
         requires holds { (L.view port.value).state ≡ PortState.Holding }
         requires allowed { MayRelease K.allows (L.view port.value) (L.turn port.value) }
-        requires inside { mutex_guard_value gate ≡ in_by port.value }
+        requires inside { mutex_guard_value gate
+            ≡ in_by port.value (mutex_guard_value gate).ahead }
         ensures port { result.port ≡ port.value }
         ensures start { result.start ≡ (L.turn port.value).bytes.bytes }
         ensures by_gate { result.by_gate ≡ true }
+        ensures count { result.ahead ≡ (mutex_guard_value gate.entry).ahead }
     {
         let start = Snapshot::of(bytes_in::<K, L, S>(&gate, &port));
         GateTurn {
@@ -95,7 +103,7 @@ impl<'p, K: Chains, L: LineSync<K>, S: GateSet<L::Port>> GateTurn<'p, K, L, S> {
     pub(crate) fn into_gate(self) -> (MutexGuard<'p, Gate<L::Port, S>>, Snapshot<L::Port>)
         requires allowed { K.allows self.start (L.turn self.port).bytes.bytes }
         ensures port { result.1.value ≡ self.entry.port }
-        ensures inside { mutex_guard_value result.0 ≡ in_by result.1.value }
+        ensures inside { mutex_guard_value result.0 ≡ in_by result.1.value self.entry.ahead }
         ensures holds { (L.view result.1.value).state ≡ PortState.Holding }
         ensures allowed { MayRelease K.allows (L.view result.1.value) (L.turn result.1.value) }
     {
@@ -128,6 +136,13 @@ impl<'p, K: Chains, L: LineSync<K>, S: GateSet<L::Port>> GateTurn<'p, K, L, S> {
         L::node(self.gate.port())
     }
 
+    /// Returns how many turns by the gate have begun in a row, up to this one, while somebody waited; 0 if this one is by a port of its own.
+    pub fn ahead(&self) -> u64
+        ensures { result ≡ self.now.ahead }
+    {
+        self.gate.ahead()
+    }
+
     /// Returns the line's bytes, as the holder sees them.
     #[inline(always)]
     pub fn bytes(&self) -> &Line64
@@ -148,6 +163,7 @@ impl<'p, K: Chains, L: LineSync<K>, S: GateSet<L::Port>> GateTurn<'p, K, L, S> {
             → L.belongs line self.new.port }
         ensures start { self.new.start ≡ self.old.start }
         ensures by_gate { self.new.by_gate ≡ self.old.by_gate }
+        ensures ahead { self.new.ahead ≡ self.old.ahead }
     {
         let written = write_in::<K, L, S>(&mut self.gate, &self.port, mask, bytes);
         self.port = written;

@@ -6,6 +6,7 @@ mod gated;
 mod gated_enter;
 mod gated_port;
 mod gated_turn;
+mod gated_wait;
 mod pool;
 mod ports;
 mod turn;

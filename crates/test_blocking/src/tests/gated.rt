@@ -1,5 +1,5 @@
 //! A line with a gate: threads add to one number, and then one thread is alone, over all lines.
-ghost use Rattle.std.specs.Prelude.{◌≡◌, ◌<◌, None, All, vec_len};
+ghost use Rattle.std.specs.Prelude.{◌≡◌, ◌<◌, None, All, IfSome, vec_len};
 ghost use Rattle.line_pool.specs.Lending.{MayAsk, IsPortSetOf};
 ghost use Rattle.line_pool.specs.Gated.{IsKeptSetOf};
 
@@ -15,7 +15,7 @@ use std::marker::Brand;
 use std::process::Abort;
 use std::sync::Wait;
 use std::sync::atomic::{AtomicU64, Ordering};
-use std::thread::Threads;
+use std::thread::{Threads, yield_now};
 use test_support::{HookedLine, Hooks};
 
 /// The bytes of the first lane.
@@ -26,8 +26,9 @@ const FIRST_LANE: Mask = Mask(0xff);
 enum Scene {
     /// Each takes this number of turns.
     Additions(u64),
-    /// The second asks while the first is in by the gate; then the first asks again.
-    InOrder,
+    /// The second asks while the first is in by the gate, and stays awake until the line is released or the first stops; then the first takes
+    /// this number of turns.
+    InOrder(u64),
 }
 
 /// How a line ends.
@@ -39,30 +40,64 @@ enum Ends {
     Kept,
 }
 
-/// What happens at a line: its nodes, its threads, what they do, and how it ends.
+/// What happens at a line: its nodes, its threads, the limit of a burst (0: the pool is made by `new`), what the threads do, and how it ends.
 #[derive(Clone, Copy)]
-struct Plan(u64, usize, Scene, Ends);
+struct Plan(u64, usize, u64, Scene, Ends);
 
 /// Plans, each with the number at the end: one alone adds 4, and 1 more if it leaves a port in the gate.
-static ROWS: [(Plan, u64); 5] = [
-    (Plan(1, 3, Scene::Additions(200), Ends::Shut), 604),
-    (Plan(2, 5, Scene::Additions(200), Ends::Kept), 1_005),
-    (Plan(3, 8, Scene::Additions(200), Ends::Shut), 1_604),
-    (Plan(200, 4, Scene::Additions(100), Ends::Kept), 405),
-    (Plan(2, 2, Scene::InOrder, Ends::Kept), 9),
+static ROWS: [(Plan, u64); 17] = [
+    (Plan(1, 3, 0, Scene::Additions(200), Ends::Shut), 604),
+    (Plan(2, 5, 0, Scene::Additions(200), Ends::Kept), 1_005),
+    (Plan(3, 8, 0, Scene::Additions(200), Ends::Shut), 1_604),
+    (Plan(200, 4, 0, Scene::Additions(100), Ends::Kept), 405),
+    (Plan(1, 3, 2, Scene::Additions(200), Ends::Shut), 604),
+    (Plan(2, 5, 64, Scene::Additions(200), Ends::Shut), 1_004),
+    (Plan(3, 8, 3, Scene::Additions(200), Ends::Kept), 1_605),
+    (Plan(8, 8, 1_024, Scene::Additions(200), Ends::Shut), 1_604),
+    (Plan(200, 200, 4, Scene::Additions(5), Ends::Kept), 1_005),
+    (Plan(2, 2, 0, Scene::InOrder(1), Ends::Kept), 9),
+    (Plan(2, 2, 1, Scene::InOrder(1), Ends::Kept), 9),
+    (Plan(2, 2, 2, Scene::InOrder(2), Ends::Kept), 10),
+    (Plan(2, 2, 4, Scene::InOrder(0), Ends::Shut), 7),
+    (Plan(2, 2, 4, Scene::InOrder(2), Ends::Kept), 10),
+    (Plan(2, 2, 4, Scene::InOrder(4), Ends::Kept), 12),
+    (Plan(2, 2, 4, Scene::InOrder(20), Ends::Shut), 27),
+    (Plan(2, 2, 1_024, Scene::InOrder(1_024), Ends::Kept), 1_032),
 ];
 
-/// How many polls found that the request waits, how many releases there were, and whether the second thread may ask.
+/// A short plan, whose threads stop soon one after another, and how often it runs.
+static SHORT: (Plan, u64) = (Plan(3, 4, 3, Scene::Additions(3), Ends::Kept), 17);
+
+const TIMES: usize = 40;
+
+/// How many polls found that the request waits, how many releases there were, and how far the first thread is: 1 once the second may ask, 2
+/// once the first stops.
 #[derive(Drop)]
 struct Seen {
     waited: AtomicU64,
     released: AtomicU64,
     ready: AtomicU64,
+    /// The first poll that finds so returns only once the line is released or the first thread stops.
+    holds: bool,
+}
+
+impl Seen {
+    fn goes_on(&self) -> bool {
+        self.released.load(Ordering::SeqCst) > 0 || self.ready.load(Ordering::SeqCst) > 1
+    }
 }
 
 impl Hooks for &Seen {
     fn on_waiting<K: Keep, L: ParkingLine<K>>(&self, _line: &L, _port: &L::Port) {
-        self.waited.fetch_add(1, Ordering::SeqCst);
+        let before = self.waited.fetch_add(1, Ordering::SeqCst);
+        if self.holds && before == 0 {
+            for _ in 0..u64::MAX {
+                if self.goes_on() {
+                    return;
+                }
+                yield_now();
+            }
+        }
     }
 
     fn on_release<K: Keep, L: ParkingLine<K>>(&self, _line: &L, _port: &L::Port) {
@@ -95,24 +130,29 @@ fn visit<R: Wait, L: ParkingLine<Free>, S: GateSet<L::Port>>(
 #[derive(Drop)]
 struct Guests<'s> {
     scene: Scene,
+    burst: u64,
     seen: &'s Seen,
 }
 
 impl Guests<'_> {
-    /// Takes a turn, and a second one by the gate until the other thread waits; then one more. Returns the number that the last one found.
+    /// Takes a turn, and a second one by the gate until the other thread waits; then some more, and stops. Returns `None` if the line is closed.
     fn go_first<R: Wait, L: ParkingLine<Free>, S: GateSet<L::Port>>(
         &self,
         rt: &R,
         pool: &GatedPool<Free, L, S>,
-    ) -> Option<u64> {
+        more: u64,
+    ) -> Option<()> {
         visit(rt, pool)?;
         let mut turn = pool.enter(rt)?;
         add_one(&mut turn);
         self.seen.ready.store(1, Ordering::SeqCst);
         wait_until(rt, &self.seen.waited, 1);
         pool.leave(rt, turn);
-        let (_, number) = visit(rt, pool)?;
-        Some(number)
+        for _ in 0..more {
+            visit(rt, pool)?;
+        }
+        self.seen.ready.store(2, Ordering::SeqCst);
+        Some(())
     }
 }
 
@@ -134,13 +174,19 @@ impl<R: Wait + Abort, L: ParkingLine<Free>, S: GateSet<L::Port>> ScopedTask<
                     let _ = visit(rt, pool);
                 }
             }
-            Scene::InOrder if place == 0 => {
-                expect(rt, "after who waits", self.go_first(rt, pool), Some(3));
+            Scene::InOrder(more) if place == 0 => {
+                expect(
+                    rt,
+                    "the first stops",
+                    self.go_first(rt, pool, more),
+                    Some(()),
+                );
             }
-            Scene::InOrder => {
+            Scene::InOrder(more) => {
                 wait_until(rt, &self.seen.ready, 1);
                 let found = visit(rt, pool).map(|(_, number)| number);
-                expect(rt, "before who asks again", found, Some(2));
+                let ahead = more.min(self.burst.saturating_sub(1));
+                expect(rt, "after a burst", found, Some(ahead.saturating_add(2)));
             }
         }
     }
@@ -170,6 +216,30 @@ fn stay_alone<R: Wait + Abort, L: ParkingLine<Free>, S: GateSet<L::Port>>(
     Some(())
 }
 
+/// Makes a pool whose bursts have this limit; by `new` if it is 0.
+fn pool_of<L: ParkingLine<Free> + Drop, S: GateSet<L::Port>>(
+    alloc: Global,
+    line: L,
+    ports: Vec<L::Port>,
+    burst: u64,
+) -> Option<GatedPool<Free, L, S>>
+where
+    L::Port: Drop,
+    requires not_empty { 0 < vec_len ports }
+    requires set { IsPortSetOf (L.belongs line) L.view S.has }
+    requires many { vec_len ports ≡ S.many }
+    requires keeps { IsKeptSetOf (λ _ _. Unit {0}) (L.belongs line) L.view L.turn S.keeps }
+    requires lease { (L.config_of line).lease ≡ None }
+    requires ports { All (MayAsk (L.belongs line) L.view) ports.items }
+    ensures { IfSome result (λ pool. pool.line ≡ line) }
+{
+    if burst > 0 {
+        GatedPool::with_bursts(alloc, line, ports, burst).ok()
+    } else {
+        GatedPool::new(alloc, line, ports).ok()
+    }
+}
+
 /// Runs the scene at the line, then one thread alone. Returns the first lane at the end.
 fn count_at<
     R: Threads + Wait + Abort + Sync,
@@ -185,10 +255,10 @@ where
     requires lease { (L.config_of line).lease ≡ None }
     requires ports { All (MayAsk (L.belongs line) L.view) ports.items }
 {
-    let Plan(_, threads, scene, ends) = plan;
-    let pool: GatedPool<Free, L, S> = GatedPool::new(alloc, line, ports).ok()?;
+    let Plan(_, threads, burst, scene, ends) = plan;
+    let pool: GatedPool<Free, L, S> = pool_of(alloc, line, ports, burst)?;
     let parts = Vec::from_elem(alloc, (), threads).ok()?;
-    run_scoped(rt, alloc, &Guests { scene, seen }, &pool, parts)?;
+    run_scoped(rt, alloc, &Guests { scene, burst, seen }, &pool, parts)?;
     stay_alone(rt, &pool, seen)?;
     let own = match ends {
         Ends::Shut => {
@@ -238,12 +308,14 @@ where
         waited: AtomicU64::new(0),
         released: AtomicU64::new(0),
         ready: AtomicU64::new(0),
+        holds: matches!(plan.3, Scene::InOrder(_)),
     };
     let (line, ports) = L::open_with(alloc, 1, for_nodes(plan.0)).ok()?;
     count_by(rt, alloc, HookedLine::with(&seen, line), ports, plan, &seen)
 }
 
-/// Threads that enter by a gate lose no addition. One that waits is served before one that asks later, and one alone releases nothing.
+/// Threads that enter by a gate lose no addition. One that waits is served after as many turns as a burst has, before one that asks later; if
+/// the others stop, it gets in. One alone releases nothing.
 pub(super) fn no_addition_is_lost<R: Threads + Wait + Abort + Sync, L: SleepLine + Sync>(
     rt: &R,
     alloc: Global,
@@ -252,6 +324,11 @@ where
     L::Port: Send + Drop,
 {
     for (plan, wanted) in &ROWS {
+        let counted = count::<R, L>(rt, alloc, *plan);
+        expect_at(rt, plan.0, counted, Some(*wanted));
+    }
+    let (plan, wanted) = &SHORT;
+    for _ in 0..TIMES {
         let counted = count::<R, L>(rt, alloc, *plan);
         expect_at(rt, plan.0, counted, Some(*wanted));
     }

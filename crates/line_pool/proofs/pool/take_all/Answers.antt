@@ -1,4 +1,4 @@
-use Rattle.std.proofs.Common.{rules, ◌<◌, ◌≤◌, vec_capacity, arith}
+use Rattle.std.proofs.Common.{rules, ◌≤◌, vec_capacity, arith}
 use Rattle.line_pool.proofs.Whole.{all_more}
 use Rattle.line_pool.proofs.pool.take_all.Goals as goal
 

@@ -3,7 +3,7 @@ ghost use Rattle.std.specs.Prelude.{◌≡◌, ◌<◌, None, All, vec_len};
 ghost use Rattle.line_pool.specs.Lending.{MayAsk, IsPortSetOf};
 ghost use Rattle.line_pool.specs.Gated.{IsKeptSetOf};
 
-use super::visit;
+use super::{pool_of, visit};
 use crate::tests::held::{SleepLine, expect, for_nodes, wait_until};
 use line_blocking::scoped::{ScopedTask, run_scoped};
 use line_lanes::lane;
@@ -80,7 +80,7 @@ fn run_at<
     R: Threads + Wait + Clock + CpuClock + Abort + Sync,
     L: ParkingLine<Free> + Sync + Drop,
     S: GateSet<L::Port> + Sync + Send,
->(rt: &R, alloc: Global, line: L, ports: Vec<L::Port>) -> Option<(u64, u64)>
+>(rt: &R, alloc: Global, line: L, ports: Vec<L::Port>, burst: u64) -> Option<(u64, u64)>
 where
     L::Port: Send + Drop,
     requires not_empty { 0 < vec_len ports }
@@ -90,7 +90,7 @@ where
     requires lease { (L.config_of line).lease ≡ None }
     requires ports { All (MayAsk (L.belongs line) L.view) ports.items }
 {
-    let pool: GatedPool<Free, L, S> = GatedPool::new(alloc, line, ports).ok()?;
+    let pool: GatedPool<Free, L, S> = pool_of(alloc, line, ports, burst)?;
     let parts = Vec::from_elem(alloc, (), CALLERS).ok()?;
     let sleepers = Sleepers {
         ready: AtomicU64::new(0),
@@ -106,15 +106,16 @@ where
 fn run_by<R: Threads + Wait + Clock + CpuClock + Abort + Sync, L: SleepLine + Sync>(
     rt: &R,
     alloc: Global,
+    burst: u64,
 ) -> Option<(u64, u64)>
 where
     L::Port: Send + Drop,
 {
     let (line, ports) = L::open_with(alloc, 1, for_nodes(NODES)).ok()?;
-    run_at::<R, L, Brand>(rt, alloc, line, ports)
+    run_at::<R, L, Brand>(rt, alloc, line, ports, burst)
 }
 
-/// Eight callers who wait for a second use less than 50 ms of the processors. Each gets its turn.
+/// Eight callers who wait for a second use less than 50 ms of the processors, also if they may watch for bursts. Each gets its turn.
 pub(crate) fn eight_waiters_sleep<
     R: Threads + Wait + Clock + CpuClock + Abort + Sync,
     L: SleepLine + Sync,
@@ -122,11 +123,13 @@ pub(crate) fn eight_waiters_sleep<
 where
     L::Port: Send + Drop,
 {
-    let found = run_by::<R, L>(rt, alloc);
-    let Some((added, used)) = found else {
-        expect(rt, "memory and threads", found, Some((0, 0)));
-        return;
-    };
-    expect(rt, "additions", added, 8);
-    assert!(rt; used < 50_000, "the callers used {used} microseconds");
+    for burst in [0, 1_024] {
+        let found = run_by::<R, L>(rt, alloc, burst);
+        let Some((added, used)) = found else {
+            expect(rt, "memory and threads", found, Some((0, 0)));
+            return;
+        };
+        expect(rt, "additions", added, 8);
+        assert!(rt; used < 50_000, "the callers used {used} microseconds");
+    }
 }
