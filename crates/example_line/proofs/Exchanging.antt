@@ -23,7 +23,7 @@ use Rattle.qolb_model.proofs.Lists.{same_some}
 use Rattle.qolb_model.proofs.Sums.{sums_of_ports}
 use Rattle.qolb_model.proofs.OwnTurns.{NoneServedBeyond, places_same, places_asked, sums_kept, granted_beyond, withdrawn_beyond, told_beyond, busy_beyond, more_turns, unused_sum}
 use Rattle.example_line.proofs.Leaving.{Wrote}
-use Rattle.example_line.specs.Mailbox.{in_lane, lane_sum_of, Moves, puts, takes, fills, empties, Exchanges, HasExchanged, HasPut, HasTaken, sum_up_to}
+use Rattle.example_line.specs.Mailbox.{in_lane, lane_sum_of, Moves, puts, takes, fills, empties, Exchanges, HasExchanged, HasPut, HasTaken, IsHandedBy, sum_up_to}
 
 plus_none : (n : ℕ) → n ≡ n + 0
 plus_none n = omega arith
@@ -231,6 +231,31 @@ module _ {Port Output : Type 0} (view : Port → View) (port_of : Output → Por
       let of_b = took.1 in
       omega (arith, both, none, of_b, taken)
   sum_at_last good allows label config_of config (a ∷ b ∷ c ∷ more) ports bytes values total f are opening is two first second sum = absurd (let no : suc (suc (suc (length more))) ≡ 2 = two in omega (arith, no))
+
+  -- two ports of the line: one that put all values, and one that took as many, whose sum is the total
+  pub both_at_last : (belongs : Port → Type 0) (handed : List Output) (ports : List Port) (values total : ℕ) → ports ≡ map port_of handed → length handed ≡ 2
+      → ((i : ℕ) (d : Output) → i < length handed → belongs (port_of (get_or handed i d)))
+      → ((i : ℕ) (d : Output) → i < length handed → i ≡ 0 → (sum_of (get_or handed i d) ≡ 0) × HasPut values (view (port_of (get_or handed i d))))
+      → ((i : ℕ) (d : Output) → i < length handed → i ≢ 0 → HasTaken values (sum_of (get_or handed i d)) (view (port_of (get_or handed i d))))
+      → total ≡ sum_by sum_of handed % 2 ^ 64 → IsHandedBy belongs view values total
+  both_at_last belongs [] ports values total are two each first second sum = absurd (let no : 0 ≡ 2 = two in cc no)
+  both_at_last belongs (a ∷ []) ports values total are two each first second sum = absurd (let no : 1 ≡ 2 = two in cc no)
+  both_at_last belongs (a ∷ b ∷ []) ports values total are two each first second sum =
+      let gave = first 0 a (omega arith) refl in
+      let took = second 1 a (omega arith) (omega arith) in
+      let both : total ≡ (0 + sum_of a + sum_of b) % 2 ^ 64 = sum in
+      let none = gave.0 in
+      let of_b = took.1 in
+      let is : total ≡ took.0 % 2 ^ 64 = omega (arith, both, none, of_b) in
+      record {
+        giver = port_of a;
+        taker = port_of b;
+        of_giver = each 0 a (omega arith);
+        of_taker = each 1 a (omega arith);
+        puts = gave.1;
+        takes = (took.0, is, took.2);
+      }
+  both_at_last belongs (a ∷ b ∷ c ∷ more) ports values total are two each first second sum = absurd (let no : suc (suc (suc (length more))) ≡ 2 = two in omega (arith, no))
 
 -- what holds of the port that each thread returned holds of each of these ports
 pub each_port : {Port Output : Type 0} (port_of : Output → Port) (P : Port → Type 0) (handed : List Output) → ((i : ℕ) (d : Output) → i < length handed → P (port_of (get_or handed i d)))

@@ -96,3 +96,12 @@ HasPut values v = HasExchanged values (sum_up_to values) 0 0 v
 -- all turns of the port took this many values; `sum` is their sum modulo 2^64
 abbrev pub HasTaken : ℕ → ℕ → View → Type 0
 HasTaken values sum v = (taken : ℕ) × (sum ≡ taken % 2 ^ 64) × HasExchanged 0 0 values taken v
+
+-- two ports of one line: one put the values 1 to `values`, and the other took as many; `sum` is their sum modulo 2^64
+pub record IsHandedBy {Port : Type 0} (belongs : Port → Type 0) (view : Port → View) (values sum : ℕ) : Type 0 where
+  pub giver : Port
+  pub taker : Port
+  pub of_giver : belongs giver
+  pub of_taker : belongs taker
+  pub puts : HasPut values (view giver)
+  pub takes : HasTaken values sum (view taker)

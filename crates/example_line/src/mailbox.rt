@@ -7,7 +7,7 @@ ghost use Rattle.qolb_model.specs.Enqueueing.{IsBusy};
 ghost use Rattle.qolb_model.specs.AtTurn.{IsGranted};
 ghost use Rattle.qolb_model.specs.Releasing.{IsTold};
 ghost use Rattle.qolb_model.specs.Sums.{KnowsOwnPlaces};
-ghost use Rattle.example_line.specs.Mailbox.{IsLate, HadNoTurn, HadTurn, WasFull, Moves, Exchanges, Takes, HasPut, HasTaken, sum_up_to};
+ghost use Rattle.example_line.specs.Mailbox.{IsLate, HadNoTurn, HadTurn, WasFull, Moves, Exchanges, Takes, HasPut, HasTaken, IsHandedBy, sum_up_to};
 
 use line_blocking::scoped::{ScopedTask, run_scoped};
 use line_lanes::{Line64, Mask, lane, with_lane};
@@ -261,7 +261,9 @@ pub fn hand_over<R: Threads + Wait + Sync, L: OpenLine<Free> + Sync + Drop>(
 ) -> Option<u64>
 where
     L::Port: Send + Drop,
-    ensures { IfSome result (λ sum. sum ≡ sum_up_to values % 2 ^ 64) }
+    ensures sum { IfSome result (λ sum. sum ≡ sum_up_to values % 2 ^ 64) }
+    ensures handed { IfSome result (λ sum. (line : L)
+        × IsHandedBy (L.belongs line) L.view values sum) }
 {
     let config = LineConfig {
         nodes: 2,
