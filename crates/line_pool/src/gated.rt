@@ -4,14 +4,15 @@ ghost use Rattle.qolb_model.specs.Finishing.{MayRefuse, IsFinished};
 ghost use Rattle.line_pool.specs.Lending.{MayAsk, IsPortSetOf};
 ghost use Rattle.line_pool.specs.Gated.{IsKeptSetOf};
 
+use crate::gated_callers::Callers;
 use crate::gated_port::{Chains, Gate, GateSet};
+use crate::gated_ports::Ports;
 use crate::pool::PortPool;
 use crate::ports::Borrowed;
 use line_lanes::Line64;
 use qolb_model::{LineSync, Unfinished};
 use std::alloc::{AllocError, Global};
 use std::marker::Model;
-use std::sync::atomic::AtomicU64;
 use std::sync::{Mutex, Wait};
 
 /// A line with its free ports and a gate. Contracts see it as the line.
@@ -22,18 +23,12 @@ use std::sync::{Mutex, Wait};
 /// of the line: its law has to chain, and it has no lease.
 #[derive(Drop)]
 pub struct GatedPool<K: Chains, L: LineSync<K>, S: GateSet<L::Port>> {
-    pub(crate) pool: PortPool<K, L, S>,
+    pub(crate) ports: Ports<K, L, S>,
     /// Fewer turns by the gate than this begin in a row while somebody waits.
     pub(crate) burst: u64,
     /// The port that keeps the line between turns. A caller who is in by the gate keeps the lock.
     pub(crate) gate: Mutex<Gate<L::Port, S>>,
-    /// The number of callers that have not entered by the gate, and wait.
-    pub(crate) waiting: AtomicU64,
-    /// The number of these that are awake, and watch the gate. None does at a strict gate.
-    pub(crate) watching: AtomicU64,
-    /// The number of callers that sleep until a port is free, and a number that changes when one is given back.
-    pub(crate) sleepers: AtomicU64,
-    pub(crate) freed: AtomicU64,
+    pub(crate) callers: Callers,
 }
 
 impl<K: Chains, L: LineSync<K>, S: GateSet<L::Port>> Model for GatedPool<K, L, S> {
@@ -42,10 +37,10 @@ impl<K: Chains, L: LineSync<K>, S: GateSet<L::Port>> Model for GatedPool<K, L, S
 
     ghost Value = { Gated L };
 
-    ghost view = { λ it. record { line = it.pool; burst = it.burst } };
+    ghost view = { λ it. record { line = it.ports; burst = it.burst } };
 
-    ghost invariant = { λ it. IsKeptSetOf K.allows (L.belongs it.pool) L.view L.turn S.keeps
-        × ((L.config_of it.pool).lease ≡ None) × (0 < it.burst) };
+    ghost invariant = { λ it. IsKeptSetOf K.allows (L.belongs it.ports) L.view L.turn S.keeps
+        × ((L.config_of it.ports).lease ≡ None) × (0 < it.burst) };
 }
 
 impl<K: Chains, L: LineSync<K>, S: GateSet<L::Port>> GatedPool<K, L, S> {
@@ -101,13 +96,10 @@ impl<K: Chains, L: LineSync<K>, S: GateSet<L::Port>> GatedPool<K, L, S> {
     {
         let pool = PortPool::new(alloc, line, ports)?;
         Ok(GatedPool {
-            pool,
+            ports: Ports::new(pool),
             burst,
             gate: Mutex::new(Gate::new()),
-            waiting: AtomicU64::new(0),
-            watching: AtomicU64::new(0),
-            sleepers: AtomicU64::new(0),
-            freed: AtomicU64::new(0),
+            callers: Callers::new(),
         })
     }
 
@@ -115,7 +107,7 @@ impl<K: Chains, L: LineSync<K>, S: GateSet<L::Port>> GatedPool<K, L, S> {
     pub fn line(&self) -> &L
         ensures { result.now ≡ self.now.line }
     {
-        self.pool.line()
+        self.ports.line()
     }
 
     /// Finishes the line with all ports: `own`, which the caller has borrowed, that of the gate, whose turn it ends, and the others, for
@@ -145,19 +137,16 @@ impl<K: Chains, L: LineSync<K>, S: GateSet<L::Port>> GatedPool<K, L, S> {
         ensures all { IfErr result (λ back. vec_len back.ports ≡ S.many) }
     {
         let GatedPool {
-            pool,
+            ports,
             burst: _,
             gate,
-            waiting: _,
-            watching: _,
-            sleepers: _,
-            freed: _,
+            callers: _,
         } = self;
         if let Some(port) = gate.into_inner().take_kept() {
             let mut port = port;
-            pool.line().deqolb(&mut port);
-            pool.give_back(rt, Borrowed::of(port));
+            ports.line().deqolb(&mut port);
+            ports.give_back(rt, Borrowed::of(port));
         }
-        pool.finish(rt, alloc, own)
+        ports.finish(rt, alloc, own)
     }
 }

@@ -13,7 +13,6 @@ use crossbeam_utils::Backoff;
 use line_blocking::Got;
 use qolb_model::{LineSync, ParkingLine};
 use std::snapshot::Snapshot;
-use std::sync::atomic::Ordering::SeqCst;
 use std::sync::{MutexGuard, Wait};
 
 impl<K: Chains, L: LineSync<K>, S: GateSet<L::Port>> GatedPool<K, L, S> {
@@ -24,14 +23,14 @@ impl<K: Chains, L: LineSync<K>, S: GateSet<L::Port>> GatedPool<K, L, S> {
     {
         let mut port = port;
         self.line().deqolb(&mut port);
-        self.give_back(rt, Borrowed::of(port));
+        self.ports.give_back(rt, Borrowed::of(port));
     }
 
     /// Releases the line if its port lies in this gate, which is open.
     #[cold]
     #[inline(never)]
     pub(crate) fn release_kept<R: Wait>(&self, rt: &R, gate: MutexGuard<'_, Gate<L::Port, S>>) {
-        let _pool = &self.pool;
+        let _pool = &self.ports;
         let mut gate = gate;
         let kept = gate.take_kept();
         drop(gate);
@@ -53,7 +52,7 @@ impl<K: Chains, L: LineSync<K>, S: GateSet<L::Port>> GatedPool<K, L, S> {
     #[cold]
     #[inline(never)]
     pub(crate) fn call_out_unwatched<R: Wait>(&self, rt: &R) {
-        if self.watching.load(SeqCst) == 0 {
+        if !self.callers.any_watching() {
             self.call_out(rt);
         }
     }
@@ -77,7 +76,7 @@ impl<K: Chains, L: LineSync<K>, S: GateSet<L::Port>> GatedPool<K, L, S> {
             (Begins K.allows (L.belongs self.now.line) L.view L.turn L.counters
             self.now.burst) }
     {
-        let _pool = &self.pool;
+        let _pool = &self.ports;
         let mut gate = gate;
         let found = gate.go_in(waited, self.burst);
         let Some(port) = found else {
@@ -123,37 +122,20 @@ impl<K: Chains, L: LineSync<K>, S: GateSet<L::Port>> GatedPool<K, L, S> {
         requires allowed { K.allows turn.start (L.turn turn.port).bytes.bytes }
         ensures { IsKept K.allows (L.belongs self.now.line) L.view L.turn turn.entry.port }
     {
-        if self.waiting.load(SeqCst) > 0 && !self.may_go_on(&turn) {
+        if self.callers.any() && !self.may_go_on(&turn) {
             self.release_turn(rt, turn);
             return;
         }
-        drop(self.lay(turn));
+        drop(turn.lay(self));
         // Who has begun to wait meanwhile, or has ceased to watch, has found the gate locked.
-        if self.waiting.load(SeqCst) > 0 {
+        if self.callers.any() {
             self.call_out_unwatched(rt);
         }
     }
 
     /// Returns `true` if somebody watches the gate, and a burst has one more turn after this one.
     fn may_go_on(&self, turn: &GateTurn<'_, K, L, S>) -> bool {
-        turn.ahead() < self.burst - 1 && self.watching.load(SeqCst) > 0
-    }
-
-    /// Ends the turn, and opens the gate: the turn's port lies there, and keeps the line. Returns the gate, still locked.
-    #[inline(always)]
-    fn lay<'p>(&self, turn: GateTurn<'p, K, L, S>) -> MutexGuard<'p, Gate<L::Port, S>>
-        requires belongs { L.belongs self.now.line turn.port }
-        requires allowed { K.allows turn.start (L.turn turn.port).bytes.bytes }
-        ensures laid { (mutex_guard_value result).port ≡ Some turn.entry.port }
-        ensures opened { (mutex_guard_value result).open_now ≡ true }
-        ensures count { (mutex_guard_value result).ahead ≡ turn.entry.ahead }
-        ensures kept { IsKept K.allows (L.belongs self.now.line) L.view L.turn turn.entry.port }
-    {
-        let _pool = &self.pool;
-        let (gate, port) = turn.into_gate();
-        let mut gate = gate;
-        gate.reopen(&port);
-        gate
+        turn.ahead() < self.burst - 1 && self.callers.any_watching()
     }
 
     /// Ends the turn, releases the line, and gives the turn's port back.
@@ -179,7 +161,7 @@ impl<K: Chains, L: LineSync<K>, S: GateSet<L::Port>> GatedPool<K, L, S> {
     {
         let mut port = turn.into_port();
         self.line().shut(&mut port);
-        self.give_back(rt, Borrowed::of(port));
+        self.ports.give_back(rt, Borrowed::of(port));
     }
 }
 
@@ -197,7 +179,7 @@ impl<K: Chains, L: ParkingLine<K>, S: GateSet<L::Port>> GatedPool<K, L, S> {
             (FindsClosed K.allows (L.belongs self.now.line) L.view L.turn L.counters) }
     {
         if let Some(gate) = self.gate.try_lock() {
-            let waited = self.waiting.load(SeqCst) > 0;
+            let waited = self.callers.any();
             if let Some(turn) = self.begin(rt, gate, waited) {
                 return Some(turn);
             }
@@ -227,20 +209,20 @@ impl<K: Chains, L: ParkingLine<K>, S: GateSet<L::Port>> GatedPool<K, L, S> {
     {
         // It watches before it is counted, so who leaves opens the gate to a burst.
         let mut watch = self.begin_watch();
-        self.waiting.fetch_add(1, SeqCst);
+        let waits = self.callers.come();
         if let Some(turn) = self.enter_again(rt) {
-            self.waiting.fetch_sub(1, SeqCst);
+            self.callers.go(waits);
             self.end_watch(&mut watch);
             return Some(turn);
         }
-        let mut borrowed = self.borrow_awake(rt, &mut watch);
-        let got = self.acquire(rt, &mut borrowed.port, &mut watch);
-        self.waiting.fetch_sub(1, SeqCst);
+        let mut borrowed = self.borrow_awake(rt, &waits, &mut watch);
+        let got = self.acquire(rt, &waits, &mut borrowed.port, &mut watch);
+        self.callers.go(waits);
         self.end_watch(&mut watch);
         match got {
             Got::Granted => Some(self.go_in(rt, borrowed.into_port())),
             Got::Closed => {
-                self.give_back(rt, borrowed);
+                self.ports.give_back(rt, borrowed);
                 None
             }
         }

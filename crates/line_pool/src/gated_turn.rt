@@ -1,11 +1,12 @@
 //! A turn at a line with a gate.
-ghost use Rattle.std.specs.Prelude.{◌≡◌, true, false};
+ghost use Rattle.std.specs.Prelude.{◌≡◌, Some, true, false};
 ghost use Rattle.std.specs.Sync.Mutex.{mutex_guard_value};
 ghost use Rattle.qolb_model.specs.OneOwner.{turn_after};
 ghost use Rattle.qolb_model.specs.AtTurn.{IsGranted, IsTurn};
 ghost use Rattle.qolb_model.specs.Kept.{MayRelease};
-ghost use Rattle.line_pool.specs.Gated.{in_by};
+ghost use Rattle.line_pool.specs.Gated.{IsKept, in_by};
 
+use crate::gated::GatedPool;
 use crate::gated_port::{Chains, Gate, GateSet, bytes_in, write_in};
 use line_lanes::{Line64, Mask};
 use qolb_model::{LineSync, PortState};
@@ -98,9 +99,26 @@ impl<'p, K: Chains, L: LineSync<K>, S: GateSet<L::Port>> GateTurn<'p, K, L, S> {
         }
     }
 
+    /// Ends the turn, and opens the gate: the turn's port lies there, and keeps the line. Returns the gate, still locked.
+    #[inline(always)]
+    pub(crate) fn lay(self, pool: &GatedPool<K, L, S>) -> MutexGuard<'p, Gate<L::Port, S>>
+        requires belongs { L.belongs pool.now.line self.port }
+        requires allowed { K.allows self.start (L.turn self.port).bytes.bytes }
+        ensures laid { (mutex_guard_value result).port ≡ Some self.entry.port }
+        ensures opened { (mutex_guard_value result).open_now ≡ true }
+        ensures count { (mutex_guard_value result).ahead ≡ self.entry.ahead }
+        ensures kept { IsKept K.allows (L.belongs pool.now.line) L.view L.turn self.entry.port }
+    {
+        let _pool = &pool.ports;
+        let (gate, port) = self.into_gate();
+        let mut gate = gate;
+        gate.reopen(&port);
+        gate
+    }
+
     /// Ends the turn, and returns the gate, in which its port lies.
     #[inline(always)]
-    pub(crate) fn into_gate(self) -> (MutexGuard<'p, Gate<L::Port, S>>, Snapshot<L::Port>)
+    fn into_gate(self) -> (MutexGuard<'p, Gate<L::Port, S>>, Snapshot<L::Port>)
         requires allowed { K.allows self.start (L.turn self.port).bytes.bytes }
         ensures port { result.1.value ≡ self.entry.port }
         ensures inside { mutex_guard_value result.0 ≡ in_by result.1.value self.entry.ahead }

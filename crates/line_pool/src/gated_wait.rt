@@ -9,6 +9,7 @@ ghost use Rattle.line_blocking.specs.Acquiring.{Acquires, ComesSoon};
 ghost use Rattle.line_pool.specs.Lending.{MayAsk};
 
 use crate::gated::GatedPool;
+use crate::gated_callers::Waits;
 use crate::gated_port::{Chains, GateSet};
 use crate::ports::Borrowed;
 use crossbeam_utils::Backoff;
@@ -16,7 +17,6 @@ use line_blocking::{Got, acquire_parking};
 use qolb_model::{Enq, LineSync, ParkingLine, Poll, PortState};
 use std::sync::Wait;
 use std::sync::atomic::AtomicU64;
-use std::sync::atomic::Ordering::SeqCst;
 use std::thread::yield_now;
 use std::time::Duration;
 
@@ -93,73 +93,40 @@ impl Watch {
 }
 
 impl<K: Chains, L: LineSync<K>, S: GateSet<L::Port>> GatedPool<K, L, S> {
-    /// Borrows a port, and sleeps until one is free.
+    /// Borrows a port, and sleeps until one is free. Since it may ask by the port, the caller counts as one that waits until it gives it back.
     pub fn borrow<R: Wait>(&self, rt: &R) -> Borrowed<L::Port>
         ensures { MayAsk (L.belongs self.now.line) L.view result.port }
     {
-        self.waiting.fetch_add(1, SeqCst);
+        let waits = self.callers.come();
         self.call_out_unwatched(rt);
-        let borrowed = self.borrow_free(rt);
-        self.waiting.fetch_sub(1, SeqCst);
+        let borrowed = self.ports.borrow(rt, &waits);
+        self.callers.lend(waits);
         borrowed
     }
 
-    /// Borrows a port, and sleeps until one is free. Who leaves releases the line, unless another watches the gate.
-    fn borrow_free<R: Wait>(&self, rt: &R) -> Borrowed<L::Port>
-        ensures { MayAsk (L.belongs self.now.line) L.view result.port }
-    {
-        let backoff = Backoff::new();
-        for _ in rt.forever() {
-            let found = if backoff.is_completed() {
-                self.borrow_or_sleep(rt)
-            } else {
-                self.pool.try_borrow(rt)
-            };
-            if let Some(borrowed) = found {
-                return borrowed;
-            }
-            backoff.snooze();
-        }
-        unreachable!()
-    }
-
-    /// Borrows a port. If none is free, sleeps until one may be.
-    fn borrow_or_sleep<R: Wait>(&self, rt: &R) -> Option<Borrowed<L::Port>>
-        ensures { IfSome result (λ borrowed.
-            MayAsk (L.belongs self.now.line) L.view borrowed.port) }
-    {
-        self.sleepers.fetch_add(1, SeqCst);
-        let seen = self.freed.load(SeqCst);
-        // It looks after it is counted, so who gives a port back later wakes it.
-        let found = self.pool.try_borrow(rt);
-        if found.is_none() {
-            self.freed.park(rt, (seen & 0xffff_ffff) as u32);
-        }
-        self.sleepers.fetch_sub(1, SeqCst);
-        found
-    }
-
-    /// Gives a port back, and wakes a caller that sleeps until one is free.
+    /// Gives back a port of `borrow`, and wakes a caller that sleeps until one is free.
     pub fn give_back<R: Wait>(&self, rt: &R, borrowed: Borrowed<L::Port>)
         requires { MayAsk (L.belongs self.now.line) L.view borrowed.port }
     {
-        self.pool.give_back(rt, borrowed);
-        if self.sleepers.load(SeqCst) > 0 {
-            self.freed.fetch_add(1, SeqCst);
-            self.freed.wake_one();
-        }
+        self.ports.give_back(rt, borrowed);
+        self.callers.take_back();
     }
 
     /// Borrows a port for a caller that watches. If none is free it ceases to, until one is.
-    pub(crate) fn borrow_awake<R: Wait>(&self, rt: &R, watch: &mut Watch) -> Borrowed<L::Port>
+    pub(crate) fn borrow_awake<R: Wait>(
+        &self,
+        rt: &R,
+        waits: &Waits,
+        watch: &mut Watch,
+    ) -> Borrowed<L::Port>
         ensures { MayAsk (L.belongs self.now.line) L.view result.port }
     {
-        if let Some(borrowed) = self.pool.try_borrow(rt) {
+        if let Some(borrowed) = self.ports.try_borrow(rt) {
             return borrowed;
         }
         self.end_watch(watch);
         self.call_out_unwatched(rt);
-        let borrowed = self.borrow_free(rt);
+        let borrowed = self.ports.borrow(rt, waits);
         *watch = self.begin_watch();
         borrowed
     }
@@ -168,7 +135,7 @@ impl<K: Chains, L: LineSync<K>, S: GateSet<L::Port>> GatedPool<K, L, S> {
     pub(crate) fn begin_watch(&self) -> Watch {
         let watches = self.burst > 1;
         if watches {
-            self.watching.fetch_add(1, SeqCst);
+            self.callers.begin_watch();
         }
         Watch::new(watches)
     }
@@ -177,7 +144,7 @@ impl<K: Chains, L: LineSync<K>, S: GateSet<L::Port>> GatedPool<K, L, S> {
     pub(crate) fn end_watch(&self, watch: &mut Watch) {
         if watch.watches {
             watch.watches = false;
-            self.watching.fetch_sub(1, SeqCst);
+            self.callers.end_watch();
         }
     }
 
@@ -195,8 +162,14 @@ impl<K: Chains, L: LineSync<K>, S: GateSet<L::Port>> GatedPool<K, L, S> {
 }
 
 impl<K: Chains, L: ParkingLine<K>, S: GateSet<L::Port>> GatedPool<K, L, S> {
-    /// Acquires the line, and sleeps if the wait is long.
-    pub(crate) fn acquire<R: Wait>(&self, rt: &R, port: &mut L::Port, watch: &mut Watch) -> Got
+    /// Acquires the line for a caller that is counted, and sleeps if the wait is long.
+    pub(crate) fn acquire<R: Wait>(
+        &self,
+        rt: &R,
+        _waits: &Waits,
+        port: &mut L::Port,
+        watch: &mut Watch,
+    ) -> Got
         requires belongs { L.belongs self.now.line port.old }
         requires state { IsTrue (may_ask (L.view port.old).state) }
         ensures belongs { L.belongs self.now.line port.new }

@@ -3,8 +3,10 @@
 
 mod enter;
 mod gated;
+mod gated_callers;
 mod gated_enter;
 mod gated_port;
+mod gated_ports;
 mod gated_turn;
 mod gated_wait;
 mod pool;

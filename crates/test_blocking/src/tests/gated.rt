@@ -36,7 +36,7 @@ enum Scene {
 enum Ends {
     /// A turn by the gate shuts it.
     Shut,
-    /// It is finished while a port lies in the gate.
+    /// It is finished after a turn beside a lent port.
     Kept,
 }
 
@@ -44,7 +44,7 @@ enum Ends {
 #[derive(Clone, Copy)]
 struct Plan(u64, usize, u64, Scene, Ends);
 
-/// Plans, each with the number at the end: one alone adds 4, and 1 more if it leaves a port in the gate.
+/// Plans, each with the number at the end: one alone adds 4, and 1 more beside a lent port.
 static ROWS: [(Plan, u64); 17] = [
     (Plan(1, 3, 0, Scene::Additions(200), Ends::Shut), 604),
     (Plan(2, 5, 0, Scene::Additions(200), Ends::Kept), 1_005),
