@@ -385,6 +385,11 @@ fn callers_at_a_gate_sleep(rt: HostRuntime) {
 }
 
 #[test]
+fn nobody_is_left_at_a_gate(rt: HostRuntime) {
+    gated::rounds::nobody_is_left::<HostRuntime, LinkLine<Free>>(&rt, rt.alloc());
+}
+
+#[test]
 fn no_addition_at_a_gate_is_lost(rt: HostRuntime) -> Result<(), Fail> {
     over_each(&rt, rt.alloc(), Row::Gate)
 }

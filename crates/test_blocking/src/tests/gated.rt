@@ -4,11 +4,13 @@ ghost use Rattle.line_pool.specs.Lending.{MayAsk, IsPortSetOf};
 ghost use Rattle.line_pool.specs.Gated.{IsKeptSetOf};
 
 pub(super) mod asleep;
+pub(super) mod rounds;
 
 use crate::tests::held::{SleepLine, expect, expect_at, for_nodes, wait_until};
 use line_blocking::scoped::{ScopedTask, run_scoped};
+use line_blocking::{Got, acquire_parking};
 use line_lanes::{Mask, lane, with_lane};
-use line_pool::{GateSet, GateTurn, GatedPool};
+use line_pool::{Borrowed, GateSet, GateTurn, GatedPool};
 use qolb_model::{Free, Keep, LineSync, ParkingLine};
 use std::alloc::Global;
 use std::marker::Brand;
@@ -36,37 +38,37 @@ enum Scene {
 enum Ends {
     /// A turn by the gate shuts it.
     Shut,
-    /// It is finished after a turn beside a lent port.
-    Kept,
+    /// A port is lent, and asks after another caller's turn; the line is finished with it.
+    Lent,
 }
 
 /// What happens at a line: its nodes, its threads, the limit of a burst (0: the pool is made by `new`), what the threads do, and how it ends.
 #[derive(Clone, Copy)]
 struct Plan(u64, usize, u64, Scene, Ends);
 
-/// Plans, each with the number at the end: one alone adds 4, and 1 more beside a lent port.
+/// Plans, each with the number at the end: one alone adds 5, and 1 more beside a lent port.
 static ROWS: [(Plan, u64); 17] = [
-    (Plan(1, 3, 0, Scene::Additions(200), Ends::Shut), 604),
-    (Plan(2, 5, 0, Scene::Additions(200), Ends::Kept), 1_005),
-    (Plan(3, 8, 0, Scene::Additions(200), Ends::Shut), 1_604),
-    (Plan(200, 4, 0, Scene::Additions(100), Ends::Kept), 405),
-    (Plan(1, 3, 2, Scene::Additions(200), Ends::Shut), 604),
-    (Plan(2, 5, 64, Scene::Additions(200), Ends::Shut), 1_004),
-    (Plan(3, 8, 3, Scene::Additions(200), Ends::Kept), 1_605),
-    (Plan(8, 8, 1_024, Scene::Additions(200), Ends::Shut), 1_604),
-    (Plan(200, 200, 4, Scene::Additions(5), Ends::Kept), 1_005),
-    (Plan(2, 2, 0, Scene::InOrder(1), Ends::Kept), 9),
-    (Plan(2, 2, 1, Scene::InOrder(1), Ends::Kept), 9),
-    (Plan(2, 2, 2, Scene::InOrder(2), Ends::Kept), 10),
-    (Plan(2, 2, 4, Scene::InOrder(0), Ends::Shut), 7),
-    (Plan(2, 2, 4, Scene::InOrder(2), Ends::Kept), 10),
-    (Plan(2, 2, 4, Scene::InOrder(4), Ends::Kept), 12),
-    (Plan(2, 2, 4, Scene::InOrder(20), Ends::Shut), 27),
-    (Plan(2, 2, 1_024, Scene::InOrder(1_024), Ends::Kept), 1_032),
+    (Plan(1, 3, 0, Scene::Additions(200), Ends::Shut), 605),
+    (Plan(2, 5, 0, Scene::Additions(200), Ends::Lent), 1_006),
+    (Plan(3, 8, 0, Scene::Additions(200), Ends::Shut), 1_605),
+    (Plan(200, 4, 0, Scene::Additions(100), Ends::Lent), 406),
+    (Plan(1, 3, 2, Scene::Additions(200), Ends::Shut), 605),
+    (Plan(2, 5, 64, Scene::Additions(200), Ends::Shut), 1_005),
+    (Plan(3, 8, 3, Scene::Additions(200), Ends::Lent), 1_606),
+    (Plan(8, 8, 1_024, Scene::Additions(200), Ends::Shut), 1_605),
+    (Plan(200, 200, 4, Scene::Additions(5), Ends::Lent), 1_006),
+    (Plan(2, 2, 0, Scene::InOrder(1), Ends::Lent), 10),
+    (Plan(2, 2, 1, Scene::InOrder(1), Ends::Lent), 10),
+    (Plan(2, 2, 2, Scene::InOrder(2), Ends::Lent), 11),
+    (Plan(2, 2, 4, Scene::InOrder(0), Ends::Shut), 8),
+    (Plan(2, 2, 4, Scene::InOrder(2), Ends::Lent), 11),
+    (Plan(2, 2, 4, Scene::InOrder(4), Ends::Lent), 13),
+    (Plan(2, 2, 4, Scene::InOrder(20), Ends::Shut), 28),
+    (Plan(2, 2, 1_024, Scene::InOrder(1_024), Ends::Lent), 1_033),
 ];
 
 /// A short plan, whose threads stop soon one after another, and how often it runs.
-static SHORT: (Plan, u64) = (Plan(3, 4, 3, Scene::Additions(3), Ends::Kept), 17);
+static SHORT: (Plan, u64) = (Plan(3, 4, 3, Scene::Additions(3), Ends::Lent), 18);
 
 const TIMES: usize = 40;
 
@@ -193,7 +195,7 @@ impl<R: Wait + Abort, L: ParkingLine<Free>, S: GateSet<L::Port>> ScopedTask<
 }
 
 /// One thread is alone: its turns are by the port that it left in the gate, without a release, and each finds the number that the last one
-/// left. If it borrows a port that one is released, and the next turn finds the number too.
+/// left. If it borrows a port that one is released; the next turn finds the number too, and its port is kept again.
 fn stay_alone<R: Wait + Abort, L: ParkingLine<Free>, S: GateSet<L::Port>>(
     rt: &R,
     pool: &GatedPool<Free, L, S>,
@@ -213,7 +215,26 @@ fn stay_alone<R: Wait + Abort, L: ParkingLine<Free>, S: GateSet<L::Port>>(
     expect(rt, "released", released, before.wrapping_add(1));
     let (_, last) = visit(rt, pool)?;
     expect(rt, "after a release", last, number.wrapping_add(3));
+    visit(rt, pool)?;
+    let again = seen.released.load(Ordering::SeqCst);
+    expect(rt, "not released again", again, before.wrapping_add(1));
     Some(())
+}
+
+/// A caller takes a turn while a port is lent, and the line is not kept for it: it is granted to the lent port. Returns that port.
+fn ask_by_a_lent_port<R: Wait + Abort, L: ParkingLine<Free>, S: GateSet<L::Port>>(
+    rt: &R,
+    pool: &GatedPool<Free, L, S>,
+) -> Borrowed<L::Port>
+    ensures { MayAsk (L.belongs pool.now.line) L.view result.port }
+{
+    let mut lent = pool.borrow(rt);
+    expect(rt, "beside a lent port", visit(rt, pool).is_some(), true);
+    match acquire_parking(rt, pool.line(), &mut lent.port) {
+        Got::Granted => pool.line().deqolb(&mut lent.port),
+        Got::Closed => expect(rt, "a lent port is granted the line", false, true),
+    }
+    lent
 }
 
 /// Makes a pool whose bursts have this limit; by `new` if it is 0.
@@ -267,11 +288,7 @@ where
             expect(rt, "closed", visit(rt, &pool), None);
             pool.borrow(rt)
         }
-        Ends::Kept => {
-            let own = pool.borrow(rt);
-            visit(rt, &pool);
-            own
-        }
+        Ends::Lent => ask_by_a_lent_port(rt, &pool),
     };
     let last = pool.finish(rt, alloc, own).ok()?;
     Some(lane(&last, 0))
@@ -315,7 +332,7 @@ where
 }
 
 /// Threads that enter by a gate lose no addition. One that waits is served after as many turns as a burst has, before one that asks later; if
-/// the others stop, it gets in. One alone releases nothing.
+/// the others stop, it gets in. One alone releases nothing. A lent port is granted the line.
 pub(super) fn no_addition_is_lost<R: Threads + Wait + Abort + Sync, L: SleepLine + Sync>(
     rt: &R,
     alloc: Global,

@@ -1,10 +1,10 @@
-//! Callers who wait at a gate sleep: what eight of them use in a second.
+//! Callers who wait at a gate sleep, and each is woken: what eight of them use in a second.
 ghost use Rattle.std.specs.Prelude.{◌≡◌, ◌<◌, None, All, vec_len};
 ghost use Rattle.line_pool.specs.Lending.{MayAsk, IsPortSetOf};
 ghost use Rattle.line_pool.specs.Gated.{IsKeptSetOf};
 
 use super::{pool_of, visit};
-use crate::tests::held::{SleepLine, expect, for_nodes, wait_until};
+use crate::tests::held::{SleepLine, expect, expect_at, for_nodes, wait_until};
 use line_blocking::scoped::{ScopedTask, run_scoped};
 use line_lanes::lane;
 use line_pool::{GateSet, GatedPool};
@@ -19,14 +19,35 @@ use std::thread;
 use std::thread::Threads;
 use std::time::{CpuClock, Duration};
 
-/// The callers, of whom one is in while the others wait, and the line's ports: two callers wait in the line, and six for a port.
+/// The callers, of whom one is in while the others wait.
 const CALLERS: usize = 9;
 
-const NODES: u64 = 3;
+/// What happens at a line: its nodes, the limit of a burst (0: the pool is made by `new`), and what the others do.
+#[derive(Clone, Copy)]
+struct Plan(u64, u64, Others);
+
+/// What the others do while the first caller is in.
+#[derive(Clone, Copy)]
+enum Others {
+    ComeIn,
+    /// They ask, and the first shuts the line.
+    AreTold,
+    Borrow,
+}
+
+/// Plans, each with the number at the end. Of three ports two wait in the line, and six callers for a port; of one port all eight wait for it.
+static ROWS: [(Plan, u64); 5] = [
+    (Plan(3, 0, Others::ComeIn), 8),
+    (Plan(3, 1_024, Others::ComeIn), 8),
+    (Plan(1, 0, Others::AreTold), 0),
+    (Plan(1, 1_024, Others::AreTold), 0),
+    (Plan(1, 0, Others::Borrow), 0),
+];
 
 /// The first caller is in for a second. The others come then.
 #[derive(Drop)]
 struct Sleepers {
+    others: Others,
     ready: AtomicU64,
     /// The processor time that all threads used in that second, in microseconds.
     used: AtomicU64,
@@ -49,8 +70,27 @@ impl Sleepers {
             u64::try_from(used).ok().unwrap_or(u64::MAX),
             Ordering::SeqCst,
         );
-        pool.leave(rt, turn);
+        match self.others {
+            Others::AreTold => pool.shut(rt, turn),
+            Others::ComeIn | Others::Borrow => pool.leave(rt, turn),
+        }
         Some(())
+    }
+
+    /// Comes while the first is in.
+    fn come<R: Wait + Abort, L: ParkingLine<Free>, S: GateSet<L::Port>>(
+        &self,
+        rt: &R,
+        pool: &GatedPool<Free, L, S>,
+    ) {
+        match self.others {
+            Others::ComeIn => expect(rt, "is let in", visit(rt, pool).is_some(), true),
+            Others::AreTold => expect(rt, "is told", visit(rt, pool), None),
+            Others::Borrow => {
+                let borrowed = pool.borrow(rt);
+                pool.give_back(rt, borrowed);
+            }
+        }
     }
 }
 
@@ -70,7 +110,7 @@ impl<R: Wait + Clock + CpuClock + Abort, L: ParkingLine<Free>, S: GateSet<L::Por
             expect(rt, "the first is in", self.stay(rt, pool), Some(()));
         } else {
             wait_until(rt, &self.ready, 1);
-            expect(rt, "the others come in", visit(rt, pool).is_some(), true);
+            self.come(rt, pool);
         }
     }
 }
@@ -80,7 +120,7 @@ fn run_at<
     R: Threads + Wait + Clock + CpuClock + Abort + Sync,
     L: ParkingLine<Free> + Sync + Drop,
     S: GateSet<L::Port> + Sync + Send,
->(rt: &R, alloc: Global, line: L, ports: Vec<L::Port>, burst: u64) -> Option<(u64, u64)>
+>(rt: &R, alloc: Global, line: L, ports: Vec<L::Port>, plan: Plan) -> Option<(u64, u64)>
 where
     L::Port: Send + Drop,
     requires not_empty { 0 < vec_len ports }
@@ -90,9 +130,11 @@ where
     requires lease { (L.config_of line).lease ≡ None }
     requires ports { All (MayAsk (L.belongs line) L.view) ports.items }
 {
+    let Plan(_, burst, others) = plan;
     let pool: GatedPool<Free, L, S> = pool_of(alloc, line, ports, burst)?;
     let parts = Vec::from_elem(alloc, (), CALLERS).ok()?;
     let sleepers = Sleepers {
+        others,
         ready: AtomicU64::new(0),
         used: AtomicU64::new(0),
     };
@@ -106,16 +148,17 @@ where
 fn run_by<R: Threads + Wait + Clock + CpuClock + Abort + Sync, L: SleepLine + Sync>(
     rt: &R,
     alloc: Global,
-    burst: u64,
+    plan: Plan,
 ) -> Option<(u64, u64)>
 where
     L::Port: Send + Drop,
 {
-    let (line, ports) = L::open_with(alloc, 1, for_nodes(NODES)).ok()?;
-    run_at::<R, L, Brand>(rt, alloc, line, ports, burst)
+    let (line, ports) = L::open_with(alloc, 1, for_nodes(plan.0)).ok()?;
+    run_at::<R, L, Brand>(rt, alloc, line, ports, plan)
 }
 
-/// Eight callers who wait for a second use less than 50 ms of the processors, also if they may watch for bursts. Each gets its turn.
+/// Eight callers who wait for a second use less than 50 ms of the processors, also if they may watch for bursts. Each is woken: it is let in, is
+/// told or is lent a port.
 pub(crate) fn eight_waiters_sleep<
     R: Threads + Wait + Clock + CpuClock + Abort + Sync,
     L: SleepLine + Sync,
@@ -123,13 +166,13 @@ pub(crate) fn eight_waiters_sleep<
 where
     L::Port: Send + Drop,
 {
-    for burst in [0, 1_024] {
-        let found = run_by::<R, L>(rt, alloc, burst);
+    for (plan, wanted) in &ROWS {
+        let found = run_by::<R, L>(rt, alloc, *plan);
         let Some((added, used)) = found else {
             expect(rt, "memory and threads", found, Some((0, 0)));
             return;
         };
-        expect(rt, "additions", added, 8);
+        expect_at(rt, plan.0, added, *wanted);
         assert!(rt; used < 50_000, "the callers used {used} microseconds");
     }
 }
