@@ -1,7 +1,6 @@
 //! Pictures of schedules.
-use crate::tests::rows::{expect, expect_at};
+use crate::tests::rows::{expect, expect_refusals};
 use crate::tests::styles::{Sheet, are_seen, signs_differ};
-use linked_list_allocator::LocalHeap;
 use qolb_draw::{Form, draw_schedule};
 use qolb_run::ReplayError;
 use qolb_script::ScriptError;
@@ -215,52 +214,13 @@ fn refuses_what_a_replay_refuses(rt: HostRuntime) {
     }
 }
 
-/// The outcome of drawing a hand-over on a heap of this many bytes.
-#[derive(Clone, Copy, Debug, PartialEq, Eq)]
-struct OnHeap {
-    error: Option<ReplayError>,
-    is_whole: bool,
-    /// The bytes of the heap that are in use at the end.
-    used: usize,
-}
-
-fn drawn_within(alloc: Global, bytes: usize, whole: &str) -> Option<OnHeap> {
-    let heap = LocalHeap::new(alloc, bytes).ok()?;
-    let (error, is_whole) = match draw_schedule(&heap, HAND_OVER.as_bytes(), Form::Svg) {
-        Ok(text) => (None, text.as_slice() == whole.as_bytes()),
-        Err(error) => (Some(error), false),
-    };
-    Some(OnHeap {
-        error,
-        is_whole,
-        used: heap.used(),
-    })
-}
-
 #[test]
 fn each_allocation_is_refused(rt: HostRuntime) -> Result<(), Fail> {
     let whole = drawn(rt.alloc(), HAND_OVER, Form::Svg)?;
-    let refused = OnHeap {
-        error: Some(ReplayError::Memory),
-        is_whole: false,
-        used: 0,
-    };
-    let served = OnHeap {
-        error: None,
-        is_whole: true,
-        used: 0,
-    };
-    let mut refusals = 0usize;
-    for step in 1..1600usize {
-        let found = drawn_within(rt.alloc(), 32 * step, whole.as_str()).ok_or("a heap")?;
-        if refusals.saturating_add(1) == step && found == refused {
-            refusals = step;
-        } else {
-            expect_at(&rt, &step, found, served);
-        }
-    }
-    expect(&rt, "refusals", refusals > 5 && refusals < 1599, true);
-    Ok(())
+    expect_refusals(&rt, rt.alloc(), |heap| {
+        let picture = draw_schedule(heap, HAND_OVER.as_bytes(), Form::Svg)?;
+        Ok(picture.as_slice() == whole.as_bytes())
+    })
 }
 
 /// The part of a timeline after its legend.

@@ -1,6 +1,10 @@
 //! What the tests of this crate share.
+use linked_list_allocator::LocalHeap;
+use qolb_run::ReplayError;
+use std::alloc::Global;
 use std::fmt::Debug;
 use std::process::Abort;
+use std::test::Fail;
 
 /// Asserts that `found` is `wanted`; a failure prints `row`.
 pub(crate) fn expect<R: Abort, T: PartialEq + Debug + Drop>(
@@ -20,4 +24,39 @@ pub(crate) fn expect_at<R: Abort, D: Debug, T: PartialEq + Debug + Drop>(
     wanted: T,
 ) {
     assert_eq!(rt; found, wanted, "{at:?}");
+}
+
+/// Draws on heaps that grow by 32 bytes. The drawing is refused for want of memory more than five times, until a heap serves; each larger
+/// heap serves, too. Nothing stays allocated on a heap.
+///
+/// `draw` returns whether the drawing is the whole picture.
+pub(crate) fn expect_refusals<R: Abort, F: Fn(&LocalHeap) -> Result<bool, ReplayError>>(
+    rt: &R,
+    alloc: Global,
+    draw: F,
+) -> Result<(), Fail>
+    requires { F.IsAlwaysCallable draw }
+{
+    let mut refused = 0u32;
+    let mut served = false;
+    for step in 1..1600usize {
+        let heap = LocalHeap::new(alloc, 32 * step)?;
+        let found = draw(&heap);
+        served = served || found.is_ok();
+        let wanted = if served {
+            Ok(true)
+        } else {
+            refused = refused.saturating_add(1);
+            Err(ReplayError::Memory)
+        };
+        expect_at(rt, &step, (found, heap.used()), (wanted, 0));
+    }
+    let ends = (served, refused > 5);
+    expect(
+        rt,
+        "served in the end, refused often enough",
+        ends,
+        (true, true),
+    );
+    Ok(())
 }

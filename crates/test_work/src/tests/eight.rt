@@ -1,5 +1,5 @@
 //! Eight workers at a gate: each is asked for like the first.
-use crate::tests::gates::Closed;
+use crate::tests::gates::{Begun, Closed};
 use crate::tests::rows::{expect, expect_at};
 use line_kinds::{ALL, Lines};
 use qolb_run::{Gate, RunError, WaitMode, run_work, run_work_with};
@@ -31,14 +31,17 @@ static FIRST_TO_STALL: [(WorkKind, &str, u64); 6] = [
 fn the_first_of_many_that_stalls_is_named(rt: HostRuntime) -> Result<(), Fail> {
     for (kind, script, worker) in &FIRST_TO_STALL {
         let work = read_work(rt.alloc(), script.as_bytes(), *kind)?;
-        let found = run_work(&rt, rt.alloc(), &Closed, &work, Lines::Ticket);
-        expect(&rt, script, found, Err(RunError::Stalled(*worker)));
+        for lines in ALL {
+            let found = run_work(&rt, rt.alloc(), &Closed, &work, lines);
+            let wanted = Err(RunError::Stalled(*worker));
+            expect_at(&rt, &(*script, lines), found, wanted);
+        }
     }
     Ok(())
 }
 
 /// A count for each of eight workers.
-type Eight = [AtomicU64; 8];
+pub(crate) type Eight = [AtomicU64; 8];
 
 fn zeros() -> Eight {
     [
@@ -53,7 +56,7 @@ fn zeros() -> Eight {
     ]
 }
 
-fn loaded(counts: &Eight) -> [u64; 8] {
+pub(crate) fn loaded(counts: &Eight) -> [u64; 8] {
     let mut all = [0; 8];
     for worker in 0..8 {
         all[worker] = counts[worker].load(Ordering::SeqCst);
@@ -63,21 +66,20 @@ fn loaded(counts: &Eight) -> [u64; 8] {
 
 /// A gate that counts the questions of each worker. It refuses `slow` before each job until the `opens_at`-th question.
 #[derive(Drop)]
-struct Counts {
+pub(crate) struct Counts {
     slow: u64,
     opens_at: u64,
     /// How often `slow` has asked for the same job.
     again: AtomicU64,
-    asked: Eight,
+    pub(crate) asked: Eight,
     /// The number of each worker's next job, and how many questions were for neither that job nor the one before.
-    next: Eight,
+    pub(crate) next: Eight,
     jumps: AtomicU64,
-    begun: AtomicU64,
-    jobs: AtomicU64,
+    begun: Begun,
 }
 
 impl Counts {
-    fn new(slow: u64, opens_at: u64) -> Counts {
+    pub(crate) fn new(slow: u64, opens_at: u64) -> Counts {
         Counts {
             slow,
             opens_at,
@@ -85,18 +87,14 @@ impl Counts {
             asked: zeros(),
             next: zeros(),
             jumps: AtomicU64::new(0),
-            begun: AtomicU64::new(0),
-            jobs: AtomicU64::new(0),
+            begun: Begun::not_yet(),
         }
     }
 
     /// How often the gate was told that work begins, of how many jobs, and `jumps`.
-    fn told(&self) -> [u64; 3] {
-        [
-            self.begun.load(Ordering::SeqCst),
-            self.jobs.load(Ordering::SeqCst),
-            self.jumps.load(Ordering::SeqCst),
-        ]
+    pub(crate) fn told(&self) -> [u64; 3] {
+        let jumps = self.jumps.load(Ordering::SeqCst);
+        [self.begun.times(), self.begun.jobs(), jumps]
     }
 }
 
@@ -104,8 +102,7 @@ impl Gate for Counts {
     ghost may_refuse = { λ gate worker. Unit {0} };
 
     fn begins(&self, jobs: usize) {
-        self.begun.fetch_add(1, Ordering::SeqCst);
-        self.jobs.store(jobs as u64, Ordering::SeqCst);
+        self.begun.note(jobs);
     }
 
     fn may(&self, worker: u64, at: u64) -> bool {

@@ -180,6 +180,35 @@ fn no_job_is_done_before_its_gate_is_passed(rt: HostRuntime) -> Result<(), Fail>
     expect_behind::<_, InTurn>(&rt, rt.alloc(), script, WorkKind::Board, report)
 }
 
+/// How often a gate was told that work begins, and of how many jobs the last time.
+#[derive(Drop)]
+pub(crate) struct Begun {
+    times: AtomicU64,
+    jobs: AtomicU64,
+}
+
+impl Begun {
+    pub(crate) fn not_yet() -> Begun {
+        Begun {
+            times: AtomicU64::new(0),
+            jobs: AtomicU64::new(0),
+        }
+    }
+
+    pub(crate) fn note(&self, jobs: usize) {
+        self.times.fetch_add(1, Ordering::SeqCst);
+        self.jobs.store(jobs as u64, Ordering::SeqCst);
+    }
+
+    pub(crate) fn times(&self) -> u64 {
+        self.times.load(Ordering::SeqCst)
+    }
+
+    pub(crate) fn jobs(&self) -> u64 {
+        self.jobs.load(Ordering::SeqCst)
+    }
+}
+
 /// A gate that opens at the `opens_at`-th question for a job. It counts the questions for each job number.
 #[derive(Drop)]
 pub(crate) struct Counting {
@@ -187,9 +216,8 @@ pub(crate) struct Counting {
     asked: [AtomicU64; 4],
     /// The numbers that were asked for, one digit each, 1 more than the number.
     numbers: AtomicU64,
-    /// How often the gate was told that work begins, of how many jobs, and how many questions came before that.
-    begun: AtomicU64,
-    jobs: AtomicU64,
+    begun: Begun,
+    /// How many questions came before the gate was told that work begins.
     early: AtomicU64,
 }
 
@@ -204,8 +232,7 @@ impl Counting {
                 AtomicU64::new(0),
             ],
             numbers: AtomicU64::new(0),
-            begun: AtomicU64::new(0),
-            jobs: AtomicU64::new(0),
+            begun: Begun::not_yet(),
             early: AtomicU64::new(0),
         }
     }
@@ -223,13 +250,10 @@ impl Counting {
         self.numbers.load(Ordering::SeqCst)
     }
 
-    /// `begun`, `jobs` and `early`.
+    /// How often the gate was told that work begins, of how many jobs, and `early`.
     fn told(&self) -> [u64; 3] {
-        [
-            self.begun.load(Ordering::SeqCst),
-            self.jobs.load(Ordering::SeqCst),
-            self.early.load(Ordering::SeqCst),
-        ]
+        let early = self.early.load(Ordering::SeqCst);
+        [self.begun.times(), self.begun.jobs(), early]
     }
 }
 
@@ -237,12 +261,11 @@ impl Gate for Counting {
     ghost may_refuse = { λ gate worker. Unit {0} };
 
     fn begins(&self, jobs: usize) {
-        self.begun.fetch_add(1, Ordering::SeqCst);
-        self.jobs.store(jobs as u64, Ordering::SeqCst);
+        self.begun.note(jobs);
     }
 
     fn may(&self, worker: u64, at: u64) -> bool {
-        if self.begun.load(Ordering::SeqCst) == 0 {
+        if self.begun.times() == 0 {
             self.early.fetch_add(1, Ordering::SeqCst);
         }
         if worker != 1 {

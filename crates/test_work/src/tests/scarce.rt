@@ -1,34 +1,37 @@
-//! Work in a room of memory: refused work is not begun twice.
+//! Work in a room of memory: work is refused or done, and refused work is not begun twice.
+use crate::tests::eight::{Counts, loaded};
 use crate::tests::gates::Counting;
-use crate::tests::rows::expect_at;
-use line_kinds::Lines;
-use qolb_run::{RunError, run_work};
-use qolb_script::{Work, WorkKind, read_work};
+use crate::tests::rows::{expect, expect_at};
+use line_kinds::{ALL, Lines};
+use qolb_run::{Gate, RunError, run_work};
+use qolb_script::{Report, Work, WorkKind, read_work};
 use std::alloc::Global;
+use std::fmt::Debug;
+use std::process::Abort;
 use std::sync::Wait;
 use std::test::Fail;
 use std::thread::Threads;
-use test_support::MemoryLimit;
+use test_support::{GRAIN, MemoryLimit};
+
+/// Does this work in a room of `bytes` bytes.
+fn worked_in<T: Threads + Wait + Sync, G: Gate + Sync>(
+    rt: &T,
+    alloc: Global,
+    limit: &MemoryLimit,
+    bytes: usize,
+    gate: &G,
+    work: &Work,
+    lines: Lines,
+) -> Result<Result<Report, RunError>, Fail> {
+    let rest = limit.leave(alloc, bytes)?;
+    let found = run_work(rt, alloc, gate, work, lines);
+    drop(rest);
+    Ok(found)
+}
 
 /// Eight workers, each with one job.
 const EIGHT: &str =
     "board workers 8\n1 put 1\n2 put 2\n3 put 3\n4 put 4\n5 take\n6 take\n7 take\n8 take\n";
-
-/// Does this work in a room of `room` MB. Returns its error, and how often the gate was asked for the first worker's first job and for its
-/// next.
-fn worked_in<T: Threads + Wait + Sync>(
-    rt: &T,
-    alloc: Global,
-    limit: &MemoryLimit,
-    work: &Work,
-    room: usize,
-) -> Result<(Option<RunError>, u64, u64), Fail> {
-    let gate = Counting::new(1);
-    let rest = limit.leave(alloc, room << 20)?;
-    let found = run_work(rt, alloc, &gate, work, Lines::Ring);
-    drop(rest);
-    Ok((found.err(), gate.asks_for(0), gate.asks_for(1)))
-}
 
 #[test]
 fn work_that_is_refused_is_not_done_again(rt: HostRuntime) -> Result<(), Fail> {
@@ -37,7 +40,9 @@ fn work_that_is_refused_is_not_done_again(rt: HostRuntime) -> Result<(), Fail> {
     let limit = MemoryLimit::begin(alloc, 1 << 28)?;
     let mut half_done = 0u32;
     for room in 1..100usize {
-        let (error, first, second) = worked_in(&rt, alloc, &limit, &work, room)?;
+        let gate = Counting::new(1);
+        let error = worked_in(&rt, alloc, &limit, room << 20, &gate, &work, Lines::Ring)?.err();
+        let (first, second) = (gate.asks_for(0), gate.asks_for(1));
         let row = (room, error, first, second);
         let once = first <= 1 && second <= 1;
         if error.is_none() {
@@ -52,4 +57,109 @@ fn work_that_is_refused_is_not_done_again(rt: HostRuntime) -> Result<(), Fail> {
         }
     }
     Err(Fail::from("no room was large enough"))
+}
+
+/// Work of two workers with two jobs each, and its report.
+static OF_TWO: [(WorkKind, &str, Report); 2] = [
+    (
+        WorkKind::Board,
+        "board workers 2\n1 put 5\n2 put 6\n1 put 7\n2 put 8\n",
+        Report::Board {
+            stored: 4,
+            full: 0,
+            taken: 0,
+            empty: 0,
+            left: 4,
+        },
+    ),
+    (
+        WorkKind::Bank,
+        "bank workers 2 lines 2\n1 in 0 1\n2 in 0 2\n1 in 8 4\n2 in 8 8\n",
+        Report::Bank {
+            paid_in: 15,
+            paid_out: 0,
+            total: 15,
+        },
+    ),
+];
+
+/// Rooms, in bytes: the first, a bound that no room reaches, and the step from one room to the next. The first rooms grow by the heap's grain,
+/// so each allocation is refused once; the last have place for the stacks of threads.
+static ROOMS: [(usize, usize, usize); 2] = [
+    (2 * GRAIN, 1 << 16, GRAIN),
+    (1 << 20, 1 << 26, 1 << 18),
+];
+
+/// Returns how many workers have begun. Expects that these are the first, that each has done each of its two jobs once, and that the gate was
+/// told once of the four jobs.
+fn expect_whole<R: Abort, D: Debug>(rt: &R, at: &D, gate: &Counts) -> usize {
+    let asked = loaded(&gate.asked);
+    let mut begun = 0usize;
+    let mut wanted = [0u64; 8];
+    for place in 0..2usize {
+        if asked[place] > 0 {
+            wanted[begun % 8] = 3;
+            begun = begun.saturating_add(1);
+        }
+    }
+    let found = (gate.told(), asked, loaded(&gate.next));
+    expect_at(rt, at, found, ([1, 4, 0], wanted, wanted));
+    begun
+}
+
+/// How many rooms were too small, and how many of these had room for the first of two workers alone.
+#[derive(Clone, Copy, Debug, PartialEq, Eq)]
+struct TooSmall {
+    rooms: u32,
+    half_done: u32,
+}
+
+/// Does this work in rooms that grow, until one is large enough.
+fn refusals_of<T: Threads + Wait + Sync + Abort>(
+    rt: &T,
+    alloc: Global,
+    limit: &MemoryLimit,
+    work: &Work,
+    lines: Lines,
+    report: Report,
+) -> Result<TooSmall, Fail> {
+    let mut small = TooSmall {
+        rooms: 0,
+        half_done: 0,
+    };
+    for (first, end, step) in &ROOMS {
+        for bytes in (*first..*end).step_by(*step) {
+            let gate = Counts::new(0, 1);
+            let found = worked_in(rt, alloc, limit, bytes, &gate, work, lines)?;
+            let row = (lines, bytes);
+            let begun = expect_whole(rt, &row, &gate);
+            if found.is_ok() {
+                expect_at(rt, &row, (found, begun), (Ok(report), 2));
+                return Ok(small);
+            }
+            expect_at(rt, &row, found, Err(RunError::Memory));
+            small.rooms = small.rooms.saturating_add(1);
+            if begun == 1 {
+                small.half_done = small.half_done.saturating_add(1);
+            }
+        }
+    }
+    Err(Fail::from("no room was large enough"))
+}
+
+#[test]
+fn work_is_refused_in_each_room_that_is_too_small(rt: HostRuntime) -> Result<(), Fail> {
+    let alloc = rt.alloc();
+    let limit = MemoryLimit::begin(alloc, 1 << 28)?;
+    let mut half_done = 0u32;
+    for (kind, script, report) in &OF_TWO {
+        let work = read_work(alloc, script.as_bytes(), *kind)?;
+        for lines in ALL {
+            let small = refusals_of(&rt, alloc, &limit, &work, lines, *report)?;
+            expect_at(&rt, &(*kind, lines, small), small.rooms > 30, true);
+            half_done = half_done.saturating_add(small.half_done);
+        }
+    }
+    expect(&rt, "some work was half done", half_done > 0, true);
+    Ok(())
 }
