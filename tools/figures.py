@@ -39,12 +39,18 @@ def medians():
     return {(row["name"], row["threads"]): float(row["median"]) for row in rows_of(ROUNDS) if row["run"] != "earlier" and not row["name"].endswith("before")}
 
 
+# Those of the table of rounds, as the page has them.
+OTHERS = {"qolb_lock": "`qolb_lock`, in order", "qolb_lock, bursts": "`qolb_lock`, bursts", "MCS": "MCS", "CLH": "CLH", "ticket lock": "ticket lock",
+          "tbb::queuing_mutex": "`tbb::queuing_mutex`", "pthread_mutex": "`pthread_mutex`"}
+
+
 def rounds():
-    """Nanoseconds of a round by the number of threads, of each lock that was timed."""
+    """Nanoseconds of a round of each lock that was timed, by the number of threads."""
     found = medians()
-    names = [name for name in (*LINES, *(f"{line} from C" for line in LINES), "MCS", "CLH", "ticket lock", "tbb::queuing_mutex") if (name, "1") in found]
+    names = {name: name for name in (*LINES, *(f"{line} from C" for line in LINES))} | OTHERS
     threads = sorted({count for _, count in found}, key=int)
-    return table(["Threads", *names], [[count, *(short(found[name, count]) for name in names)] for count in threads])
+    rows = [[title, *(short(found[name, count]) for count in threads)] for name, title in names.items() if (name, threads[0]) in found]
+    return table(["Threads", *threads], rows)
 
 
 WAITS = {"ticket line": "ticket line, spins", "ticket line, asleep": "ticket line, sleeps", "C, nodes": "C, nodes", "C, qolb_lock": "C, `qolb_lock`", "mutex": "mutex", "MCS": "MCS"}
