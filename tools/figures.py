@@ -9,8 +9,6 @@ from tests import takers_of_all, tests_of
 
 ROOT = pathlib.Path(__file__).resolve().parent.parent
 LINES = ("ticket line", "link line", "ring")
-# The run of c/bench/compare that tables, sentences and the plot of rounds are of: the last that also timed nodes from C (--library).
-ROUNDS = "rounds.tsv" if " from C\t" in (ROOT / "c/bench/figures/rounds.tsv").read_text() else "from_c.tsv"
 
 
 def rows_of(name):
@@ -35,8 +33,8 @@ def table(heads, rows):
 
 
 def medians():
-    """Nanoseconds of a round, by lock and number of threads, without those of an older commit and of an earlier run."""
-    return {(row["name"], row["threads"]): float(row["median"]) for row in rows_of(ROUNDS) if row["run"] != "earlier" and not row["name"].endswith("before")}
+    """Nanoseconds of a round, by lock and number of threads."""
+    return {(row["name"], row["threads"]): float(row["median"]) for row in rows_of("rounds.tsv")}
 
 
 # Those of the table of rounds, as the page has them.

@@ -136,7 +136,6 @@ def check_figures(is_write):
         before = text = (ROOT / page).read_text()
         for name, table in figures.TABLES.items():
             text = re.sub(rf"(<!-- figures: {name} -->\n\n).*?\n\n", lambda found: found[1] + table() + "\n\n", text, flags=re.S)
-        text = re.sub(r"(by `c/bench/compare` \(\[the run\]\(\.\./c/bench/figures/)\w+\.tsv", rf"\g<1>{figures.ROUNDS}", text)
         for of_page, sentence, numbers in figures.RATIOS:
             if of_page == page:
                 pattern = re.escape(sentence).replace(r"\{\}", r"(?:\d[\d.,]*)?\d")
