@@ -6,8 +6,9 @@ ghost use Rattle.qolb_model.specs.AtTurn.{IsGranted};
 ghost use Rattle.qolb_model.specs.Releasing.{IsTold};
 ghost use Rattle.line_blocking.specs.Acquiring.{Acquires, ComesSoon};
 
+use crate::strategy::{WaitStrategy, wait_by};
 use crossbeam_utils::Backoff;
-use qolb_model::{Enq, Keep, LineSync, Poll, PortState};
+use qolb_model::{Enq, Keep, LineSync, PortState};
 use std::sync::Wait;
 use std::thread::yield_now;
 
@@ -45,6 +46,12 @@ impl Pauses {
     }
 }
 
+impl<K: Keep, L: LineSync<K>> WaitStrategy<K, L> for Pauses {
+    fn on_waiting<R: Wait>(&mut self, _rt: &R, _line: &L, _port: &L::Port) {
+        self.pause();
+    }
+}
+
 /// Makes a single pause of the processor.
 pub(crate) fn short_pause() {
     // A fresh backoff pauses once; one that is kept pauses twice as long each time, which costs a third of the speed.
@@ -63,6 +70,7 @@ pub fn acquire<R: Wait, K: Keep, L: LineSync<K>>(rt: &R, line: &L, port: &mut L:
         (L.turn port.new) result }
     ensures soon { result ≡ Got.Granted → ComesSoon L.view L.counters port.old port.new }
 {
+    // By `acquire_by` a request that is granted at once takes 3 to 11 instructions more.
     let mut pauses = Pauses::new();
     for _ in rt.forever() {
         match line.enqolb(port) {
@@ -87,13 +95,5 @@ pub fn wait<R: Wait, K: Keep, L: LineSync<K>>(rt: &R, line: &L, port: &mut L::Po
     ensures granted { result ≡ Got.Granted → IsGranted (L.view port.new) (L.turn port.new) }
     ensures told { result ≡ Got.Closed → IsTold (L.view port.new) }
 {
-    let mut pauses = Pauses::new();
-    for _ in rt.forever() {
-        match line.poll(port) {
-            Poll::Granted => return Got::Granted,
-            Poll::Closed => return Got::Closed,
-            Poll::Waiting => pauses.pause(),
-        }
-    }
-    unreachable!()
+    wait_by(rt, line, port, &mut Pauses::new())
 }

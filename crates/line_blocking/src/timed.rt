@@ -11,6 +11,7 @@ ghost use Rattle.line_blocking.specs.Acquiring.{Acquires, AcquiresTimed, ComesSo
 ghost use Rattle.line_blocking.specs.Deadlines.{nanos_left, IsLeft};
 
 use crate::spin::{Got, SPIN_LIMIT, short_pause};
+use crate::strategy::{AcquireStrategy, WaitStrategy, acquire_by};
 use qolb_model::{Enq, Keep, LineSync, Out, ParkingLine, Poll, PortState};
 use std::rt::Clock;
 use std::sync::Wait;
@@ -63,6 +64,28 @@ impl Backoff {
             true
         } else {
             false
+        }
+    }
+}
+
+impl<K: Keep, L: ParkingLine<K>> AcquireStrategy<K, L> for Backoff {
+    fn on_busy<R: Wait>(&mut self, rt: &R) {
+        if !self.pause() {
+            sleep_briefly(rt, Duration::MAX);
+        }
+    }
+
+    fn on_queued(&mut self) {
+        *self = Backoff::new();
+    }
+}
+
+impl<K: Keep, L: ParkingLine<K>> WaitStrategy<K, L> for Backoff {
+    fn on_waiting<R: Wait>(&mut self, rt: &R, line: &L, port: &L::Port) {
+        if !self.pause() {
+            line.sleep(rt, port, Duration::MAX);
+            // It may have been woken one turn ahead of its own: it looks anew for as long.
+            *self = Backoff::new();
         }
     }
 }
@@ -145,47 +168,7 @@ pub fn acquire_parking<R: Wait, K: Keep, L: ParkingLine<K>>(
         (L.turn port.new) result }
     ensures soon { result ≡ Got.Granted → ComesSoon L.view L.counters port.old port.new }
 {
-    let mut patience = Backoff::new();
-    for _ in rt.forever() {
-        match line.enqolb(port) {
-            Enq::Granted => return Got::Granted,
-            Enq::Closed => return Got::Closed,
-            Enq::Queued => return wait_parking(rt, line, port),
-            Enq::Busy => {
-                if !patience.pause() {
-                    sleep_briefly(rt, Duration::MAX);
-                }
-            }
-        }
-    }
-    unreachable!()
-}
-
-/// Polls, and after `Backoff` sleeps between polls, until the request is granted or told.
-fn wait_parking<R: Wait, K: Keep, L: ParkingLine<K>>(rt: &R, line: &L, port: &mut L::Port) -> Got
-    requires belongs { L.belongs line.now port.old }
-    requires state { (L.view port.old).state ≡ PortState.Queued }
-    ensures belongs { L.belongs line.now port.new }
-    ensures continues { Continues K.allows (L.view port.old) (L.view port.new) }
-    ensures count { (L.view port.new).count ≡ (L.view port.old).count }
-    ensures granted { result ≡ Got.Granted → IsGranted (L.view port.new) (L.turn port.new) }
-    ensures told { result ≡ Got.Closed → IsTold (L.view port.new) }
-{
-    let mut patience = Backoff::new();
-    for _ in rt.forever() {
-        match line.poll(port) {
-            Poll::Granted => return Got::Granted,
-            Poll::Closed => return Got::Closed,
-            Poll::Waiting => {
-                if !patience.pause() {
-                    line.sleep(rt, port, Duration::MAX);
-                    // It may have been woken one turn ahead of its own: it looks anew for as long.
-                    patience = Backoff::new();
-                }
-            }
-        }
-    }
-    unreachable!()
+    acquire_by(rt, line, port, &mut Backoff::new())
 }
 
 /// Acquires the line within `at_most`, and sleeps if the wait is long. When the time is over the request is withdrawn. A busy port asks

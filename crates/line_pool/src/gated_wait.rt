@@ -2,9 +2,6 @@
 //! awake.
 ghost use Rattle.std.specs.Prelude.{◌≡◌, IfSome, IsTrue};
 ghost use Rattle.qolb_model.specs.PortStates.{may_ask};
-ghost use Rattle.qolb_model.specs.Sound.{Continues};
-ghost use Rattle.qolb_model.specs.AtTurn.{IsGranted};
-ghost use Rattle.qolb_model.specs.Releasing.{IsTold};
 ghost use Rattle.line_blocking.specs.Acquiring.{Acquires, ComesSoon};
 ghost use Rattle.line_pool.specs.Lending.{MayAsk};
 
@@ -13,8 +10,8 @@ use crate::gated_callers::Waits;
 use crate::gated_port::{Chains, GateSet};
 use crate::ports::Borrowed;
 use crossbeam_utils::Backoff;
-use line_blocking::{Got, acquire_parking};
-use qolb_model::{Enq, LineSync, ParkingLine, Poll, PortState};
+use line_blocking::{AcquireStrategy, Got, WaitStrategy, acquire_by, acquire_parking};
+use qolb_model::{LineSync, ParkingLine};
 use std::sync::Wait;
 use std::sync::atomic::AtomicU64;
 use std::thread::yield_now;
@@ -178,73 +175,48 @@ impl<K: Chains, L: ParkingLine<K>, S: GateSet<L::Port>> GatedPool<K, L, S> {
         ensures soon { result ≡ Got.Granted → ComesSoon L.view L.counters port.old port.new }
     {
         if self.burst > 1 {
-            self.acquire_watching(rt, port, watch)
+            acquire_by(rt, self.line(), port, &mut Watching { pool: self, watch })
         } else {
             acquire_parking(rt, self.line(), port)
         }
     }
+}
 
-    /// Does so, and watches the gate. A busy port ceases to, and naps.
-    fn acquire_watching<R: Wait>(&self, rt: &R, port: &mut L::Port, watch: &mut Watch) -> Got
-        requires belongs { L.belongs self.now.line port.old }
-        requires state { IsTrue (may_ask (L.view port.old).state) }
-        ensures belongs { L.belongs self.now.line port.new }
-        ensures acquires { Acquires K.allows (L.view port.old) (L.view port.new)
-            (L.turn port.new) result }
-        ensures soon { result ≡ Got.Granted → ComesSoon L.view L.counters port.old port.new }
-    {
-        for _ in rt.forever() {
-            match self.line().enqolb(port) {
-                Enq::Granted => return Got::Granted,
-                Enq::Closed => return Got::Closed,
-                Enq::Queued => return self.wait_watching(rt, port, watch),
-                Enq::Busy => {
-                    self.end_watch(watch);
-                    self.call_out(rt);
-                    AtomicU64::new(0).park_timeout(rt, 0, Duration::from_micros(NAP_MICROS));
-                }
-            }
-        }
-        unreachable!()
+/// A caller that waits for the line, and watches the gate.
+#[derive(Drop)]
+struct Watching<'p, K: Chains, L: LineSync<K>, S: GateSet<L::Port>> {
+    pool: &'p GatedPool<K, L, S>,
+    watch: &'p mut Watch,
+}
+
+impl<'p, K: Chains, L: ParkingLine<K>, S: GateSet<L::Port>> AcquireStrategy<K, L>
+    for Watching<'p, K, L, S> {
+    /// Ceases to watch, and naps.
+    fn on_busy<R: Wait>(&mut self, rt: &R) {
+        self.pool.end_watch(self.watch);
+        self.pool.call_out(rt);
+        AtomicU64::new(0).park_timeout(rt, 0, Duration::from_micros(NAP_MICROS));
     }
 
-    /// Polls and watches the gate, and at last sleeps between polls, until the request is granted or told.
-    fn wait_watching<R: Wait>(&self, rt: &R, port: &mut L::Port, watch: &mut Watch) -> Got
-        requires belongs { L.belongs self.now.line port.old }
-        requires state { (L.view port.old).state ≡ PortState.Queued }
-        ensures belongs { L.belongs self.now.line port.new }
-        ensures continues { Continues K.allows (L.view port.old) (L.view port.new) }
-        ensures count { (L.view port.new).count ≡ (L.view port.old).count }
-        ensures granted { result ≡ Got.Granted → IsGranted (L.view port.new) (L.turn port.new) }
-        ensures told { result ≡ Got.Closed → IsTold (L.view port.new) }
-    {
-        for _ in rt.forever() {
-            match self.line().poll(port) {
-                Poll::Granted => return Got::Granted,
-                Poll::Closed => return Got::Closed,
-                Poll::Waiting => self.keep_watch(rt, port, watch),
-            }
-        }
-        unreachable!()
-    }
+    fn on_queued(&mut self) {}
+}
 
+impl<'p, K: Chains, L: ParkingLine<K>, S: GateSet<L::Port>> WaitStrategy<K, L>
+    for Watching<'p, K, L, S> {
     /// Looks at the gate if it is time to, and pauses or sleeps. It ceases to watch a while before it sleeps, so it is awake when a turn by
     /// the gate ends, if none is long.
-    fn keep_watch<R: Wait>(&self, rt: &R, port: &L::Port, watch: &mut Watch)
-        requires belongs { L.belongs self.now.line port.now }
-        requires state { (L.view port.now).state ≡ PortState.Queued }
-    {
-        if watch.is_due() {
-            self.look(rt, watch);
+    fn on_waiting<R: Wait>(&mut self, rt: &R, line: &L, port: &L::Port) {
+        if self.watch.is_due() {
+            self.pool.look(rt, self.watch);
         }
-        if watch.is_over() {
-            self.end_watch(watch);
+        if self.watch.is_over() {
+            self.pool.end_watch(self.watch);
             // Who leaves later finds that nobody watches. A gate that was opened earlier is seen here.
-            self.call_out(rt);
+            self.pool.call_out(rt);
         }
-        if !watch.pause() {
-            self.line().sleep(rt, port, Duration::MAX);
-            *watch = self.begin_watch();
+        if !self.watch.pause() {
+            line.sleep(rt, port, Duration::MAX);
+            *self.watch = self.pool.begin_watch();
         }
     }
 }

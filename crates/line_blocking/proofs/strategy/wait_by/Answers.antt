@@ -1,7 +1,7 @@
 use Rattle.std.proofs.Common.{refl, ◌∙◌}
 use Rattle.qolb_model.proofs.Going.{continues_on}
 use Rattle.line_blocking.proofs.Acquiring.{granted_untold, closed_ungranted}
-use Rattle.line_blocking.proofs.spin.wait.Goals as goal
+use Rattle.line_blocking.proofs.strategy.wait_by.Goals as goal
 
 pub returns-in-Granted-clause-continues : goal.returns-in-Granted-clause-continues
 returns-in-Granted-clause-continues g c = continues_on _ _ _ _ c.loop.invariant.extends c.in-Granted.ensures.polls.continues
