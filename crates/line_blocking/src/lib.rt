@@ -11,5 +11,5 @@ mod timed;
 pub use meetings::{meet_all, meet_others};
 pub use park_on_poll::ParkOnPoll;
 pub use spin::{Got, acquire, wait};
-pub use strategy::{AcquireStrategy, WaitStrategy, acquire_by, wait_by};
+pub use strategy::{WaitStrategy, wait_by};
 pub use timed::{Deadline, TimedAcquire, acquire_parking, acquire_timeout, wait_timeout};

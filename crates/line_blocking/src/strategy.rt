@@ -1,13 +1,11 @@
-//! Waiting for a line without a time limit: the polls, and what a waiter does between them.
-ghost use Rattle.std.specs.Prelude.{◌≡◌, IsTrue};
-ghost use Rattle.qolb_model.specs.PortStates.{may_ask};
+//! Waiting for a line without a time limit, once a request is queued: the polls, and what a waiter does between them.
+ghost use Rattle.std.specs.Prelude.{◌≡◌};
 ghost use Rattle.qolb_model.specs.Sound.{Continues};
 ghost use Rattle.qolb_model.specs.AtTurn.{IsGranted};
 ghost use Rattle.qolb_model.specs.Releasing.{IsTold};
-ghost use Rattle.line_blocking.specs.Acquiring.{Acquires, ComesSoon};
 
 use crate::spin::Got;
-use qolb_model::{Enq, Keep, LineSync, Poll, PortState};
+use qolb_model::{Keep, LineSync, Poll, PortState};
 use std::sync::Wait;
 
 /// What a waiter does between two polls.
@@ -16,45 +14,6 @@ pub trait WaitStrategy<K: Keep, L: LineSync<K>> {
     fn on_waiting<R: Wait>(&mut self, rt: &R, line: &L, port: &L::Port)
         requires belongs { L.belongs line.now port.now }
         requires state { (L.view port.now).state ≡ PortState.Queued };
-}
-
-/// What a waiter does between two polls, and before these between two tries to ask.
-pub trait AcquireStrategy<K: Keep, L: LineSync<K>>: WaitStrategy<K, L> {
-    /// Waits after an `enqolb` that answered `Busy`. No release wakes a busy port.
-    fn on_busy<R: Wait>(&mut self, rt: &R);
-
-    /// Called after an `enqolb` that answered `Queued`: the polls begin. Does not wait.
-    fn on_queued(&mut self);
-}
-
-/// Acquires the line: asks until the port is not busy, then polls until the request ends. Between two looks it waits by `strategy`.
-///
-/// Returns `Granted` if the port holds the line, `Closed` if the line is closed.
-pub fn acquire_by<R: Wait, K: Keep, L: LineSync<K>, W: AcquireStrategy<K, L>>(
-    rt: &R,
-    line: &L,
-    port: &mut L::Port,
-    strategy: &mut W,
-) -> Got
-    requires belongs { L.belongs line.now port.old }
-    requires state { IsTrue (may_ask (L.view port.old).state) }
-    ensures belongs { L.belongs line.now port.new }
-    ensures acquires { Acquires K.allows (L.view port.old) (L.view port.new)
-        (L.turn port.new) result }
-    ensures soon { result ≡ Got.Granted → ComesSoon L.view L.counters port.old port.new }
-{
-    for _ in rt.forever() {
-        match line.enqolb(port) {
-            Enq::Granted => return Got::Granted,
-            Enq::Closed => return Got::Closed,
-            Enq::Queued => {
-                strategy.on_queued();
-                return wait_by(rt, line, port, strategy);
-            }
-            Enq::Busy => strategy.on_busy(rt),
-        }
-    }
-    unreachable!()
 }
 
 /// Polls until the request is granted or told. Between two polls it waits by `strategy`.

@@ -11,7 +11,7 @@ ghost use Rattle.line_blocking.specs.Acquiring.{Acquires, AcquiresTimed, ComesSo
 ghost use Rattle.line_blocking.specs.Deadlines.{nanos_left, IsLeft};
 
 use crate::spin::{Got, SPIN_LIMIT, short_pause};
-use crate::strategy::{AcquireStrategy, WaitStrategy, acquire_by};
+use crate::strategy::{WaitStrategy, wait_by};
 use qolb_model::{Enq, Keep, LineSync, Out, ParkingLine, Poll, PortState};
 use std::rt::Clock;
 use std::sync::Wait;
@@ -65,18 +65,6 @@ impl Backoff {
         } else {
             false
         }
-    }
-}
-
-impl<K: Keep, L: ParkingLine<K>> AcquireStrategy<K, L> for Backoff {
-    fn on_busy<R: Wait>(&mut self, rt: &R) {
-        if !self.pause() {
-            sleep_briefly(rt, Duration::MAX);
-        }
-    }
-
-    fn on_queued(&mut self) {
-        *self = Backoff::new();
     }
 }
 
@@ -168,7 +156,20 @@ pub fn acquire_parking<R: Wait, K: Keep, L: ParkingLine<K>>(
         (L.turn port.new) result }
     ensures soon { result ≡ Got.Granted → ComesSoon L.view L.counters port.old port.new }
 {
-    acquire_by(rt, line, port, &mut Backoff::new())
+    let mut patience = Backoff::new();
+    for _ in rt.forever() {
+        match line.enqolb(port) {
+            Enq::Granted => return Got::Granted,
+            Enq::Closed => return Got::Closed,
+            Enq::Queued => return wait_by(rt, line, port, &mut Backoff::new()),
+            Enq::Busy => {
+                if !patience.pause() {
+                    sleep_briefly(rt, Duration::MAX);
+                }
+            }
+        }
+    }
+    unreachable!()
 }
 
 /// Acquires the line within `at_most`, and sleeps if the wait is long. When the time is over the request is withdrawn. A busy port asks

@@ -1,6 +1,6 @@
 //! Waiting at a line with a gate: for a port, and for the line. Who waits for the line of a gate with bursts watches the gate while it is
 //! awake.
-ghost use Rattle.std.specs.Prelude.{◌≡◌, IfSome, IsTrue};
+ghost use Rattle.std.specs.Prelude.{◌≡◌, IsTrue};
 ghost use Rattle.qolb_model.specs.PortStates.{may_ask};
 ghost use Rattle.line_blocking.specs.Acquiring.{Acquires, ComesSoon};
 ghost use Rattle.line_pool.specs.Lending.{MayAsk};
@@ -10,8 +10,8 @@ use crate::gated_callers::Waits;
 use crate::gated_port::{Chains, GateSet};
 use crate::ports::Borrowed;
 use crossbeam_utils::Backoff;
-use line_blocking::{AcquireStrategy, Got, WaitStrategy, acquire_by, acquire_parking};
-use qolb_model::{LineSync, ParkingLine};
+use line_blocking::{Got, WaitStrategy, acquire_parking, wait_by};
+use qolb_model::{Enq, LineSync, ParkingLine};
 use std::sync::Wait;
 use std::sync::atomic::AtomicU64;
 use std::thread::yield_now;
@@ -175,10 +175,35 @@ impl<K: Chains, L: ParkingLine<K>, S: GateSet<L::Port>> GatedPool<K, L, S> {
         ensures soon { result ≡ Got.Granted → ComesSoon L.view L.counters port.old port.new }
     {
         if self.burst > 1 {
-            acquire_by(rt, self.line(), port, &mut Watching { pool: self, watch })
+            self.acquire_watching(rt, port, watch)
         } else {
             acquire_parking(rt, self.line(), port)
         }
+    }
+
+    /// Does so, and watches the gate. A busy port ceases to, and naps.
+    fn acquire_watching<R: Wait>(&self, rt: &R, port: &mut L::Port, watch: &mut Watch) -> Got
+        requires belongs { L.belongs self.now.line port.old }
+        requires state { IsTrue (may_ask (L.view port.old).state) }
+        ensures belongs { L.belongs self.now.line port.new }
+        ensures acquires { Acquires K.allows (L.view port.old) (L.view port.new)
+            (L.turn port.new) result }
+        ensures soon { result ≡ Got.Granted → ComesSoon L.view L.counters port.old port.new }
+    {
+        let line = self.line();
+        for _ in rt.forever() {
+            match line.enqolb(port) {
+                Enq::Granted => return Got::Granted,
+                Enq::Closed => return Got::Closed,
+                Enq::Queued => return wait_by(rt, line, port, &mut Watching { pool: self, watch }),
+                Enq::Busy => {
+                    self.end_watch(watch);
+                    self.call_out(rt);
+                    AtomicU64::new(0).park_timeout(rt, 0, Duration::from_micros(NAP_MICROS));
+                }
+            }
+        }
+        unreachable!()
     }
 }
 
@@ -187,18 +212,6 @@ impl<K: Chains, L: ParkingLine<K>, S: GateSet<L::Port>> GatedPool<K, L, S> {
 struct Watching<'p, K: Chains, L: LineSync<K>, S: GateSet<L::Port>> {
     pool: &'p GatedPool<K, L, S>,
     watch: &'p mut Watch,
-}
-
-impl<'p, K: Chains, L: ParkingLine<K>, S: GateSet<L::Port>> AcquireStrategy<K, L>
-    for Watching<'p, K, L, S> {
-    /// Ceases to watch, and naps.
-    fn on_busy<R: Wait>(&mut self, rt: &R) {
-        self.pool.end_watch(self.watch);
-        self.pool.call_out(rt);
-        AtomicU64::new(0).park_timeout(rt, 0, Duration::from_micros(NAP_MICROS));
-    }
-
-    fn on_queued(&mut self) {}
 }
 
 impl<'p, K: Chains, L: ParkingLine<K>, S: GateSet<L::Port>> WaitStrategy<K, L>

@@ -1,11 +1,11 @@
 use Rattle.std.proofs.Common.{◌≡◌, IsTrue}
 use Rattle.qolb_model.specs.PortStates.{may_ask}
 use Rattle.qolb_model.specs.Views.{Extends}
-use Rattle.line_blocking.proofs.strategy.acquire_by.Given as goal
+use Rattle.line_pool.proofs.gated.GatedPool.acquire_watching.Given as goal
 
 abbrev pub invariant-loop : goal.invariant-loop
 invariant-loop g l = record {
-  belongs : g.L.LineSync.belongs l.line l.port;
+  belongs : g.L.LineSync.belongs l.self.line l.port;
   state : IsTrue (may_ask (g.L.LineSync.view l.port).state);
   extends : Extends (g.L.LineSync.view l.initial.port) (g.L.LineSync.view l.port);
   count : (g.L.LineSync.view l.port).count ≡ (g.L.LineSync.view l.initial.port).count;
