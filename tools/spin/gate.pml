@@ -495,7 +495,7 @@ borrowed:
 acquire:
     atomic {
         if
-        :: has_busy && busy -> goto on_busy
+        :: has_busy && busy -> goto port_is_busy
         :: else -> has_busy = false
         fi;
         if
@@ -551,7 +551,7 @@ sleep:
     :: else
     fi;
     goto on_waiting;
-on_busy:
+port_is_busy:
     if
     :: burst > 1 && task == ENTERS ->
         end_watch();
