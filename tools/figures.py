@@ -38,7 +38,7 @@ def medians():
 
 
 # Those of the table of rounds, as the page has them.
-OTHERS = {"qolb_lock": "`qolb_lock`, in order", "qolb_lock, bursts": "`qolb_lock`, bursts", "MCS": "MCS", "CLH": "CLH", "ticket lock": "ticket lock",
+OTHERS = {"qolb_lock": "`qolb_lock`", "qolb_lock, bursts": "`qolb_lock`, bursts", "MCS": "MCS", "CLH": "CLH", "ticket lock": "ticket lock",
           "tbb::queuing_mutex": "`tbb::queuing_mutex`", "pthread_mutex": "`pthread_mutex`"}
 
 

@@ -1,9 +1,12 @@
 """What machine this is, what else it does, and runs while it does nothing else."""
 
+import contextlib
+import os
 import pathlib
 import re
-import resource
 import time
+
+HERTZ = os.sysconf("SC_CLK_TCK")
 
 
 def names_of_processors():
@@ -16,25 +19,34 @@ def machine():
     return f"{len(names)} processors of an {names[0]}"
 
 
+def used_by_others():
+    """Processor seconds of each other process and of its children that have ended, by its number."""
+    found = {}
+    for file in pathlib.Path("/proc").glob("[0-9]*/stat"):
+        with contextlib.suppress(OSError):  # of one that has just ended
+            ticks = file.read_text().rpartition(")")[2].split()[11:15]
+            found[int(file.parent.name)] = sum(map(int, ticks)) / HERTZ
+    found.pop(os.getpid())
+    return found
+
+
 class Load:
-    """What else the machine did while this program ran others."""
+    """What else the machine does while this program runs others, one after another."""
 
     def __init__(self):
         self.since = self.read()
 
     @staticmethod
     def read():
-        """The machine's processor seconds that were stolen, and those that were used, from its start on; this program's with its children's; the time."""
-        ticks = [int(it) for it in pathlib.Path("/proc/stat").read_text().split("\n", 1)[0].split()[1:]]
-        used = [resource.getrusage(who) for who in (resource.RUSAGE_SELF, resource.RUSAGE_CHILDREN)]
-        hertz = 100
-        busy = sum(ticks[place] for place in (0, 1, 2, 5, 6)) / hertz
-        return ticks[7] / hertz, busy, sum(it.ru_utime + it.ru_stime for it in used), time.monotonic()
+        """The processor seconds that other machines took from this one, those that its other processes took, and the time."""
+        ticks = pathlib.Path("/proc/stat").read_text().split("\n", 1)[0].split()
+        return int(ticks[8]) / HERTZ, used_by_others(), time.monotonic()
 
     def parts(self):
-        """The seconds since the start, and the processor seconds of all processors that other programs and other machines took of them."""
-        stolen, busy, own, seconds = (now - then for now, then in zip(self.read(), self.since))
-        return seconds, max(busy - own, 0), stolen
+        """The seconds since the start, and the processor seconds that other programs and other machines took of them."""
+        (stolen_then, others_then, then), (stolen, others, now) = self.since, self.read()
+        used = sum(seconds - others_then.get(number, 0) for number, seconds in others.items())
+        return now - then, used, stolen - stolen_then
 
     def __str__(self):
         return shares(*self.parts())
