@@ -2,6 +2,8 @@
 use Rattle.std.proofs.Common.{◌≡◌, ◌≢◌, ◌⊎◌, inl, inr, ℕ, ◌+◌, ◌<◌, ◌≤◌, true, List, length, refl, sym, ap, ◌∙◌, arith}
 use Rattle.qolb_model.specs.declared.answer.Enq.{Enq}
 use Rattle.qolb_model.specs.declared.answer.Enq.TheVariants as enq
+use Rattle.qolb_model.specs.declared.answer.Poll.{Poll}
+use Rattle.qolb_model.specs.declared.answer.Poll.TheVariants as poll
 use Rattle.qolb_model.specs.declared.answer.PortState.TheVariants.{Left, Rolled}
 use Rattle.qolb_model.specs.declared.config.LineConfig.{LineConfig}
 use Rattle.qolb_model.specs.declared.write.Write.{Write}
@@ -10,9 +12,8 @@ use Rattle.qolb_model.specs.PortStates.{may_ask}
 use Rattle.qolb_model.specs.Views.{Extends}
 use Rattle.qolb_model.specs.Sound.{Continues, IsSound}
 use Rattle.qolb_model.specs.Enqueueing.{IsBusy}
-use Rattle.qolb_model.specs.AtTurn.{IsGranted, IsWithdrawn}
-use Rattle.qolb_model.specs.Releasing.{IsTold}
-use Rattle.qolb_model.specs.Calls.{Enqueues}
+use Rattle.qolb_model.specs.AtTurn.{IsGranted}
+use Rattle.qolb_model.specs.Calls.{Enqueues, Polls}
 use Rattle.qolb_model.specs.Counting.{Counters}
 use Rattle.qolb_model.proofs.Going.{continues_on, extends_self, asks_goes, asks_from, joined_goes}
 use Rattle.qolb_model.proofs.Nearness.{few_turns}
@@ -20,7 +21,7 @@ use Rattle.line_blocking.specs.declared.timed.TimedAcquire.{TimedAcquire}
 use Rattle.line_blocking.specs.declared.timed.TimedAcquire.TheVariants as timed_acquire
 use Rattle.line_blocking.specs.declared.spin.Got.{Got}
 use Rattle.line_blocking.specs.declared.spin.Got.TheVariants.{Granted, Closed}
-use Rattle.line_blocking.specs.Acquiring.{Acquires, AcquiresTimed, ComesSoon}
+use Rattle.line_blocking.specs.Acquiring.{Acquires, AcquiresTimed, ComesSoon, Waits, WaitsTimed}
 
 -- a line has a node
 some_node : (v : View) (config : LineConfig) → v.config ≡ config → 1 ≤ v.node → v.node ≤ config.nodes → length v.ends < length v.ends + v.config.nodes
@@ -49,14 +50,14 @@ acquired_once allows old mid new turn answer got e same q asked granted closed =
 -- granted or told after a wait
 pub acquired_waiting : (allows : List ℕ → List ℕ → Type 0) (old mid now new : View) (first turn : Write) (got : Got)
     → Extends old mid → mid.count ≡ old.count → Enqueues allows mid now first enq.Queued
-    → Continues allows now new → new.count ≡ now.count → (got ≡ Granted → IsGranted new turn) → (got ≡ Closed → IsTold new) → Acquires allows old new turn got
-acquired_waiting allows old mid now new first turn got e same q c count granted told =
+    → Waits allows now new turn got → Acquires allows old new turn got
+acquired_waiting allows old mid now new first turn got e same q w =
     let some : enq.Queued ≢ enq.Busy = λ is. cc is in record {
-      continues = continues_on allows old mid new e (continues_on allows mid now new q.continues.extends c);
-      asks = asks_from old mid new e same (asks_goes mid now new (q.asks some) c.extends count);
-      joined = joined_goes now new (q.joined some) c.extends count;
-      granted = granted;
-      told = told;
+      continues = continues_on allows old mid new e (continues_on allows mid now new q.continues.extends w.continues);
+      asks = asks_from old mid new e same (asks_goes mid now new (q.asks some) w.continues.extends w.count);
+      joined = joined_goes now new (q.joined some) w.continues.extends w.count;
+      granted = w.granted;
+      told = w.told;
     }
 
 -- granted or told at once, within a time
@@ -75,19 +76,66 @@ acquired_at_once allows old mid new turn answer got e same q asked granted close
 -- granted, told or withdrawn after a wait
 pub acquired_within : (allows : List ℕ → List ℕ → Type 0) (old mid now new : View) (first turn : Write) (got : TimedAcquire)
     → Extends old mid → mid.count ≡ old.count → Enqueues allows mid now first enq.Queued
-    → Continues allows now new → new.count ≡ now.count → (got ≡ timed_acquire.Granted → IsGranted new turn) → (got ≡ timed_acquire.Closed → IsTold new)
-    → (got ≡ timed_acquire.TimedOut → IsWithdrawn new) → AcquiresTimed allows old new turn got
-acquired_within allows old mid now new first turn got e same q c count granted told late =
+    → WaitsTimed allows now new turn got → AcquiresTimed allows old new turn got
+acquired_within allows old mid now new first turn got e same q w =
     let some : enq.Queued ≢ enq.Busy = λ is. cc is in
-    let asks = asks_from old mid new e same (asks_goes mid now new (q.asks some) c.extends count) in
-    let joined = joined_goes now new (q.joined some) c.extends count in record {
-      continues = continues_on allows old mid new e (continues_on allows mid now new q.continues.extends c);
+    let asks = asks_from old mid new e same (asks_goes mid now new (q.asks some) w.continues.extends w.count) in
+    let joined = joined_goes now new (q.joined some) w.continues.extends w.count in record {
+      continues = continues_on allows old mid new e (continues_on allows mid now new q.continues.extends w.continues);
       asks = λ _. asks;
       joined = λ _. joined;
-      granted = granted;
-      told = told;
-      late = λ is. inl (asks, joined, late is);
+      granted = w.granted;
+      told = w.told;
+      late = λ is. inl (asks, joined, w.late is);
     }
+
+-- granted or told at a poll, after polls that answered `Waiting`
+polled : (allows : List ℕ → List ℕ → Type 0) (old mid new : View) (turn : Write) (answer : Poll) (got : Got)
+    → Extends old mid → mid.count ≡ old.count → Polls allows mid new turn answer
+    → (got ≡ Granted → answer ≡ poll.Granted) → (got ≡ Closed → answer ≡ poll.Closed) → Waits allows old new turn got
+polled allows old mid new turn answer got e same p granted closed = record {
+  continues = continues_on allows old mid new e p.continues;
+  count = p.count ∙ same;
+  granted = λ is. p.granted (granted is);
+  told = λ is. p.told (closed is);
+}
+
+-- a wait without a time limit, as one that ended in time
+in_time : (allows : List ℕ → List ℕ → Type 0) (old new : View) (turn : Write) (got : Got) (timed : TimedAcquire)
+    → Waits allows old new turn got → (timed ≡ timed_acquire.Granted → got ≡ Granted) → (timed ≡ timed_acquire.Closed → got ≡ Closed)
+    → timed ≢ timed_acquire.TimedOut → WaitsTimed allows old new turn timed
+in_time allows old new turn got timed w granted closed some = record {
+  continues = w.continues;
+  count = w.count;
+  granted = λ is. w.granted (granted is);
+  told = λ is. w.told (closed is);
+  late = λ is. absurd (some is);
+}
+
+-- an answer of a poll
+module _ (allows : List ℕ → List ℕ → Type 0) (old mid new : View) (turn : Write) (e : Extends old mid) (same : mid.count ≡ old.count) where
+  pub polled_granted : Polls allows mid new turn poll.Granted → Waits allows old new turn Granted
+  polled_granted p = polled allows old mid new turn poll.Granted Granted e same p (λ _. refl) (λ is. cc is)
+
+  pub polled_told : Polls allows mid new turn poll.Closed → Waits allows old new turn Closed
+  polled_told p = polled allows old mid new turn poll.Closed Closed e same p (λ is. cc is) (λ _. refl)
+
+  pub polled_granted_in_time : Polls allows mid new turn poll.Granted → WaitsTimed allows old new turn timed_acquire.Granted
+  polled_granted_in_time p = in_time allows old new turn Granted timed_acquire.Granted (polled_granted p) (λ _. refl) (λ is. cc is) (λ is. cc is)
+
+  pub polled_told_in_time : Polls allows mid new turn poll.Closed → WaitsTimed allows old new turn timed_acquire.Closed
+  polled_told_in_time p = in_time allows old new turn Closed timed_acquire.Closed (polled_told p) (λ is. cc is) (λ _. refl) (λ is. cc is)
+
+-- withdrawn, granted or told after a poll that answered `Waiting`
+pub waits_on : (allows : List ℕ → List ℕ → Type 0) (old mid now new : View) (polled turn : Write) (got : TimedAcquire) → Extends old mid → mid.count ≡ old.count
+    → Polls allows mid now polled poll.Waiting → WaitsTimed allows now new turn got → WaitsTimed allows old new turn got
+waits_on allows old mid now new polled turn got e same p w = record {
+  continues = continues_on allows old mid new e (continues_on allows mid now new p.continues.extends w.continues);
+  count = w.count ∙ (p.count ∙ same);
+  granted = w.granted;
+  told = w.told;
+  late = w.late;
+}
 
 -- an answer at once
 module _ (allows : List ℕ → List ℕ → Type 0) (old mid new : View) (turn : Write) (e : Extends old mid) (same : mid.count ≡ old.count) where
@@ -133,14 +181,8 @@ module _ {Port : Type 0} (view : Port → View) (counters : Port → Counters) (
 pub closed_ungranted : Closed ≢ Granted
 closed_ungranted is = cc is
 
-pub granted_untold : Granted ≢ Closed
-granted_untold is = cc is
-
 pub closed_within : timed_acquire.Closed ≢ timed_acquire.Granted
 closed_within is = cc is
-
-pub told_in_time : timed_acquire.Granted ≢ timed_acquire.Closed
-told_in_time is = cc is
 
 pub granted_in_time : timed_acquire.Granted ≢ timed_acquire.TimedOut
 granted_in_time is = cc is

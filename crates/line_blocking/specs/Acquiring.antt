@@ -22,6 +22,21 @@ pub record ComesSoon {Port : Type 0} (view : Port → View) (counters : Port →
   pub advances : Extends (view asked) (view new)
   pub bounded_bypass : length (view new).ends < length (view asked).ends + (view asked).config.nodes
 
+-- the port's request was granted, or told that the line is closed
+pub record Waits (allows : List ℕ → List ℕ → Type 0) (old new : View) (turn : Write) (got : Got) : Type 0 where
+  pub continues : Continues allows old new
+  pub count : new.count ≡ old.count
+  pub granted : got ≡ Granted → IsGranted new turn
+  pub told : got ≡ Closed → IsTold new
+
+-- the port's request was granted, or told that the line is closed; or it is withdrawn, since the time was over
+pub record WaitsTimed (allows : List ℕ → List ℕ → Type 0) (old new : View) (turn : Write) (got : TimedAcquire) : Type 0 where
+  pub continues : Continues allows old new
+  pub count : new.count ≡ old.count
+  pub granted : got ≡ timed_acquire.Granted → IsGranted new turn
+  pub told : got ≡ timed_acquire.Closed → IsTold new
+  pub late : got ≡ timed_acquire.TimedOut → IsWithdrawn new
+
 -- the port made one request, which was granted, or told that the line is closed
 pub record Acquires (allows : List ℕ → List ℕ → Type 0) (old new : View) (turn : Write) (got : Got) : Type 0 where
   pub continues : Continues allows old new

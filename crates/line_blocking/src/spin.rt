@@ -1,10 +1,7 @@
 //! Waiting for a line until it is granted or closed, by polls with pauses.
 ghost use Rattle.std.specs.Prelude.{◌≡◌, IsTrue};
 ghost use Rattle.qolb_model.specs.PortStates.{may_ask};
-ghost use Rattle.qolb_model.specs.Sound.{Continues};
-ghost use Rattle.qolb_model.specs.AtTurn.{IsGranted};
-ghost use Rattle.qolb_model.specs.Releasing.{IsTold};
-ghost use Rattle.line_blocking.specs.Acquiring.{Acquires, ComesSoon};
+ghost use Rattle.line_blocking.specs.Acquiring.{Acquires, ComesSoon, Waits};
 
 use crate::strategy::{WaitStrategy, wait_by};
 use crossbeam_utils::Backoff;
@@ -82,17 +79,14 @@ pub fn acquire<R: Wait, K: Keep, L: LineSync<K>>(rt: &R, line: &L, port: &mut L:
     unreachable!()
 }
 
-/// Polls until the request is granted or told. This is the wait of `acquire`, for a port that has asked already.
+/// Polls until the request is granted or told. This is the wait of `acquire`, for a port that has asked already. Blocks; does not allocate.
 ///
 /// Returns `Granted` if the port holds the line, `Closed` if the line is closed.
 pub fn wait<R: Wait, K: Keep, L: LineSync<K>>(rt: &R, line: &L, port: &mut L::Port) -> Got
     requires belongs { L.belongs line.now port.old }
     requires state { (L.view port.old).state ≡ PortState.Queued }
     ensures belongs { L.belongs line.now port.new }
-    ensures continues { Continues K.allows (L.view port.old) (L.view port.new) }
-    ensures count { (L.view port.new).count ≡ (L.view port.old).count }
-    ensures granted { result ≡ Got.Granted → IsGranted (L.view port.new) (L.turn port.new) }
-    ensures told { result ≡ Got.Closed → IsTold (L.view port.new) }
+    ensures waits { Waits K.allows (L.view port.old) (L.view port.new) (L.turn port.new) result }
 {
     wait_by(rt, line, port, &mut Pauses::new())
 }

@@ -1,8 +1,6 @@
 //! Waiting for a line without a time limit, once a request is queued: the polls, and what a waiter does between them.
 ghost use Rattle.std.specs.Prelude.{◌≡◌};
-ghost use Rattle.qolb_model.specs.Sound.{Continues};
-ghost use Rattle.qolb_model.specs.AtTurn.{IsGranted};
-ghost use Rattle.qolb_model.specs.Releasing.{IsTold};
+ghost use Rattle.line_blocking.specs.Acquiring.{Waits};
 
 use crate::spin::Got;
 use qolb_model::{Keep, LineSync, Poll, PortState};
@@ -16,7 +14,7 @@ pub trait WaitStrategy<K: Keep, L: LineSync<K>> {
         requires state { (L.view port.now).state ≡ PortState.Queued };
 }
 
-/// Polls until the request is granted or told. Between two polls it waits by `strategy`.
+/// Polls until the request is granted or told. Between two polls it waits by `strategy`. Blocks; allocates no more than `strategy` does.
 ///
 /// Returns `Granted` if the port holds the line, `Closed` if the line is closed.
 pub fn wait_by<R: Wait, K: Keep, L: LineSync<K>, W: WaitStrategy<K, L>>(
@@ -28,10 +26,7 @@ pub fn wait_by<R: Wait, K: Keep, L: LineSync<K>, W: WaitStrategy<K, L>>(
     requires belongs { L.belongs line.now port.old }
     requires state { (L.view port.old).state ≡ PortState.Queued }
     ensures belongs { L.belongs line.now port.new }
-    ensures continues { Continues K.allows (L.view port.old) (L.view port.new) }
-    ensures count { (L.view port.new).count ≡ (L.view port.old).count }
-    ensures granted { result ≡ Got.Granted → IsGranted (L.view port.new) (L.turn port.new) }
-    ensures told { result ≡ Got.Closed → IsTold (L.view port.new) }
+    ensures waits { Waits K.allows (L.view port.old) (L.view port.new) (L.turn port.new) result }
 {
     for _ in rt.forever() {
         match line.poll(port) {

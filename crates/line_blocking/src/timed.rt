@@ -3,11 +3,8 @@ ghost use Rattle.std.specs.Prelude.{◌≡◌, ◌⊎◌, ◌+◌, ◌≤◌, Is
 ghost use Rattle.std.specs.Duration.{as_nanos};
 ghost use Rattle.std.specs.declared.time.Instant.{Instant};
 ghost use Rattle.qolb_model.specs.PortStates.{may_ask};
-ghost use Rattle.qolb_model.specs.Sound.{Continues};
 ghost use Rattle.qolb_model.specs.Enqueueing.{IsBusy};
-ghost use Rattle.qolb_model.specs.AtTurn.{IsGranted, IsWithdrawn};
-ghost use Rattle.qolb_model.specs.Releasing.{IsTold};
-ghost use Rattle.line_blocking.specs.Acquiring.{Acquires, AcquiresTimed, ComesSoon};
+ghost use Rattle.line_blocking.specs.Acquiring.{Acquires, AcquiresTimed, ComesSoon, WaitsTimed};
 ghost use Rattle.line_blocking.specs.Deadlines.{nanos_left, IsLeft};
 
 use crate::spin::{Got, SPIN_LIMIT, short_pause};
@@ -215,7 +212,7 @@ pub fn acquire_timeout<R: Wait + Clock, K: Keep, L: ParkingLine<K>>(
 }
 
 /// Polls, and after `Backoff` sleeps, until the request ends or `span` is over. This is the wait of `acquire_timeout`, for a port that has
-/// asked already.
+/// asked already. Blocks; does not allocate.
 ///
 /// Returns `Granted` if the port holds the line, `Closed` if the line is closed, `TimedOut` if the request was withdrawn.
 pub fn wait_timeout<R: Wait + Clock, K: Keep, L: ParkingLine<K>>(
@@ -227,12 +224,8 @@ pub fn wait_timeout<R: Wait + Clock, K: Keep, L: ParkingLine<K>>(
     requires belongs { L.belongs line.now port.old }
     requires state { (L.view port.old).state ≡ PortState.Queued }
     ensures belongs { L.belongs line.now port.new }
-    ensures continues { Continues K.allows (L.view port.old) (L.view port.new) }
-    ensures count { (L.view port.new).count ≡ (L.view port.old).count }
-    ensures granted { result ≡ TimedAcquire.Granted
-        → IsGranted (L.view port.new) (L.turn port.new) }
-    ensures told { result ≡ TimedAcquire.Closed → IsTold (L.view port.new) }
-    ensures late { result ≡ TimedAcquire.TimedOut → IsWithdrawn (L.view port.new) }
+    ensures waits { WaitsTimed K.allows (L.view port.old) (L.view port.new)
+        (L.turn port.new) result }
     ensures looked { (L.counters port.old).poll_count + 1 ≤ (L.counters port.new).poll_count }
 {
     let mut patience = Backoff::new();
@@ -259,12 +252,8 @@ fn give_up<K: Keep, L: LineSync<K>>(line: &L, port: &mut L::Port) -> TimedAcquir
     requires belongs { L.belongs line.now port.old }
     requires state { (L.view port.old).state ≡ PortState.Queued }
     ensures belongs { L.belongs line.now port.new }
-    ensures continues { Continues K.allows (L.view port.old) (L.view port.new) }
-    ensures count { (L.view port.new).count ≡ (L.view port.old).count }
-    ensures granted { result ≡ TimedAcquire.Granted
-        → IsGranted (L.view port.new) (L.turn port.new) }
-    ensures told { result ≡ TimedAcquire.Closed → IsTold (L.view port.new) }
-    ensures late { result ≡ TimedAcquire.TimedOut → IsWithdrawn (L.view port.new) }
+    ensures waits { WaitsTimed K.allows (L.view port.old) (L.view port.new)
+        (L.turn port.new) result }
     ensures poll_count { (L.counters port.new).poll_count ≡ (L.counters port.old).poll_count }
 {
     match line.withdraw(port) {
