@@ -9,6 +9,7 @@ mod asleep;
 mod counted;
 mod gated;
 mod held;
+mod in_step;
 mod kept;
 mod noted;
 mod parked;
@@ -48,6 +49,7 @@ enum Row {
     Waits,
     Limits,
     Leases,
+    Strategies,
     Sleeps,
     LongSleeps,
     Parking,
@@ -102,6 +104,7 @@ where
         Row::Waits => asleep::each_wait::<R, L>(rt, alloc),
         Row::Limits => asleep::no_grant_is_lost_to_a_time_limit::<R, L>(rt, alloc),
         Row::Leases => asleep::sleepers_and_late_ones_share_a_lease::<R, L>(rt, alloc),
+        Row::Strategies => in_step::a_strategy_is_asked_after_each_poll::<R, L>(rt, alloc),
         Row::Sleeps => noted::each_sleep::<R, L>(rt, alloc),
         Row::LongSleeps => {
             parked::a_sleep_lasts_as_long_as_it_may::<R, L>(rt, alloc);
@@ -332,6 +335,11 @@ fn no_grant_is_lost_to_a_time_limit(rt: HostRuntime) -> Result<(), Fail> {
 #[test]
 fn sleepers_and_late_ones_share_a_lease(rt: HostRuntime) -> Result<(), Fail> {
     over_each(&rt, rt.alloc(), Row::Leases)
+}
+
+#[test]
+fn a_strategy_is_asked_after_each_poll_in_vain(rt: HostRuntime) -> Result<(), Fail> {
+    over_each(&rt, rt.alloc(), Row::Strategies)
 }
 
 #[test]
