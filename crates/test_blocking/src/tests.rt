@@ -9,12 +9,12 @@ mod asleep;
 mod counted;
 mod gated;
 mod held;
-mod in_step;
 mod kept;
 mod noted;
 mod parked;
 mod passing;
 mod pool;
+mod strategies;
 mod together;
 
 use counted::Counting;
@@ -50,6 +50,7 @@ enum Row {
     Limits,
     Leases,
     Strategies,
+    AfterBusy,
     Sleeps,
     LongSleeps,
     Parking,
@@ -104,7 +105,8 @@ where
         Row::Waits => asleep::each_wait::<R, L>(rt, alloc),
         Row::Limits => asleep::no_grant_is_lost_to_a_time_limit::<R, L>(rt, alloc),
         Row::Leases => asleep::sleepers_and_late_ones_share_a_lease::<R, L>(rt, alloc),
-        Row::Strategies => in_step::a_strategy_is_asked_after_each_poll::<R, L>(rt, alloc),
+        Row::Strategies => strategies::a_strategy_is_asked_after_each_poll::<R, L>(rt, alloc),
+        Row::AfterBusy => strategies::a_wait_begins_anew_after_busy_tries::<R, L>(rt, alloc),
         Row::Sleeps => noted::each_sleep::<R, L>(rt, alloc),
         Row::LongSleeps => {
             parked::a_sleep_lasts_as_long_as_it_may::<R, L>(rt, alloc);
@@ -340,6 +342,11 @@ fn sleepers_and_late_ones_share_a_lease(rt: HostRuntime) -> Result<(), Fail> {
 #[test]
 fn a_strategy_is_asked_after_each_poll_in_vain(rt: HostRuntime) -> Result<(), Fail> {
     over_each(&rt, rt.alloc(), Row::Strategies)
+}
+
+#[test]
+fn a_wait_begins_anew_after_busy_tries(rt: HostRuntime) -> Result<(), Fail> {
+    over_each(&rt, rt.alloc(), Row::AfterBusy)
 }
 
 #[test]
