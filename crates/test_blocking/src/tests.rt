@@ -340,7 +340,7 @@ fn sleepers_and_late_ones_share_a_lease(rt: HostRuntime) -> Result<(), Fail> {
 }
 
 #[test]
-fn a_strategy_is_asked_after_each_poll_in_vain(rt: HostRuntime) -> Result<(), Fail> {
+fn a_strategy_is_asked_after_each_waiting_poll(rt: HostRuntime) -> Result<(), Fail> {
     over_each(&rt, rt.alloc(), Row::Strategies)
 }
 

@@ -10,13 +10,13 @@ use std::thread::{Threads, yield_now};
 use std::time::Duration;
 use test_support::Hooks;
 
-/// Hooks that count busy tries, polls that found the turn not there, and sleeps, which end at once.
+/// Hooks that count busy tries, polls that answered `Waiting`, and sleeps, which end at once.
 #[derive(Drop)]
 struct Polls {
     busy: AtomicU64,
-    in_vain: AtomicU64,
+    waiting: AtomicU64,
     sleeps: AtomicU64,
-    /// How many polls were in vain before the first sleep.
+    /// How many polls had answered `Waiting` before the first sleep.
     before_sleep: AtomicU64,
 }
 
@@ -24,14 +24,14 @@ impl Polls {
     fn none() -> Polls {
         Polls {
             busy: AtomicU64::new(0),
-            in_vain: AtomicU64::new(0),
+            waiting: AtomicU64::new(0),
             sleeps: AtomicU64::new(0),
             before_sleep: AtomicU64::new(0),
         }
     }
 
-    fn in_vain(&self) -> u64 {
-        self.in_vain.load(Ordering::SeqCst)
+    fn waiting(&self) -> u64 {
+        self.waiting.load(Ordering::SeqCst)
     }
 }
 
@@ -41,7 +41,7 @@ impl Hooks for &Polls {
     }
 
     fn on_waiting<K: Keep, L: ParkingLine<K>>(&self, _line: &L, _port: &L::Port) {
-        self.in_vain.fetch_add(1, Ordering::SeqCst);
+        self.waiting.fetch_add(1, Ordering::SeqCst);
     }
 
     fn sleep<R: Wait, K: Keep, L: ParkingLine<K>>(
@@ -52,13 +52,13 @@ impl Hooks for &Polls {
         _at_most: Duration,
     ) {
         if self.sleeps.load(Ordering::SeqCst) == 0 {
-            self.before_sleep.store(self.in_vain(), Ordering::SeqCst);
+            self.before_sleep.store(self.waiting(), Ordering::SeqCst);
         }
         self.sleeps.fetch_add(1, Ordering::SeqCst);
     }
 }
 
-/// A strategy that counts how often it is asked, and notes whether each time one more poll had found the turn not there.
+/// A strategy that counts how often it is asked, and notes whether each time one more poll had answered `Waiting`.
 #[derive(Drop)]
 struct InStep<'p> {
     polls: &'p Polls,
@@ -69,7 +69,7 @@ struct InStep<'p> {
 impl<K: Keep, L: LineSync<K>> WaitStrategy<K, L> for InStep<'_> {
     fn on_waiting<R: Wait>(&mut self, _rt: &R, _line: &L, _port: &L::Port) {
         self.asked = self.asked.saturating_add(1);
-        self.in_step = self.in_step && self.polls.in_vain() == self.asked;
+        self.in_step = self.in_step && self.polls.waiting() == self.asked;
         yield_now();
     }
 }
@@ -86,7 +86,7 @@ struct Waiting<'p> {
 
 impl<R: Wait, L: ParkingLine<Free>> Scene<R, L> for Waiting<'_> {
     fn keep(&self, rt: &R, _line: &L) -> bool {
-        wait_until(rt, &self.polls.in_vain, AT_LEAST);
+        wait_until(rt, &self.polls.waiting, AT_LEAST);
         self.shuts
     }
 
@@ -105,7 +105,7 @@ impl<R: Wait, L: ParkingLine<Free>> Scene<R, L> for Waiting<'_> {
         } else {
             Got::Granted
         };
-        got == wanted && strategy.in_step && strategy.asked == self.polls.in_vain()
+        got == wanted && strategy.in_step && strategy.asked == self.polls.waiting()
     }
 }
 
@@ -124,7 +124,7 @@ where
     all_see_hooked::<R, &Polls, L, Waiting>(rt, alloc, 2, polls, &waiting, &let_go)
 }
 
-/// `wait_by` asks its strategy once after each poll that found the turn not there, and at no other time.
+/// `wait_by` asks its strategy once after each poll that answered `Waiting`, and at no other time.
 pub(super) fn a_strategy_is_asked_after_each_poll<
     R: Threads + Wait + Abort + Sync,
     L: SleepLine + Sync,
@@ -201,7 +201,7 @@ where
     all_see_hooked::<R, &Polls, L, Tired>(rt, alloc, 3, polls, &tired, &let_go)
 }
 
-/// A port that was busy for long polls 289 times in vain before it sleeps, as any other: its wait begins anew.
+/// A port that was busy for long polls 289 times before it sleeps, as any other: its wait begins anew.
 pub(super) fn a_wait_begins_anew_after_busy_tries<
     R: Threads + Wait + Abort + Sync,
     L: SleepLine + Sync,
