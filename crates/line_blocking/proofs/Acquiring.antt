@@ -21,7 +21,7 @@ use Rattle.line_blocking.specs.declared.timed.TimedAcquire.{TimedAcquire}
 use Rattle.line_blocking.specs.declared.timed.TimedAcquire.TheVariants as timed_acquire
 use Rattle.line_blocking.specs.declared.spin.Got.{Got}
 use Rattle.line_blocking.specs.declared.spin.Got.TheVariants.{Granted, Closed}
-use Rattle.line_blocking.specs.Acquiring.{Acquires, AcquiresTimed, ComesSoon, Waits, WaitsTimed}
+use Rattle.line_blocking.specs.Acquiring.{Acquires, AcquiresTimed, ComesSoon, EndsWait, EndsWaitTimed}
 
 -- a line has a node
 some_node : (v : View) (config : LineConfig) → v.config ≡ config → 1 ≤ v.node → v.node ≤ config.nodes → length v.ends < length v.ends + v.config.nodes
@@ -50,7 +50,7 @@ acquired_once allows old mid new turn answer got e same q asked granted closed =
 -- granted or told after a wait
 pub acquired_waiting : (allows : List ℕ → List ℕ → Type 0) (old mid now new : View) (first turn : Write) (got : Got)
     → Extends old mid → mid.count ≡ old.count → Enqueues allows mid now first enq.Queued
-    → Waits allows now new turn got → Acquires allows old new turn got
+    → EndsWait allows now new turn got → Acquires allows old new turn got
 acquired_waiting allows old mid now new first turn got e same q w =
     let some : enq.Queued ≢ enq.Busy = λ is. cc is in record {
       continues = continues_on allows old mid new e (continues_on allows mid now new q.continues.extends w.continues);
@@ -76,7 +76,7 @@ acquired_at_once allows old mid new turn answer got e same q asked granted close
 -- granted, told or withdrawn after a wait
 pub acquired_within : (allows : List ℕ → List ℕ → Type 0) (old mid now new : View) (first turn : Write) (got : TimedAcquire)
     → Extends old mid → mid.count ≡ old.count → Enqueues allows mid now first enq.Queued
-    → WaitsTimed allows now new turn got → AcquiresTimed allows old new turn got
+    → EndsWaitTimed allows now new turn got → AcquiresTimed allows old new turn got
 acquired_within allows old mid now new first turn got e same q w =
     let some : enq.Queued ≢ enq.Busy = λ is. cc is in
     let asks = asks_from old mid new e same (asks_goes mid now new (q.asks some) w.continues.extends w.count) in
@@ -92,7 +92,7 @@ acquired_within allows old mid now new first turn got e same q w =
 -- granted or told at a poll, after polls that answered `Waiting`
 polled : (allows : List ℕ → List ℕ → Type 0) (old mid new : View) (turn : Write) (answer : Poll) (got : Got)
     → Extends old mid → mid.count ≡ old.count → Polls allows mid new turn answer
-    → (got ≡ Granted → answer ≡ poll.Granted) → (got ≡ Closed → answer ≡ poll.Closed) → Waits allows old new turn got
+    → (got ≡ Granted → answer ≡ poll.Granted) → (got ≡ Closed → answer ≡ poll.Closed) → EndsWait allows old new turn got
 polled allows old mid new turn answer got e same p granted closed = record {
   continues = continues_on allows old mid new e p.continues;
   count = p.count ∙ same;
@@ -102,8 +102,8 @@ polled allows old mid new turn answer got e same p granted closed = record {
 
 -- a wait without a time limit, as one that ended in time
 in_time : (allows : List ℕ → List ℕ → Type 0) (old new : View) (turn : Write) (got : Got) (timed : TimedAcquire)
-    → Waits allows old new turn got → (timed ≡ timed_acquire.Granted → got ≡ Granted) → (timed ≡ timed_acquire.Closed → got ≡ Closed)
-    → timed ≢ timed_acquire.TimedOut → WaitsTimed allows old new turn timed
+    → EndsWait allows old new turn got → (timed ≡ timed_acquire.Granted → got ≡ Granted) → (timed ≡ timed_acquire.Closed → got ≡ Closed)
+    → timed ≢ timed_acquire.TimedOut → EndsWaitTimed allows old new turn timed
 in_time allows old new turn got timed w granted closed some = record {
   continues = w.continues;
   count = w.count;
@@ -114,21 +114,21 @@ in_time allows old new turn got timed w granted closed some = record {
 
 -- an answer of a poll
 module _ (allows : List ℕ → List ℕ → Type 0) (old mid new : View) (turn : Write) (e : Extends old mid) (same : mid.count ≡ old.count) where
-  pub polled_granted : Polls allows mid new turn poll.Granted → Waits allows old new turn Granted
+  pub polled_granted : Polls allows mid new turn poll.Granted → EndsWait allows old new turn Granted
   polled_granted p = polled allows old mid new turn poll.Granted Granted e same p (λ _. refl) (λ is. cc is)
 
-  pub polled_told : Polls allows mid new turn poll.Closed → Waits allows old new turn Closed
+  pub polled_told : Polls allows mid new turn poll.Closed → EndsWait allows old new turn Closed
   polled_told p = polled allows old mid new turn poll.Closed Closed e same p (λ is. cc is) (λ _. refl)
 
-  pub polled_granted_in_time : Polls allows mid new turn poll.Granted → WaitsTimed allows old new turn timed_acquire.Granted
+  pub polled_granted_in_time : Polls allows mid new turn poll.Granted → EndsWaitTimed allows old new turn timed_acquire.Granted
   polled_granted_in_time p = in_time allows old new turn Granted timed_acquire.Granted (polled_granted p) (λ _. refl) (λ is. cc is) (λ is. cc is)
 
-  pub polled_told_in_time : Polls allows mid new turn poll.Closed → WaitsTimed allows old new turn timed_acquire.Closed
+  pub polled_told_in_time : Polls allows mid new turn poll.Closed → EndsWaitTimed allows old new turn timed_acquire.Closed
   polled_told_in_time p = in_time allows old new turn Closed timed_acquire.Closed (polled_told p) (λ is. cc is) (λ _. refl) (λ is. cc is)
 
 -- withdrawn, granted or told after a poll that answered `Waiting`
 pub waits_on : (allows : List ℕ → List ℕ → Type 0) (old mid now new : View) (polled turn : Write) (got : TimedAcquire) → Extends old mid → mid.count ≡ old.count
-    → Polls allows mid now polled poll.Waiting → WaitsTimed allows now new turn got → WaitsTimed allows old new turn got
+    → Polls allows mid now polled poll.Waiting → EndsWaitTimed allows now new turn got → EndsWaitTimed allows old new turn got
 waits_on allows old mid now new polled turn got e same p w = record {
   continues = continues_on allows old mid new e (continues_on allows mid now new p.continues.extends w.continues);
   count = w.count ∙ (p.count ∙ same);

@@ -23,14 +23,14 @@ pub record ComesSoon {Port : Type 0} (view : Port → View) (counters : Port →
   pub bounded_bypass : length (view new).ends < length (view asked).ends + (view asked).config.nodes
 
 -- the port's request was granted, or told that the line is closed
-pub record Waits (allows : List ℕ → List ℕ → Type 0) (old new : View) (turn : Write) (got : Got) : Type 0 where
+pub record EndsWait (allows : List ℕ → List ℕ → Type 0) (old new : View) (turn : Write) (got : Got) : Type 0 where
   pub continues : Continues allows old new
   pub count : new.count ≡ old.count
   pub granted : got ≡ Granted → IsGranted new turn
   pub told : got ≡ Closed → IsTold new
 
 -- the port's request was granted, or told that the line is closed; or it is withdrawn, since the time was over
-pub record WaitsTimed (allows : List ℕ → List ℕ → Type 0) (old new : View) (turn : Write) (got : TimedAcquire) : Type 0 where
+pub record EndsWaitTimed (allows : List ℕ → List ℕ → Type 0) (old new : View) (turn : Write) (got : TimedAcquire) : Type 0 where
   pub continues : Continues allows old new
   pub count : new.count ≡ old.count
   pub granted : got ≡ timed_acquire.Granted → IsGranted new turn

@@ -11,8 +11,8 @@ use std::time::Duration;
 
 /// A line whose `poll` sleeps before it answers `Waiting`.
 ///
-/// All other calls are the inner line's. `poll` looks once. If the request waits, `poll` pauses `SPIN_LIMIT` times and sleeps until the
-/// node may be at its turn; it does not look again. So code written over `LineSync` sleeps between two polls without knowing of it.
+/// All other calls are the inner line's. `poll` looks once. If the request waits, `poll` pauses 256 times and sleeps until the node may be
+/// at its turn; it does not look again. So code written over `LineSync` sleeps between two looks without knowing of it.
 #[derive(Drop)]
 pub struct ParkOnPoll<'r, R, L> {
     rt: &'r R,

@@ -1,7 +1,7 @@
 //! Waiting for a line until it is granted or closed, by polls with pauses.
 ghost use Rattle.std.specs.Prelude.{◌≡◌, IsTrue};
 ghost use Rattle.qolb_model.specs.PortStates.{may_ask};
-ghost use Rattle.line_blocking.specs.Acquiring.{Acquires, ComesSoon, Waits};
+ghost use Rattle.line_blocking.specs.Acquiring.{Acquires, ComesSoon, EndsWait};
 
 use crate::strategy::{WaitStrategy, wait_by};
 use crossbeam_utils::Backoff;
@@ -9,7 +9,7 @@ use qolb_model::{Enq, Keep, LineSync, PortState};
 use std::sync::Wait;
 use std::thread::yield_now;
 
-/// How many polls a waiter makes with a single pause behind each, before it yields its processor between polls.
+/// How many single pauses a waiter makes before it yields its processor or sleeps.
 pub(crate) const SPIN_LIMIT: u32 = 256;
 
 /// How a wait without a time limit ended.
@@ -56,7 +56,7 @@ pub(crate) fn short_pause() {
 }
 
 /// Acquires the line: asks until the port is not busy, then polls until the request ends. Blocks: between two polls the caller pauses, and
-/// after `SPIN_LIMIT` pauses yields its processor. Does not allocate.
+/// after 256 pauses yields its processor. Does not allocate.
 ///
 /// Returns `Granted` if the port holds the line, `Closed` if the line is closed.
 pub fn acquire<R: Wait, K: Keep, L: LineSync<K>>(rt: &R, line: &L, port: &mut L::Port) -> Got
@@ -86,7 +86,8 @@ pub fn wait<R: Wait, K: Keep, L: LineSync<K>>(rt: &R, line: &L, port: &mut L::Po
     requires belongs { L.belongs line.now port.old }
     requires state { (L.view port.old).state ≡ PortState.Queued }
     ensures belongs { L.belongs line.now port.new }
-    ensures waits { Waits K.allows (L.view port.old) (L.view port.new) (L.turn port.new) result }
+    ensures ends_wait { EndsWait K.allows (L.view port.old) (L.view port.new)
+        (L.turn port.new) result }
 {
     wait_by(rt, line, port, &mut Pauses::new())
 }

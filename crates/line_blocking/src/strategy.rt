@@ -1,6 +1,6 @@
 //! Waiting for a line without a time limit, once a request is queued: the polls, and what a waiter does between them.
 ghost use Rattle.std.specs.Prelude.{◌≡◌};
-ghost use Rattle.line_blocking.specs.Acquiring.{Waits};
+ghost use Rattle.line_blocking.specs.Acquiring.{EndsWait};
 
 use crate::spin::Got;
 use qolb_model::{Keep, LineSync, Poll, PortState};
@@ -8,7 +8,7 @@ use std::sync::Wait;
 
 /// What a waiter does between two polls.
 pub trait WaitStrategy<K: Keep, L: LineSync<K>> {
-    /// Waits after a `poll` that answered `Waiting`. May return early, for no reason.
+    /// EndsWait after a `poll` that answered `Waiting`; `wait_by` calls it once after each. May return early, for no reason.
     fn on_waiting<R: Wait>(&mut self, rt: &R, line: &L, port: &L::Port)
         requires belongs { L.belongs line.now port.now }
         requires state { (L.view port.now).state ≡ PortState.Queued };
@@ -26,7 +26,8 @@ pub fn wait_by<R: Wait, K: Keep, L: LineSync<K>, W: WaitStrategy<K, L>>(
     requires belongs { L.belongs line.now port.old }
     requires state { (L.view port.old).state ≡ PortState.Queued }
     ensures belongs { L.belongs line.now port.new }
-    ensures waits { Waits K.allows (L.view port.old) (L.view port.new) (L.turn port.new) result }
+    ensures ends_wait { EndsWait K.allows (L.view port.old) (L.view port.new)
+        (L.turn port.new) result }
 {
     for _ in rt.forever() {
         match line.poll(port) {

@@ -4,7 +4,7 @@ ghost use Rattle.std.specs.Duration.{as_nanos};
 ghost use Rattle.std.specs.declared.time.Instant.{Instant};
 ghost use Rattle.qolb_model.specs.PortStates.{may_ask};
 ghost use Rattle.qolb_model.specs.Enqueueing.{IsBusy};
-ghost use Rattle.line_blocking.specs.Acquiring.{Acquires, AcquiresTimed, ComesSoon, WaitsTimed};
+ghost use Rattle.line_blocking.specs.Acquiring.{Acquires, AcquiresTimed, ComesSoon, EndsWaitTimed};
 ghost use Rattle.line_blocking.specs.Deadlines.{nanos_left, IsLeft};
 
 use crate::spin::{Got, SPIN_LIMIT, short_pause};
@@ -69,7 +69,7 @@ impl<K: Keep, L: ParkingLine<K>> WaitStrategy<K, L> for Backoff {
     fn on_waiting<R: Wait>(&mut self, rt: &R, line: &L, port: &L::Port) {
         if !self.pause() {
             line.sleep(rt, port, Duration::MAX);
-            // It may have been woken one turn ahead of its own: it looks anew for as long.
+            // A release may have woken it one turn ahead of its own: it polls as often again before it sleeps.
             *self = Backoff::new();
         }
     }
@@ -137,8 +137,9 @@ impl Deadline {
     }
 }
 
-/// Acquires the line, and sleeps if the wait is long. Polls `SPIN_LIMIT` times with a pause, then `YIELDS` times with a yield, and then
-/// sleeps until a release wakes the caller. A busy port naps, and asks again. Does not allocate.
+/// Acquires the line, and sleeps if the wait is long. Polls 256 times with a pause behind each poll, 32 times with a yield, and once more;
+/// then sleeps until a release wakes the caller, and polls as often again. A busy port asks again, with naps between. Blocks; does not
+/// allocate.
 ///
 /// Returns `Granted` if the port holds the line, `Closed` if the line is closed.
 pub fn acquire_parking<R: Wait, K: Keep, L: ParkingLine<K>>(
@@ -211,8 +212,8 @@ pub fn acquire_timeout<R: Wait + Clock, K: Keep, L: ParkingLine<K>>(
     unreachable!()
 }
 
-/// Polls, and after `Backoff` sleeps, until the request ends or `span` is over. This is the wait of `acquire_timeout`, for a port that has
-/// asked already. Blocks; does not allocate.
+/// Polls until the request ends or `span` is over, and sleeps as `acquire_parking` does. This is the wait of `acquire_timeout`, for a port
+/// that has asked already. Blocks; does not allocate.
 ///
 /// Returns `Granted` if the port holds the line, `Closed` if the line is closed, `TimedOut` if the request was withdrawn.
 pub fn wait_timeout<R: Wait + Clock, K: Keep, L: ParkingLine<K>>(
@@ -224,7 +225,7 @@ pub fn wait_timeout<R: Wait + Clock, K: Keep, L: ParkingLine<K>>(
     requires belongs { L.belongs line.now port.old }
     requires state { (L.view port.old).state ≡ PortState.Queued }
     ensures belongs { L.belongs line.now port.new }
-    ensures waits { WaitsTimed K.allows (L.view port.old) (L.view port.new)
+    ensures ends_wait { EndsWaitTimed K.allows (L.view port.old) (L.view port.new)
         (L.turn port.new) result }
     ensures looked { (L.counters port.old).poll_count + 1 ≤ (L.counters port.new).poll_count }
 {
@@ -252,7 +253,7 @@ fn give_up<K: Keep, L: LineSync<K>>(line: &L, port: &mut L::Port) -> TimedAcquir
     requires belongs { L.belongs line.now port.old }
     requires state { (L.view port.old).state ≡ PortState.Queued }
     ensures belongs { L.belongs line.now port.new }
-    ensures waits { WaitsTimed K.allows (L.view port.old) (L.view port.new)
+    ensures ends_wait { EndsWaitTimed K.allows (L.view port.old) (L.view port.new)
         (L.turn port.new) result }
     ensures poll_count { (L.counters port.new).poll_count ≡ (L.counters port.old).poll_count }
 {

@@ -3,11 +3,11 @@ use Rattle.qolb_model.proofs.Going.{continues_on}
 use Rattle.line_blocking.proofs.Acquiring.{polled_granted, polled_told}
 use Rattle.line_blocking.proofs.strategy.wait_by.Goals as goal
 
-pub returns-in-Granted-clause-waits : goal.returns-in-Granted-clause-waits
-returns-in-Granted-clause-waits g c = polled_granted _ _ _ _ _ c.loop.invariant.extends c.loop.invariant.count c.in-Granted.ensures.polls
+pub returns-in-Granted-clause-ends_wait : goal.returns-in-Granted-clause-ends_wait
+returns-in-Granted-clause-ends_wait g c = polled_granted _ _ _ _ _ c.loop.invariant.extends c.loop.invariant.count c.in-Granted.ensures.polls
 
-pub returns-in-Closed-clause-waits : goal.returns-in-Closed-clause-waits
-returns-in-Closed-clause-waits g c = polled_told _ _ _ _ _ c.loop.invariant.extends c.loop.invariant.count c.in-Closed.ensures.polls
+pub returns-in-Closed-clause-ends_wait : goal.returns-in-Closed-clause-ends_wait
+returns-in-Closed-clause-ends_wait g c = polled_told _ _ _ _ _ c.loop.invariant.extends c.loop.invariant.count c.in-Closed.ensures.polls
 
 pub loop-preserved : goal.loop-preserved
 loop-preserved g c = record {

@@ -11,7 +11,7 @@ returns-in-Closed-clause-acquires g c = told_within _ _ _ _ _ (extends_self _) r
 
 pub returns-in-Queued-clause-acquires : goal.returns-in-Queued-clause-acquires
 returns-in-Queued-clause-acquires g c =
-    acquired_within _ _ _ _ _ _ _ _ (extends_self _) refl c.in-Queued.ensures.enqueues c.wait_timeout.ensures.waits
+    acquired_within _ _ _ _ _ _ _ _ (extends_self _) refl c.in-Queued.ensures.enqueues c.wait_timeout.ensures.ends_wait
 
 pub returns-in-Granted-clause-soon : goal.returns-in-Granted-clause-soon
 returns-in-Granted-clause-soon g c _ =
@@ -24,4 +24,4 @@ returns-in-Closed-clause-soon g c granted = absurd (closed_within granted)
 pub returns-in-Queued-clause-soon : goal.returns-in-Queued-clause-soon
 returns-in-Queued-clause-soon g c granted =
     soon_waiting g.L.LineSync.view g.L.LineSync.counters c.args.port.now c.args.port.now c.enqolb.new.port _ _ (extends_self _) refl refl c.in-Queued.ensures.counts.poll_count _ _
-    c.in-Queued.ensures.enqueues c.wait_timeout.ensures.waits.continues c.wait_timeout.ensures.waits.count (c.wait_timeout.ensures.waits.granted granted)
+    c.in-Queued.ensures.enqueues c.wait_timeout.ensures.ends_wait.continues c.wait_timeout.ensures.ends_wait.count (c.wait_timeout.ensures.ends_wait.granted granted)
