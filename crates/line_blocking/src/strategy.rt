@@ -8,7 +8,7 @@ use std::sync::Wait;
 
 /// What a waiter does between two polls.
 pub trait WaitStrategy<K: Keep, L: LineSync<K>> {
-    /// EndsWait after a `poll` that answered `Waiting`; `wait_by` calls it once after each. May return early, for no reason.
+    /// Waits after a `poll` that answered `Waiting`; `wait_by` calls it once after each. May return early, for no reason.
     fn on_waiting<R: Wait>(&mut self, rt: &R, line: &L, port: &L::Port)
         requires belongs { L.belongs line.now port.now }
         requires state { (L.view port.now).state ≡ PortState.Queued };
