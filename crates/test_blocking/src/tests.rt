@@ -11,6 +11,7 @@ mod gated;
 mod held;
 mod kept;
 mod noted;
+mod notes;
 mod parked;
 mod passing;
 mod pool;
