@@ -11,7 +11,6 @@ mod gated;
 mod held;
 mod kept;
 mod noted;
-mod notes;
 mod parked;
 mod passing;
 mod pool;

@@ -5,7 +5,6 @@ ghost use Rattle.qolb_model.specs.PortStates.{may_ask};
 use crate::tests::held::{
     Scene, SleepLine, all_see_hooked, expect, expect_at, open_two, wait_until,
 };
-use crate::tests::notes::{NotedLine, Notes, all_see_noted};
 use example_line::timed::add_within;
 use line_blocking::{Deadline, Got, ParkOnPoll, TimedAcquire, acquire_parking, acquire_timeout};
 use qolb_model::{Enq, Free, Keep, LineSync, OpenError, OpenLine, Out, ParkingLine, Poll};
@@ -19,6 +18,106 @@ use std::sync::atomic::{AtomicU64, Ordering};
 use std::thread::{Threads, yield_now};
 use std::time::Duration;
 use test_support::{HookedLine, Hooks};
+
+/// The notes of a line: busy tries; polls that found the turn not there, and how many of these came before the first and the second sleep;
+/// sleeps; the limits of the last and of the longest sleep in nanoseconds; and releases.
+#[derive(Drop)]
+struct Notes {
+    busy: AtomicU64,
+    poll_count: AtomicU64,
+    looks_before: AtomicU64,
+    looks_again: AtomicU64,
+    sleeps: AtomicU64,
+    last: AtomicU64,
+    longest: AtomicU64,
+    let_go: AtomicU64,
+}
+
+impl Notes {
+    fn none() -> Notes {
+        Notes {
+            busy: AtomicU64::new(0),
+            poll_count: AtomicU64::new(0),
+            looks_before: AtomicU64::new(0),
+            looks_again: AtomicU64::new(0),
+            sleeps: AtomicU64::new(0),
+            last: AtomicU64::new(0),
+            longest: AtomicU64::new(0),
+            let_go: AtomicU64::new(0),
+        }
+    }
+
+    fn note(&self, at_most: Duration) {
+        let nanos = u64::try_from(at_most.as_nanos()).unwrap_or(u64::MAX);
+        self.last.store(nanos, Ordering::SeqCst);
+        self.longest.fetch_max(nanos, Ordering::SeqCst);
+        match self.sleeps() {
+            0 => self.looks_before.store(self.poll_count(), Ordering::SeqCst),
+            1 => self.looks_again.store(self.poll_count(), Ordering::SeqCst),
+            _ => {}
+        }
+        self.sleeps.fetch_add(1, Ordering::SeqCst);
+    }
+
+    fn busy(&self) -> u64 {
+        self.busy.load(Ordering::SeqCst)
+    }
+
+    fn poll_count(&self) -> u64 {
+        self.poll_count.load(Ordering::SeqCst)
+    }
+
+    fn looks_before(&self) -> u64 {
+        self.looks_before.load(Ordering::SeqCst)
+    }
+
+    fn looks_again(&self) -> u64 {
+        self.looks_again.load(Ordering::SeqCst)
+    }
+
+    fn sleeps(&self) -> u64 {
+        self.sleeps.load(Ordering::SeqCst)
+    }
+
+    fn last(&self) -> u64 {
+        self.last.load(Ordering::SeqCst)
+    }
+
+    fn longest(&self) -> u64 {
+        self.longest.load(Ordering::SeqCst)
+    }
+
+    fn let_go(&self) -> u64 {
+        self.let_go.load(Ordering::SeqCst)
+    }
+}
+
+/// A line that notes its busy tries, polls and releases, and whose sleeps are noted and end at once.
+type NotedLine<'n, L> = HookedLine<&'n Notes, L>;
+
+impl Hooks for &Notes {
+    fn on_busy<K: Keep, L: ParkingLine<K>>(&self, _line: &L, _port: &L::Port) {
+        self.busy.fetch_add(1, Ordering::SeqCst);
+    }
+
+    fn on_waiting<K: Keep, L: ParkingLine<K>>(&self, _line: &L, _port: &L::Port) {
+        self.poll_count.fetch_add(1, Ordering::SeqCst);
+    }
+
+    fn on_release<K: Keep, L: ParkingLine<K>>(&self, _line: &L, _port: &L::Port) {
+        self.let_go.fetch_add(1, Ordering::SeqCst);
+    }
+
+    fn sleep<R: Wait, K: Keep, L: ParkingLine<K>>(
+        &self,
+        _rt: &R,
+        _line: &L,
+        _port: &L::Port,
+        at_most: Duration,
+    ) {
+        self.note(at_most);
+    }
+}
 
 /// A clock that advances by `tick` nanoseconds at each reading; if `tick` is `None`, it can't be read.
 #[derive(Drop)]
@@ -676,6 +775,19 @@ impl<R: Wait, L: ParkingLine<Free>> Scene<R, L> for Handing<'_> {
     }
 }
 
+/// Returns `true` if both nodes of a new line had it, node 1 until node 2 was sent to sleep twice.
+fn hand_to_a_sleeper<R: Threads + Wait + Sync, L: SleepLine + Sync>(
+    rt: &R,
+    alloc: Global,
+    notes: &Notes,
+) -> Result<bool, OpenError>
+where
+    L::Port: Send + Drop,
+{
+    let let_go = AtomicU64::new(0);
+    all_see_hooked::<R, &Notes, L, Handing>(rt, alloc, 2, notes, &Handing { notes }, &let_go)
+}
+
 /// `acquire_parking` sleeps after 289 polls that found the turn not there, without a limit. Woken ahead of its turn, it polls 289 times again
 /// before it sleeps again.
 fn a_long_wait_sleeps<R: Threads + Wait + Abort + Sync, L: SleepLine + Sync>(rt: &R, alloc: Global)
@@ -686,7 +798,7 @@ where
     expect(
         rt,
         "both had it",
-        all_see_noted::<R, L, Handing>(rt, alloc, 2, &notes, &Handing { notes: &notes }),
+        hand_to_a_sleeper::<R, L>(rt, alloc, &notes),
         Ok(true),
     );
     expect(
