@@ -2,7 +2,7 @@
  *
  * A line is 64 bytes that 1 to 200 nodes share. A node requests it, waits for its turn, reads and writes it, and
  * releases it: lock and bytes are handed to the oldest request. No request is overtaken; a thread may be (BUSY, and
- * bursts of LOCKS). What nodes do to a line is proved. Waits, wakes, locks, tasks, notifications and memory are C,
+ * bursts of LOCKS). What calls do to a line is proved. Waits, wakes, locks, tasks, notifications and memory are C,
  * tested and not proved.
  *
  * EXAMPLE

@@ -246,7 +246,8 @@ pub fn version() -> u32 {
 /// A node of a line. If it is dropped, it withdraws its request, or releases the line that it holds.
 pub struct Node(UnsafeCell<Handle>);
 
-// SAFETY: the library's proof covers that a handle may go to another thread. No call takes a `&Node`, so nothing is shared.
+// SAFETY: a handle may go to another thread (qolb.h, WHAT YOU MUST KEEP). Of the proved part that is proved, as `send` of `Handle` in crates/qolb_nodes;
+// the C around it keeps what it has of a node in the node's block. No call takes a `&Node`, so nothing is shared.
 unsafe impl Send for Node {}
 
 /// Opens a line and returns its nodes in order.
