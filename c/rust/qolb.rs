@@ -631,7 +631,8 @@ impl RawQolb {
 
     /// A lock with bursts, for threads that enter again and again: of the kind of the default lock, with `seats` seats.
     ///
-    /// With `p` threads before it, a waiter is overtaken by at most `(p + 1) * (burst - 1)` turns of later calls. A burst of 0 is strict order.
+    /// With `p` threads before it, a waiter is overtaken by at most `(p + 1) * (burst - 1)` turns of later calls (tested, not proved). A burst of 0 is strict
+    /// order.
     ///
     /// # Panics
     ///
