@@ -52,7 +52,7 @@ def fastest():
             for count in threads:
                 of = {line.split()[0]: found[line + behind, count] for line in LINES}
                 least = min(of, key=lambda line: float(of[line]["median"]))
-                near = [line for line in of if float(of[line]["low"]) <= float(of[least]["high"])]
+                near = [line for line in sorted(of, key=lambda line: float(of[line]["median"])) if float(of[line]["low"]) <= float(of[least]["high"])]
                 cells.append("any" if len(near) == len(LINES) else ", ".join(near))
             rows.append([caller + machine, *cells])
     return table(["Threads", *threads], rows)
@@ -162,11 +162,11 @@ def alone():
 
 
 def to_mcs():
-    """The least and the most time of a round as a ratio to that of MCS, over all numbers of threads: ticket line, ring, link line."""
+    """The least and the most threads, and time of a round as a ratio to that of MCS: ticket line, ring, link line."""
     found = medians()
-    threads = {count for _, count in found}
+    threads = sorted({count for _, count in found}, key=int)
     ratios = [[found[line, count] / found["MCS", count] for count in threads] for line in ("ticket line", "ring", "link line")]
-    return tuple(f"{of(each):.2f}" for each in ratios for of in (min, max))
+    return threads[0], threads[-1], *(f"{of(each):.2f}" for each in ratios for of in (min, max))
 
 
 def long_turns():
@@ -193,7 +193,7 @@ def tests_with_a_proof():
 TABLES = {"rounds": rounds, "fastest": fastest, "waits": waits, "memory": memory, "choice": choice}
 # Of each sentence with figures: its page, the sentence with `{}` for each, and the figures.
 RATIOS = [
-    ("README.md", "the ticket line takes {} to {} times as long as MCS, the ring {} to {}, the link line {} to {}", to_mcs),
+    ("README.md", "with {} to {} threads: the ticket line takes {} to {} times as long as MCS, the ring {} to {}, the link line {} to {}", to_mcs),
     ("README.md", "for two nodes {} and {} as a link line, {} and {} as a ticket line, {} and {} as a ring", for_two),
     ("README.md", "With one thread a turn takes {} to {} ns, from C {} to {}, MCS's {}", alone),
     ("README.md", "runs, without a proof, all tests but {},", tests_with_a_proof),

@@ -1,9 +1,9 @@
 /* QOLB for C and C++: a queue lock that hands over 64 bytes with the lock.
  *
  * A line is 64 bytes that 1 to 200 nodes share. A node requests it, waits for its turn, reads and writes it, and
- * releases it: lock and bytes are handed to the oldest request. No request is overtaken; a thread may be (BUSY, and
- * bursts of LOCKS). What calls do to a line is proved. Waits, wakes, locks, tasks, notifications and memory are C,
- * tested and not proved.
+ * releases it: lock and bytes are handed to the oldest request. No request is overtaken; a thread may be (BUSY;
+ * bursts, in LOCKS). What calls do to a line is proved. Waits, wakes, locks, tasks, notifications and memory are C,
+ * tested, not proved.
  *
  * EXAMPLE
  *
@@ -80,7 +80,7 @@
  * Only the thread that entered may leave. A thread that enters a lock which it holds is told MISUSE. A thread that ends
  * while it holds a lock releases nothing, and all others wait; qolb_lock_holder returns its number, on Linux gettid's.
  *
- * While there is no memory, each use is answered QOLB_NO_MEMORY.
+ * While there is no memory to open it, each use is answered QOLB_NO_MEMORY.
  *
  * The holder may use the line's 64 bytes too: qolb_lock_turn lends it the node, to read and to write the line. Every
  * other call on that node is misuse, and after the holder has left, all are.
