@@ -4,7 +4,7 @@ use Rattle.std.proofs.lemmas.List.Sums.{position_or_len_is}
 use Rattle.std.specs.List.{slice_split}
 use Rattle.qolb_script.specs.Text.{words_of}
 use Rattle.qolb_script.proofs.TextLemmas.{no_words, first_word, words_after}
-use Rattle.qolb_script.proofs.words.WordsIterator.next.Goals as goal
+use Rattle.qolb_script.proofs.text.WordsIterator.next.Goals as goal
 
 pub returns-in_err-start-clause-steps : goal.returns-in_err-start-clause-steps
 returns-in_err-start-clause-steps c =

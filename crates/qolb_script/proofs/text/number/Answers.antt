@@ -4,8 +4,8 @@ use Rattle.std.specs.Str.{all_ascii_digits}
 use Rattle.std.proofs.lemmas.Iterator.{YieldsList-from_slice}
 use Rattle.std.proofs.lemmas.Iterator.Search.{all_from_yields_List}
 use Rattle.qolb_script.proofs.NumberLemmas.{all_digits, number_of-long, number_of-other, number_parsed, text_read, text_same}
-use Rattle.qolb_script.proofs.number.number.Goals as goal
-use Rattle.qolb_script.proofs.number.number.Goals.{After-ok, then-word-gt-MAX_DIGITS-via-then-word-gt-MAX_DIGITS, then-word-gt-MAX_DIGITS-via-else-word-gt-MAX_DIGITS+then-not-all}
+use Rattle.qolb_script.proofs.text.number.Goals as goal
+use Rattle.qolb_script.proofs.text.number.Goals.{After-ok, then-word-gt-MAX_DIGITS-via-then-word-gt-MAX_DIGITS, then-word-gt-MAX_DIGITS-via-else-word-gt-MAX_DIGITS+then-not-all}
 
 pub returns-then-word-gt-MAX_DIGITS : goal.returns-then-word-gt-MAX_DIGITS
 returns-then-word-gt-MAX_DIGITS c = elim c.then-word-gt-MAX_DIGITS.branch [

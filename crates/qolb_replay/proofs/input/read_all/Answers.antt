@@ -2,7 +2,7 @@ use Rattle.std.proofs.Common.{rules, ◌≡◌, [], ◌++◌, ◌+◌, take, ari
 use Rattle.std.proofs.lemmas.List.{length-append, length-take-le, append-nil}
 use Rattle.std.specs.Io.KnownBytes.{Consumes}
 use Rattle.qolb_replay.proofs.InTurn.{consumes_none, consumes_more, consumes_all, consumes_long}
-use Rattle.qolb_replay.proofs.input.read_input.Goals as goal
+use Rattle.qolb_replay.proofs.input.read_all.Goals as goal
 
 pub loop-turn-init : goal.loop-turn-init
 loop-turn-init g c = record {
