@@ -1,0 +1,11 @@
+mod Words
+mod Tally
+mod Base
+mod Looking
+mod Entering
+mod Asking
+mod FirstState
+mod Marks
+mod Grants
+mod OuterWord
+mod Meeting
