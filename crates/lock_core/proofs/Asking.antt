@@ -81,7 +81,7 @@ take_allowed {fl} id slots me fresh s r sized at low = (
         tail_seen = record { probed = let k = f.tail_seen.probed in omega arith; next_is_at_turn = λ one e. absurd (let k = f.tail_seen.probed in omega arith) };
         asks = record { stamped = λ _. sym (put_here r.g.stamp r.asked (1 - shut_of r.g.outer) r.asked refl); early = omega arith; open_then = λ _ _. refl; shut_then = λ _ n _. (let z : shut_of r.g.outer < 2 = omega arith in dite (ℕ_discrete (shut_of r.g.outer) 1) (λ e. e) (λ ne. absurd (n (omega arith)))); nobody_behind = λ e. absurd (omega arith) };
       }),
-  (((refl, refl, (let k = known s r id v at in let m = more.0 in omega arith), heard s r id v at), ((refl, refl, refl), refl, (refl, refl), (refl, refl), (refl, refl), (λ _. refl))), (λ timely. ((refl, r.tail, refl), refl, (let k = (fits s r id v at (let m = more.0 in omega arith)).knows in omega arith), first_low timely, heard s r id v at, (fits s r id v at (let m = more.0 in omega arith)).outer.dated))),
+  (((refl, refl, (let k = known s r id v at in let m = more.0 in omega arith), heard s r id v at), ((refl, refl, refl), refl, (refl, refl), (refl, refl), (refl, refl), (λ _. refl))), (λ timely. ((refl, r.tail, refl), ((let k = (fits s r id v at (let m = more.0 in omega arith)).knows in omega arith), first_low timely, heard s r id v at, refl, (fits s r id v at (let m = more.0 in omega arith)).outer.dated)))),
 )
   where
     v : View
@@ -254,7 +254,7 @@ try_allowed {fl} id slots old new me new_is has s r sized at low = dite (ℕ_dis
                 tail_seen = record { probed = let k = f.tail_seen.probed in omega arith; next_is_at_turn = λ one e. absurd (let k = f.tail_seen.probed in omega arith) };
                 asks = record { stamped = λ _. sym (put_here r.g.stamp r.asked (1 - shut_of r.g.outer) r.asked refl); early = omega arith; open_then = λ w. absurd (⊎_elim (λ e. cc) (λ e. cc) w); shut_then = λ w. absurd (⊎_elim (λ e. cc) (λ e. cc) w); nobody_behind = λ e. absurd (omega arith) };
               }),
-          (((refl, refl, (let k = known s r id v at in omega arith), heard s r id v at), ((refl, refl, refl), refl, (refl, refl), (refl, refl), (refl, refl), (λ _. refl))), (λ timely. ((λ _. (refl, r.tail, refl, refl, refl, (let k = (fits s r id v at (omega arith)).knows in let q = (r.granted (omega arith)).within in omega arith), omega arith)), (λ ne. absurd (ne is))))),
+          (((refl, refl, (let k = known s r id v at in omega arith), heard s r id v at), ((refl, refl, refl), refl, (refl, refl), (refl, refl), (refl, refl), (λ _. refl))), (λ timely. ((λ _. ((refl, r.tail, refl, refl), ((let k = (fits s r id v at (omega arith)).knows in let q = (r.granted (omega arith)).within in omega arith), (omega arith), heard s r id v at, refl, (fits s r id v at (omega arith)).outer.dated))), (λ ne. absurd (ne is))))),
         )
 
     -- so many tickets were taken meanwhile that the tail has come to the same word
@@ -275,7 +275,7 @@ try_allowed {fl} id slots old new me new_is has s r sized at low = dite (ℕ_dis
       keeps,
       tt,
       probed s r id v at 16 x (omega arith) (ap (λ b. either b new tail) (ne_eqb tail old ne)) v.ticket 0 v.tail_seen v.next_is_at_turn (λ le. (had le).0) (λ le. omega arith) (λ le. let f = fits s r id v at le in (f.tail_seen.probed, f.tail_seen.next_is_at_turn)),
-      (((refl, refl, known s r id v at, (omega arith)), ((refl, refl, refl), refl, (refl, refl), (refl, refl), (refl, refl), (λ _. refl))), (λ timely. ((λ is. absurd (ne is)), (λ _. (refl, refl))))),
+      (((refl, refl, known s r id v at, (omega arith)), ((refl, refl, refl), refl, (refl, refl), (refl, refl), (refl, refl), (λ _. refl))), (λ timely. ((λ is. absurd (ne is)), (λ _. ((refl, refl), refl))))),
     )
 
 -- the next ticket is taken if it is the one that was read; it waits, or is at its turn
@@ -329,7 +329,7 @@ draw_allowed {fl} id slots old new me new_is has s r sized at low = dite (ℕ_di
           (
             ((refl, refl, (let k = known s r id v at in omega arith), heard s r id v at), ((refl, refl, refl), refl, (refl, refl), (refl, refl), (refl, refl), (λ _. refl))),
             (λ timely. (
-              (λ _. (r.tail, same_, refl, refl, refl, (let k = (fits s r id v at (omega arith)).knows in let q = (r.granted (omega arith)).within in omega arith), omega arith, heard s r id v at, (fits s r id v at (omega arith)).outer.dated, (λ _. (refl, refl)), (λ none_. absurd (omega arith)))),
+              (λ _. (r.tail, same_, refl, refl, ((let k = (fits s r id v at (omega arith)).knows in let q = (r.granted (omega arith)).within in omega arith), (omega arith), heard s r id v at, refl, (fits s r id v at (omega arith)).outer.dated), (λ _. (refl, refl)), (λ none_. absurd (omega arith)))),
               (λ ne. absurd (ne is)),
             )),
           ),
@@ -362,7 +362,7 @@ draw_allowed {fl} id slots old new me new_is has s r sized at low = dite (ℕ_di
           (
             ((refl, refl, (let k = known s r id v at in let m = more.0 in omega arith), heard s r id v at), ((refl, refl, refl), refl, (refl, refl), (refl, refl), (refl, refl), (λ _. refl))),
             (λ timely. (
-              (λ _. let m = more.0 in let le : r.most_open ≤ limit = omega arith in let f = fits s r id v at le in (r.tail, same_, refl, refl, refl, (let k = f.knows in omega arith), done_low le, heard s r id v at, f.outer.dated, (λ one. absurd (unripe one)), (λ _. refl))),
+              (λ _. let m = more.0 in let le : r.most_open ≤ limit = omega arith in let f = fits s r id v at le in (r.tail, same_, refl, refl, ((let k = f.knows in omega arith), done_low le, heard s r id v at, refl, f.outer.dated), (λ one. absurd (unripe one)), (λ _. refl))),
               (λ ne. absurd (ne is)),
             )),
           ),
@@ -394,5 +394,5 @@ draw_allowed {fl} id slots old new me new_is has s r sized at low = dite (ℕ_di
       keeps,
       tt,
       probed s r id v at 16 x (omega arith) (ap (λ b. either b new tail) (ne_eqb tail old ne)) v.ticket 0 v.tail_seen v.next_is_at_turn (λ le. (had le).0) (λ le. omega arith) (λ le. let f = fits s r id v at le in (f.tail_seen.probed, f.tail_seen.next_is_at_turn)),
-      (((refl, refl, known s r id v at, (omega arith)), ((refl, refl, refl), refl, (refl, refl), (refl, refl), (refl, refl), (λ _. refl))), (λ timely. ((λ is. absurd (ne is)), (λ _. (refl, refl))))),
+      (((refl, refl, known s r id v at, (omega arith)), ((refl, refl, refl), refl, (refl, refl), (refl, refl), (refl, refl), (λ _. refl))), (λ timely. ((λ is. absurd (ne is)), (λ _. ((refl, refl), refl))))),
     )

@@ -9,3 +9,4 @@ mod Marks
 mod Grants
 mod OuterWord
 mod Meeting
+mod Noting

@@ -251,7 +251,7 @@ call_allowed {fl} id slots old new me half s r sized at low =
             asks = asks_kept r.asked r.g (record r.g { outer = x }) v v.nobody_behind v.phase refl (λ z. shut_ ∙ z) (λ e. e) f.asks;
             others = λ j b ne there. asks_kept r.asked r.g (record r.g { outer = x }) b b.nobody_behind b.phase refl (λ z. shut_ ∙ z) (λ e. e) (o.each j b there).asks;
           }),
-      refl,
+      (refl, refl),
     )
 
 pub go_in_allowed : {fl : ℕ} (id slots old new : ℕ) (me : Me ℕ View) → 0 < fl → me.0.max_newcomers ≡ fl → old / 4 % 8 ≡ 0 → new ≡ (old + 36) % 18446744073709551616 → (Timely me.0 → IsIdle me.0) → Allows (Tickets fl) slots id me 0 (λ n. either (eqb n old) new n) (goes_in (step slots 0 old new none) me)

@@ -1,12 +1,31 @@
 -- What each word step tells.
-use Rattle.std.specs.Prelude.{◌≡◌, ◌≢◌, ℕ, ◌+◌, ◌-◌, ◌/◌, ◌%◌, ◌<◌, ◌≤◌}
+use Rattle.std.specs.Prelude.{◌==◌, ◌≡◌, ◌≢◌, ℕ, ◌+◌, ◌-◌, ◌/◌, ◌%◌, ◌<◌, ◌≤◌}
 use Rattle.std.specs.Int.{bit_at}
+use prog.Atomic.{either}
 use Rattle.atomic_table.specs.Table.{Step, Me}
 use Rattle.lock_core.specs.declared.view.View.{View}
 use Rattle.lock_core.specs.declared.view.Phase.{Phase}
 use Rattle.lock_core.specs.declared.view.Phase.TheVariants.{Idle, Queued, Asleep, AtTurn, Passing, HeadInside}
-use Rattle.lock_core.specs.Layout.{asleep_of, bit_of, count_of, rounds, rounds_of, shut_of, to_go}
-use Rattle.lock_core.specs.Views.{GrantedToNobodyAsleep, HasGrantedNext, HasTurn, IsIdle, IsInside, IsNewcomersTurn, IsOutside, IsOvertakenInBounds, IsQueued, Kept, KnowsShut, LeftQuietly, SameKnown, SameNewcomerTurn, SameSleepAtOuter, SameTurn, ServedOpen, ServedShut, SleepsAtOuter, TakesOuter, Timely}
+use Rattle.lock_core.specs.Layout.{asleep_of, bit_of, count_of, rounds_of, shut_of, to_go}
+use Rattle.lock_core.specs.Looks.{looked}
+use Rattle.lock_core.specs.Views.{OnlyLooks, AsksAfter, IsAtTurn, GrantedToNobodyAsleep, HasGrantedNext, HasTurn, IsIdle, IsInside, IsNewcomersTurn, IsOutside, IsOvertakenInBounds, IsQueued, Kept, KnowsShut, LeftQuietly, SameKnown, SameNewcomerTurn, SameSleepAtOuter, SameTurn, ServedOpen, ServedShut, SleepsAtOuter, TakesOuter, Timely}
+
+-- the word that a step leaves: after a load, a sum, a difference (of 0 too), an exchange where the word was the expected
+abbrev pub kept_word : Step ℕ → ℕ → ℕ
+kept_word st n = n
+
+abbrev pub added_word : Step ℕ → ℕ → ℕ
+added_word st n = (n + st.first) % 18446744073709551616
+
+abbrev pub subtracted_word : Step ℕ → ℕ → ℕ
+subtracted_word st n = (n + (18446744073709551616 - st.first)) % 18446744073709551616
+
+abbrev pub exchanged_word : Step ℕ → ℕ → ℕ
+exchanged_word st n = either (n == st.first) st.second n
+
+-- each step is counted, and what it found is noted, beside what it tells
+abbrev pub noting : (Step ℕ → ℕ → ℕ) → (Step ℕ → Me ℕ View → ℕ → Me ℕ View → Type 0) → Step ℕ → Me ℕ View → ℕ → Me ℕ View → Type 0
+noting left tells st m n m' = (m'.0.looks ≡ looked st n (left st n) m.0.looks) × tells st m n m'
 
 -- what each step tells
 abbrev pub comes : Step ℕ → Me ℕ View → ℕ → Me ℕ View → Type 0
@@ -19,7 +38,7 @@ abbrev pub same : Me ℕ View → Me ℕ View → Type 0
 same m m' = more m m' × SameTurn m.0 m'.0
 
 abbrev pub draws : Step ℕ → Me ℕ View → ℕ → Me ℕ View → Type 0
-draws st m n m' = same m m' × (Timely m'.0 → IsQueued n m'.0 × (m'.0.newcomers_at_ask ≡ m'.0.newcomers_seen) × (m.0.ended ≤ m'.0.first_pending) × (m'.0.first_pending ≤ m'.0.ticket) × (m.0.newcomers_seen ≤ m'.0.newcomers_at_ask) × (m.0.epoch ≤ m'.0.asked_in_epoch))
+draws st m n m' = same m m' × (Timely m'.0 → IsQueued n m'.0 × AsksAfter m.0 m'.0)
 
 -- it reads how many tickets were taken; at its turn it so learns whether no request came after its own
 abbrev pub reads : Step ℕ → Me ℕ View → ℕ → Me ℕ View → Type 0
@@ -31,11 +50,11 @@ abbrev pub reads_cell : Step ℕ → Me ℕ View → ℕ → Me ℕ View → Typ
 reads_cell st m n m' = same m m' × (Timely m'.0 → IsIdle m'.0 × (m'.0.tail_seen ≡ m.0.tail_seen) × (to_go n m.0.tail_seen ≡ 0 → m'.0.next_is_at_turn ≡ 1) × (0 < to_go n m.0.tail_seen → m'.0.next_is_at_turn ≡ 0) × (m'.0.ticket ≡ m.0.tail_seen) × (m.0.tail_seen / 4 + 1 ≤ m'.0.rounds_seen + to_go n m.0.tail_seen) × (m'.0.ended ≡ m.0.ended))
 
 abbrev pub draws_granted : Step ℕ → Me ℕ View → ℕ → Me ℕ View → Type 0
-draws_granted st m n m' = same m m' × (Timely m'.0 → (n ≡ st.first → (m'.0.phase ≡ AtTurn) × (n ≡ m'.0.ticket % 18446744073709551616) × (m'.0.ended ≡ m'.0.ticket) × (m'.0.counted ≡ 0) × (m'.0.newcomers_at_ask ≡ m'.0.newcomers_seen) × (m.0.ended ≤ m'.0.first_pending) × (m'.0.first_pending ≤ m'.0.ticket)) × (n ≢ st.first → IsIdle m'.0))
+draws_granted st m n m' = same m m' × (Timely m'.0 → (n ≡ st.first → IsAtTurn n m'.0 × AsksAfter m.0 m'.0) × (n ≢ st.first → IsIdle m'.0 × (m'.0.tail_seen ≡ m.0.tail_seen)))
 
 -- the same, if it was found near its turn: it waits, or is at its turn already
 abbrev pub draws_near : Step ℕ → Me ℕ View → ℕ → Me ℕ View → Type 0
-draws_near st m n m' = same m m' × (Timely m'.0 → (n ≡ st.first → (n ≡ m'.0.ticket % 18446744073709551616) × (m'.0.ticket ≡ m.0.tail_seen) × (m'.0.rounds_seen ≡ m.0.rounds_seen) × (m'.0.counted ≡ 0) × (m'.0.newcomers_at_ask ≡ m'.0.newcomers_seen) × (m.0.ended ≤ m'.0.first_pending) × (m'.0.first_pending ≤ m'.0.ticket) × (m.0.newcomers_seen ≤ m'.0.newcomers_at_ask) × (m.0.epoch ≤ m'.0.asked_in_epoch) × (m.0.next_is_at_turn ≡ 1 → (m'.0.phase ≡ AtTurn) × (m'.0.ended ≡ m'.0.ticket)) × (m.0.next_is_at_turn ≡ 0 → m'.0.phase ≡ Queued)) × (n ≢ st.first → IsIdle m'.0))
+draws_near st m n m' = same m m' × (Timely m'.0 → (n ≡ st.first → (n ≡ m'.0.ticket % 18446744073709551616) × (m'.0.ticket ≡ m.0.tail_seen) × (m'.0.rounds_seen ≡ m.0.rounds_seen) × (m'.0.counted ≡ 0) × AsksAfter m.0 m'.0 × (m.0.next_is_at_turn ≡ 1 → (m'.0.phase ≡ AtTurn) × (m'.0.ended ≡ m'.0.ticket)) × (m.0.next_is_at_turn ≡ 0 → m'.0.phase ≡ Queued)) × (n ≢ st.first → IsIdle m'.0 × (m'.0.tail_seen ≡ m.0.tail_seen)))
 
 -- a waiter's view after a look: at its turn, counted so often, or it waits on in the phase p
 abbrev pub finds : ℕ → Phase → ℕ → View → ℕ → View → Type 0
@@ -88,5 +107,9 @@ reopens st m n m' = more m m' × Kept m.0 m'.0 × SameSleepAtOuter m.0 m'.0 × S
 abbrev pub announces_head_sleep : Step ℕ → Me ℕ View → ℕ → Me ℕ View → Type 0
 announces_head_sleep st m n m' = more m m' × Kept m.0 m'.0 × SameKnown m.0 m'.0 × (m'.0.door ≡ m.0.door) × (n ≡ st.first → SleepsAtOuter m'.0) × (Timely m'.0 → n ≡ st.first → (m.0.takes_seen ≤ m'.0.slept_in_take) × (m'.0.takes_seen ≡ m'.0.slept_in_take))
 
+-- nothing but what it found
+abbrev pub reads_outer : Step ℕ → Me ℕ View → ℕ → Me ℕ View → Type 0
+reads_outer st m n m' = (m'.1 ≡ m.1) × OnlyLooks m.0 m'.0
+
 abbrev pub requests_handoff : Step ℕ → Me ℕ View → ℕ → Me ℕ View → Type 0
-requests_handoff st m n m' = m' ≡ m
+requests_handoff st m n m' = (m'.1 ≡ m.1) × OnlyLooks m.0 m'.0

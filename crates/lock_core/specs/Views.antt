@@ -19,16 +19,28 @@ Timely v = v.most_open ≤ limit
 abbrev pub max_newcomers_of : ℕ → ℕ
 max_newcomers_of burst = burst - 1
 
+abbrev pub view_of : Seat ℕ View → View
+view_of seat = seat.me.0
+
+-- what holds of a caller at a lock that is timely
+abbrev pub InTime : Seat ℕ View → (View → Type 0) → Type 0
+InTime seat P = Timely (view_of seat) → P (view_of seat)
+
+-- what holds of a caller before and after a call, at a lock that is timely yet
+abbrev pub InTimeFrom : Seat ℕ View → Seat ℕ View → (View → View → Type 0) → Type 0
+InTimeFrom old new R = Timely (view_of new) → R (view_of old) (view_of new)
+
+-- it has seen as much load as before, or more
+abbrev pub LoadGrows : Seat ℕ View → Seat ℕ View → Type 0
+LoadGrows old new = (view_of old).most_open ≤ (view_of new).most_open
+
 -- it waits in this phase
 abbrev pub Awaits : Phase → Type 0
 Awaits p = (p ≡ Queued) ⊎ (p ≡ Asleep)
 
 -- a caller that knows nothing
 abbrev pub initial_view : ℕ → View
-initial_view c = record { max_newcomers = c; most_open = 0; ended = 0; rounds_seen = 0; ticket = 0; phase = Idle; counted = 0; granted = 0; told_nobody = 0; newcomers_at_ask = 0; first_pending = 0; newcomers_seen = 0; newcomer_turn = 0; heads_before = 0; place_after_head = 0; inside = 0; door = 0; knows_shut = 0; epoch = 0; takes_seen = 0; last_take = 0; left_quietly = 0; slept_in_take = 0; sleeps_at_outer = 0; tail_seen = 0; next_is_at_turn = 0; asked_open = 0; asked_in_epoch = 0; nobody_behind = 0 }
-
-abbrev pub view_of : Seat ℕ View → View
-view_of seat = seat.me.0
+initial_view c = record { max_newcomers = c; most_open = 0; ended = 0; rounds_seen = 0; ticket = 0; phase = Idle; counted = 0; granted = 0; told_nobody = 0; newcomers_at_ask = 0; first_pending = 0; newcomers_seen = 0; newcomer_turn = 0; heads_before = 0; place_after_head = 0; inside = 0; door = 0; knows_shut = 0; epoch = 0; takes_seen = 0; last_take = 0; left_quietly = 0; slept_in_take = 0; sleeps_at_outer = 0; tail_seen = 0; next_is_at_turn = 0; asked_open = 0; asked_in_epoch = 0; nobody_behind = 0; looks = record { steps = 0; word = 0; found = 0; left = 0; word_before = 0; found_before = 0 } }
 
 -- a seat of the table, and of a lock with this bound of bursts
 abbrev pub IsSeatOf : TableId → ℕ → Seat ℕ View → Type 0
@@ -141,3 +153,31 @@ SameRequest v w = (w.ticket ≡ v.ticket) × (w.newcomers_at_ask ≡ v.newcomers
 -- it granted the ticket after this one
 abbrev pub GrantedAfter : ℕ → View → Type 0
 GrantedAfter ticket v = (ticket + 1) % 18446744073709551616 ≡ v.granted % 18446744073709551616
+
+-- its request is behind each one that the caller knew of, and in no earlier epoch
+abbrev pub AsksAfter : View → View → Type 0
+AsksAfter v w = (v.ended ≤ w.first_pending) × (w.first_pending ≤ w.ticket) × (v.newcomers_seen ≤ w.newcomers_at_ask) × (w.newcomers_at_ask ≡ w.newcomers_seen) × (v.epoch ≤ w.asked_in_epoch)
+
+-- it goes in behind each newcomer and each take of the outer word that it knew of, and in no earlier epoch
+abbrev pub GoesInAfter : View → View → Type 0
+GoesInAfter v w = (v.newcomers_seen < w.newcomer_turn) × TakesOuter v w × (v.epoch ≤ w.epoch)
+
+-- what it knows of the lock is of no earlier epoch
+abbrev pub IsLaterEpoch : View → View → Type 0
+IsLaterEpoch v w = v.epoch ≤ w.epoch
+
+-- it was told the same of the lock being open or shut
+abbrev pub SameDoor : View → View → Type 0
+SameDoor v w = w.door ≡ v.door
+
+-- its last take of the outer word is the one that it leaves
+abbrev pub LeavesSameTake : Seat ℕ View → Seat ℕ View → Type 0
+LeavesSameTake old new = ((view_of new).last_take ≡ (view_of old).last_take) × InTimeFrom old new (λ v w. v.takes_seen ≤ w.last_take)
+
+-- its sleep at the outer word is in a take no earlier than those that it knew of, the last that it knows of now
+abbrev pub SleepsInTake : View → View → Type 0
+SleepsInTake v w = (v.takes_seen ≤ w.slept_in_take) × (w.takes_seen ≡ w.slept_in_take)
+
+-- nothing changed but what its steps found
+abbrev pub OnlyLooks : View → View → Type 0
+OnlyLooks v w = w ≡ record v { looks = w.looks }

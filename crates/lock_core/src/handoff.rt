@@ -1,66 +1,85 @@
-//! The one at its turn passes that on.
+//! The one at its turn grants the next ticket, and passes withdrawn requests.
 ghost use Rattle.std.specs.Prelude.{◌≡◌, ◌+◌, ◌%◌, ◌^◌, ◌≤◌, true, false};
-ghost use Rattle.lock_core.specs.Views.{Timely, view_of, IsSeatOf, IsIdle, IsAtTurn, IsPassing, HasGrantedNext, GrantedToNobodyAsleep, SameTurn, HasTurnOf, GrantedAfter};
+ghost use Rattle.lock_core.specs.Layout.{IsLockTable};
+ghost use Rattle.lock_core.specs.Views.{view_of, InTime, InTimeFrom, LoadGrows, IsSeatOf, IsIdle, IsAtTurn, IsPassing, HasTurnOf, HasGrantedNext, GrantedAfter, GrantedToNobodyAsleep, SameTurn};
+ghost use Rattle.lock_core.specs.Looks.{StepsLater, StepsAtMost};
+ghost use Rattle.lock_core.specs.Answers.{IfGranted, IfUnfinished};
 
-use crate::layout::{ROUND, cell_word, bit, is_withdrawn, sleepers};
-use crate::rule::{Grant, ClearWithdrawn, SharedTable, TicketSeat};
+use crate::layout::{MAX_PASSED, ROUND, bit, cell_word, is_withdrawn, sleepers};
+use crate::rule::{ClearWithdrawn, Grant, SharedTable, TicketSeat};
 
-/// Ends the turn, and grants the next ticket. Returns `true` if that was withdrawn: then the caller has its turn, and its bit is to be
-/// cleared. The second answer is how many sleepers were counted at its cell.
-#[inline(always)]
-pub fn grant(table: &SharedTable, seat: &mut TicketSeat, ticket: u64) -> (bool, u64)
-    requires table { table.now.table_id.words ≡ 21 }
-    requires seat { IsSeatOf table.now.table_id table.now.key seat.old }
-    requires has { Timely (view_of seat.old) → HasTurnOf ticket (view_of seat.old) }
-    ensures seat { IsSeatOf table.now.table_id table.now.key seat.new }
-    ensures turn { SameTurn (view_of seat.old) (view_of seat.new) }
-    ensures load { (view_of seat.old).most_open ≤ (view_of seat.new).most_open }
-    ensures left { result.0 ≡ false → Timely (view_of seat.new) → HasGrantedNext (view_of seat.old) (view_of seat.new) }
-    ensures granted { result.0 ≡ false → Timely (view_of seat.new) → GrantedAfter ticket (view_of seat.new) }
-    ensures nobody { result.0 ≡ false → result.1 ≡ 0 → Timely (view_of seat.new) → GrantedToNobodyAsleep (view_of seat.new) }
-    ensures passes { result.0 ≡ true → Timely (view_of seat.new) → IsPassing ((ticket + 1) % 2 ^ 64) (view_of seat.new) }
-{
-    let next = ticket.wrapping_add(1);
-    let found = table.fetch_add::<Grant>(seat, cell_word(next), ROUND);
-    (is_withdrawn(found, next), sleepers(found))
+/// What `release` did.
+#[derive(Clone, Copy, Debug, PartialEq, Eq)]
+pub enum ReleaseResult {
+    /// The next ticket is granted, and its cell counted so many sleepers: if any, they are to be woken.
+    Granted { sleepers: u64 },
+    /// It passed 64 withdrawn requests, and the turn is its caller's yet: it is to be called again.
+    Unfinished,
 }
 
-/// Clears the bit of a request at its turn.
+/// Ends the turn, and grants the next ticket. `true`: that request is withdrawn, so the caller has its turn, and is to
+/// clear its bit. The second answer is how many sleepers its cell counted.
 #[inline(always)]
-pub fn clear_withdrawn(table: &SharedTable, seat: &mut TicketSeat, ticket: u64)
-    requires table { table.now.table_id.words ≡ 21 }
+fn grant(table: &SharedTable, seat: &mut TicketSeat, ticket: u64) -> (bool, u64)
+    requires table { IsLockTable table.now.table_id }
     requires seat { IsSeatOf table.now.table_id table.now.key seat.old }
-    requires passes { Timely (view_of seat.old) → IsPassing ticket (view_of seat.old) }
+    requires has { InTime seat.old (HasTurnOf ticket) }
     ensures seat { IsSeatOf table.now.table_id table.now.key seat.new }
+    ensures load { LoadGrows seat.old seat.new }
+    ensures steps { StepsLater 1 seat.old seat.new }
     ensures turn { SameTurn (view_of seat.old) (view_of seat.new) }
-    ensures load { (view_of seat.old).most_open ≤ (view_of seat.new).most_open }
-    ensures has { Timely (view_of seat.new) → IsAtTurn ticket (view_of seat.new) }
+    ensures next { result.0 ≡ false → InTimeFrom seat.old seat.new HasGrantedNext }
+    ensures granted { result.0 ≡ false → InTime seat.new (GrantedAfter ticket) }
+    ensures nobody { result.0 ≡ false → result.1 ≡ 0 → InTime seat.new GrantedToNobodyAsleep }
+    ensures passes { result.0 ≡ true → InTime seat.new (IsPassing ((ticket + 1) % 2 ^ 64)) }
+{
+    let next = ticket.wrapping_add(1);
+    let cell = table.fetch_add::<Grant>(seat, cell_word(next), ROUND);
+    (is_withdrawn(cell, next), sleepers(cell))
+}
+
+/// Clears the bit of a withdrawn request whose turn the caller has.
+#[inline(always)]
+pub(crate) fn clear_withdrawn(table: &SharedTable, seat: &mut TicketSeat, ticket: u64)
+    requires table { IsLockTable table.now.table_id }
+    requires seat { IsSeatOf table.now.table_id table.now.key seat.old }
+    requires passes { InTime seat.old (IsPassing ticket) }
+    ensures seat { IsSeatOf table.now.table_id table.now.key seat.new }
+    ensures load { LoadGrows seat.old seat.new }
+    ensures steps { StepsLater 1 seat.old seat.new }
+    ensures turn { SameTurn (view_of seat.old) (view_of seat.new) }
+    ensures at_turn { InTime seat.new (IsAtTurn ticket) }
 {
     table.fetch_sub::<ClearWithdrawn>(seat, cell_word(ticket), bit(ticket));
 }
 
-/// Ends the turn, passes withdrawn requests, and grants the first one that is not withdrawn. A head that holds the outer word grants so as soon as it
-/// is in, and holds that on. Returns `true` if it did, and the sleepers that were counted at its cell; else it has passed 1,000 and has the
-/// turn of the last, whose ticket is in `ticket`.
-pub fn release(table: &SharedTable, seat: &mut TicketSeat, ticket: &mut u64) -> (bool, u64)
-    requires table { table.now.table_id.words ≡ 21 }
+/// Ends the turn of `ticket`, passes withdrawn requests, and grants the first ticket that is not withdrawn: two word
+/// steps for each that it passes, at most 64, and one for the grant. That is the last access to the lock's memory.
+/// Afterwards `ticket` is the last whose turn has ended, or, if unfinished, the one whose turn the caller has. A queue
+/// head that is inside stays inside.
+pub fn release(table: &SharedTable, seat: &mut TicketSeat, ticket: &mut u64) -> ReleaseResult
+    requires table { IsLockTable table.now.table_id }
     requires seat { IsSeatOf table.now.table_id table.now.key seat.old }
-    requires has { Timely (view_of seat.old) → HasTurnOf ticket.old (view_of seat.old) }
+    requires has { InTime seat.old (HasTurnOf ticket.old) }
     ensures seat { IsSeatOf table.now.table_id table.now.key seat.new }
-    ensures load { (view_of seat.old).most_open ≤ (view_of seat.new).most_open }
+    ensures load { LoadGrows seat.old seat.new }
+    ensures steps { StepsAtMost 129 seat.old seat.new }
     ensures turn { SameTurn (view_of seat.old) (view_of seat.new) }
-    ensures left { result.0 ≡ true → Timely (view_of seat.new) → IsIdle (view_of seat.new) }
-    ensures nobody { result.0 ≡ true → result.1 ≡ 0 → Timely (view_of seat.new) → GrantedToNobodyAsleep (view_of seat.new) }
-    ensures granted { result.0 ≡ true → Timely (view_of seat.new) → GrantedAfter ticket.new (view_of seat.new) }
-    ensures has { result.0 ≡ false → Timely (view_of seat.new) → HasTurnOf ticket.new (view_of seat.new) }
+    ensures idle { IfGranted result (λ _. InTime seat.new IsIdle) }
+    ensures granted { IfGranted result (λ _. InTime seat.new (GrantedAfter ticket.new)) }
+    ensures nobody { IfGranted result (λ sleepers. sleepers ≡ 0
+        → InTime seat.new GrantedToNobodyAsleep) }
+    ensures has { IfUnfinished result (InTime seat.new (HasTurnOf ticket.new)) }
+    ensures passed { IfUnfinished result (StepsLater 128 seat.old seat.new
+        × (ticket.new ≡ (ticket.old + 64) % 2 ^ 64)) }
 {
-    for _ in 0..1000 {
+    for _ in 0..MAX_PASSED {
         let (withdrawn, sleepers) = grant(table, seat, *ticket);
         if !withdrawn {
-            return (true, sleepers);
+            return ReleaseResult::Granted { sleepers };
         }
         *ticket = ticket.wrapping_add(1);
         clear_withdrawn(table, seat, *ticket);
     }
-    (false, 0)
+    ReleaseResult::Unfinished
 }

@@ -1,6 +1,7 @@
 //! What two callers know of one another. Each of the first functions says that two such callers cannot meet: where they do, there was
 //! too much load on the lock. None is to be called: a caller's proof may.
 ghost use Rattle.std.specs.Prelude.{◌≡◌, ◌<◌, ◌≤◌, max};
+ghost use Rattle.lock_core.specs.Layout.{IsLockTable};
 ghost use Rattle.lock_core.specs.Views.{Timely, view_of, IsSeatOf, IsIdle, KnowsShut, ServedOpen, HasTurn, LeftQuietly, SleepsAtOuter};
 ghost use Rattle.lock_core.specs.Meets.{Served, IsWaiting, GrantedToNobodyAsleepAt, IsStillAsleep, HadNewcomersTurn, AskedOpen, AskedShut, told_of};
 
@@ -8,7 +9,7 @@ use crate::rule::{Learn, Meet, SharedTable, Tell, TicketSeat};
 
 /// No two callers are served at one time: in a strict lock at their turn, and with bursts as they hold the outer word.
 pub fn never_two(table: &SharedTable, seat: &mut TicketSeat, other: TicketSeat)
-    requires table { table.now.table_id.words ≡ 21 }
+    requires table { IsLockTable table.now.table_id }
     requires seats { IsSeatOf table.now.table_id table.now.key seat.old × IsSeatOf table.now.table_id table.now.key other }
     requires one { Timely (view_of seat.old) → Served (view_of seat.old) }
     requires two { Timely (view_of other) → Served (view_of other) }
@@ -20,7 +21,7 @@ pub fn never_two(table: &SharedTable, seat: &mut TicketSeat, other: TicketSeat)
 
 /// No two callers are at their turn by a ticket: with bursts there is one head.
 pub fn never_two_heads(table: &SharedTable, seat: &mut TicketSeat, other: TicketSeat)
-    requires table { table.now.table_id.words ≡ 21 }
+    requires table { IsLockTable table.now.table_id }
     requires seats { IsSeatOf table.now.table_id table.now.key seat.old × IsSeatOf table.now.table_id table.now.key other }
     requires one { Timely (view_of seat.old) → HasTurn (view_of seat.old) }
     requires two { Timely (view_of other) → HasTurn (view_of other) }
@@ -32,7 +33,7 @@ pub fn never_two_heads(table: &SharedTable, seat: &mut TicketSeat, other: Ticket
 
 /// Nobody is at its turn by a ticket while one with a smaller ticket waits.
 pub fn first_come(table: &SharedTable, seat: &mut TicketSeat, other: TicketSeat)
-    requires table { table.now.table_id.words ≡ 21 }
+    requires table { IsLockTable table.now.table_id }
     requires seats { IsSeatOf table.now.table_id table.now.key seat.old × IsSeatOf table.now.table_id table.now.key other }
     requires waits { Timely (view_of seat.old) → IsWaiting (view_of seat.old) }
     requires has { Timely (view_of other) → HasTurn (view_of other) }
@@ -45,7 +46,7 @@ pub fn first_come(table: &SharedTable, seat: &mut TicketSeat, other: TicketSeat)
 
 /// Where a grant answers that nobody was counted, nobody sleeps for it: one that was told to wait, and is counted yet, has another ticket.
 pub fn no_lost_wake(table: &SharedTable, seat: &mut TicketSeat, other: TicketSeat)
-    requires table { table.now.table_id.words ≡ 21 }
+    requires table { IsLockTable table.now.table_id }
     requires seats { IsSeatOf table.now.table_id table.now.key seat.old × IsSeatOf table.now.table_id table.now.key other }
     requires granted { Timely (view_of seat.old) → GrantedToNobodyAsleepAt (view_of other).ticket (view_of seat.old) }
     requires sleeps { Timely (view_of other) → IsStillAsleep (view_of other) }
@@ -57,7 +58,7 @@ pub fn no_lost_wake(table: &SharedTable, seat: &mut TicketSeat, other: TicketSea
 
 /// Who leaves the outer word, and answers that no head sleeps, is right: a head that noted, while that one held the outer word, that it sleeps, is told of.
 pub fn no_lost_wake_at_outer(table: &SharedTable, seat: &mut TicketSeat, other: TicketSeat)
-    requires table { table.now.table_id.words ≡ 21 }
+    requires table { IsLockTable table.now.table_id }
     requires seats { IsSeatOf table.now.table_id table.now.key seat.old × IsSeatOf table.now.table_id table.now.key other }
     requires left { Timely (view_of seat.old) → LeftQuietly (view_of seat.old) }
     requires sleeps { Timely (view_of other) → SleepsAtOuter (view_of other) }
@@ -70,7 +71,7 @@ pub fn no_lost_wake_at_outer(table: &SharedTable, seat: &mut TicketSeat, other: 
 
 /// Nobody is served, told that the lock is open, after it was shut, until it is opened again.
 pub fn none_served_after_shut(table: &SharedTable, seat: &mut TicketSeat, other: TicketSeat)
-    requires table { table.now.table_id.words ≡ 21 }
+    requires table { IsLockTable table.now.table_id }
     requires seats { IsSeatOf table.now.table_id table.now.key seat.old × IsSeatOf table.now.table_id table.now.key other }
     requires knows { Timely (view_of seat.old) → KnowsShut (view_of seat.old) }
     requires served { Timely (view_of other) → ServedOpen (view_of other) }
@@ -83,7 +84,7 @@ pub fn none_served_after_shut(table: &SharedTable, seat: &mut TicketSeat, other:
 
 /// Nobody waits who asked while the lock was open, before it was shut and opened again.
 pub fn none_left_at_reopening(table: &SharedTable, seat: &mut TicketSeat, other: TicketSeat)
-    requires table { table.now.table_id.words ≡ 21 }
+    requires table { IsLockTable table.now.table_id }
     requires seats { IsSeatOf table.now.table_id table.now.key seat.old × IsSeatOf table.now.table_id table.now.key other }
     requires waits { Timely (view_of other) → IsWaiting (view_of other) × AskedOpen (view_of other) }
     requires reopened { Timely (view_of other) → (view_of other).asked_in_epoch < (view_of seat.old).epoch }
@@ -95,7 +96,7 @@ pub fn none_left_at_reopening(table: &SharedTable, seat: &mut TicketSeat, other:
 
 /// Who asks while somebody is served open asks while the lock is open: one that waits, and asked in this epoch while it was shut, is not met.
 pub fn asked_while_open(table: &SharedTable, seat: &mut TicketSeat, other: TicketSeat)
-    requires table { table.now.table_id.words ≡ 21 }
+    requires table { IsLockTable table.now.table_id }
     requires seats { IsSeatOf table.now.table_id table.now.key seat.old × IsSeatOf table.now.table_id table.now.key other }
     requires served { Timely (view_of seat.old) → ServedOpen (view_of seat.old) }
     requires waits { Timely (view_of other) → IsWaiting (view_of other) × AskedShut (view_of other) }
@@ -108,7 +109,7 @@ pub fn asked_while_open(table: &SharedTable, seat: &mut TicketSeat, other: Ticke
 
 /// No two newcomers' turns are at the same place between two takes of the outer word by heads: so there are at most `fellows`.
 pub fn turns_differ(table: &SharedTable, seat: &mut TicketSeat, other: TicketSeat)
-    requires table { table.now.table_id.words ≡ 21 }
+    requires table { IsLockTable table.now.table_id }
     requires seats { IsSeatOf table.now.table_id table.now.key seat.old × IsSeatOf table.now.table_id table.now.key other }
     requires one { Timely (view_of seat.old) → HadNewcomersTurn (view_of seat.old).heads_before (view_of seat.old).place_after_head (view_of seat.old) }
     requires two { Timely (view_of other) → HadNewcomersTurn (view_of seat.old).heads_before (view_of seat.old).place_after_head (view_of other) }
@@ -120,7 +121,7 @@ pub fn turns_differ(table: &SharedTable, seat: &mut TicketSeat, other: TicketSea
 
 /// A seat for another caller that has heard what this one has.
 pub fn tell(table: &SharedTable, seat: &mut TicketSeat) -> TicketSeat
-    requires table { table.now.table_id.words ≡ 21 }
+    requires table { IsLockTable table.now.table_id }
     requires seat { IsSeatOf table.now.table_id table.now.key seat.old }
     ensures seats { IsSeatOf table.now.table_id table.now.key seat.new × IsSeatOf table.now.table_id table.now.key result }
     ensures same { view_of seat.new ≡ view_of seat.old }
@@ -131,7 +132,7 @@ pub fn tell(table: &SharedTable, seat: &mut TicketSeat) -> TicketSeat
 
 /// Before its request a caller learns what another has heard: then its request comes after that one's last turn.
 pub fn learn(table: &SharedTable, seat: &mut TicketSeat, other: TicketSeat)
-    requires table { table.now.table_id.words ≡ 21 }
+    requires table { IsLockTable table.now.table_id }
     requires seats { IsSeatOf table.now.table_id table.now.key seat.old × IsSeatOf table.now.table_id table.now.key other }
     requires idle { IsIdle (view_of seat.old) }
     requires tells { IsIdle (view_of other) }

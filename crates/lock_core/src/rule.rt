@@ -34,126 +34,133 @@ impl Play<u64, View> for Come {
 pub(crate) struct Draw;
 
 impl Play<u64, View> for Draw {
-    ghost then = { steps.draws };
+    ghost then = { steps.noting steps.added_word steps.draws };
 }
 
 /// A caller reads how many tickets were taken.
 pub(crate) struct ReadTail;
 
 impl Play<u64, View> for ReadTail {
-    ghost then = { steps.reads };
+    ghost then = { steps.noting steps.kept_word steps.reads };
 }
 
 /// It reads whether that is at its turn.
 pub(crate) struct ReadCell;
 
 impl Play<u64, View> for ReadCell {
-    ghost then = { steps.reads_cell };
+    ghost then = { steps.noting steps.kept_word steps.reads_cell };
 }
 
 /// It takes that ticket.
 pub(crate) struct DrawGranted;
 
 impl Play<u64, View> for DrawGranted {
-    ghost then = { steps.draws_granted };
+    ghost then = { steps.noting steps.exchanged_word steps.draws_granted };
 }
 
 /// It takes that ticket, to wait with it or at its turn.
 pub(crate) struct DrawNear;
 
 impl Play<u64, View> for DrawNear {
-    ghost then = { steps.draws_near };
+    ghost then = { steps.noting steps.exchanged_word steps.draws_near };
 }
 
 /// A waiter looks at its cell.
 pub(crate) struct Look;
 
 impl Play<u64, View> for Look {
-    ghost then = { steps.looks };
+    ghost then = { steps.noting steps.subtracted_word steps.looks };
 }
 
 /// A waiter counts itself at its cell.
 pub(crate) struct AnnounceSleep;
 
 impl Play<u64, View> for AnnounceSleep {
-    ghost then = { steps.announces_sleep };
+    ghost then = { steps.noting steps.exchanged_word steps.announces_sleep };
 }
 
 /// A waiter sets its bit.
 pub(crate) struct SetWithdrawn;
 
 impl Play<u64, View> for SetWithdrawn {
-    ghost then = { steps.sets_withdrawn };
+    ghost then = { steps.noting steps.added_word steps.sets_withdrawn };
 }
 
 /// A holder grants the next ticket.
 pub(crate) struct Grant;
 
 impl Play<u64, View> for Grant {
-    ghost then = { steps.grants };
+    ghost then = { steps.noting steps.added_word steps.grants };
 }
 
 /// Who has the turn of a withdrawn request clears its bit.
 pub(crate) struct ClearWithdrawn;
 
 impl Play<u64, View> for ClearWithdrawn {
-    ghost then = { steps.clears_withdrawn };
+    ghost then = { steps.noting steps.subtracted_word steps.clears_withdrawn };
+}
+
+/// A caller reads the outer word.
+pub(crate) struct ReadOuter;
+
+impl Play<u64, View> for ReadOuter {
+    ghost then = { steps.noting steps.kept_word steps.reads_outer };
 }
 
 /// A newcomer takes the outer word.
 pub(crate) struct GoIn;
 
 impl Play<u64, View> for GoIn {
-    ghost then = { steps.goes_in };
+    ghost then = { steps.noting steps.exchanged_word steps.goes_in };
 }
 
 /// The one at its turn takes the outer word.
 pub(crate) struct TakeOuter;
 
 impl Play<u64, View> for TakeOuter {
-    ghost then = { steps.takes_outer };
+    ghost then = { steps.noting steps.exchanged_word steps.takes_outer };
 }
 
 /// The one that holds the outer word leaves it.
 pub(crate) struct Leave;
 
 impl Play<u64, View> for Leave {
-    ghost then = { steps.leaves };
+    ghost then = { steps.noting steps.exchanged_word steps.leaves };
 }
 
 /// The one at its turn in a strict lock looks whether that is open.
 pub(crate) struct CheckOpen;
 
 impl Play<u64, View> for CheckOpen {
-    ghost then = { steps.checks_open };
+    ghost then = { steps.noting steps.kept_word steps.checks_open };
 }
 
 /// Who is served shuts the lock.
 pub(crate) struct Shut;
 
 impl Play<u64, View> for Shut {
-    ghost then = { steps.shuts };
+    ghost then = { steps.noting steps.added_word steps.shuts };
 }
 
 /// One at its turn check_open the lock again.
 pub(crate) struct Reopen;
 
 impl Play<u64, View> for Reopen {
-    ghost then = { steps.reopens };
+    ghost then = { steps.noting steps.subtracted_word steps.reopens };
 }
 
 /// The head notes at the outer word that it sleeps.
 pub(crate) struct AnnounceHeadSleep;
 
 impl Play<u64, View> for AnnounceHeadSleep {
-    ghost then = { steps.announces_head_sleep };
+    ghost then = { steps.noting steps.exchanged_word steps.announces_head_sleep };
 }
 
 /// The head sets a flag of the outer word.
 pub(crate) struct RequestHandoff;
 
 impl Play<u64, View> for RequestHandoff {
-    ghost then = { steps.requests_handoff };
+    ghost then = { steps.noting steps.exchanged_word steps.requests_handoff };
 }
 
 /// Two callers meet.

@@ -1,83 +1,102 @@
-//! A caller asks for a turn.
-ghost use Rattle.std.specs.Prelude.{◌≡◌, ◌<◌, ◌≤◌, true, false};
-ghost use Rattle.lock_core.specs.Views.{Timely, view_of, IsSeatOf, IsIdle, IsQueued, IsQueuedWithin, IsAtTurn, SameTurn};
+//! A caller asks for a turn: it draws a ticket.
+ghost use Rattle.std.specs.Prelude.{◌≡◌, ◌<◌, ◌≤◌, IfSome, IfNone};
+ghost use Rattle.lock_core.specs.Layout.{IsLockTable};
+ghost use Rattle.lock_core.specs.Views.{view_of, InTime, InTimeFrom, LoadGrows, IsSeatOf, IsIdle, IsQueued, IsQueuedWithin, IsAtTurn, AsksAfter, SameTurn};
+ghost use Rattle.lock_core.specs.Looks.{StepsLater, FoundNext, FoundTailMoved, FoundBusy};
+ghost use Rattle.lock_core.specs.Answers.{IfNearAtTurn, IfNearQueued, IfNearFar, IfNearChanged, IfDrawn, IfNotDrawn};
 
-use crate::layout::{cell_word, rounds_to_go};
-use crate::rule::{Draw, ReadTail, ReadCell, DrawGranted, DrawNear, SharedTable, TicketSeat};
+use crate::layout::{cell_word, rounds_to_go, TAIL, WINDOW};
+use crate::rule::{Draw, DrawGranted, DrawNear, ReadCell, ReadTail, SharedTable, TicketSeat};
 
-/// Takes the next ticket.
+/// What `ask_near` did.
+#[derive(Clone, Copy, Debug, PartialEq, Eq)]
+pub enum AskNearResult {
+    /// It drew this ticket, which is at its turn.
+    AtTurn { ticket: u64 },
+    /// It drew this ticket; so many rounds, at most 15, are to be granted until the ticket's own is.
+    Queued { ticket: u64, rounds: u64 },
+    /// It drew none: the next ticket has so many rounds to go, more than 15.
+    Far { rounds: u64 },
+    /// It drew none: another caller drew at that moment.
+    Changed,
+}
+
+/// Draws the next ticket: one word step. Never refused.
 #[inline(always)]
 pub fn ask(table: &SharedTable, seat: &mut TicketSeat) -> u64
-    requires table { table.now.table_id.words ≡ 21 }
+    requires table { IsLockTable table.now.table_id }
     requires seat { IsSeatOf table.now.table_id table.now.key seat.old }
-    requires fresh { Timely (view_of seat.old) → IsIdle (view_of seat.old) }
+    requires idle { InTime seat.old IsIdle }
     ensures seat { IsSeatOf table.now.table_id table.now.key seat.new }
-    ensures load { (view_of seat.old).most_open ≤ (view_of seat.new).most_open }
+    ensures load { LoadGrows seat.old seat.new }
+    ensures steps { StepsLater 1 seat.old seat.new }
     ensures turn { SameTurn (view_of seat.old) (view_of seat.new) }
-    ensures waits { Timely (view_of seat.new) → IsQueued result (view_of seat.new) }
-    ensures since { Timely (view_of seat.new) → (view_of seat.new).newcomers_at_ask ≡ (view_of seat.new).newcomers_seen }
-    ensures heard { Timely (view_of seat.new) → ((view_of seat.old).newcomers_seen ≤ (view_of seat.new).newcomers_at_ask) × ((view_of seat.old).epoch ≤ (view_of seat.new).asked_in_epoch) }
-    ensures first { Timely (view_of seat.new) → ((view_of seat.old).ended ≤ (view_of seat.new).first_pending) × ((view_of seat.new).first_pending ≤ (view_of seat.new).ticket) }
+    ensures queued { InTime seat.new (IsQueued result) }
+    ensures order { InTimeFrom seat.old seat.new AsksAfter }
 {
-    table.fetch_add::<Draw>(seat, 16, 1)
+    table.fetch_add::<Draw>(seat, TAIL, 1)
 }
 
-/// Takes the next ticket if that is at its turn, so that nobody waits and nobody has the turn. Returns whether it did, and the ticket; if not,
+/// Draws the next ticket if that is at its turn: at most three word steps. `None` leaves nothing behind.
+#[inline(always)]
+pub fn try_ask(table: &SharedTable, seat: &mut TicketSeat) -> Option<u64>
+    requires table { IsLockTable table.now.table_id }
+    requires seat { IsSeatOf table.now.table_id table.now.key seat.old }
+    requires idle { InTime seat.old IsIdle }
+    ensures seat { IsSeatOf table.now.table_id table.now.key seat.new }
+    ensures load { LoadGrows seat.old seat.new }
+    ensures turn { SameTurn (view_of seat.old) (view_of seat.new) }
+    ensures at_turn { IfSome result (λ ticket. InTime seat.new (IsAtTurn ticket)) }
+    ensures order { IfSome result (λ _. InTimeFrom seat.old seat.new AsksAfter) }
+    ensures steps { IfSome result (λ _. StepsLater 3 seat.old seat.new) }
+    ensures idle { IfNone result (InTime seat.new IsIdle) }
+    ensures busy { IfNone result (FoundBusy seat.old seat.new) }
+{
+    let ticket = table.load::<ReadTail>(seat, TAIL);
+    let cell = table.load::<ReadCell>(seat, cell_word(ticket));
+    if rounds_to_go(cell, ticket) != 0 {
+        return None;
+    }
+    let next = ticket.wrapping_add(1);
+    if table.compare_exchange::<DrawGranted>(seat, TAIL, ticket, next) != ticket {
+        return None;
+    }
+    Some(ticket)
+}
+
+/// Draws the next ticket if the request could be withdrawn yet: at most three word steps. If it draws none,
 /// nothing is left behind.
 #[inline(always)]
-pub fn try_ask(table: &SharedTable, seat: &mut TicketSeat) -> (bool, u64)
-    requires table { table.now.table_id.words ≡ 21 }
+pub fn ask_near(table: &SharedTable, seat: &mut TicketSeat) -> AskNearResult
+    requires table { IsLockTable table.now.table_id }
     requires seat { IsSeatOf table.now.table_id table.now.key seat.old }
-    requires fresh { Timely (view_of seat.old) → IsIdle (view_of seat.old) }
+    requires idle { InTime seat.old IsIdle }
     ensures seat { IsSeatOf table.now.table_id table.now.key seat.new }
-    ensures load { (view_of seat.old).most_open ≤ (view_of seat.new).most_open }
+    ensures load { LoadGrows seat.old seat.new }
     ensures turn { SameTurn (view_of seat.old) (view_of seat.new) }
-    ensures has { result.0 ≡ true → Timely (view_of seat.new) → IsAtTurn result.1 (view_of seat.new) }
-    ensures since { result.0 ≡ true → Timely (view_of seat.new) → (view_of seat.new).newcomers_at_ask ≡ (view_of seat.new).newcomers_seen }
-    ensures first { result.0 ≡ true → Timely (view_of seat.new) → (view_of seat.new).first_pending ≤ (view_of seat.new).ticket }
-    ensures busy { result.0 ≡ false → Timely (view_of seat.new) → IsIdle (view_of seat.new) }
+    ensures at_turn { IfNearAtTurn result (λ ticket. InTime seat.new (IsAtTurn ticket)) }
+    ensures queued { IfNearQueued result (λ ticket rounds. (0 < rounds) × (rounds ≤ 15)
+        × InTime seat.new (IsQueuedWithin rounds ticket)) }
+    ensures order { IfDrawn result (InTimeFrom seat.old seat.new AsksAfter) }
+    ensures steps { IfDrawn result (StepsLater 3 seat.old seat.new) }
+    ensures idle { IfNotDrawn result (InTime seat.new IsIdle) }
+    ensures far { IfNearFar result (λ rounds. (15 < rounds) × StepsLater 2 seat.old seat.new
+        × FoundNext (λ n. n ≡ rounds) seat.new) }
+    ensures changed { IfNearChanged result (StepsLater 3 seat.old seat.new
+        × FoundTailMoved seat.new) }
 {
-    let ticket = table.load::<ReadTail>(seat, 16);
-    let found = table.load::<ReadCell>(seat, cell_word(ticket));
-    if rounds_to_go(found, ticket) != 0 {
-        return (false, ticket);
+    let ticket = table.load::<ReadTail>(seat, TAIL);
+    let cell = table.load::<ReadCell>(seat, cell_word(ticket));
+    let rounds = rounds_to_go(cell, ticket);
+    if rounds > WINDOW {
+        return AskNearResult::Far { rounds };
     }
     let next = ticket.wrapping_add(1);
-    (
-        table.compare_exchange::<DrawGranted>(seat, 16, ticket, next) == ticket,
-        ticket,
-    )
-}
-
-/// Takes the next ticket if that is found at most 15 rounds away, so that it can be withdrawn. The answers: whether it did, the rounds to be
-/// granted yet, 0 if the ticket is at its turn, and the ticket. If it did not, nothing is left behind: with at most 15 rounds, another ticket
-/// was taken at that moment.
-#[inline(always)]
-pub fn ask_near(table: &SharedTable, seat: &mut TicketSeat) -> (bool, u64, u64)
-    requires table { table.now.table_id.words ≡ 21 }
-    requires seat { IsSeatOf table.now.table_id table.now.key seat.old }
-    requires fresh { Timely (view_of seat.old) → IsIdle (view_of seat.old) }
-    ensures seat { IsSeatOf table.now.table_id table.now.key seat.new }
-    ensures load { (view_of seat.old).most_open ≤ (view_of seat.new).most_open }
-    ensures turn { SameTurn (view_of seat.old) (view_of seat.new) }
-    ensures near { result.0 ≡ true → result.1 ≤ 15 }
-    ensures has { result.0 ≡ true → result.1 ≡ 0 → Timely (view_of seat.new) → IsAtTurn result.2 (view_of seat.new) }
-    ensures waits { result.0 ≡ true → 0 < result.1 → Timely (view_of seat.new) → IsQueuedWithin result.1 result.2 (view_of seat.new) }
-    ensures since { result.0 ≡ true → Timely (view_of seat.new) → (view_of seat.new).newcomers_at_ask ≡ (view_of seat.new).newcomers_seen }
-    ensures heard { result.0 ≡ true → Timely (view_of seat.new) → ((view_of seat.old).newcomers_seen ≤ (view_of seat.new).newcomers_at_ask) × ((view_of seat.old).epoch ≤ (view_of seat.new).asked_in_epoch) }
-    ensures first { result.0 ≡ true → Timely (view_of seat.new) → ((view_of seat.old).ended ≤ (view_of seat.new).first_pending) × ((view_of seat.new).first_pending ≤ (view_of seat.new).ticket) }
-    ensures left { result.0 ≡ false → Timely (view_of seat.new) → IsIdle (view_of seat.new) }
-{
-    let ticket = table.load::<ReadTail>(seat, 16);
-    let found = table.load::<ReadCell>(seat, cell_word(ticket));
-    let rounds = rounds_to_go(found, ticket);
-    if rounds > 15 {
-        return (false, rounds, ticket);
+    if table.compare_exchange::<DrawNear>(seat, TAIL, ticket, next) != ticket {
+        return AskNearResult::Changed;
     }
-    let next = ticket.wrapping_add(1);
-    (
-        table.compare_exchange::<DrawNear>(seat, 16, ticket, next) == ticket,
-        rounds,
-        ticket,
-    )
+    if rounds == 0 {
+        return AskNearResult::AtTurn { ticket };
+    }
+    AskNearResult::Queued { ticket, rounds }
 }

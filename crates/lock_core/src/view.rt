@@ -16,6 +16,19 @@ pub enum Phase {
     Impossible,
 }
 
+/// What a caller's word steps found.
+pub struct Looks {
+    /// Its word steps.
+    pub steps: u64,
+    /// The number of the word of its last step, what that found there, and what it left.
+    pub word: u64,
+    pub found: u64,
+    pub left: u64,
+    /// The number of the word of the step before, and what that found there.
+    pub word_before: u64,
+    pub found_before: u64,
+}
+
 /// What a caller knows. No value of it is made.
 pub struct View {
     /// The most newcomers between two heads: 0 in a strict lock.
@@ -69,4 +82,5 @@ pub struct View {
     pub asked_in_epoch: u64,
     /// 1: it read at its turn that nobody asked after it.
     pub nobody_behind: u64,
+    pub looks: Looks,
 }

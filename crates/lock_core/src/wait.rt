@@ -1,95 +1,133 @@
-//! A waiter polls, sleeps, or withdraws.
-ghost use Rattle.std.specs.Prelude.{◌≡◌, ◌<◌, ◌≤◌, true, false};
-ghost use Rattle.lock_core.specs.Layout.{rounds, to_go};
-ghost use Rattle.lock_core.specs.Views.{Timely, view_of, IsSeatOf, IsIdle, IsQueued, IsQueuedWithin, IsAsleep, IsAtTurn, IsPassing, IsOvertakenInBounds, SameTurn, SameRequest};
+//! A waiter polls, announces and retracts its sleep, and withdraws.
+ghost use Rattle.std.specs.Prelude.{◌≡◌, ◌<◌, ◌≤◌, ◌⊎◌, true, false};
+ghost use Rattle.lock_core.specs.Layout.{IsLockTable, cell_at, count_of, to_go};
+ghost use Rattle.lock_core.specs.Views.{view_of, InTime, InTimeFrom, LoadGrows, IsSeatOf, IsIdle, IsQueued, IsQueuedWithin, IsAsleep, IsAtTurn, IsOvertakenInBounds, SameRequest, SameTurn};
+ghost use Rattle.lock_core.specs.Looks.{StepsLater, Found, FoundChanged, Leaves};
+ghost use Rattle.lock_core.specs.Answers.{IfSleepAtTurn, IfSleepAnnounced, IfSleepFull, IfSleepChanged};
 
-use crate::layout::{CELLS, ROUND, ROUNDS, SLEEPER, cell_word, bit, rounds_to_go, sleepers};
-use crate::rule::{Look, AnnounceSleep, SetWithdrawn, SharedTable, TicketSeat};
+use crate::handoff::clear_withdrawn;
+use crate::layout::{
+    MAX_SLEEPERS, SLEEPER, bit, cell_word, is_round_of, rounds_to_go, sleepers,
+};
+use crate::rule::{AnnounceSleep, Look, SetWithdrawn, SharedTable, TicketSeat};
 
-/// Returns how many rounds are to be granted yet in the ticket's cell, 0 if the ticket is at its turn.
-#[inline(always)]
-pub fn poll(table: &SharedTable, seat: &mut TicketSeat, ticket: u64) -> u64
-    requires table { table.now.table_id.words ≡ 21 }
-    requires seat { IsSeatOf table.now.table_id table.now.key seat.old }
-    requires waits { Timely (view_of seat.old) → IsQueued ticket (view_of seat.old) }
-    ensures seat { IsSeatOf table.now.table_id table.now.key seat.new }
-    ensures load { (view_of seat.old).most_open ≤ (view_of seat.new).most_open }
-    ensures turn { SameTurn (view_of seat.old) (view_of seat.new) }
-    ensures granted { result ≡ 0 → Timely (view_of seat.new) → IsAtTurn ticket (view_of seat.new) }
-    ensures request { Timely (view_of seat.new) → SameRequest (view_of seat.old) (view_of seat.new) }
-    ensures overtaken { result ≡ 0 → Timely (view_of seat.new) → IsOvertakenInBounds (view_of seat.new) }
-    ensures waits { 0 < result → Timely (view_of seat.new) → IsQueuedWithin result ticket (view_of seat.new) }
-{
-    let found = table.load::<Look>(seat, cell_word(ticket));
-    rounds_to_go(found, ticket)
+/// What `announce_sleep` did.
+#[derive(Clone, Copy, Debug, PartialEq, Eq)]
+pub enum SleepResult {
+    /// The waiter is at its turn, and is not counted.
+    AtTurn,
+    /// The waiter is counted, with so many rounds to go: it may sleep while its cell is `cell`, by the upper 32 bits.
+    Asleep { rounds: u64, cell: u64 },
+    /// The waiter is not counted: its cell counts 65,535 sleepers. So many rounds are to go.
+    Full { rounds: u64 },
+    /// The waiter is not counted: its cell changed at that moment. So many rounds are to go.
+    Changed { rounds: u64 },
 }
 
-/// Counts the waiter at its cell, so that the grant tells of it, unless it is at its turn. Returns the rounds to be granted yet, as `poll`;
-/// whether it is counted; and the cell's word, at which it may sleep if it is. It is not counted where the word changed at that moment, or
-/// has 65,535 sleepers.
+/// Returns how many rounds are to be granted until the ticket's own is, 0 at its turn: one word step.
 #[inline(always)]
-pub fn announce_sleep(table: &SharedTable, seat: &mut TicketSeat, ticket: u64) -> (u64, bool, u64)
-    requires table { table.now.table_id.words ≡ 21 }
+pub fn poll(table: &SharedTable, seat: &mut TicketSeat, ticket: u64) -> u64
+    requires table { IsLockTable table.now.table_id }
     requires seat { IsSeatOf table.now.table_id table.now.key seat.old }
-    requires waits { Timely (view_of seat.old) → IsQueued ticket (view_of seat.old) }
+    requires queued { InTime seat.old (IsQueued ticket) }
     ensures seat { IsSeatOf table.now.table_id table.now.key seat.new }
-    ensures load { (view_of seat.old).most_open ≤ (view_of seat.new).most_open }
+    ensures load { LoadGrows seat.old seat.new }
+    ensures steps { StepsLater 1 seat.old seat.new }
+    ensures found { Found (cell_at ticket) (λ n. to_go n ticket ≡ result) seat.new }
     ensures turn { SameTurn (view_of seat.old) (view_of seat.new) }
-    ensures granted { result.0 ≡ 0 → Timely (view_of seat.new) → IsAtTurn ticket (view_of seat.new) }
-    ensures request { Timely (view_of seat.new) → SameRequest (view_of seat.old) (view_of seat.new) }
-    ensures overtaken { result.0 ≡ 0 → Timely (view_of seat.new) → IsOvertakenInBounds (view_of seat.new) }
-    ensures sleeps { result.1 ≡ true → Timely (view_of seat.new) → IsAsleep ticket (view_of seat.new) }
-    ensures value { result.1 ≡ true → (0 < result.0) × (to_go result.2 ticket ≡ result.0) }
-    ensures waits { result.1 ≡ false → 0 < result.0 → Timely (view_of seat.new) → IsQueuedWithin result.0 ticket (view_of seat.new) }
+    ensures request { InTimeFrom seat.old seat.new SameRequest }
+    ensures at_turn { result ≡ 0 → InTime seat.new (IsAtTurn ticket) }
+    ensures overtaken { result ≡ 0 → InTime seat.new IsOvertakenInBounds }
+    ensures queued { 0 < result → InTime seat.new (IsQueuedWithin result ticket) }
+{
+    let cell = table.load::<Look>(seat, cell_word(ticket));
+    rounds_to_go(cell, ticket)
+}
+
+/// Counts the waiter as a sleeper of its cell, unless it is at its turn: at most two word steps. Then whoever grants
+/// its ticket is told of it.
+#[inline(always)]
+pub fn announce_sleep(table: &SharedTable, seat: &mut TicketSeat, ticket: u64) -> SleepResult
+    requires table { IsLockTable table.now.table_id }
+    requires seat { IsSeatOf table.now.table_id table.now.key seat.old }
+    requires queued { InTime seat.old (IsQueued ticket) }
+    ensures seat { IsSeatOf table.now.table_id table.now.key seat.new }
+    ensures load { LoadGrows seat.old seat.new }
+    ensures steps { StepsLater 1 seat.old seat.new ⊎ StepsLater 2 seat.old seat.new }
+    ensures turn { SameTurn (view_of seat.old) (view_of seat.new) }
+    ensures request { InTimeFrom seat.old seat.new SameRequest }
+    ensures at_turn { IfSleepAtTurn result (InTime seat.new (IsAtTurn ticket)) }
+    ensures overtaken { IfSleepAtTurn result (InTime seat.new IsOvertakenInBounds) }
+    ensures asleep { IfSleepAnnounced result (λ rounds cell. InTime seat.new (IsAsleep ticket)) }
+    ensures word { IfSleepAnnounced result (λ rounds cell. (0 < rounds)
+        × (to_go cell ticket ≡ rounds) × Leaves (cell_at ticket) (λ n. n ≡ cell) seat.new) }
+    ensures full { IfSleepFull result (λ rounds. InTime seat.new (IsQueuedWithin rounds ticket)
+        × (0 < rounds) × Found (cell_at ticket) (λ n. count_of n ≡ 65535) seat.new) }
+    ensures changed { IfSleepChanged result (λ rounds. (0 < rounds)
+        × InTime seat.new (IsQueuedWithin rounds ticket) × FoundChanged (cell_at ticket) seat.new) }
 {
     let found = table.load::<Look>(seat, cell_word(ticket));
     let rounds = rounds_to_go(found, ticket);
     if rounds == 0 {
-        return (0, false, found);
+        return SleepResult::AtTurn;
     }
-    if sleepers(found) >= 65535 {
-        return (rounds, false, found);
+    if sleepers(found) >= MAX_SLEEPERS {
+        return SleepResult::Full { rounds };
     }
-    let new = found.wrapping_add(SLEEPER);
-    let word = table.compare_exchange::<AnnounceSleep>(seat, cell_word(ticket), found, new);
-    if word == found {
-        return (rounds, true, new);
+    let counted = found.wrapping_add(SLEEPER);
+    let cell = table.compare_exchange::<AnnounceSleep>(seat, cell_word(ticket), found, counted);
+    if cell == found {
+        return SleepResult::Asleep {
+            rounds,
+            cell: counted,
+        };
     }
-    (rounds_to_go(word, ticket), false, word)
+    match rounds_to_go(cell, ticket) {
+        0 => SleepResult::AtTurn,
+        rounds => SleepResult::Changed { rounds },
+    }
 }
 
-/// The waiter is not counted any more. Answers as `poll`.
+/// Takes the waiter's count back, after a sleep: one word step. Answers as `poll`.
 #[inline(always)]
 pub fn retract_sleep(table: &SharedTable, seat: &mut TicketSeat, ticket: u64) -> u64
-    requires table { table.now.table_id.words ≡ 21 }
+    requires table { IsLockTable table.now.table_id }
     requires seat { IsSeatOf table.now.table_id table.now.key seat.old }
-    requires sleeps { Timely (view_of seat.old) → IsAsleep ticket (view_of seat.old) }
+    requires asleep { InTime seat.old (IsAsleep ticket) }
     ensures seat { IsSeatOf table.now.table_id table.now.key seat.new }
-    ensures load { (view_of seat.old).most_open ≤ (view_of seat.new).most_open }
+    ensures load { LoadGrows seat.old seat.new }
+    ensures steps { StepsLater 1 seat.old seat.new }
+    ensures found { Found (cell_at ticket) (λ n. to_go n ticket ≡ result) seat.new }
     ensures turn { SameTurn (view_of seat.old) (view_of seat.new) }
-    ensures granted { result ≡ 0 → Timely (view_of seat.new) → IsAtTurn ticket (view_of seat.new) }
-    ensures request { Timely (view_of seat.new) → SameRequest (view_of seat.old) (view_of seat.new) }
-    ensures overtaken { result ≡ 0 → Timely (view_of seat.new) → IsOvertakenInBounds (view_of seat.new) }
-    ensures waits { 0 < result → Timely (view_of seat.new) → IsQueuedWithin result ticket (view_of seat.new) }
+    ensures request { InTimeFrom seat.old seat.new SameRequest }
+    ensures at_turn { result ≡ 0 → InTime seat.new (IsAtTurn ticket) }
+    ensures overtaken { result ≡ 0 → InTime seat.new IsOvertakenInBounds }
+    ensures queued { 0 < result → InTime seat.new (IsQueuedWithin result ticket) }
 {
-    let found = table.fetch_sub::<Look>(seat, cell_word(ticket), SLEEPER);
-    rounds_to_go(found, ticket)
+    let cell = table.fetch_sub::<Look>(seat, cell_word(ticket), SLEEPER);
+    rounds_to_go(cell, ticket)
 }
 
-/// Withdraws the request, which was found at most 15 rounds away. Returns `true` if it is withdrawn; else it is at its turn, and its bit is
-/// to be cleared.
+/// Withdraws a request that was found at most 15 rounds from its turn: one word step, then the lock may be gone.
+/// `false`: it was granted before, two word steps.
 #[inline(always)]
 pub fn withdraw(table: &SharedTable, seat: &mut TicketSeat, ticket: u64, rounds: u64) -> bool
-    requires table { table.now.table_id.words ≡ 21 }
+    requires table { IsLockTable table.now.table_id }
     requires seat { IsSeatOf table.now.table_id table.now.key seat.old }
     requires near { rounds ≤ 15 }
-    requires waits { Timely (view_of seat.old) → IsQueuedWithin rounds ticket (view_of seat.old) }
+    requires queued { InTime seat.old (IsQueuedWithin rounds ticket) }
     ensures seat { IsSeatOf table.now.table_id table.now.key seat.new }
-    ensures load { (view_of seat.old).most_open ≤ (view_of seat.new).most_open }
+    ensures load { LoadGrows seat.old seat.new }
     ensures turn { SameTurn (view_of seat.old) (view_of seat.new) }
-    ensures withdrawn { result ≡ true → Timely (view_of seat.new) → IsIdle (view_of seat.new) }
-    ensures granted { result ≡ false → Timely (view_of seat.new) → IsPassing ticket (view_of seat.new) }
+    ensures withdrawn { result ≡ true → InTime seat.new IsIdle }
+    ensures at_turn { result ≡ false → InTime seat.new (IsAtTurn ticket) }
+    ensures steps { result ≡ true → StepsLater 1 seat.old seat.new }
+    ensures more_steps { result ≡ false → StepsLater 2 seat.old seat.new }
 {
-    let found = table.fetch_add::<SetWithdrawn>(seat, cell_word(ticket), bit(ticket));
-    found / ROUND != (ticket / CELLS + 1) % ROUNDS
+    let cell = table.fetch_add::<SetWithdrawn>(seat, cell_word(ticket), bit(ticket));
+    if !is_round_of(cell, ticket) {
+        return true;
+    }
+    clear_withdrawn(table, seat, ticket);
+    false
 }

@@ -3,4 +3,4 @@ use Rattle.lock_core.proofs.FirstState.{first_state}
 use Rattle.lock_core.proofs.opening.open.Goals as goal
 
 pub of_words-requires : goal.of_words-requires
-of_words-requires c = first_state _ (let k = c.requires.small in omega arith)
+of_words-requires c = first_state _ (let k = c.max_burst.ensures.max in omega arith)

@@ -1,31 +1,22 @@
 use Rattle.std.proofs.Common.{rules, arith, ◌∙◌, refl}
-use Rattle.lock_core.proofs.Asking.{read_allowed, ripen_allowed, draw_allowed}
+use Rattle.lock_core.proofs.Noting.{read_noted, ripen_noted, draw_noted}
 use Rattle.lock_core.proofs.tickets.ask_near.Goals as goal
 
 pub load-ticket-requires : goal.load-ticket-requires
-load-ticket-requires c = (search rules, (let e = c.requires.table in omega arith), read_allowed _ _ c.args.seat.now.me (λ t. (c.requires.fresh t).1))
+load-ticket-requires c = (search rules, (let e = c.requires.table in omega arith), read_noted _ _ c.args.seat.now.me (λ t. (c.requires.idle t).1))
 
-pub load-found-requires : goal.load-found-requires
-load-found-requires c = (search rules, (let k = c.cell_word.ensures in let e = c.requires.table in omega arith), ripen_allowed _ _ _ _ c.load-ticket.new.seat.me c.cell_word.ensures (λ timely. let e = c.load-ticket.ensures.2 in let k = e.1 in let fresh = c.requires.fresh (let m = e.0.0.2 in omega arith) in ((k.0 ∙ fresh.0, k.3 ∙ fresh.1), (e.3 timely).0)))
+pub load-cell-requires : goal.load-cell-requires
+load-cell-requires c = (search rules, (let k = c.cell_word.ensures in let e = c.requires.table in omega arith), ripen_noted _ _ _ _ c.load-ticket.new.seat.me c.cell_word.ensures (λ timely. let e = c.load-ticket.ensures.2.1 in let k = e.1 in let fresh = c.requires.idle (let m = e.0.0.2 in omega arith) in ((k.0 ∙ fresh.0, k.3 ∙ fresh.1), (e.3 timely).0)))
 
 pub compare_exchange-requires : goal.compare_exchange-requires
 compare_exchange-requires c = (
   search rules,
   (let e = c.requires.table in omega arith),
-  draw_allowed _ _ _ _ c.load-found.new.seat.me refl (λ timely.
-      let e = c.load-found.ensures.2 in
+  draw_noted _ _ _ _ c.load-cell.new.seat.me refl (λ timely.
+      let e = c.load-cell.ensures.2.1 in
       let f = e.1 timely in
-      let q = c.load-ticket.ensures.2.3 (let m = e.0.0.2 in omega arith) in
+      let q = c.load-ticket.ensures.2.1.3 (let m = e.0.0.2 in omega arith) in
       let ticket = q.0 in
       let probe = f.1 in
       let number = f.4 in (f.0, (omega arith), (omega arith))),
 )
-
-pub returns-clause-first : goal.returns-clause-first
-returns-clause-first c = λ is timely.
-    let d = c.compare_exchange.ensures.2 in
-    let f = c.load-found.ensures.2 in
-    let at_load = let m = d.0.0.2 in f.1 (omega arith) in
-    let ended_found = at_load.6 in
-    let ended_read = c.load-ticket.ensures.2.1.2 in
-    let told = (d.1 timely).0 (search rules) in ((let e = told.5 in omega arith), told.6)
