@@ -17,21 +17,21 @@ use Rattle.lock_core.proofs.Base.{put, put_here, put_else, each_after, cells_sam
 -- The next ticket is taken by the seat, whose view is w then, and the load is `most`.
 module _ {fl : ℕ} (s : State ℕ View) (r : Tickets fl s) (id : ℕ) (v : View) (at : get_elem? s.views id ≡ some v) (x most : ℕ) (w : View) where
   abbrev stamp : ℕ → ℕ
-  stamp = put r.g.stamp r.asked (1 - shut_of r.g.outer)
+  stamp = put r.g.asked_open r.asked (1 - shut_of r.g.outer)
 
-  ticket_taken : x ≡ (slice_index s.words 16 + 1) % 18446744073709551616 → r.most_open ≤ most → w.most_open ≡ most → w.newcomers_seen ≤ r.g.total → (most ≤ limit → r.asked + 1 ≤ r.g.turn + most) → (most ≤ limit → IsIdle v) → w.counted ≡ 0
-      → (most ≤ limit → Fits fl (r.asked + 1) (put r.owner r.asked id) r.who (record r.g { stamp = stamp }) id w) → Tickets fl record { words = set s.words 16 x; homes = s.homes; views = set s.views id w }
+  ticket_taken : x ≡ (slice_index s.words 16 + 1) % 18446744073709551616 → r.most_open ≤ most → w.most_open ≡ most → w.newcomers_seen ≤ r.g.newcomers → (most ≤ limit → r.asked + 1 ≤ r.g.turn + most) → (most ≤ limit → IsIdle v) → w.counted ≡ 0
+      → (most ≤ limit → Fits fl (r.asked + 1) (put r.owner r.asked id) r.who (record r.g { asked_open = stamp }) id w) → Tickets fl record { words = set s.words 16 x; homes = s.homes; views = set s.views id w }
   ticket_taken x_is more is_most begun few idle none_counted fit = record {
     asked = r.asked + 1;
     most_open = most;
     owner = put r.owner r.asked id;
     who = r.who;
-    g = record r.g { stamp = stamp };
+    g = record r.g { asked_open = stamp };
     tail = get_or-set_same s.words 16 x 0 (let k = r.wide in omega arith) ∙ (let k = r.tail in omega arith);
     outer = get_or-set_other s.words 16 0 x 0 (λ e. omega arith) ∙ r.outer;
     wide = length-set s.words 16 x ∙ r.wide;
     seen = each_after (λ j b. b.most_open ≤ most) s.views id w (omega arith) (λ j b ne there. let k = r.seen j b there in omega arith);
-    heard = each_after (λ j b. b.newcomers_seen ≤ r.g.total) s.views id w begun (λ j b ne there. r.heard j b there);
+    heard = each_after (λ j b. b.newcomers_seen ≤ r.g.newcomers) s.views id w begun (λ j b ne there. r.heard j b there);
     granted = λ le.
         let o = r.granted (omega arith) in
         let all : (c : ℕ) → tally c (set s.views id w) ≡ tally c s.views = λ c. tally_none s id c v w at (idle le).1 none_counted in record {
@@ -42,7 +42,7 @@ module _ {fl : ℕ} (s : State ℕ View) (r : Tickets fl s) (id : ℕ) (v : View
           crowd = λ c. let e = all c in let k = o.crowd c in omega arith;
           cells = cells_same s.words 16 x (λ z t. Cell r.g (tally (t % 4) (set s.views id w)) z t) (omega arith) (λ t. subst (λ z. Cell r.g z (slice_index s.words (cell_at t)) t) (sym (all (t % 4))) (o.cells t));
           idle = λ e. absurd (let k = o.within in omega arith);
-          each = each_after (Fits fl (r.asked + 1) (put r.owner r.asked id) r.who (record r.g { stamp = stamp })) s.views id w (fit le) (λ j b ne there. let f = o.each j b there in record {
+          each = each_after (Fits fl (r.asked + 1) (put r.owner r.asked id) r.who (record r.g { asked_open = stamp })) s.views id w (fit le) (λ j b ne there. let f = o.each j b there in record {
             knows = f.knows;
             lowest = f.lowest;
             mine = λ busy. let k = f.mine busy in (k.0, (let m = k.1 in omega arith), put_else r.owner r.asked id b.ticket (let m = k.1 in λ e. omega arith) ∙ k.2);
@@ -52,11 +52,11 @@ module _ {fl : ℕ} (s : State ℕ View) (r : Tickets fl s) (id : ℕ) (v : View
             door = f.door;
             tail_seen = record { probed = let k = f.tail_seen.probed in omega arith; next_is_at_turn = λ one e. absurd (let k = f.tail_seen.probed in omega arith) };
             asks = record {
-              stamped = λ busy. f.asks.stamped busy ∙ sym (put_else r.g.stamp r.asked (1 - shut_of r.g.outer) b.ticket (let m = (f.mine busy).1 in λ e. omega arith));
+              stamped = λ busy. f.asks.stamped busy ∙ sym (put_else r.g.asked_open r.asked (1 - shut_of r.g.outer) b.ticket (let m = (f.mine busy).1 in λ e. omega arith));
               early = f.asks.early;
               open_then = f.asks.open_then;
               shut_then = f.asks.shut_then;
-              nobody_behind = λ one two t low high. dite (ℕ_discrete t r.asked) (λ e. put_here r.g.stamp r.asked (1 - shut_of r.g.outer) t e ∙ (let d = (f.door (λ z. omega arith)).0 in omega arith)) (λ ne. put_else r.g.stamp r.asked (1 - shut_of r.g.outer) t ne ∙ f.asks.nobody_behind one two t low (omega arith));
+              nobody_behind = λ one two t low high. dite (ℕ_discrete t r.asked) (λ e. put_here r.g.asked_open r.asked (1 - shut_of r.g.outer) t e ∙ (let d = (f.door (λ z. omega arith)).0 in omega arith)) (λ ne. put_else r.g.asked_open r.asked (1 - shut_of r.g.outer) t ne ∙ f.asks.nobody_behind one two t low (omega arith));
             };
           });
         };
@@ -79,7 +79,7 @@ take_allowed {fl} id slots me fresh s r sized at low = (
         outer = f.outer;
         door = door_on r.g v v.phase Queued (λ e. let z = (idle le).0 in cc) f.door;
         tail_seen = record { probed = let k = f.tail_seen.probed in omega arith; next_is_at_turn = λ one e. absurd (let k = f.tail_seen.probed in omega arith) };
-        asks = record { stamped = λ _. sym (put_here r.g.stamp r.asked (1 - shut_of r.g.outer) r.asked refl); early = omega arith; open_then = λ _ _. refl; shut_then = λ _ n _. (let z : shut_of r.g.outer < 2 = omega arith in dite (ℕ_discrete (shut_of r.g.outer) 1) (λ e. e) (λ ne. absurd (n (omega arith)))); nobody_behind = λ e. absurd (omega arith) };
+        asks = record { stamped = λ _. sym (put_here r.g.asked_open r.asked (1 - shut_of r.g.outer) r.asked refl); early = omega arith; open_then = λ _ _. refl; shut_then = λ _ n _. (let z : shut_of r.g.outer < 2 = omega arith in dite (ℕ_discrete (shut_of r.g.outer) 1) (λ e. e) (λ ne. absurd (n (omega arith)))); nobody_behind = λ e. absurd (omega arith) };
       }),
   (((refl, refl, (let k = known s r id v at in let m = more.0 in omega arith), heard s r id v at), ((refl, refl, refl), refl, (refl, refl), (refl, refl), (refl, refl), (λ _. refl))), (λ timely. ((refl, r.tail, refl), ((let k = (fits s r id v at (let m = more.0 in omega arith)).knows in omega arith), first_low timely, heard s r id v at, refl, (fits s r id v at (let m = more.0 in omega arith)).outer.dated)))),
 )
@@ -103,10 +103,10 @@ take_allowed {fl} id slots me fresh s r sized at low = (
     idle le = fresh (let k = known s r id v at in let m = more.0 in omega arith)
 
     w : View
-    w = record v { most_open = new_load; rounds_seen = 0; ticket = r.asked; phase = Queued; counted = 0; newcomers_at_ask = r.g.total; first_pending = r.g.turn + r.g.taken; newcomers_seen = r.g.total; asked_open = 1 - shut_of r.g.outer; asked_in_epoch = r.g.epoch; nobody_behind = 0 }
+    w = record v { most_open = new_load; rounds_seen = 0; ticket = r.asked; phase = Queued; counted = 0; newcomers_at_ask = r.g.newcomers; first_pending = r.g.turn + r.g.head_inside; newcomers_seen = r.g.newcomers; asked_open = 1 - shut_of r.g.outer; asked_in_epoch = r.g.epoch; nobody_behind = 0 }
 
     -- the tickets that are done with the outer word
-    first_low : new_load ≤ limit → r.g.turn + r.g.taken ≤ r.asked
+    first_low : new_load ≤ limit → r.g.turn + r.g.head_inside ≤ r.asked
     first_low le =
         let m = more.0 in
         let o = r.granted (omega arith) in
@@ -235,7 +235,7 @@ try_allowed {fl} id slots old new me new_is has s r sized at low = dite (ℕ_dis
     wins : tail ≡ old → r.asked ≡ v.tail_seen → Goal
     wins is same_ =
         let most : ℕ = max r.most_open 1 in
-        let w : View = record v { most_open = most; ended = r.asked; rounds_seen = 0; ticket = r.asked; phase = AtTurn; counted = 0; newcomers_at_ask = r.g.total; first_pending = r.asked; newcomers_seen = r.g.total; asked_open = 1 - shut_of r.g.outer; asked_in_epoch = r.g.epoch; nobody_behind = 0 } in (
+        let w : View = record v { most_open = most; ended = r.asked; rounds_seen = 0; ticket = r.asked; phase = AtTurn; counted = 0; newcomers_at_ask = r.g.newcomers; first_pending = r.asked; newcomers_seen = r.g.newcomers; asked_open = 1 - shut_of r.g.outer; asked_in_epoch = r.g.epoch; nobody_behind = 0 } in (
           w,
           keeps,
           tt,
@@ -252,7 +252,7 @@ try_allowed {fl} id slots old new me new_is has s r sized at low = dite (ℕ_dis
                 outer = f.outer;
                 door = door_on r.g v v.phase AtTurn (λ e. let y = (had (omega arith)).0.0 in cc) f.door;
                 tail_seen = record { probed = let k = f.tail_seen.probed in omega arith; next_is_at_turn = λ one e. absurd (let k = f.tail_seen.probed in omega arith) };
-                asks = record { stamped = λ _. sym (put_here r.g.stamp r.asked (1 - shut_of r.g.outer) r.asked refl); early = omega arith; open_then = λ w. absurd (⊎_elim (λ e. cc) (λ e. cc) w); shut_then = λ w. absurd (⊎_elim (λ e. cc) (λ e. cc) w); nobody_behind = λ e. absurd (omega arith) };
+                asks = record { stamped = λ _. sym (put_here r.g.asked_open r.asked (1 - shut_of r.g.outer) r.asked refl); early = omega arith; open_then = λ w. absurd (⊎_elim (λ e. cc) (λ e. cc) w); shut_then = λ w. absurd (⊎_elim (λ e. cc) (λ e. cc) w); nobody_behind = λ e. absurd (omega arith) };
               }),
           (((refl, refl, (let k = known s r id v at in omega arith), heard s r id v at), ((refl, refl, refl), refl, (refl, refl), (refl, refl), (refl, refl), (λ _. refl))), (λ timely. ((λ _. ((refl, r.tail, refl, refl), ((let k = (fits s r id v at (omega arith)).knows in let q = (r.granted (omega arith)).within in omega arith), (omega arith), heard s r id v at, refl, (fits s r id v at (omega arith)).outer.dated))), (λ ne. absurd (ne is))))),
         )
@@ -307,7 +307,7 @@ draw_allowed {fl} id slots old new me new_is has s r sized at low = dite (ℕ_di
     wins : tail ≡ old → r.asked ≡ v.tail_seen → v.next_is_at_turn ≡ 1 → Goal
     wins is same_ ripe =
         let most : ℕ = max r.most_open 1 in
-        let w : View = record v { most_open = most; ended = r.asked; ticket = r.asked; phase = AtTurn; counted = 0; newcomers_at_ask = r.g.total; first_pending = r.asked; newcomers_seen = r.g.total; asked_open = 1 - shut_of r.g.outer; asked_in_epoch = r.g.epoch; nobody_behind = 0 } in (
+        let w : View = record v { most_open = most; ended = r.asked; ticket = r.asked; phase = AtTurn; counted = 0; newcomers_at_ask = r.g.newcomers; first_pending = r.asked; newcomers_seen = r.g.newcomers; asked_open = 1 - shut_of r.g.outer; asked_in_epoch = r.g.epoch; nobody_behind = 0 } in (
           w,
           keeps,
           tt,
@@ -324,7 +324,7 @@ draw_allowed {fl} id slots old new me new_is has s r sized at low = dite (ℕ_di
                 outer = f.outer;
                 door = door_on r.g v v.phase AtTurn (λ e. let y = (had (omega arith)).0.0 in cc) f.door;
                 tail_seen = record { probed = let k = f.tail_seen.probed in omega arith; next_is_at_turn = λ one e. absurd (let k = f.tail_seen.probed in omega arith) };
-                asks = record { stamped = λ _. sym (put_here r.g.stamp r.asked (1 - shut_of r.g.outer) r.asked refl); early = omega arith; open_then = λ w. absurd (⊎_elim (λ e. cc) (λ e. cc) w); shut_then = λ w. absurd (⊎_elim (λ e. cc) (λ e. cc) w); nobody_behind = λ e. absurd (omega arith) };
+                asks = record { stamped = λ _. sym (put_here r.g.asked_open r.asked (1 - shut_of r.g.outer) r.asked refl); early = omega arith; open_then = λ w. absurd (⊎_elim (λ e. cc) (λ e. cc) w); shut_then = λ w. absurd (⊎_elim (λ e. cc) (λ e. cc) w); nobody_behind = λ e. absurd (omega arith) };
               }),
           (
             ((refl, refl, (let k = known s r id v at in omega arith), heard s r id v at), ((refl, refl, refl), refl, (refl, refl), (refl, refl), (refl, refl), (λ _. refl))),
@@ -341,7 +341,7 @@ draw_allowed {fl} id slots old new me new_is has s r sized at low = dite (ℕ_di
         let new_most : (m : ℕ) × ((r.most_open ≤ m) × (r.asked ≤ r.g.turn + r.most_open → r.asked + 1 ≤ r.g.turn + m)) = dite (dec_le (r.asked + 1) (r.g.turn + r.most_open)) (λ le. (r.most_open, (omega arith, λ _. le))) (λ gt. (r.most_open + 1, (omega arith, λ h. omega arith))) in
         let most : ℕ = new_most.0 in
         let more : (r.most_open ≤ most) × (r.asked ≤ r.g.turn + r.most_open → r.asked + 1 ≤ r.g.turn + most) = new_most.1 in
-        let w : View = record v { most_open = most; ticket = r.asked; phase = Queued; counted = 0; newcomers_at_ask = r.g.total; first_pending = r.g.turn + r.g.taken; newcomers_seen = r.g.total; asked_open = 1 - shut_of r.g.outer; asked_in_epoch = r.g.epoch; nobody_behind = 0 } in (
+        let w : View = record v { most_open = most; ticket = r.asked; phase = Queued; counted = 0; newcomers_at_ask = r.g.newcomers; first_pending = r.g.turn + r.g.head_inside; newcomers_seen = r.g.newcomers; asked_open = 1 - shut_of r.g.outer; asked_in_epoch = r.g.epoch; nobody_behind = 0 } in (
           w,
           keeps,
           tt,
@@ -357,7 +357,7 @@ draw_allowed {fl} id slots old new me new_is has s r sized at low = dite (ℕ_di
                 outer = f.outer;
                 door = door_on r.g v v.phase Queued (λ e. let z = (had (omega arith)).0.0 in cc) f.door;
                 tail_seen = record { probed = let k = f.tail_seen.probed in omega arith; next_is_at_turn = λ one e. absurd (let k = f.tail_seen.probed in omega arith) };
-                asks = record { stamped = λ _. sym (put_here r.g.stamp r.asked (1 - shut_of r.g.outer) r.asked refl); early = omega arith; open_then = λ _ _. refl; shut_then = λ _ n _. (let z : shut_of r.g.outer < 2 = omega arith in dite (ℕ_discrete (shut_of r.g.outer) 1) (λ e. e) (λ ne. absurd (n (omega arith)))); nobody_behind = λ e. absurd (omega arith) };
+                asks = record { stamped = λ _. sym (put_here r.g.asked_open r.asked (1 - shut_of r.g.outer) r.asked refl); early = omega arith; open_then = λ _ _. refl; shut_then = λ _ n _. (let z : shut_of r.g.outer < 2 = omega arith in dite (ℕ_discrete (shut_of r.g.outer) 1) (λ e. e) (λ ne. absurd (n (omega arith)))); nobody_behind = λ e. absurd (omega arith) };
               }),
           (
             ((refl, refl, (let k = known s r id v at in let m = more.0 in omega arith), heard s r id v at), ((refl, refl, refl), refl, (refl, refl), (refl, refl), (refl, refl), (λ _. refl))),
@@ -369,7 +369,7 @@ draw_allowed {fl} id slots old new me new_is has s r sized at low = dite (ℕ_di
         )
       where
         -- the tickets that are done with the outer word
-        done_low : r.most_open ≤ limit → r.g.turn + r.g.taken ≤ r.asked
+        done_low : r.most_open ≤ limit → r.g.turn + r.g.head_inside ≤ r.asked
         done_low le =
             let o = r.granted le in
             let w = o.within in

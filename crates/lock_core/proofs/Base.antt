@@ -80,7 +80,7 @@ module _ {fl : ℕ} (s : State ℕ View) (r : Tickets fl s) (id : ℕ) (v : View
   pub known : v.most_open ≤ r.most_open
   known = r.seen id v at
 
-  pub heard : v.newcomers_seen ≤ r.g.total
+  pub heard : v.newcomers_seen ≤ r.g.newcomers
   heard = r.heard id v at
 
   pub fits : (le : r.most_open ≤ limit) → Fits fl r.asked r.owner r.who r.g id v
@@ -150,7 +150,7 @@ pub asks_on : (asked : ℕ) (g : Ghost) (v : View) (p q : Phase) → p ≢ Idle 
 asks_on asked g v p q busy waits k = record { stamped = λ _. k.stamped busy; early = k.early; open_then = λ w. k.open_then (waits w); shut_then = λ w. k.shut_then (waits w); nobody_behind = λ one. absurd (omega arith) }
 
 -- tickets that are stamped change nothing of the requests
-pub place_stamped : (fl : ℕ) (g : Ghost) (stamp : ℕ → ℕ) (v : View) (p : Phase) → Place fl g v p → Place fl (record g { stamp = stamp }) v p
+pub place_stamped : (fl : ℕ) (g : Ghost) (stamp : ℕ → ℕ) (v : View) (p : Phase) → Place fl g v p → Place fl (record g { asked_open = stamp }) v p
 place_stamped fl g stamp v Idle k = k
 place_stamped fl g stamp v Queued k = k
 place_stamped fl g stamp v Asleep k = k
@@ -167,7 +167,7 @@ in_bounds fl fellows total since number first by d same_ sum_ late few =
 
 -- a step that changes no word, and of the views at most the seat's own
 module _ {fl : ℕ} (s : State ℕ View) (r : Tickets fl s) (id : ℕ) (v : View) (at : get_elem? s.views id ≡ some v) (i x : ℕ) (low : i < 21) (x_is : x ≡ slice_index s.words i) (w : View) where
-  pub unchanged : w.most_open ≡ r.most_open → w.newcomers_seen ≤ r.g.total → (r.most_open ≤ limit → v.counted ≡ 0) → (r.most_open ≤ limit → w.counted ≡ 0) → (r.most_open ≤ limit → Fits fl r.asked r.owner r.who r.g id w) → Tickets fl record { words = set s.words i x; homes = s.homes; views = set s.views id w }
+  pub unchanged : w.most_open ≡ r.most_open → w.newcomers_seen ≤ r.g.newcomers → (r.most_open ≤ limit → v.counted ≡ 0) → (r.most_open ≤ limit → w.counted ≡ 0) → (r.most_open ≤ limit → Fits fl r.asked r.owner r.who r.g id w) → Tickets fl record { words = set s.words i x; homes = s.homes; views = set s.views id w }
   unchanged same_most begun none_before none_after fit = record {
     asked = r.asked;
     most_open = r.most_open;
@@ -178,7 +178,7 @@ module _ {fl : ℕ} (s : State ℕ View) (r : Tickets fl s) (id : ℕ) (v : View
     outer = old 0 ∙ r.outer;
     wide = length-set s.words i x ∙ r.wide;
     seen = each_after (λ j b. b.most_open ≤ r.most_open) s.views id w (omega arith) (λ j b ne there. r.seen j b there);
-    heard = each_after (λ j b. b.newcomers_seen ≤ r.g.total) s.views id w begun (λ j b ne there. r.heard j b there);
+    heard = each_after (λ j b. b.newcomers_seen ≤ r.g.newcomers) s.views id w begun (λ j b ne there. r.heard j b there);
     granted = λ le.
         let o = r.granted le in
         let all : (k : ℕ) → tally k (set s.views id w) ≡ tally k s.views = λ k. tally_none s id k v w at (none_before le) (none_after le) in record {

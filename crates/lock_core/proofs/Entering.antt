@@ -29,7 +29,7 @@ come_enters {fl} slots s r sized low = (
     outer = r.outer;
     wide = r.wide;
     seen = λ j b at. ⊎_elim (λ t. r.seen j b t) (λ t. subst (λ (x : View). x.most_open ≤ r.most_open) t (omega arith)) (at_snoc s.views (initial_view fl) b j at);
-    heard = λ j b at. ⊎_elim (λ t. r.heard j b t) (λ t. subst (λ (x : View). x.newcomers_seen ≤ r.g.total) t (omega arith)) (at_snoc s.views (initial_view fl) b j at);
+    heard = λ j b at. ⊎_elim (λ t. r.heard j b t) (λ t. subst (λ (x : View). x.newcomers_seen ≤ r.g.newcomers) t (omega arith)) (at_snoc s.views (initial_view fl) b j at);
     granted = λ le.
         let o = r.granted le in
         let all : (c : ℕ) → tally c (s.views ++ (initial_view fl) ∷ []) ≡ tally c s.views = λ c. let e = tally_snoc c s.views (initial_view fl) in let z = none_of c (initial_view fl) refl in omega arith in record {

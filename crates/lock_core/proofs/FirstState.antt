@@ -28,7 +28,7 @@ no_bits : (i : ℕ) → i < 16 → (t : ℕ) → bit_at (slice_index first_words
 no_bits i low t = cells (λ k z. bit_at z i ≡ 0) (low_bit 17179869184 i (omega arith) ∙ bit_at-zero i) (bit_at-zero i) (bit_at-zero i) (bit_at-zero i) (t % 4) (omega arith)
 
 abbrev pub first_ghost : Ghost
-first_ghost = record { turn = 0; taken = 0; heads = 0; since_head = 0; total = 0; outer = 0; keeper = 0; epoch = 0; marked = λ _. 0; nobody_asleep = λ _. 0; start = λ _. 0; left_quietly = λ _. 0; stamp = λ _. 0 }
+first_ghost = record { turn = 0; head_inside = 0; heads = 0; since_head = 0; newcomers = 0; outer = 0; who_is_inside = 0; epoch = 0; withdrawn = λ _. 0; nobody_asleep = λ _. 0; newcomers_before = λ _. 0; left_quietly = λ _. 0; asked_open = λ _. 0 }
 
 none_first : (fl c : ℕ) → tally c ((initial_view fl) ∷ []) ≡ 0
 none_first fl c = let z = none_of c (initial_view fl) refl in omega arith

@@ -32,11 +32,11 @@ somebody_is found ne = ap (λ b. either b 1 0) (ne_eqb (count_of found) 0 ne)
 
 -- the next ticket is at its turn
 abbrev pub next_turn : Ghost → ℕ → Ghost
-next_turn g quiet = record g { turn = g.turn + 1; taken = 0; nobody_asleep = put g.nobody_asleep (g.turn + 1) quiet }
+next_turn g quiet = record g { turn = g.turn + 1; head_inside = 0; nobody_asleep = put g.nobody_asleep (g.turn + 1) quiet }
 
-module _ (fl : ℕ) (g : Ghost) (q : ℕ) (b : View) (single : g.taken ≤ 1) where
+module _ (fl : ℕ) (g : Ghost) (q : ℕ) (b : View) (single : g.head_inside ≤ 1) where
   waiter : Waiter fl g b → Waiter fl (next_turn g q) b
-  waiter k = record { unmarked = k.unmarked; late = record { came = let c = k.late.came in omega arith; overtaken = let o = k.late.overtaken in let m = mul-le fl g.taken fl 1 (omega arith) single in omega arith }; at_turn = λ e. refl }
+  waiter k = record { unmarked = k.unmarked; late = record { came = let c = k.late.came in omega arith; overtaken = let o = k.late.overtaken in let m = mul-le fl g.head_inside fl 1 (omega arith) single in omega arith }; at_turn = λ e. refl }
 
   -- the others wait on
   waits_on : (p : Phase) → (p ≢ Idle → b.ticket ≢ g.turn) → (p ≡ Asleep → b.ticket ≡ g.turn + 1 → q ≡ 0) → Place fl g b p → Place fl (next_turn g q) b p
@@ -49,7 +49,7 @@ module _ (fl : ℕ) (g : Ghost) (q : ℕ) (b : View) (single : g.taken ≤ 1) wh
   waits_on Impossible ne h k = k
 
 -- who is not done with its turn has an unmarked ticket
-unmarked_of : (fl : ℕ) (g : Ghost) (v : View) (p : Phase) → p ≢ Idle → Place fl g v p → (g.marked v.ticket ≡ 0) ⊎ (v.ticket ≡ g.turn)
+unmarked_of : (fl : ℕ) (g : Ghost) (v : View) (p : Phase) → p ≢ Idle → Place fl g v p → (g.withdrawn v.ticket ≡ 0) ⊎ (v.ticket ≡ g.turn)
 unmarked_of fl g v Idle ne k = absurd (ne refl)
 unmarked_of fl g v Queued ne k = inl k.unmarked
 unmarked_of fl g v Asleep ne k = inl k.0.unmarked
@@ -96,7 +96,7 @@ module _ {fl : ℕ} (s : State ℕ View) (r : Tickets fl s) (id slots i x ticket
       is_next : (le : r.most_open ≤ limit) → i ≡ cell_at n1
       is_next le = let t = (granting le).mine in is ∙ (let b = behind in omega arith)
 
-      mark : (le : r.most_open ≤ limit) → bit ≡ r.g.marked n1
+      mark : (le : r.most_open ≤ limit) → bit ≡ r.g.withdrawn n1
       mark le = let t = (granting le).holder.turn in ap (λ z. bit_at z (bit_of n1)) (ap (slice_index s.words) (is_next le)) ∙ ((r.granted le).cells n1).bits (omega arith) (omega arith)
 
       -- a sleeper of the next ticket is counted
@@ -112,7 +112,7 @@ module _ {fl : ℕ} (s : State ℕ View) (r : Tickets fl s) (id slots i x ticket
           let c' : count_of found ≡ tally (b.ticket % 4) s.views = ap count_of (sym here) ∙ c in
           somebody_is found (λ z. let z' : tally (b.ticket % 4) s.views ≡ 0 = sym c' ∙ z in omega arith)
 
-      after : (owner : ℕ → ℕ) (w : View) → w.most_open ≡ r.most_open → w.newcomers_seen ≤ r.g.total → w.counted ≡ 0 → (r.most_open ≤ limit → Fits fl r.asked owner r.who g id w)
+      after : (owner : ℕ → ℕ) (w : View) → w.most_open ≡ r.most_open → w.newcomers_seen ≤ r.g.newcomers → w.counted ≡ 0 → (r.most_open ≤ limit → Fits fl r.asked owner r.who g id w)
           → (r.most_open ≤ limit → (j : ℕ) (b : View) → j ≢ id → get_elem? s.views j ≡ some b → b.phase ≢ Idle → owner b.ticket ≡ r.owner b.ticket)
           → Tickets fl record { words = set s.words i x; homes = s.homes; views = set s.views id w }
       after owner w same_most begun none_ fit keep = record {
@@ -125,7 +125,7 @@ module _ {fl : ℕ} (s : State ℕ View) (r : Tickets fl s) (id slots i x ticket
         outer = get_or-set_other s.words i 0 x 0 (λ e. omega arith) ∙ r.outer;
         wide = length-set s.words i x ∙ r.wide;
         seen = each_after (λ j b. b.most_open ≤ r.most_open) s.views id w (omega arith) (λ j b ne there. r.seen j b there);
-        heard = each_after (λ j b. b.newcomers_seen ≤ r.g.total) s.views id w begun (λ j b ne there. r.heard j b there);
+        heard = each_after (λ j b. b.newcomers_seen ≤ r.g.newcomers) s.views id w begun (λ j b ne there. r.heard j b there);
         granted = λ le.
             let o = r.granted le in
             let k = granting le in
@@ -198,13 +198,13 @@ module _ {fl : ℕ} (s : State ℕ View) (r : Tickets fl s) (id slots i x ticket
 
       passes : bit ≢ 0 → Goal
       passes ne =
-          let w : View = record v { most_open = r.most_open; ended = n1; rounds_seen = 0; ticket = n1; phase = Passing; counted = 0; granted = n1; told_nobody = 0; newcomers_at_ask = r.g.total; first_pending = r.g.turn + 1; door = told_in v; asked_open = r.g.stamp n1; nobody_behind = 0 } in
+          let w : View = record v { most_open = r.most_open; ended = n1; rounds_seen = 0; ticket = n1; phase = Passing; counted = 0; granted = n1; told_nobody = 0; newcomers_at_ask = r.g.newcomers; first_pending = r.g.turn + 1; door = told_in v; asked_open = r.g.asked_open n1; nobody_behind = 0 } in
           let one : bit ≡ 1 = (let lt = bit_at-lt found (bit_of n1) in omega arith) in (
             w,
             keeps,
             tt,
             after (put r.owner n1 id) w refl (let k = heard s r id v at in omega arith) refl
-                (λ le. let t = (granting le).holder.turn in let m : r.g.marked n1 ≡ 1 = sym (mark le) ∙ one in record {
+                (λ le. let t = (granting le).holder.turn in let m : r.g.withdrawn n1 ≡ 1 = sym (mark le) ∙ one in record {
                   knows = omega arith;
                   lowest = omega arith;
                   mine = λ _. (omega arith, (dite (dec_le r.asked n1) (λ late. absurd (let z = (r.granted le).marks.future n1 late in omega arith)) (λ soon. omega arith)), put_here r.owner n1 id n1 refl);
@@ -223,7 +223,7 @@ module _ {fl : ℕ} (s : State ℕ View) (r : Tickets fl s) (id slots i x ticket
           owned : (le : r.most_open ≤ limit) (j : ℕ) (b : View) → get_elem? s.views j ≡ some b → b.phase ≢ Idle → j ≢ id → b.ticket ≢ n1
           owned le j b there busy ne' e =
               let f = (r.granted le).each j b there in
-              let m : r.g.marked b.ticket ≢ 0 = λ z. ne (mark le ∙ ap r.g.marked (sym e) ∙ z) in
+              let m : r.g.withdrawn b.ticket ≢ 0 = λ z. ne (mark le ∙ ap r.g.withdrawn (sym e) ∙ z) in
               let t = (granting le).holder.turn in
               ⊎_elim m (λ at_turn. omega arith) (unmarked_of fl r.g b b.phase busy f.place)
 

@@ -27,7 +27,7 @@ module _ {fl : ℕ} (s : State ℕ View) (r : Tickets fl s) (id : ℕ) (v : View
     word : Recounted was x c d
     room : tally (v.ticket % 4) s.views + d ≤ 65535 + c
 
-  recounted : (w : View) → w.most_open ≡ most → w.newcomers_seen ≤ r.g.total → (most ≤ limit → Counts) → (most ≤ limit → w.ticket ≡ v.ticket) → (most ≤ limit → w.counted ≡ d) → (most ≤ limit → Fits fl r.asked r.owner r.who r.g id w)
+  recounted : (w : View) → w.most_open ≡ most → w.newcomers_seen ≤ r.g.newcomers → (most ≤ limit → Counts) → (most ≤ limit → w.ticket ≡ v.ticket) → (most ≤ limit → w.counted ≡ d) → (most ≤ limit → Fits fl r.asked r.owner r.who r.g id w)
       → Tickets fl record { words = set s.words i x; homes = s.homes; views = set s.views id w }
   recounted w is_most begun counts number after fit = record {
     asked = r.asked;
@@ -39,7 +39,7 @@ module _ {fl : ℕ} (s : State ℕ View) (r : Tickets fl s) (id : ℕ) (v : View
     outer = get_or-set_other s.words i 0 x 0 (λ e. omega arith) ∙ r.outer;
     wide = length-set s.words i x ∙ r.wide;
     seen = each_after (λ j b. b.most_open ≤ most) s.views id w (omega arith) (λ j b ne there. let k = r.seen j b there in omega arith);
-    heard = each_after (λ j b. b.newcomers_seen ≤ r.g.total) s.views id w begun (λ j b ne there. r.heard j b there);
+    heard = each_after (λ j b. b.newcomers_seen ≤ r.g.newcomers) s.views id w begun (λ j b ne there. r.heard j b there);
     granted = λ le.
         let o = r.granted (omega arith) in
         let k = counts le in
@@ -106,7 +106,7 @@ module _ {fl : ℕ} (s : State ℕ View) (r : Tickets fl s) (id slots i x ticket
 
       granted : go ≡ 0 → Goal
       granted is_granted =
-          let w : View = record v { most_open = most; ended = v.ticket; phase = AtTurn; counted = d; newcomers_seen = r.g.total; nobody_behind = 0 } in
+          let w : View = record v { most_open = most; ended = v.ticket; phase = AtTurn; counted = d; newcomers_seen = r.g.newcomers; nobody_behind = 0 } in
           let turn : (le : most ≤ limit) → v.ticket ≡ r.g.turn = λ le. let e = going le in let a = (open_fits le).0 in omega arith in (
             w,
             keeps,
@@ -129,7 +129,7 @@ module _ {fl : ℕ} (s : State ℕ View) (r : Tickets fl s) (id slots i x ticket
                 }),
             (
               ((refl, refl, (let k = known s r id v at in omega arith), (let k = heard s r id v at in omega arith)), ((refl, refl, refl), refl, (refl, refl), (refl, refl), (refl, refl), (λ _. refl))),
-              (λ timely. (refl, refl, refl, (λ _. (refl, refl, refl, (let q = (waits timely).waits in let t = turn timely in let o = q.late.came in let e : fl * (r.g.turn + r.g.taken) ≡ fl * v.ticket = ap (λ z. fl * z) (let c0 = q.at_turn t in omega arith) in let k = q.late.overtaken in in_bounds fl v.max_newcomers r.g.total v.newcomers_at_ask v.ticket v.first_pending r.g.since_head (v.ticket + 1 - v.first_pending) same_fellows (let c0 = q.at_turn t in omega arith) (omega arith) (r.granted (omega arith)).counts.bounded))), (λ some_. absurd (omega arith)))),
+              (λ timely. (refl, refl, refl, (λ _. (refl, refl, refl, (let q = (waits timely).waits in let t = turn timely in let o = q.late.came in let e : fl * (r.g.turn + r.g.head_inside) ≡ fl * v.ticket = ap (λ z. fl * z) (let c0 = q.at_turn t in omega arith) in let k = q.late.overtaken in in_bounds fl v.max_newcomers r.g.newcomers v.newcomers_at_ask v.ticket v.first_pending r.g.since_head (v.ticket + 1 - v.first_pending) same_fellows (let c0 = q.at_turn t in omega arith) (omega arith) (r.granted (omega arith)).counts.bounded))), (λ some_. absurd (omega arith)))),
             ),
           )
 

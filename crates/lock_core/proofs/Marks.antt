@@ -18,14 +18,14 @@ use Rattle.lock_core.proofs.Base.{put, put_here, put_else, each_after, cells_aft
 use Rattle.lock_core.proofs.Words.{or_high, xor_high, or_same, or_other, xor_same, xor_other, or_is_sum, xor_is_less}
 
 abbrev remark : Ghost → ℕ → ℕ → Ghost
-remark g n y = record g { marked = put g.marked n y }
+remark g n y = record g { withdrawn = put g.withdrawn n y }
 
 module _ (fl : ℕ) (g : Ghost) (n y : ℕ) (b : View) where
   waiter : b.ticket ≢ n → Waiter fl g b → Waiter fl (remark g n y) b
-  waiter ne k = record { unmarked = put_else g.marked n y b.ticket ne ∙ k.unmarked; late = k.late; at_turn = k.at_turn }
+  waiter ne k = record { unmarked = put_else g.withdrawn n y b.ticket ne ∙ k.unmarked; late = k.late; at_turn = k.at_turn }
 
   holder : (m : ℕ) → b.ticket ≢ n → Holder fl g b m → Holder fl (remark g n y) b m
-  holder m ne k = record { turn = k.turn; mark = put_else g.marked n y b.ticket ne ∙ k.mark; late = k.late }
+  holder m ne k = record { turn = k.turn; mark = put_else g.withdrawn n y b.ticket ne ∙ k.mark; late = k.late }
 
   elsewhere : (p : Phase) → (p ≢ Idle → b.ticket ≢ n) → Place fl g b p → Place fl (remark g n y) b p
   elsewhere Idle ne k = tt
@@ -51,7 +51,7 @@ module _ {fl : ℕ} (s : State ℕ View) (r : Tickets fl s) (id : ℕ) (v : View
     own_bit : bit_at new (bit_of v.ticket) ≡ y
     other_bit : (k : ℕ) → k ≢ bit_of v.ticket → bit_at new k ≡ bit_at was k
 
-  flipped : (w : View) → w.most_open ≡ r.most_open → w.newcomers_seen ≤ r.g.total → w.counted ≡ 0 → (r.most_open ≤ limit → Flips) → (r.most_open ≤ limit → Fits fl r.asked r.owner r.who (remark r.g v.ticket y) id w)
+  flipped : (w : View) → w.most_open ≡ r.most_open → w.newcomers_seen ≤ r.g.newcomers → w.counted ≡ 0 → (r.most_open ≤ limit → Flips) → (r.most_open ≤ limit → Fits fl r.asked r.owner r.who (remark r.g v.ticket y) id w)
       → Tickets fl record { words = set s.words i new; homes = s.homes; views = set s.views id w }
   flipped w same_most begun none_counted_ flips fit = record {
     asked = r.asked;
@@ -63,7 +63,7 @@ module _ {fl : ℕ} (s : State ℕ View) (r : Tickets fl s) (id : ℕ) (v : View
     outer = get_or-set_other s.words i 0 new 0 (λ e. omega arith) ∙ r.outer;
     wide = length-set s.words i new ∙ r.wide;
     seen = each_after (λ j b. b.most_open ≤ r.most_open) s.views id w (omega arith) (λ j b ne there. r.seen j b there);
-    heard = each_after (λ j b. b.newcomers_seen ≤ r.g.total) s.views id w begun (λ j b ne there. r.heard j b there);
+    heard = each_after (λ j b. b.newcomers_seen ≤ r.g.newcomers) s.views id w begun (λ j b ne there. r.heard j b there);
     granted = λ le.
         let o = r.granted le in
         let c = flips le in
@@ -76,7 +76,7 @@ module _ {fl : ℕ} (s : State ℕ View) (r : Tickets fl s) (id : ℕ) (v : View
           within = o.within;
           few = o.few;
           counts = o.counts;
-          marks = record { far = λ t beyond. put_else r.g.marked v.ticket y t (λ tu. let k : rounds r.g.turn t ≡ rounds r.g.turn v.ticket = ap (rounds r.g.turn) tu in let l : t / 4 ≡ v.ticket / 4 = ap (λ q. q / 4) tu in omega arith) ∙ o.marks.far t beyond; future = λ t later. put_else r.g.marked v.ticket y t (λ tu. omega arith) ∙ o.marks.future t later; unheard = o.marks.unheard };
+          marks = record { far = λ t beyond. put_else r.g.withdrawn v.ticket y t (λ tu. let k : rounds r.g.turn t ≡ rounds r.g.turn v.ticket = ap (rounds r.g.turn) tu in let l : t / 4 ≡ v.ticket / 4 = ap (λ q. q / 4) tu in omega arith) ∙ o.marks.far t beyond; future = λ t later. put_else r.g.withdrawn v.ticket y t (λ tu. omega arith) ∙ o.marks.future t later; unheard = o.marks.unheard };
           crowd = λ k. let e = all k in let q = o.crowd k in omega arith;
           cells = cells_after s.words i new v.ticket (λ q t. Cell g (tally (t % 4) (set s.views id w)) q t) (let k = r.wide in omega arith) (omega arith)
               (λ t e.
@@ -84,14 +84,14 @@ module _ {fl : ℕ} (s : State ℕ View) (r : Tickets fl s) (id : ℕ) (v : View
               let h = c.high in record {
                 high = (omega arith) ∙ k.high;
                 bits = λ from near. dite (ℕ_discrete (bit_of t) (bit_of v.ticket))
-                    (λ eq. let tu : t ≡ v.ticket = omega arith in ap (bit_at new) eq ∙ c.own_bit ∙ sym (put_here r.g.marked v.ticket y t tu))
-                    (λ ne. c.other_bit (bit_of t) ne ∙ k.bits from near ∙ sym (put_else r.g.marked v.ticket y t (λ tu. ne (ap bit_of tu))));
+                    (λ eq. let tu : t ≡ v.ticket = omega arith in ap (bit_at new) eq ∙ c.own_bit ∙ sym (put_here r.g.withdrawn v.ticket y t tu))
+                    (λ ne. c.other_bit (bit_of t) ne ∙ k.bits from near ∙ sym (put_else r.g.withdrawn v.ticket y t (λ tu. ne (ap bit_of tu))));
                 spare = λ just apart. let ne : bit_of t ≢ bit_of v.ticket = λ eq. apart (omega arith) in c.other_bit (bit_of t) ne ∙ k.spare just apart;
                 count = (omega arith) ∙ k.count ∙ sym (all (t % 4));
               })
               (λ t ne. let k = o.cells t in record {
                 high = k.high;
-                bits = λ from near. k.bits from near ∙ sym (put_else r.g.marked v.ticket y t (λ tu. ne (ap (λ q. q % 4) tu)));
+                bits = λ from near. k.bits from near ∙ sym (put_else r.g.withdrawn v.ticket y t (λ tu. ne (ap (λ q. q % 4) tu)));
                 spare = k.spare;
                 count = k.count ∙ sym (all (t % 4));
               });
@@ -160,7 +160,7 @@ mark_allowed {fl} id slots i ticket k x me is mask near waits s r sized at low =
 
     granted : rounds_of found ≡ (v.ticket / 4 + 1) % 1073741824 → Goal
     granted is_ =
-        let w : View = record v { most_open = r.most_open; ended = 0; rounds_seen = 0; phase = Passing; counted = 0; newcomers_seen = r.g.total; nobody_behind = 0 } in (
+        let w : View = record v { most_open = r.most_open; ended = 0; rounds_seen = 0; phase = Passing; counted = 0; newcomers_seen = r.g.newcomers; nobody_behind = 0 } in (
           w,
           keeps,
           tt,
@@ -176,7 +176,7 @@ mark_allowed {fl} id slots i ticket k x me is mask near waits s r sized at low =
                 knows = omega arith;
                 lowest = omega arith;
                 mine = λ _. m;
-                place = (record { turn = turn; mark = put_here r.g.marked v.ticket 1 v.ticket refl; late = (placed le).late }, now);
+                place = (record { turn = turn; mark = put_here r.g.withdrawn v.ticket 1 v.ticket refl; late = (placed le).late }, now);
                 told_nobody = (fits s r id v at le).told_nobody;
                 outer = (fits s r id v at le).outer;
                 door = door_on r.g v v.phase Passing (λ e. let z = (queued le).0.0 in cc) (fits s r id v at le).door;
@@ -211,7 +211,7 @@ clear_allowed {fl} id slots i ticket x me is mask passes s r sized at low =
             knows = let t = k.0.turn in omega arith;
             lowest = omega arith;
             mine = λ _. f.mine (λ e. let z = p.0 in cc);
-            place = (record { turn = k.0.turn; mark = put_here r.g.marked v.ticket 0 v.ticket refl; late = k.0.late }, now);
+            place = (record { turn = k.0.turn; mark = put_here r.g.withdrawn v.ticket 0 v.ticket refl; late = k.0.late }, now);
             told_nobody = f.told_nobody;
             outer = f.outer;
             door = door_on r.g v v.phase AtTurn (λ e. let z = p.0 in cc) f.door;

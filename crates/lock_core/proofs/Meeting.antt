@@ -9,7 +9,7 @@ use Rattle.lock_core.specs.declared.view.Phase.TheVariants.{Asleep, Impossible}
 use Rattle.lock_core.specs.Layout.{cell_at}
 use Rattle.lock_core.specs.Views.{limit, Timely, initial_view, IsIdle, KnowsShut, ServedOpen, HasTurn, LeftQuietly, SleepsAtOuter}
 use Rattle.lock_core.specs.Invariant.{tally, Fits, Cell, Tickets}
-use Rattle.lock_core.specs.Meets.{Served, IsWaiting, GrantedToNobodyAsleepAt, IsStillAsleep, HadNewcomersTurn, AskedOpen, AskedShut, meet, tells_of_two, told_of, learns}
+use Rattle.lock_core.specs.Meets.{Served, IsWaiting, GrantedToNobodyAsleepAt, IsStillAsleep, HadNewcomersTurn, IsWaitingOpen, IsWaitingShut, meet, tells_of_two, told_of, learns}
 use Rattle.lock_core.proofs.Base.{idle_asks, each_after, tally_none, fits, place_of, turn_of_place, busy_of}
 use Rattle.lock_core.proofs.Tally.{tally_snoc}
 use Rattle.lock_core.proofs.Entering.{none_of}
@@ -28,7 +28,7 @@ meet_joins {fl} id other v w never s r at apart at_other =
       outer = r.outer;
       wide = r.wide;
       seen = each_after (λ j b. b.most_open ≤ r.most_open) (set s.views id (meet v w)) other (initial_view 0) (omega arith) (λ j b ne old. each_after (λ j b. b.most_open ≤ r.most_open) s.views id (meet v w) (r.seen id v at) (λ k c ne' old'. r.seen k c old') j b old);
-      heard = each_after (λ j b. b.newcomers_seen ≤ r.g.total) (set s.views id (meet v w)) other (initial_view 0) (omega arith) (λ j b ne old. each_after (λ j b. b.newcomers_seen ≤ r.g.total) s.views id (meet v w) (omega arith) (λ k c ne' old'. r.heard k c old') j b old);
+      heard = each_after (λ j b. b.newcomers_seen ≤ r.g.newcomers) (set s.views id (meet v w)) other (initial_view 0) (omega arith) (λ j b ne old. each_after (λ j b. b.newcomers_seen ≤ r.g.newcomers) s.views id (meet v w) (omega arith) (λ k c ne' old'. r.heard k c old') j b old);
       granted = λ le. absurd (never s r le at there apart);
     }
 
@@ -103,7 +103,7 @@ naps_joins id other v w a b same_ = meet_joins id other v w (λ s r le at there 
     let none_ = naps.1 in
     omega arith)
 
-pub left_over_joins : {fl : ℕ} (id other : ℕ) (v w : View) → (Timely w → IsWaiting w × AskedOpen w) → (Timely w → w.asked_in_epoch < v.epoch) → Joins (Tickets fl) id v other w (meet v w) (initial_view 0)
+pub left_over_joins : {fl : ℕ} (id other : ℕ) (v w : View) → (Timely w → IsWaitingOpen w) → (Timely w → w.asked_in_epoch < v.epoch) → Joins (Tickets fl) id v other w (meet v w) (initial_view 0)
 left_over_joins id other v w waits reopened = meet_joins id other v w (λ s r le at there apart.
     let q = waits (let k = r.seen other w there in omega arith) in
     let before = reopened (let k = r.seen other w there in omega arith) in
@@ -111,7 +111,7 @@ left_over_joins id other v w waits reopened = meet_joins id other v w (λ s r le
     let dated = (fits s r id v at le).outer.dated in
     omega arith)
 
-pub asked_joins : {fl : ℕ} (id other : ℕ) (v w : View) → (Timely v → ServedOpen v) → (Timely w → IsWaiting w × AskedShut w) → (Timely w → w.asked_in_epoch ≡ v.epoch) → Joins (Tickets fl) id v other w (meet v w) (initial_view 0)
+pub asked_joins : {fl : ℕ} (id other : ℕ) (v w : View) → (Timely v → ServedOpen v) → (Timely w → IsWaitingShut w) → (Timely w → w.asked_in_epoch ≡ v.epoch) → Joins (Tickets fl) id v other w (meet v w) (initial_view 0)
 asked_joins id other v w served waits same_ = meet_joins id other v w (λ s r le at there apart.
     let one = served (let k = r.seen id v at in omega arith) in
     let q = waits (let k = r.seen other w there in omega arith) in
@@ -120,7 +120,7 @@ asked_joins id other v w served waits same_ = meet_joins id other v w (λ s r le
     let z = (fits s r other w there le).asks.shut_then q.0 q.1 (same_ (let k = r.seen other w there in omega arith) ∙ d.1) in
     omega arith)
 
-pub turns_differ_joins : {fl : ℕ} (id other : ℕ) (v w : View) → (Timely v → HadNewcomersTurn v.heads_before v.place_after_head v) → (Timely w → HadNewcomersTurn v.heads_before v.place_after_head w) → Joins (Tickets fl) id v other w (meet v w) (initial_view 0)
+pub turns_differ_joins : {fl : ℕ} (id other : ℕ) (v w : View) → (Timely v → HadNewcomersTurn v v) → (Timely w → HadNewcomersTurn v w) → Joins (Tickets fl) id v other w (meet v w) (initial_view 0)
 turns_differ_joins id other v w a b = meet_joins id other v w (λ s r le at there apart.
     let p = a (let k = r.seen id v at in omega arith) in
     let q = b (let k = r.seen other w there in omega arith) in
@@ -129,13 +129,13 @@ turns_differ_joins id other v w a b = meet_joins id other v w (λ s r le at ther
     let f2 = f.2 in
     let h2 = h.2 in
     let by_ = q.2 in
-    let gap_ : r.g.start w.heads_before ≡ r.g.start v.heads_before = ap r.g.start q.1 in
+    let gap_ : r.g.newcomers_before w.heads_before ≡ r.g.newcomers_before v.heads_before = ap r.g.newcomers_before q.1 in
     let same_ : w.newcomer_turn ≡ v.newcomer_turn = omega arith in
     apart (sym h.1 ∙ ap r.who same_ ∙ f.1))
 
 -- a view changes, and no word
 module _ {fl : ℕ} (s : State ℕ View) (r : Tickets fl s) (id : ℕ) (v : View) (at : get_elem? s.views id ≡ some v) (w : View) where
-  viewed : w.most_open ≤ r.most_open → w.newcomers_seen ≤ r.g.total → (r.most_open ≤ limit → v.counted ≡ 0) → w.counted ≡ 0 → (r.most_open ≤ limit → Fits fl r.asked r.owner r.who r.g id w) → Tickets fl record { words = s.words; homes = s.homes; views = set s.views id w }
+  viewed : w.most_open ≤ r.most_open → w.newcomers_seen ≤ r.g.newcomers → (r.most_open ≤ limit → v.counted ≡ 0) → w.counted ≡ 0 → (r.most_open ≤ limit → Fits fl r.asked r.owner r.who r.g id w) → Tickets fl record { words = s.words; homes = s.homes; views = set s.views id w }
   viewed most begun none_before none_after fit = record {
     asked = r.asked;
     most_open = r.most_open;
@@ -146,7 +146,7 @@ module _ {fl : ℕ} (s : State ℕ View) (r : Tickets fl s) (id : ℕ) (v : View
     outer = r.outer;
     wide = r.wide;
     seen = each_after (λ j b. b.most_open ≤ r.most_open) s.views id w most (λ j b ne there. r.seen j b there);
-    heard = each_after (λ j b. b.newcomers_seen ≤ r.g.total) s.views id w begun (λ j b ne there. r.heard j b there);
+    heard = each_after (λ j b. b.newcomers_seen ≤ r.g.newcomers) s.views id w begun (λ j b ne there. r.heard j b there);
     granted = λ le.
         let o = r.granted le in
         let all : (k : ℕ) → tally k (set s.views id w) ≡ tally k s.views = λ k. tally_none s id k v w at (none_before le) none_after in record {
@@ -173,7 +173,7 @@ tell_splits {fl} id v s r at = subst (λ (l : List View). Tickets fl record { wo
   outer = r.outer;
   wide = r.wide;
   seen = λ j b there. ⊎_elim (λ t. r.seen j b t) (λ t. subst (λ (x : View). x.most_open ≤ r.most_open) t (r.seen id v at)) (at_snoc s.views (told_of v) b j there);
-  heard = λ j b there. ⊎_elim (λ t. r.heard j b t) (λ t. subst (λ (x : View). x.newcomers_seen ≤ r.g.total) t (r.heard id v at)) (at_snoc s.views (told_of v) b j there);
+  heard = λ j b there. ⊎_elim (λ t. r.heard j b t) (λ t. subst (λ (x : View). x.newcomers_seen ≤ r.g.newcomers) t (r.heard id v at)) (at_snoc s.views (told_of v) b j there);
   granted = λ le.
       let o = r.granted le in
       let f = o.each id v at in

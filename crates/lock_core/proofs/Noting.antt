@@ -57,7 +57,7 @@ module _ {fl : ℕ} (s : State ℕ View) (r : Tickets fl s) (id : ℕ) (v : View
     outer = r.outer;
     wide = r.wide;
     seen = each_after (λ j b. b.most_open ≤ r.most_open) s.views id noted_view (r.seen id v at) (λ j b ne there. r.seen j b there);
-    heard = each_after (λ j b. b.newcomers_seen ≤ r.g.total) s.views id noted_view (r.heard id v at) (λ j b ne there. r.heard j b there);
+    heard = each_after (λ j b. b.newcomers_seen ≤ r.g.newcomers) s.views id noted_view (r.heard id v at) (λ j b ne there. r.heard j b there);
     granted = λ le.
         let o = r.granted le in
         let f = o.each id v at in

@@ -20,20 +20,20 @@ use Rattle.lock_core.proofs.Tally.{tally_set}
 
 -- what the outer word is becomes that of h
 abbrev pub gated : Ghost → Ghost → Ghost
-gated g h = record h { turn = g.turn; marked = g.marked; stamp = g.stamp; nobody_asleep = g.nobody_asleep }
+gated g h = record h { turn = g.turn; withdrawn = g.withdrawn; asked_open = g.asked_open; nobody_asleep = g.nobody_asleep }
 
 -- what holds of a seat's request stays so: where a newcomer comes in, it counts; where the head takes the outer word, one more ticket is done
-module _ (fl : ℕ) (g h : Ghost) (b : View) (sums : h.total + fl * g.taken + g.since_head ≤ g.total + fl * h.taken + h.since_head) (grows : g.taken ≤ h.taken) where
+module _ (fl : ℕ) (g h : Ghost) (b : View) (sums : h.newcomers + fl * g.head_inside + g.since_head ≤ g.newcomers + fl * h.head_inside + h.since_head) (grows : g.head_inside ≤ h.head_inside) where
   pub late_after : Late fl g b → Late fl (gated g h) b
   late_after k = record { came = let c = k.came in omega arith; overtaken = let o = k.overtaken in omega arith }
 
-  waiter : (b.ticket ≡ g.turn → h.taken ≡ g.taken) → Waiter fl g b → Waiter fl (gated g h) b
+  waiter : (b.ticket ≡ g.turn → h.head_inside ≡ g.head_inside) → Waiter fl g b → Waiter fl (gated g h) b
   waiter ne k = record { unmarked = k.unmarked; late = late_after k.late; at_turn = λ e. ne e ∙ k.at_turn e }
 
   holder : (m : ℕ) → Holder fl g b m → Holder fl (gated g h) b m
   holder m k = record { turn = k.turn; mark = k.mark; late = late_after k.late }
 
-  pub place_after : (p : Phase) → (p ≢ Idle → b.ticket ≡ g.turn → h.taken ≡ g.taken) → Place fl g b p → Place fl (gated g h) b p
+  pub place_after : (p : Phase) → (p ≢ Idle → b.ticket ≡ g.turn → h.head_inside ≡ g.head_inside) → Place fl g b p → Place fl (gated g h) b p
   place_after Idle ne k = tt
   place_after Queued ne k = waiter (ne (λ e. cc)) k
   place_after Asleep ne k = (waiter (ne (λ e. cc)) k.0, k.1, k.2)
@@ -49,23 +49,23 @@ module _ {fl : ℕ} (s : State ℕ View) (r : Tickets fl s) (id : ℕ) (h : Ghos
   -- in good time
   pub record Turns : Type 0 where
     pub counts : Counts fl after
-    pub sums : h.total + fl * r.g.taken + r.g.since_head ≤ r.g.total + fl * h.taken + h.since_head
-    pub grows : r.g.taken ≤ h.taken
-    pub idle : r.asked ≤ r.g.turn → h.taken ≡ r.g.taken
-    pub whose : (n : ℕ) → n ≤ r.g.total → who n ≡ r.who n
-    pub starts : (n : ℕ) → n ≤ r.g.heads → h.start n ≡ r.g.start n
+    pub sums : h.newcomers + fl * r.g.head_inside + r.g.since_head ≤ r.g.newcomers + fl * h.head_inside + h.since_head
+    pub grows : r.g.head_inside ≤ h.head_inside
+    pub idle : r.asked ≤ r.g.turn → h.head_inside ≡ r.g.head_inside
+    pub whose : (n : ℕ) → n ≤ r.g.newcomers → who n ≡ r.who n
+    pub starts : (n : ℕ) → n ≤ r.g.heads → h.newcomers_before n ≡ r.g.newcomers_before n
     pub more_heads : r.g.heads ≤ h.heads
     pub later : r.g.epoch ≤ h.epoch
     pub keeps_shut : r.g.epoch ≡ h.epoch → shut_of r.g.outer ≡ 1 → shut_of h.outer ≡ 1
     pub counted : (k : ℕ) → tally k (set s.views id w) ≡ tally k s.views
-    pub apart : (j : ℕ) (b : View) → j ≢ id → get_elem? s.views j ≡ some b → b.phase ≢ Idle → b.ticket ≡ r.g.turn → h.taken ≡ r.g.taken
+    pub apart : (j : ℕ) (b : View) → j ≢ id → get_elem? s.views j ≡ some b → b.phase ≢ Idle → b.ticket ≡ r.g.turn → h.head_inside ≡ r.g.head_inside
     pub guests : (j : ℕ) (b : View) → j ≢ id → get_elem? s.views j ≡ some b → b.inside ≡ 1 → Guest fl after j
     pub rests : (j : ℕ) (b : View) → j ≢ id → get_elem? s.views j ≡ some b → Rests after b
     pub doors : (j : ℕ) (b : View) → j ≢ id → get_elem? s.views j ≡ some b → b.door ≢ 0 → (shut_of h.outer ≡ shut_of r.g.outer) × (h.epoch ≡ r.g.epoch)
     pub asks : (j : ℕ) (b : View) → j ≢ id → get_elem? s.views j ≡ some b → Asks r.asked after b b.phase
     pub fit : Fits fl r.asked r.owner who after id w
 
-  pub gate_moved : w.most_open ≤ r.most_open → r.g.total ≤ h.total → w.newcomers_seen ≤ h.total → (r.most_open ≤ limit → Turns) → Tickets fl record { words = set s.words 0 h.outer; homes = s.homes; views = set s.views id w }
+  pub gate_moved : w.most_open ≤ r.most_open → r.g.newcomers ≤ h.newcomers → w.newcomers_seen ≤ h.newcomers → (r.most_open ≤ limit → Turns) → Tickets fl record { words = set s.words 0 h.outer; homes = s.homes; views = set s.views id w }
   gate_moved most grows begun turns = record {
     asked = r.asked;
     most_open = r.most_open;
@@ -76,7 +76,7 @@ module _ {fl : ℕ} (s : State ℕ View) (r : Tickets fl s) (id : ℕ) (h : Ghos
     outer = get_or-set_same s.words 0 h.outer 0 (let l = r.wide in omega arith);
     wide = length-set s.words 0 h.outer ∙ r.wide;
     seen = each_after (λ j b. b.most_open ≤ r.most_open) s.views id w most (λ j b ne there. r.seen j b there);
-    heard = each_after (λ j b. b.newcomers_seen ≤ h.total) s.views id w begun (λ j b ne there. let k = r.heard j b there in omega arith);
+    heard = each_after (λ j b. b.newcomers_seen ≤ h.newcomers) s.views id w begun (λ j b ne there. let k = r.heard j b there in omega arith);
     granted = λ le.
         let o = r.granted le in
         let m = turns le in record {
@@ -143,7 +143,7 @@ module _ {fl : ℕ} (s : State ℕ View) (r : Tickets fl s) (id : ℕ) (v : View
     pub asks : Asks r.asked still w w.phase
     pub others : (j : ℕ) (b : View) → j ≢ id → get_elem? s.views j ≡ some b → Asks r.asked still b b.phase
 
-  pub still_moved : w.most_open ≤ r.most_open → w.newcomers_seen ≤ r.g.total → (r.most_open ≤ limit → Stays) → Tickets fl record { words = set s.words 0 x; homes = s.homes; views = set s.views id w }
+  pub still_moved : w.most_open ≤ r.most_open → w.newcomers_seen ≤ r.g.newcomers → (r.most_open ≤ limit → Stays) → Tickets fl record { words = set s.words 0 x; homes = s.homes; views = set s.views id w }
   still_moved most begun stays = gate_moved s r id still r.who w most (omega arith) begun (λ le.
       let o = r.granted le in
       let m = stays le in
@@ -274,25 +274,25 @@ go_in_allowed {fl} id slots old new me bursts same_fellows free new_is fresh s r
 
     comes_in : outer ≡ old → Goal
     comes_in is =
-        let w : View = record v { most_open = r.most_open; rounds_seen = 0; phase = Idle; counted = 0; newcomers_at_ask = 0; first_pending = 0; newcomers_seen = r.g.total + 1; newcomer_turn = r.g.total + 1; heads_before = r.g.heads; place_after_head = r.g.since_head + 1; inside = 1; door = 1; knows_shut = 0; epoch = r.g.epoch; takes_seen = r.g.total + 1 + r.g.heads; last_take = r.g.total + 1 + r.g.heads; left_quietly = 0; nobody_behind = 0 } in
+        let w : View = record v { most_open = r.most_open; rounds_seen = 0; phase = Idle; counted = 0; newcomers_at_ask = 0; first_pending = 0; newcomers_seen = r.g.newcomers + 1; newcomer_turn = r.g.newcomers + 1; heads_before = r.g.heads; place_after_head = r.g.since_head + 1; inside = 1; door = 1; knows_shut = 0; epoch = r.g.epoch; takes_seen = r.g.newcomers + 1 + r.g.heads; last_take = r.g.newcomers + 1 + r.g.heads; left_quietly = 0; nobody_behind = 0 } in
         let x_is : x ≡ new = ap (λ b. either b new outer) (eq-eqb outer old is) in
         let old_is : old ≡ r.g.outer = sym is ∙ r.outer in
         let was_free : state_of r.g.outer ≡ 0 = omega arith in (
           w,
           keeps,
           tt,
-          gate_moved s r id (record r.g { since_head = r.g.since_head + 1; total = r.g.total + 1; outer = x; keeper = id }) (put r.who (r.g.total + 1) id) w (omega arith) (omega arith) (omega arith) (λ le.
+          gate_moved s r id (record r.g { since_head = r.g.since_head + 1; newcomers = r.g.newcomers + 1; outer = x; who_is_inside = id }) (put r.who (r.g.newcomers + 1) id) w (omega arith) (omega arith) (omega arith) (λ le.
               let o = r.granted le in
               let f = fits s r id v at le in
               let y = o.counts.room bursts was_free in
               let t = o.counts.tallied in
               let a = o.counts.all in
               let small : x ≡ r.g.outer + 36 = let k = o.counts.small in omega arith in record {
-                counts = record { bounded = omega arith; all = omega arith; tallied = omega arith; single = o.counts.single; small = o.counts.small; room = λ pos e. absurd (omega arith); awake = λ e. o.counts.later (r.g.total + 1 + r.g.heads) (omega arith); later = λ n l. o.counts.later n (omega arith) };
+                counts = record { bounded = omega arith; all = omega arith; tallied = omega arith; single = o.counts.single; small = o.counts.small; room = λ pos e. absurd (omega arith); awake = λ e. o.counts.later (r.g.newcomers + 1 + r.g.heads) (omega arith); later = λ n l. o.counts.later n (omega arith) };
                 sums = omega arith;
                 grows = omega arith;
                 idle = λ e. refl;
-                whose = λ n l. put_else r.who (r.g.total + 1) id n (λ e. omega arith);
+                whose = λ n l. put_else r.who (r.g.newcomers + 1) id n (λ e. omega arith);
                 starts = λ n l. refl;
                 more_heads = omega arith;
                 later = omega arith;
@@ -309,7 +309,7 @@ go_in_allowed {fl} id slots old new me bursts same_fellows free new_is fresh s r
                   mine = λ busy. absurd (busy refl);
                   place = tt;
                   told_nobody = f.told_nobody;
-                  outer = record { turn_of = λ some_. (omega arith, put_here r.who (r.g.total + 1) id (r.g.total + 1) refl, omega arith, omega arith); guest = λ one. (bursts, omega arith, refl); rests = record { takes_seen = omega arith; held = λ one. refl; lulls = λ one. absurd (omega arith); sleeps_at_outer = λ one. let q = f.outer.rests.sleeps_at_outer one in let q0 = q.0 in (omega arith, q.1, (λ e. absurd (omega arith))) }; dated = omega arith; barrier = λ one. absurd (omega arith) };
+                  outer = record { turn_of = λ some_. (omega arith, put_here r.who (r.g.newcomers + 1) id (r.g.newcomers + 1) refl, omega arith, omega arith); guest = λ one. (bursts, omega arith, refl); rests = record { takes_seen = omega arith; held = λ one. refl; lulls = λ one. absurd (omega arith); sleeps_at_outer = λ one. let q = f.outer.rests.sleeps_at_outer one in let q0 = q.0 in (omega arith, q.1, (λ e. absurd (omega arith))) }; dated = omega arith; barrier = λ one. absurd (omega arith) };
                   door = λ ne. (omega arith, refl, inr refl);
                   tail_seen = f.tail_seen;
                   asks = idle_asks r.asked (record r.g { outer = x }) w f.asks.early refl;
@@ -360,31 +360,31 @@ enter_allowed {fl} id slots ticket old new me bursts same_fellows free new_is ha
 
     takes_it : outer ≡ old → Goal
     takes_it is =
-        let w : View = record v { most_open = r.most_open; phase = HeadInside; counted = 0; newcomers_seen = r.g.total; inside = 1; door = 1 + shut_of outer; knows_shut = shut_of outer; epoch = r.g.epoch; takes_seen = r.g.total + (r.g.heads + 1); last_take = r.g.total + (r.g.heads + 1); left_quietly = 0; sleeps_at_outer = 0; nobody_behind = 0 } in
+        let w : View = record v { most_open = r.most_open; phase = HeadInside; counted = 0; newcomers_seen = r.g.newcomers; inside = 1; door = 1 + shut_of outer; knows_shut = shut_of outer; epoch = r.g.epoch; takes_seen = r.g.newcomers + (r.g.heads + 1); last_take = r.g.newcomers + (r.g.heads + 1); left_quietly = 0; sleeps_at_outer = 0; nobody_behind = 0 } in
         let x_is : x ≡ new = ap (λ b. either b new outer) (eq-eqb outer old is) in
         let old_is : old ≡ r.g.outer = sym is ∙ r.outer in
-        let start : ℕ → ℕ = put r.g.start (r.g.heads + 1) r.g.total in (
+        let start : ℕ → ℕ = put r.g.newcomers_before (r.g.heads + 1) r.g.newcomers in (
           w,
           keeps,
           tt,
-          gate_moved s r id (record r.g { taken = 1; heads = r.g.heads + 1; since_head = 0; outer = x; keeper = id; start = start }) r.who w (omega arith) (omega arith) (omega arith) (λ le.
+          gate_moved s r id (record r.g { head_inside = 1; heads = r.g.heads + 1; since_head = 0; outer = x; who_is_inside = id; newcomers_before = start }) r.who w (omega arith) (omega arith) (omega arith) (λ le.
               let o = r.granted le in
               let f = fits s r id v at le in
               let p = placed le in
               let m = mine le in
               let m1 = m.1 in
               let t0 = p.0.turn in
-              let fresh : fl * r.g.taken ≡ fl * 0 = ap (λ z. fl * z) p.1 in
+              let fresh : fl * r.g.head_inside ≡ fl * 0 = ap (λ z. fl * z) p.1 in
               let none_taken = p.1 in
               let bound = o.counts.bounded in
               let c = p.0.late.came in
               let q = p.0.late.overtaken in record {
-                counts = record { bounded = omega arith; all = let e = put_here r.g.start (r.g.heads + 1) r.g.total (r.g.heads + 1) refl in omega arith; tallied = omega arith; single = omega arith; small = o.counts.small; room = λ pos e. absurd (omega arith); awake = λ e. o.counts.later (r.g.total + (r.g.heads + 1)) (omega arith); later = λ n l. o.counts.later n (omega arith) };
+                counts = record { bounded = omega arith; all = let e = put_here r.g.newcomers_before (r.g.heads + 1) r.g.newcomers (r.g.heads + 1) refl in omega arith; tallied = omega arith; single = omega arith; small = o.counts.small; room = λ pos e. absurd (omega arith); awake = λ e. o.counts.later (r.g.newcomers + (r.g.heads + 1)) (omega arith); later = λ n l. o.counts.later n (omega arith) };
                 sums = omega arith;
                 grows = omega arith;
                 idle = λ e. absurd (omega arith);
                 whose = λ n l. refl;
-                starts = λ n l. put_else r.g.start (r.g.heads + 1) r.g.total n (λ e. omega arith);
+                starts = λ n l. put_else r.g.newcomers_before (r.g.heads + 1) r.g.newcomers n (λ e. omega arith);
                 more_heads = omega arith;
                 later = omega arith;
                 keeps_shut = λ e z. omega arith;
@@ -401,7 +401,7 @@ enter_allowed {fl} id slots ticket old new me bursts same_fellows free new_is ha
                   place = (record { turn = t0; mark = p.0.mark; late = record { came = omega arith; overtaken = omega arith } }, refl);
                   told_nobody = f.told_nobody;
                   outer = record {
-                    turn_of = λ some_. let k = f.outer.turn_of some_ in let k3 = k.3 in (k.0, k.1, k.2 ∙ ap (λ z. z + v.place_after_head) (sym (put_else r.g.start (r.g.heads + 1) r.g.total v.heads_before (λ e. omega arith))), (omega arith));
+                    turn_of = λ some_. let k = f.outer.turn_of some_ in let k3 = k.3 in (k.0, k.1, k.2 ∙ ap (λ z. z + v.place_after_head) (sym (put_else r.g.newcomers_before (r.g.heads + 1) r.g.newcomers v.heads_before (λ e. omega arith))), (omega arith));
                     guest = λ one. (bursts, omega arith, refl);
                     rests = record { takes_seen = omega arith; held = λ one. refl; lulls = λ one. absurd (omega arith); sleeps_at_outer = λ one. absurd (omega arith) };
                     dated = omega arith;
@@ -418,12 +418,12 @@ enter_allowed {fl} id slots ticket old new me bursts same_fellows free new_is ha
             (λ timely.
                 let p = placed timely in
                 let t0 = p.0.turn in
-                let fresh : fl * r.g.taken ≡ fl * 0 = ap (λ z. fl * z) p.1 in
+                let fresh : fl * r.g.head_inside ≡ fl * 0 = ap (λ z. fl * z) p.1 in
                 let same_turn : fl * v.ticket ≡ fl * r.g.turn = ap (λ z. fl * z) p.0.turn in
                 let none_taken = p.1 in
                 let bound = (r.granted timely).counts.bounded in
                 let c = p.0.late.came in
-                let q = p.0.late.overtaken in (refl, refl, refl, refl, refl, (λ _. (refl, refl, in_bounds fl v.max_newcomers r.g.total v.newcomers_at_ask v.ticket v.first_pending r.g.since_head (v.ticket + 1 - v.first_pending) same_fellows (omega arith) (omega arith) bound, (refl, refl, (fits s r id v at timely).outer.dated), ((let n = (fits s r id v at timely).outer.rests.takes_seen in omega arith), refl))), (λ ne. absurd (ne is)))),
+                let q = p.0.late.overtaken in (refl, refl, refl, refl, refl, (λ _. (refl, refl, in_bounds fl v.max_newcomers r.g.newcomers v.newcomers_at_ask v.ticket v.first_pending r.g.since_head (v.ticket + 1 - v.first_pending) same_fellows (omega arith) (omega arith) bound, (refl, refl, (fits s r id v at timely).outer.dated), ((let n = (fits s r id v at timely).outer.rests.takes_seen in omega arith), refl))), (λ ne. absurd (ne is)))),
           ),
         )
 

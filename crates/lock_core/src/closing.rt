@@ -5,7 +5,8 @@ ghost use Rattle.lock_core.specs.Views.{view_of, InTime, InTimeFrom, LoadGrows, 
 ghost use Rattle.lock_core.specs.Looks.{StepsLater, Found};
 
 use crate::layout::{OUTER, SHUT, TAIL, is_shut};
-use crate::rule::{CheckOpen, ReadTail, Reopen, SharedTable, Shut, TicketSeat};
+use crate::plays::{CheckOpen, ReadTail, Reopen, Shut};
+use crate::rule::{SharedTable, TicketSeat};
 
 /// At the turn of a strict lock: whether the lock is open, and the caller so served. One word step. If it is shut, the
 /// caller passes its turn on by `release`, or reopens.

@@ -6,7 +6,8 @@ ghost use Rattle.lock_core.specs.Looks.{StepsLater, StepsAtMost};
 ghost use Rattle.lock_core.specs.Answers.{IfGranted, IfUnfinished};
 
 use crate::layout::{MAX_PASSED, ROUND, bit, cell_word, is_withdrawn, sleepers};
-use crate::rule::{ClearWithdrawn, Grant, SharedTable, TicketSeat};
+use crate::plays::{ClearWithdrawn, Grant};
+use crate::rule::{SharedTable, TicketSeat};
 
 /// What `release` did.
 #[derive(Clone, Copy, Debug, PartialEq, Eq)]

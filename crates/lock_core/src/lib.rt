@@ -8,6 +8,7 @@ mod layout;
 mod meets;
 mod opening;
 mod outer;
+mod plays;
 mod rule;
 mod tickets;
 mod view;

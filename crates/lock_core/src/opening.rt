@@ -6,7 +6,8 @@ ghost use Rattle.lock_core.specs.Answers.{max_burst_of, IsOpenErrorOf};
 ghost use Rattle.lock_core.specs.declared.opening.LockKind.TheVariants.{Bursts};
 
 use crate::layout::UNWRITTEN;
-use crate::rule::{Come, SharedTable, TicketSeat, TicketTable};
+use crate::plays::Come;
+use crate::rule::{SharedTable, TicketSeat, TicketTable};
 use std::alloc::Global;
 use thiserror::Error;
 
@@ -46,7 +47,27 @@ pub enum OpenError {
 
 /// The words of a new lock: the first ticket is granted.
 const FIRST_WORDS: [u64; 21] = [
-    0, 0, 0, 0, 0, 0, 0, 0, 0, 0, 0, 0, 0, 0, 0, 0, 0, 17179869184, 0, 0, 0,
+    0,
+    0,
+    0,
+    0,
+    0,
+    0,
+    0,
+    0,
+    0,
+    0,
+    0,
+    0,
+    0,
+    0,
+    0,
+    0,
+    0,
+    17179869184,
+    0,
+    0,
+    0,
 ];
 
 /// Opens a lock: two blocks of at most 256 bytes together, 168 of them its words. Refused by name: bursts of fewer than

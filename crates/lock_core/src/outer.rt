@@ -6,9 +6,8 @@ ghost use Rattle.lock_core.specs.Looks.{StepsLater, LooksOnce, Found, FoundChang
 ghost use Rattle.lock_core.specs.Answers.{IfTakenOpen, IfTakenShut, IfTaken, IfNotTaken, IfHeld, IfTakeChanged, IfLeft, IfNotLeft, IfHeadAsleep, IfNotHeld, IfHeadChanged};
 
 use crate::layout::{HANDOFF, HEAD_ASLEEP, HELD, NEWCOMER, OUTER, RESERVED, SHUT, is_shut, state};
-use crate::rule::{
-    AnnounceHeadSleep, GoIn, Leave, ReadOuter, RequestHandoff, SharedTable, TakeOuter, TicketSeat,
-};
+use crate::plays::{AnnounceHeadSleep, GoIn, Leave, ReadOuter, RequestHandoff, TakeOuter};
+use crate::rule::{SharedTable, TicketSeat};
 
 /// What `take_outer` did.
 #[derive(Clone, Copy, Debug, PartialEq, Eq)]
@@ -183,7 +182,12 @@ fn leave_reserved(table: &SharedTable, seat: &mut TicketSeat, expected: u64) -> 
 /// Leaves the outer word, if it is `expected`: reserved for the queue head where a handoff is requested, or this was
 /// the last turn of a burst of at most `burst`; else free. One word step, the last access to the lock's memory.
 #[inline(always)]
-pub fn leave_if(table: &SharedTable, seat: &mut TicketSeat, burst: u64, expected: u64) -> LeaveResult
+pub fn leave_if(
+    table: &SharedTable,
+    seat: &mut TicketSeat,
+    burst: u64,
+    expected: u64,
+) -> LeaveResult
     requires table { IsLockTable table.now.table_id }
     requires burst { burst ≤ table.now.key }
     requires seat { IsSeatOf table.now.table_id table.now.key seat.old }

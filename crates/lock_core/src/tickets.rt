@@ -5,8 +5,9 @@ ghost use Rattle.lock_core.specs.Views.{view_of, InTime, InTimeFrom, LoadGrows, 
 ghost use Rattle.lock_core.specs.Looks.{StepsLater, FoundNext, FoundTailMoved, FoundBusy};
 ghost use Rattle.lock_core.specs.Answers.{IfNearAtTurn, IfNearQueued, IfNearFar, IfNearChanged, IfDrawn, IfNotDrawn};
 
-use crate::layout::{cell_word, rounds_to_go, TAIL, WINDOW};
-use crate::rule::{Draw, DrawGranted, DrawNear, ReadCell, ReadTail, SharedTable, TicketSeat};
+use crate::layout::{TAIL, WINDOW, cell_word, rounds_to_go};
+use crate::plays::{Draw, DrawGranted, DrawNear, ReadCell, ReadTail};
+use crate::rule::{SharedTable, TicketSeat};
 
 /// What `ask_near` did.
 #[derive(Clone, Copy, Debug, PartialEq, Eq)]

@@ -1,86 +1,88 @@
-//! What a caller knows.
+//! What a caller knows of a lock. Only proofs see it.
 
-/// What a caller's request is, as far as the caller knows.
+/// A caller's request, as far as the caller knows.
 pub enum Phase {
+    /// It has none.
     Idle,
+    /// It waits.
     Queued,
-    /// It is counted at its cell, and was told to wait.
+    /// It waits, and has announced its sleep.
     Asleep,
-    /// It is at its turn: in a lock with bursts, it is the head.
+    /// It is at its turn: in a lock with bursts it is the queue head.
     AtTurn,
-    /// It has the turn of a withdrawn request, whose bit is still set.
+    /// Its caller has the turn of a withdrawn request, whose bit is set yet.
     Passing,
-    /// It is at its turn, and holds the outer word.
+    /// The queue head is inside, and has not passed its turn of the queue on.
     HeadInside,
-    /// Two callers met: never so in good time.
+    /// Two callers met that cannot.
     Impossible,
 }
 
-/// What a caller's word steps found.
+/// What the last word steps of a caller found.
 pub struct Looks {
-    /// Its word steps.
+    /// How many steps it has taken.
     pub steps: u64,
-    /// The number of the word of its last step, what that found there, and what it left.
+    /// The word of the last step, by its number; what the step found there, and what it left.
     pub word: u64,
     pub found: u64,
     pub left: u64,
-    /// The number of the word of the step before, and what that found there.
+    /// The word of the step before, and what that found.
     pub word_before: u64,
     pub found_before: u64,
 }
 
 /// What a caller knows. No value of it is made.
 pub struct View {
-    /// The most newcomers between two heads: 0 in a strict lock.
+    /// The most newcomers between two queue heads: 0 in a strict lock.
     pub max_newcomers: u64,
-    /// At some time so many requests were open, and at no time more; 2^30 where 2^64 tickets were taken in the course of one `try_ask` or
-    /// `ask_near`.
+    /// The most requests that were open at one time; 2^30 more where 2^64 tickets were drawn in the course of one call.
     pub most_open: u64,
-    /// At least so many requests have ended.
+    /// At least this number of requests have ended.
     pub ended: u64,
-    /// At least so many rounds were granted in the cell of the caller's ticket.
+    /// At least this number of rounds were granted in the cell of the caller's ticket.
     pub rounds_seen: u64,
-    /// The caller's ticket.
+    /// The caller's ticket, its number among all.
     pub ticket: u64,
+    /// Its request.
     pub phase: Phase,
-    /// So often it is counted at its cell.
+    /// How often it is counted as a sleeper of its cell.
     pub counted: u64,
-    /// The last ticket that it granted, and 1 if nobody was counted at its cell.
+    /// The last ticket that it granted; 1: it was told that nobody sleeps for it.
     pub granted: u64,
     pub told_nobody: u64,
-    /// The newcomers that had come in when it asked, and the first ticket that was not done with the outer word then.
+    /// When it asked: the newcomers that had gone in, and the first ticket whose turn was not over.
     pub newcomers_at_ask: u64,
     pub first_pending: u64,
-    /// The newcomers that had come in when it came to its turn.
+    /// At least this number of newcomers have gone in.
     pub newcomers_seen: u64,
-    /// The number of its last turn as a newcomer among all newcomers' turns; how often heads had taken the outer word then, and its number among
-    /// the newcomers' turns since the last of them did.
+    /// Its last turn as a newcomer: its number among all newcomers' turns, the queue heads before it, and its place since
+    /// the last of them.
     pub newcomer_turn: u64,
     pub heads_before: u64,
     pub place_after_head: u64,
-    /// 1: it holds the outer word.
+    /// 1: it is inside, which is to say that it holds the outer word.
     pub inside: u64,
-    /// At its turn it was told: 1 that the lock is open, 2 that it is shut.
+    /// What it was told when it was served: 1 that the lock is open, 2 that it is shut.
     pub door: u64,
-    /// 1: it knows that the lock is shut.
+    /// 1: it knows that the lock was shut in this epoch, which is how often the lock had been reopened.
     pub knows_shut: u64,
-    /// So often the lock had been opened again when it was told so.
     pub epoch: u64,
-    /// At least so often the outer word had been taken, by newcomers and heads; the number of its own last take among those; and 1 if it left the outer word
-    /// then and was told that no head sleeps.
+    /// At least this number of takes of the outer word; the number of its own last one; 1: as it left, it was told that
+    /// no queue head sleeps.
     pub takes_seen: u64,
     pub last_take: u64,
     pub left_quietly: u64,
-    /// The number of the take of the outer word by the one that held it when it noted there that it sleeps, and 1 if it did.
+    /// 1: it announced its sleep at the outer word, and in which take of that.
     pub slept_in_take: u64,
     pub sleeps_at_outer: u64,
-    /// So many tickets were taken when it last read that; 1: the next one is at its turn, if no more were taken.
+    /// The tickets drawn when it last read the tail; 1: the next one is at its turn, if none was drawn since.
     pub tail_seen: u64,
     pub next_is_at_turn: u64,
-    /// 1: it asked while the lock was open; so often that had been opened again then.
+    /// 1: it asked while the lock was open, and in which epoch.
     pub asked_open: u64,
     pub asked_in_epoch: u64,
     /// 1: it read at its turn that nobody asked after it.
     pub nobody_behind: u64,
+    /// What its last steps found.
     pub looks: Looks,
 }

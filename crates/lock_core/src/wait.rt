@@ -6,10 +6,9 @@ ghost use Rattle.lock_core.specs.Looks.{StepsLater, Found, FoundChanged, Leaves}
 ghost use Rattle.lock_core.specs.Answers.{IfSleepAtTurn, IfSleepAnnounced, IfSleepFull, IfSleepChanged};
 
 use crate::handoff::clear_withdrawn;
-use crate::layout::{
-    MAX_SLEEPERS, SLEEPER, bit, cell_word, is_round_of, rounds_to_go, sleepers,
-};
-use crate::rule::{AnnounceSleep, Look, SetWithdrawn, SharedTable, TicketSeat};
+use crate::layout::{MAX_SLEEPERS, SLEEPER, bit, cell_word, is_round_of, rounds_to_go, sleepers};
+use crate::plays::{AnnounceSleep, Look, SetWithdrawn};
+use crate::rule::{SharedTable, TicketSeat};
 
 /// What `announce_sleep` did.
 #[derive(Clone, Copy, Debug, PartialEq, Eq)]
