@@ -62,8 +62,8 @@ module _ {fl : ℕ} (s : State ℕ View) (r : Tickets fl s) (id : ℕ) (v : View
         };
   }
 
-pub take_allowed : {fl : ℕ} (id slots : ℕ) (me : Me ℕ View) → (Timely me.0 → IsIdle me.0) → Allows (Tickets fl) slots id me 16 (λ n. (n + 1) % 18446744073709551616) (draws (step slots 16 1 0 none) me)
-take_allowed {fl} id slots me fresh s r sized at low = (
+pub ask_allowed : {fl : ℕ} (id slots : ℕ) (me : Me ℕ View) → (Timely me.0 → IsIdle me.0) → Allows (Tickets fl) slots id me 16 (λ n. (n + 1) % 18446744073709551616) (draws (step slots 16 1 0 none) me)
+ask_allowed {fl} id slots me fresh s r sized at low = (
   w,
   keeps,
   tt,
@@ -132,8 +132,8 @@ module _ {fl : ℕ} (s : State ℕ View) (r : Tickets fl s) (id : ℕ) (v : View
     asks = idle_asks r.asked r.g probing f.asks.early refl;
   })
 
-pub read_allowed : {fl : ℕ} (id slots : ℕ) (me : Me ℕ View) → (Timely me.0 → me.0.counted ≡ 0) → Allows (Tickets fl) slots id me 16 (λ n. n) (reads (step slots 16 0 0 none) me)
-read_allowed {fl} id slots me none_counted s r sized at low =
+pub read_tail_allowed : {fl : ℕ} (id slots : ℕ) (me : Me ℕ View) → (Timely me.0 → me.0.counted ≡ 0) → Allows (Tickets fl) slots id me 16 (λ n. n) (reads (step slots 16 0 0 none) me)
+read_tail_allowed {fl} id slots me none_counted s r sized at low =
     let v : View = me.0 in
     let alone : ℕ = either (eqb r.asked (v.ticket + 1)) 1 0 in
     let w : View = record v { most_open = r.most_open; tail_seen = r.asked; next_is_at_turn = 0; nobody_behind = alone } in
@@ -167,8 +167,8 @@ read_allowed {fl} id slots me none_counted s r sized at low =
       ),
     )
 
-pub ripen_allowed : {fl : ℕ} (id slots i ticket : ℕ) (me : Me ℕ View) → i ≡ cell_at ticket → (Timely me.0 → IsIdle me.0 × (ticket ≡ me.0.tail_seen % 18446744073709551616)) → Allows (Tickets fl) slots id me i (λ n. n) (reads_cell (step slots i 0 0 none) me)
-ripen_allowed {fl} id slots i ticket me is has s r sized at low = dite (ℕ_discrete (to_go found v.tail_seen) 0) (λ e. ripened 1 (λ _. refl) (λ pos. absurd (omega arith)) (λ le _ same_. turn le e same_)) (λ ne. ripened 0 (λ e. absurd (ne e)) (λ _. refl) (λ le one. absurd (omega arith)))
+pub read_cell_allowed : {fl : ℕ} (id slots i ticket : ℕ) (me : Me ℕ View) → i ≡ cell_at ticket → (Timely me.0 → IsIdle me.0 × (ticket ≡ me.0.tail_seen % 18446744073709551616)) → Allows (Tickets fl) slots id me i (λ n. n) (reads_cell (step slots i 0 0 none) me)
+read_cell_allowed {fl} id slots i ticket me is has s r sized at low = dite (ℕ_discrete (to_go found v.tail_seen) 0) (λ e. ripened 1 (λ _. refl) (λ pos. absurd (omega arith)) (λ le _ same_. turn le e same_)) (λ ne. ripened 0 (λ e. absurd (ne e)) (λ _. refl) (λ le one. absurd (omega arith)))
   where
     v : View
     v = me.0
@@ -210,8 +210,8 @@ ripen_allowed {fl} id slots i ticket me is has s r sized at low = dite (ℕ_disc
       (((refl, refl, known s r id v at, (omega arith)), ((refl, refl, refl), refl, (refl, refl), (refl, refl), (refl, refl), (λ _. refl))), (λ timely. ((refl, refl), refl, tells, tells_not, refl, reach timely, refl))),
     )
 
-pub try_allowed : {fl : ℕ} (id slots old new : ℕ) (me : Me ℕ View) → new ≡ (old + 1) % 18446744073709551616 → (Timely me.0 → IsIdle me.0 × (old ≡ me.0.tail_seen % 18446744073709551616) × (me.0.next_is_at_turn ≡ 1)) → Allows (Tickets fl) slots id me 16 (λ n. either (eqb n old) new n) (draws_granted (step slots 16 old new none) me)
-try_allowed {fl} id slots old new me new_is has s r sized at low = dite (ℕ_discrete tail old) (λ is. dite (ℕ_discrete r.asked v.tail_seen) (wins is) (wraps is)) stays
+pub try_ask_allowed : {fl : ℕ} (id slots old new : ℕ) (me : Me ℕ View) → new ≡ (old + 1) % 18446744073709551616 → (Timely me.0 → IsIdle me.0 × (old ≡ me.0.tail_seen % 18446744073709551616) × (me.0.next_is_at_turn ≡ 1)) → Allows (Tickets fl) slots id me 16 (λ n. either (eqb n old) new n) (draws_granted (step slots 16 old new none) me)
+try_ask_allowed {fl} id slots old new me new_is has s r sized at low = dite (ℕ_discrete tail old) (λ is. dite (ℕ_discrete r.asked v.tail_seen) (wins is) (wraps is)) stays
   where
     v : View
     v = me.0
@@ -257,7 +257,7 @@ try_allowed {fl} id slots old new me new_is has s r sized at low = dite (ℕ_dis
           (((refl, refl, (let k = known s r id v at in omega arith), heard s r id v at), ((refl, refl, refl), refl, (refl, refl), (refl, refl), (refl, refl), (λ _. refl))), (λ timely. ((λ _. ((refl, r.tail, refl, refl), ((let k = (fits s r id v at (omega arith)).knows in let q = (r.granted (omega arith)).within in omega arith), (omega arith), heard s r id v at, refl, (fits s r id v at (omega arith)).outer.dated))), (λ ne. absurd (ne is))))),
         )
 
-    -- so many tickets were taken meanwhile that the tail has come to the same word
+    -- 2 ^ 64 tickets were drawn since, and the tail is the same word
     wraps : tail ≡ old → r.asked ≢ v.tail_seen → Goal
     wraps is other =
         let most : ℕ = r.most_open + 1073741824 in
@@ -279,8 +279,8 @@ try_allowed {fl} id slots old new me new_is has s r sized at low = dite (ℕ_dis
     )
 
 -- the next ticket is taken if it is the one that was read; it waits, or is at its turn
-pub draw_allowed : {fl : ℕ} (id slots old new : ℕ) (me : Me ℕ View) → new ≡ (old + 1) % 18446744073709551616 → (Timely me.0 → IsIdle me.0 × (old ≡ me.0.tail_seen % 18446744073709551616) × (me.0.ticket ≡ me.0.tail_seen)) → Allows (Tickets fl) slots id me 16 (λ n. either (eqb n old) new n) (draws_near (step slots 16 old new none) me)
-draw_allowed {fl} id slots old new me new_is has s r sized at low = dite (ℕ_discrete tail old) (λ is. dite (ℕ_discrete r.asked v.tail_seen) (λ same_. dite (ℕ_discrete v.next_is_at_turn 1) (wins is same_) (queues is same_)) (wraps is)) stays
+pub ask_near_allowed : {fl : ℕ} (id slots old new : ℕ) (me : Me ℕ View) → new ≡ (old + 1) % 18446744073709551616 → (Timely me.0 → IsIdle me.0 × (old ≡ me.0.tail_seen % 18446744073709551616) × (me.0.ticket ≡ me.0.tail_seen)) → Allows (Tickets fl) slots id me 16 (λ n. either (eqb n old) new n) (draws_near (step slots 16 old new none) me)
+ask_near_allowed {fl} id slots old new me new_is has s r sized at low = dite (ℕ_discrete tail old) (λ is. dite (ℕ_discrete r.asked v.tail_seen) (λ same_. dite (ℕ_discrete v.next_is_at_turn 1) (wins is same_) (queues is same_)) (wraps is)) stays
   where
     v : View
     v = me.0
@@ -376,7 +376,7 @@ draw_allowed {fl} id slots old new me new_is has s r sized at low = dite (ℕ_di
             let one = o.counts.single in
             dite (dec_le r.asked r.g.turn) (λ low. let z = o.idle low in omega arith) (λ high. omega arith)
 
-    -- so many tickets were taken meanwhile that the tail has come to the same word
+    -- 2 ^ 64 tickets were drawn since, and the tail is the same word
     wraps : tail ≡ old → r.asked ≢ v.tail_seen → Goal
     wraps is other =
         let most : ℕ = r.most_open + 1073741824 in

@@ -1,4 +1,4 @@
--- A caller comes, and takes a ticket.
+-- A new caller.
 use Rattle.std.proofs.Common.{◌≡◌, ℕ, ◌%◌, ◌≤◌, [], ◌∷◌, ◌++◌, slice_index, sym, refl, ◌∙◌, subst, arith, ⊎_elim}
 use mathlib.Core.Logic.{dite}
 use mathlib.Core.Option.{none}

@@ -6,7 +6,7 @@ mod Entering
 mod Asking
 mod FirstState
 mod Marks
-mod Grants
+mod NextGrant
 mod OuterWord
 mod Meeting
 mod Noting

@@ -64,7 +64,7 @@ module _ {fl : ℕ} (s : State ℕ View) (r : Tickets fl s) (id : ℕ) (v : View
   }
 
 -- A waiter looks, and its count becomes d.
-module _ {fl : ℕ} (s : State ℕ View) (r : Tickets fl s) (id slots i x ticket most c d : ℕ) (p : Phase) (me : Me ℕ View) (same_fellows : me.0.max_newcomers ≡ fl) (at : get_elem? s.views id ≡ some me.0) (is : i ≡ cell_at ticket) (more : r.most_open ≤ most) where
+module _ {fl : ℕ} (s : State ℕ View) (r : Tickets fl s) (id slots i x ticket most c d : ℕ) (p : Phase) (me : Me ℕ View) (same_newcomers : me.0.max_newcomers ≡ fl) (at : get_elem? s.views id ≡ some me.0) (is : i ≡ cell_at ticket) (more : r.most_open ≤ most) where
   abbrev v : View
   v = me.0
 
@@ -129,7 +129,7 @@ module _ {fl : ℕ} (s : State ℕ View) (r : Tickets fl s) (id slots i x ticket
                 }),
             (
               ((refl, refl, (let k = known s r id v at in omega arith), (let k = heard s r id v at in omega arith)), ((refl, refl, refl), refl, (refl, refl), (refl, refl), (refl, refl), (λ _. refl))),
-              (λ timely. (refl, refl, refl, (λ _. (refl, refl, refl, (let q = (waits timely).waits in let t = turn timely in let o = q.late.came in let e : fl * (r.g.turn + r.g.head_inside) ≡ fl * v.ticket = ap (λ z. fl * z) (let c0 = q.at_turn t in omega arith) in let k = q.late.overtaken in in_bounds fl v.max_newcomers r.g.newcomers v.newcomers_at_ask v.ticket v.first_pending r.g.since_head (v.ticket + 1 - v.first_pending) same_fellows (let c0 = q.at_turn t in omega arith) (omega arith) (r.granted (omega arith)).counts.bounded))), (λ some_. absurd (omega arith)))),
+              (λ timely. (refl, refl, refl, (λ _. (refl, refl, refl, (let q = (waits timely).waits in let t = turn timely in let o = q.late.came in let e : fl * (r.g.turn + r.g.head_inside) ≡ fl * v.ticket = ap (λ z. fl * z) (let c0 = q.at_turn t in omega arith) in let k = q.late.overtaken in in_bounds fl v.max_newcomers r.g.newcomers v.newcomers_at_ask v.ticket v.first_pending r.g.since_head (v.ticket + 1 - v.first_pending) same_newcomers (let c0 = q.at_turn t in omega arith) (omega arith) (r.granted (omega arith)).counts.bounded))), (λ some_. absurd (omega arith)))),
             ),
           )
 
@@ -157,7 +157,7 @@ module _ {fl : ℕ} (s : State ℕ View) (r : Tickets fl s) (id slots i x ticket
           )
 
 pub look_allowed : {fl : ℕ} (id slots i ticket : ℕ) (me : Me ℕ View) → me.0.max_newcomers ≡ fl → i ≡ cell_at ticket → (Timely me.0 → IsQueued ticket me.0) → Allows (Tickets fl) slots id me i (λ n. n) (looks (step slots i 0 0 none) me)
-look_allowed {fl} id slots i ticket me same_fellows is waits s r sized at low = waited s r id slots i (slice_index s.words i) ticket r.most_open 0 0 Queued me same_fellows at is (omega arith)
+look_allowed {fl} id slots i ticket me same_newcomers is waits s r sized at low = waited s r id slots i (slice_index s.words i) ticket r.most_open 0 0 Queued me same_newcomers at is (omega arith)
     (λ le. let q = waits (let k = known s r id me.0 at in omega arith) in record {
       counts = record { mine = q.1; before = q.2; word = record { rounds = refl; mask = refl; count = refl }; room = let k = (r.granted le).crowd (me.0.ticket % 4) in omega arith };
       busy = λ e. let z = q.0 in cc;
@@ -167,9 +167,9 @@ look_allowed {fl} id slots i ticket me same_fellows is waits s r sized at low = 
     })
     (λ w e k a h. subst (Place fl r.g w) (sym e) k)
 
-pub doze_allowed : {fl : ℕ} (id slots i ticket old new : ℕ) (me : Me ℕ View) → me.0.max_newcomers ≡ fl → i ≡ cell_at ticket → count_of old < 65535 → new ≡ (old + 65536) % 18446744073709551616 → (Timely me.0 → IsQueued ticket me.0)
+pub announce_sleep_allowed : {fl : ℕ} (id slots i ticket old new : ℕ) (me : Me ℕ View) → me.0.max_newcomers ≡ fl → i ≡ cell_at ticket → count_of old < 65535 → new ≡ (old + 65536) % 18446744073709551616 → (Timely me.0 → IsQueued ticket me.0)
     → Allows (Tickets fl) slots id me i (λ n. either (eqb n old) new n) (announces_sleep (step slots i old new none) me)
-doze_allowed {fl} id slots i ticket old new me same_fellows is few new_is waits s r sized at low = dite (ℕ_discrete found_ old) counted_ looked
+announce_sleep_allowed {fl} id slots i ticket old new me same_newcomers is few new_is waits s r sized at low = dite (ℕ_discrete found_ old) counted_ looked
   where
     found_ : ℕ
     found_ = slice_index s.words i
@@ -183,7 +183,7 @@ doze_allowed {fl} id slots i ticket old new me same_fellows is few new_is waits 
     counted_ : found_ ≡ old → Goal
     counted_ e =
         let x_is : x ≡ new = ap (λ b. either b new found_) (eq-eqb found_ old e) in
-        let q = waited s r id slots i x ticket r.most_open 0 1 Asleep me same_fellows at is (omega arith)
+        let q = waited s r id slots i x ticket r.most_open 0 1 Asleep me same_newcomers at is (omega arith)
         (λ le. let q = waits (let k = known s r id me.0 at in omega arith) in
         let o = r.granted le in
         let mine = q.1 in
@@ -200,7 +200,7 @@ doze_allowed {fl} id slots i ticket old new me same_fellows is few new_is waits 
     looked : found_ ≢ old → Goal
     looked ne =
         let x_is : x ≡ found_ = ap (λ b. either b new found_) (ne_eqb found_ old ne) in
-        let q = waited s r id slots i x ticket r.most_open 0 0 Queued me same_fellows at is (omega arith)
+        let q = waited s r id slots i x ticket r.most_open 0 0 Queued me same_newcomers at is (omega arith)
         (λ le. let q = waits (let k = known s r id me.0 at in omega arith) in record {
           counts = record { mine = q.1; before = q.2; word = record { rounds = ap rounds_of x_is; mask = ap (λ z. z % 65536) x_is; count = ap (λ z. count_of z + 0) x_is }; room = let k = (r.granted le).crowd (me.0.ticket % 4) in omega arith };
           busy = λ e. let z = q.0 in cc;
@@ -210,9 +210,9 @@ doze_allowed {fl} id slots i ticket old new me same_fellows is few new_is waits 
         })
         (λ w e k a h. subst (Place fl r.g w) (sym e) k) in (q.0, q.1, q.2, q.3, (q.4.0, (λ timely. ((λ is_. absurd (ne is_)), (λ _. q.4.1 timely)))))
 
-pub undoze_allowed : {fl : ℕ} (id slots i ticket : ℕ) (me : Me ℕ View) → me.0.max_newcomers ≡ fl → i ≡ cell_at ticket → (Timely me.0 → IsAsleep ticket me.0)
+pub retract_sleep_allowed : {fl : ℕ} (id slots i ticket : ℕ) (me : Me ℕ View) → me.0.max_newcomers ≡ fl → i ≡ cell_at ticket → (Timely me.0 → IsAsleep ticket me.0)
     → Allows (Tickets fl) slots id me i (λ n. (n + 18446744073709486080) % 18446744073709551616) (looks (step slots i 65536 0 none) me)
-undoze_allowed {fl} id slots i ticket me same_fellows is sleeps s r sized at low = waited s r id slots i ((slice_index s.words i + 18446744073709486080) % 18446744073709551616) ticket r.most_open 1 0 Queued me same_fellows at is (omega arith)
+retract_sleep_allowed {fl} id slots i ticket me same_newcomers is sleeps s r sized at low = waited s r id slots i ((slice_index s.words i + 18446744073709486080) % 18446744073709551616) ticket r.most_open 1 0 Queued me same_newcomers at is (omega arith)
     (λ le. let q = sleeps (let k = known s r id me.0 at in omega arith) in
     let o = r.granted le in
     let mine = q.1 in

@@ -113,9 +113,9 @@ module _ {fl : ℕ} (s : State ℕ View) (r : Tickets fl s) (id : ℕ) (v : View
       g : Ghost
       g = remark r.g v.ticket y
 
-pub mark_allowed : {fl : ℕ} (id slots i ticket k x : ℕ) (me : Me ℕ View) → i ≡ cell_at ticket → x ≡ 2 ^ bit_of ticket → k ≤ 15 → (Timely me.0 → IsQueuedWithin k ticket me.0)
+pub withdraw_allowed : {fl : ℕ} (id slots i ticket k x : ℕ) (me : Me ℕ View) → i ≡ cell_at ticket → x ≡ 2 ^ bit_of ticket → k ≤ 15 → (Timely me.0 → IsQueuedWithin k ticket me.0)
     → Allows (Tickets fl) slots id me i (λ n. (n + x) % 18446744073709551616) (sets_withdrawn (step slots i x 0 none) me)
-mark_allowed {fl} id slots i ticket k x me is mask near waits s r sized at low = dite (ℕ_discrete (rounds_of found) ((v.ticket / 4 + 1) % 1073741824)) granted withdrawn
+withdraw_allowed {fl} id slots i ticket k x me is mask near waits s r sized at low = dite (ℕ_discrete (rounds_of found) ((v.ticket / 4 + 1) % 1073741824)) granted withdrawn
   where
     v : View
     v = me.0

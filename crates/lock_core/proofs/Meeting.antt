@@ -83,8 +83,8 @@ no_lost_wake_joins id other v w a b = meet_joins id other v w (λ s r le at ther
     let none_ = p.2 in
     omega arith)
 
-pub none_served_shut_joins : {fl : ℕ} (id other : ℕ) (v w : View) → (Timely v → KnowsShut v) → (Timely w → ServedOpen w) → (Timely w → w.epoch ≤ v.epoch) → Joins (Tickets fl) id v other w (meet v w) (initial_view 0)
-none_served_shut_joins id other v w a b epoch = meet_joins id other v w (λ s r le at there apart.
+pub none_served_after_shut_joins : {fl : ℕ} (id other : ℕ) (v w : View) → (Timely v → KnowsShut v) → (Timely w → ServedOpen w) → (Timely w → w.epoch ≤ v.epoch) → Joins (Tickets fl) id v other w (meet v w) (initial_view 0)
+none_served_after_shut_joins id other v w a b epoch = meet_joins id other v w (λ s r le at there apart.
     let f = (fits s r id v at le).outer in
     let serves = b (let k = r.seen other w there in omega arith) in
     let before = epoch (let k = r.seen other w there in omega arith) in
@@ -95,24 +95,24 @@ none_served_shut_joins id other v w a b epoch = meet_joins id other v w (λ s r 
     let knows = f.barrier (a (let k = r.seen id v at in omega arith)) (omega arith) in
     omega arith)
 
-pub naps_joins : {fl : ℕ} (id other : ℕ) (v w : View) → (Timely v → LeftQuietly v) → (Timely w → SleepsAtOuter w) → (Timely w → w.slept_in_take ≡ v.last_take) → Joins (Tickets fl) id v other w (meet v w) (initial_view 0)
-naps_joins id other v w a b same_ = meet_joins id other v w (λ s r le at there apart.
+pub no_lost_wake_at_outer_joins : {fl : ℕ} (id other : ℕ) (v w : View) → (Timely v → LeftQuietly v) → (Timely w → SleepsAtOuter w) → (Timely w → w.slept_in_take ≡ v.last_take) → Joins (Tickets fl) id v other w (meet v w) (initial_view 0)
+no_lost_wake_at_outer_joins id other v w a b same_ = meet_joins id other v w (λ s r le at there apart.
     let quiet = (fits s r id v at le).outer.rests.lulls (a (let k = r.seen id v at in omega arith)) in
     let naps = (fits s r other w there le).outer.rests.sleeps_at_outer (b (let k = r.seen other w there in omega arith)) in
     let e : r.g.left_quietly w.slept_in_take ≡ r.g.left_quietly v.last_take = ap r.g.left_quietly (same_ (let k = r.seen other w there in omega arith)) in
     let none_ = naps.1 in
     omega arith)
 
-pub left_over_joins : {fl : ℕ} (id other : ℕ) (v w : View) → (Timely w → IsWaitingOpen w) → (Timely w → w.asked_in_epoch < v.epoch) → Joins (Tickets fl) id v other w (meet v w) (initial_view 0)
-left_over_joins id other v w waits reopened = meet_joins id other v w (λ s r le at there apart.
+pub none_left_at_reopening_joins : {fl : ℕ} (id other : ℕ) (v w : View) → (Timely w → IsWaitingOpen w) → (Timely w → w.asked_in_epoch < v.epoch) → Joins (Tickets fl) id v other w (meet v w) (initial_view 0)
+none_left_at_reopening_joins id other v w waits reopened = meet_joins id other v w (λ s r le at there apart.
     let q = waits (let k = r.seen other w there in omega arith) in
     let before = reopened (let k = r.seen other w there in omega arith) in
     let now = (fits s r other w there le).asks.open_then q.0 q.1 in
     let dated = (fits s r id v at le).outer.dated in
     omega arith)
 
-pub asked_joins : {fl : ℕ} (id other : ℕ) (v w : View) → (Timely v → ServedOpen v) → (Timely w → IsWaitingShut w) → (Timely w → w.asked_in_epoch ≡ v.epoch) → Joins (Tickets fl) id v other w (meet v w) (initial_view 0)
-asked_joins id other v w served waits same_ = meet_joins id other v w (λ s r le at there apart.
+pub asked_while_open_joins : {fl : ℕ} (id other : ℕ) (v w : View) → (Timely v → ServedOpen v) → (Timely w → IsWaitingShut w) → (Timely w → w.asked_in_epoch ≡ v.epoch) → Joins (Tickets fl) id v other w (meet v w) (initial_view 0)
+asked_while_open_joins id other v w served waits same_ = meet_joins id other v w (λ s r le at there apart.
     let one = served (let k = r.seen id v at in omega arith) in
     let q = waits (let k = r.seen other w there in omega arith) in
     let d = (fits s r id v at le).door (λ e. omega arith) in

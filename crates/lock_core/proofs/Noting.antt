@@ -16,11 +16,11 @@ use Rattle.lock_core.specs.Invariant.{tally, Ghost, Place, Fits, Cell, Tickets}
 use Rattle.lock_core.specs.Steps.{noting, kept_word, added_word, subtracted_word, exchanged_word, reads_outer, draws, reads, reads_cell, draws_granted, draws_near, looks, announces_sleep, sets_withdrawn, grants, clears_withdrawn, goes_in, takes_outer, leaves, checks_open, shuts, reopens, announces_head_sleep, requests_handoff}
 use Rattle.lock_core.proofs.Base.{each_after}
 use Rattle.lock_core.proofs.Tally.{tally_set}
-use Rattle.lock_core.proofs.Asking.{take_allowed, read_allowed, ripen_allowed, try_allowed, draw_allowed}
-use Rattle.lock_core.proofs.Looking.{look_allowed, doze_allowed, undoze_allowed}
-use Rattle.lock_core.proofs.Marks.{mark_allowed, clear_allowed}
-use Rattle.lock_core.proofs.Grants.{grant_allowed}
-use Rattle.lock_core.proofs.OuterWord.{call_allowed, go_in_allowed, enter_allowed, leave_allowed, shut_allowed, reopen_allowed, opens_allowed, nap_allowed}
+use Rattle.lock_core.proofs.Asking.{ask_allowed, read_tail_allowed, read_cell_allowed, try_ask_allowed, ask_near_allowed}
+use Rattle.lock_core.proofs.Looking.{look_allowed, announce_sleep_allowed, retract_sleep_allowed}
+use Rattle.lock_core.proofs.Marks.{withdraw_allowed, clear_allowed}
+use Rattle.lock_core.proofs.NextGrant.{grant_allowed}
+use Rattle.lock_core.proofs.OuterWord.{request_handoff_allowed, go_in_allowed, take_outer_allowed, leave_allowed, shut_allowed, reopen_allowed, check_open_allowed, announce_head_sleep_allowed}
 
 set_there : {A : Type 0} (l : List A) (i : ℕ) (v w : A) → get_elem? l i ≡ some v → get_elem? (set l i w) i ≡ some w
 set_there [] i v w at = absurd (some-ne-none v (sym at))
@@ -116,32 +116,32 @@ read_outer_allowed {fl} id slots me = notes id 0 me (λ n. n) (step slots 0 0 0 
     same_word (x ∷ xs) = refl
 
 -- each step, noted
-pub take_noted : {fl : ℕ} (id slots : ℕ) (me : Me ℕ View) → (Timely me.0 → IsIdle me.0) → Allows (Tickets fl) slots id me 16 (λ n. (n + 1) % 18446744073709551616) (noting added_word draws (step slots 16 1 0 none) me)
-take_noted {fl} id slots me fresh = notes id 16 me (λ n. (n + 1) % 18446744073709551616) (step slots 16 1 0 none) added_word draws (λ n w c l told. told) (take_allowed id slots me fresh)
+pub ask_noted : {fl : ℕ} (id slots : ℕ) (me : Me ℕ View) → (Timely me.0 → IsIdle me.0) → Allows (Tickets fl) slots id me 16 (λ n. (n + 1) % 18446744073709551616) (noting added_word draws (step slots 16 1 0 none) me)
+ask_noted {fl} id slots me fresh = notes id 16 me (λ n. (n + 1) % 18446744073709551616) (step slots 16 1 0 none) added_word draws (λ n w c l told. told) (ask_allowed id slots me fresh)
 
-pub read_noted : {fl : ℕ} (id slots : ℕ) (me : Me ℕ View) → (Timely me.0 → me.0.counted ≡ 0) → Allows (Tickets fl) slots id me 16 (λ n. n) (noting kept_word reads (step slots 16 0 0 none) me)
-read_noted {fl} id slots me none_counted = notes id 16 me (λ n. n) (step slots 16 0 0 none) kept_word reads (λ n w c l told. told) (read_allowed id slots me none_counted)
+pub read_tail_noted : {fl : ℕ} (id slots : ℕ) (me : Me ℕ View) → (Timely me.0 → me.0.counted ≡ 0) → Allows (Tickets fl) slots id me 16 (λ n. n) (noting kept_word reads (step slots 16 0 0 none) me)
+read_tail_noted {fl} id slots me none_counted = notes id 16 me (λ n. n) (step slots 16 0 0 none) kept_word reads (λ n w c l told. told) (read_tail_allowed id slots me none_counted)
 
-pub ripen_noted : {fl : ℕ} (id slots i ticket : ℕ) (me : Me ℕ View) → i ≡ cell_at ticket → (Timely me.0 → IsIdle me.0 × (ticket ≡ me.0.tail_seen % 18446744073709551616)) → Allows (Tickets fl) slots id me i (λ n. n) (noting kept_word reads_cell (step slots i 0 0 none) me)
-ripen_noted {fl} id slots i ticket me is has = notes id i me (λ n. n) (step slots i 0 0 none) kept_word reads_cell (λ n w c l told. told) (ripen_allowed id slots i ticket me is has)
+pub read_cell_noted : {fl : ℕ} (id slots i ticket : ℕ) (me : Me ℕ View) → i ≡ cell_at ticket → (Timely me.0 → IsIdle me.0 × (ticket ≡ me.0.tail_seen % 18446744073709551616)) → Allows (Tickets fl) slots id me i (λ n. n) (noting kept_word reads_cell (step slots i 0 0 none) me)
+read_cell_noted {fl} id slots i ticket me is has = notes id i me (λ n. n) (step slots i 0 0 none) kept_word reads_cell (λ n w c l told. told) (read_cell_allowed id slots i ticket me is has)
 
-pub try_noted : {fl : ℕ} (id slots old new : ℕ) (me : Me ℕ View) → new ≡ (old + 1) % 18446744073709551616 → (Timely me.0 → IsIdle me.0 × (old ≡ me.0.tail_seen % 18446744073709551616) × (me.0.next_is_at_turn ≡ 1)) → Allows (Tickets fl) slots id me 16 (λ n. either (eqb n old) new n) (noting exchanged_word draws_granted (step slots 16 old new none) me)
-try_noted {fl} id slots old new me new_is has = notes id 16 me (λ n. either (eqb n old) new n) (step slots 16 old new none) exchanged_word draws_granted (λ n w c l told. told) (try_allowed id slots old new me new_is has)
+pub try_ask_noted : {fl : ℕ} (id slots old new : ℕ) (me : Me ℕ View) → new ≡ (old + 1) % 18446744073709551616 → (Timely me.0 → IsIdle me.0 × (old ≡ me.0.tail_seen % 18446744073709551616) × (me.0.next_is_at_turn ≡ 1)) → Allows (Tickets fl) slots id me 16 (λ n. either (eqb n old) new n) (noting exchanged_word draws_granted (step slots 16 old new none) me)
+try_ask_noted {fl} id slots old new me new_is has = notes id 16 me (λ n. either (eqb n old) new n) (step slots 16 old new none) exchanged_word draws_granted (λ n w c l told. told) (try_ask_allowed id slots old new me new_is has)
 
-pub draw_noted : {fl : ℕ} (id slots old new : ℕ) (me : Me ℕ View) → new ≡ (old + 1) % 18446744073709551616 → (Timely me.0 → IsIdle me.0 × (old ≡ me.0.tail_seen % 18446744073709551616) × (me.0.ticket ≡ me.0.tail_seen)) → Allows (Tickets fl) slots id me 16 (λ n. either (eqb n old) new n) (noting exchanged_word draws_near (step slots 16 old new none) me)
-draw_noted {fl} id slots old new me new_is has = notes id 16 me (λ n. either (eqb n old) new n) (step slots 16 old new none) exchanged_word draws_near (λ n w c l told. told) (draw_allowed id slots old new me new_is has)
+pub ask_near_noted : {fl : ℕ} (id slots old new : ℕ) (me : Me ℕ View) → new ≡ (old + 1) % 18446744073709551616 → (Timely me.0 → IsIdle me.0 × (old ≡ me.0.tail_seen % 18446744073709551616) × (me.0.ticket ≡ me.0.tail_seen)) → Allows (Tickets fl) slots id me 16 (λ n. either (eqb n old) new n) (noting exchanged_word draws_near (step slots 16 old new none) me)
+ask_near_noted {fl} id slots old new me new_is has = notes id 16 me (λ n. either (eqb n old) new n) (step slots 16 old new none) exchanged_word draws_near (λ n w c l told. told) (ask_near_allowed id slots old new me new_is has)
 
 pub look_noted : {fl : ℕ} (id slots i ticket : ℕ) (me : Me ℕ View) → me.0.max_newcomers ≡ fl → i ≡ cell_at ticket → (Timely me.0 → IsQueued ticket me.0) → Allows (Tickets fl) slots id me i (λ n. n) (noting subtracted_word looks (step slots i 0 0 none) me)
-look_noted {fl} id slots i ticket me same_fellows is waits = notes id i me (λ n. n) (step slots i 0 0 none) subtracted_word looks (λ n w c l told. told) (look_allowed id slots i ticket me same_fellows is waits)
+look_noted {fl} id slots i ticket me same_newcomers is waits = notes id i me (λ n. n) (step slots i 0 0 none) subtracted_word looks (λ n w c l told. told) (look_allowed id slots i ticket me same_newcomers is waits)
 
-pub call_noted : {fl : ℕ} (id slots old new : ℕ) (me : Me ℕ View) → new / 2 ≡ old / 2 → Allows (Tickets fl) slots id me 0 (λ n. either (eqb n old) new n) (noting exchanged_word requests_handoff (step slots 0 old new none) me)
-call_noted {fl} id slots old new me half = notes id 0 me (λ n. either (eqb n old) new n) (step slots 0 old new none) exchanged_word requests_handoff (λ n w c l told. (told.0, λ k. record (told.1 k) { looks = l })) (call_allowed id slots old new me half)
+pub request_handoff_noted : {fl : ℕ} (id slots old new : ℕ) (me : Me ℕ View) → new / 2 ≡ old / 2 → Allows (Tickets fl) slots id me 0 (λ n. either (eqb n old) new n) (noting exchanged_word requests_handoff (step slots 0 old new none) me)
+request_handoff_noted {fl} id slots old new me half = notes id 0 me (λ n. either (eqb n old) new n) (step slots 0 old new none) exchanged_word requests_handoff (λ n w c l told. (told.0, λ k. record (told.1 k) { looks = l })) (request_handoff_allowed id slots old new me half)
 
 pub go_in_noted : {fl : ℕ} (id slots old new : ℕ) (me : Me ℕ View) → 0 < fl → me.0.max_newcomers ≡ fl → old / 4 % 8 ≡ 0 → new ≡ (old + 36) % 18446744073709551616 → (Timely me.0 → IsIdle me.0) → Allows (Tickets fl) slots id me 0 (λ n. either (eqb n old) new n) (noting exchanged_word goes_in (step slots 0 old new none) me)
-go_in_noted {fl} id slots old new me bursts same_fellows free new_is fresh = notes id 0 me (λ n. either (eqb n old) new n) (step slots 0 old new none) exchanged_word goes_in (λ n w c l told. told) (go_in_allowed id slots old new me bursts same_fellows free new_is fresh)
+go_in_noted {fl} id slots old new me bursts same_newcomers free new_is fresh = notes id 0 me (λ n. either (eqb n old) new n) (step slots 0 old new none) exchanged_word goes_in (λ n w c l told. told) (go_in_allowed id slots old new me bursts same_newcomers free new_is fresh)
 
-pub enter_noted : {fl : ℕ} (id slots ticket old new : ℕ) (me : Me ℕ View) → 0 < fl → me.0.max_newcomers ≡ fl → state_of old ≢ 1 → new ≡ old / 16 % 2 * 16 + 4 → (Timely me.0 → IsAtTurn ticket me.0) → Allows (Tickets fl) slots id me 0 (λ n. either (eqb n old) new n) (noting exchanged_word takes_outer (step slots 0 old new none) me)
-enter_noted {fl} id slots ticket old new me bursts same_fellows free new_is has = notes id 0 me (λ n. either (eqb n old) new n) (step slots 0 old new none) exchanged_word takes_outer (λ n w c l told. told) (enter_allowed id slots ticket old new me bursts same_fellows free new_is has)
+pub take_outer_noted : {fl : ℕ} (id slots ticket old new : ℕ) (me : Me ℕ View) → 0 < fl → me.0.max_newcomers ≡ fl → state_of old ≢ 1 → new ≡ old / 16 % 2 * 16 + 4 → (Timely me.0 → IsAtTurn ticket me.0) → Allows (Tickets fl) slots id me 0 (λ n. either (eqb n old) new n) (noting exchanged_word takes_outer (step slots 0 old new none) me)
+take_outer_noted {fl} id slots ticket old new me bursts same_newcomers free new_is has = notes id 0 me (λ n. either (eqb n old) new n) (step slots 0 old new none) exchanged_word takes_outer (λ n w c l told. told) (take_outer_allowed id slots ticket old new me bursts same_newcomers free new_is has)
 
 pub leave_noted : {fl : ℕ} (id slots old new : ℕ) (me : Me ℕ View) → came_of new ≡ came_of old → state_of new ≢ 1 → (state_of new ≡ 0 → came_of old + 1 ≤ fl) → shut_of new ≡ shut_of old → (Timely me.0 → IsInside me.0) → Allows (Tickets fl) slots id me 0 (λ n. either (eqb n old) new n) (noting exchanged_word leaves (step slots 0 old new none) me)
 leave_noted {fl} id slots old new me same_ free few still_shut has = notes id 0 me (λ n. either (eqb n old) new n) (step slots 0 old new none) exchanged_word leaves (λ n w c l told. told) (leave_allowed id slots old new me same_ free few still_shut has)
@@ -152,27 +152,27 @@ shut_noted {fl} id slots me served = notes id 0 me (λ n. (n + 16) % 18446744073
 pub reopen_noted : {fl : ℕ} (id slots : ℕ) (me : Me ℕ View) → (Timely me.0 → HasTurn me.0) → (Timely me.0 → me.0.nobody_behind ≡ 1) → (Timely me.0 → ServedShut me.0) → Allows (Tickets fl) slots id me 0 (λ n. (n + 18446744073709551600) % 18446744073709551616) (noting subtracted_word reopens (step slots 0 16 0 none) me)
 reopen_noted {fl} id slots me turns is_alone served = notes id 0 me (λ n. (n + 18446744073709551600) % 18446744073709551616) (step slots 0 16 0 none) subtracted_word reopens (λ n w c l told. told) (reopen_allowed id slots me turns is_alone served)
 
-pub opens_noted : {fl : ℕ} (id slots ticket : ℕ) (me : Me ℕ View) → fl ≡ 0 → (Timely me.0 → IsAtTurn ticket me.0) → Allows (Tickets fl) slots id me 0 (λ n. n) (noting kept_word checks_open (step slots 0 0 0 none) me)
-opens_noted {fl} id slots ticket me strict has = notes id 0 me (λ n. n) (step slots 0 0 0 none) kept_word checks_open (λ n w c l told. told) (opens_allowed id slots ticket me strict has)
+pub check_open_noted : {fl : ℕ} (id slots ticket : ℕ) (me : Me ℕ View) → fl ≡ 0 → (Timely me.0 → IsAtTurn ticket me.0) → Allows (Tickets fl) slots id me 0 (λ n. n) (noting kept_word checks_open (step slots 0 0 0 none) me)
+check_open_noted {fl} id slots ticket me strict has = notes id 0 me (λ n. n) (step slots 0 0 0 none) kept_word checks_open (λ n w c l told. told) (check_open_allowed id slots ticket me strict has)
 
-pub nap_noted : {fl : ℕ} (id slots old new : ℕ) (me : Me ℕ View) → state_of old ≡ 1 → new / 4 ≡ old / 4 → asleep_of new ≡ 1 → Allows (Tickets fl) slots id me 0 (λ n. either (eqb n old) new n) (noting exchanged_word announces_head_sleep (step slots 0 old new none) me)
-nap_noted {fl} id slots old new me held half sets = notes id 0 me (λ n. either (eqb n old) new n) (step slots 0 old new none) exchanged_word announces_head_sleep (λ n w c l told. told) (nap_allowed id slots old new me held half sets)
+pub announce_head_sleep_noted : {fl : ℕ} (id slots old new : ℕ) (me : Me ℕ View) → state_of old ≡ 1 → new / 4 ≡ old / 4 → asleep_of new ≡ 1 → Allows (Tickets fl) slots id me 0 (λ n. either (eqb n old) new n) (noting exchanged_word announces_head_sleep (step slots 0 old new none) me)
+announce_head_sleep_noted {fl} id slots old new me held half sets = notes id 0 me (λ n. either (eqb n old) new n) (step slots 0 old new none) exchanged_word announces_head_sleep (λ n w c l told. told) (announce_head_sleep_allowed id slots old new me held half sets)
 
 pub grant_noted : {fl : ℕ} (id slots i ticket next : ℕ) (me : Me ℕ View) → next ≡ (ticket + 1) % 18446744073709551616 → i ≡ cell_at next → (Timely me.0 → HasTurnOf ticket me.0)
     → Allows (Tickets fl) slots id me i (λ n. (n + 17179869184) % 18446744073709551616) (noting added_word grants (step slots i 17179869184 0 none) me)
 grant_noted id slots i ticket next me behind is has = notes id i me (λ n. (n + 17179869184) % 18446744073709551616) (step slots i 17179869184 0 none) added_word grants (λ n w c l told. told) (grant_allowed id slots i ticket next me behind is has)
 
-pub doze_noted : {fl : ℕ} (id slots i ticket old new : ℕ) (me : Me ℕ View) → me.0.max_newcomers ≡ fl → i ≡ cell_at ticket → count_of old < 65535 → new ≡ (old + 65536) % 18446744073709551616 → (Timely me.0 → IsQueued ticket me.0)
+pub announce_sleep_noted : {fl : ℕ} (id slots i ticket old new : ℕ) (me : Me ℕ View) → me.0.max_newcomers ≡ fl → i ≡ cell_at ticket → count_of old < 65535 → new ≡ (old + 65536) % 18446744073709551616 → (Timely me.0 → IsQueued ticket me.0)
     → Allows (Tickets fl) slots id me i (λ n. either (eqb n old) new n) (noting exchanged_word announces_sleep (step slots i old new none) me)
-doze_noted {fl} id slots i ticket old new me same_fellows is few new_is waits = notes id i me (λ n. either (eqb n old) new n) (step slots i old new none) exchanged_word announces_sleep (λ n w c l told. told) (doze_allowed id slots i ticket old new me same_fellows is few new_is waits)
+announce_sleep_noted {fl} id slots i ticket old new me same_newcomers is few new_is waits = notes id i me (λ n. either (eqb n old) new n) (step slots i old new none) exchanged_word announces_sleep (λ n w c l told. told) (announce_sleep_allowed id slots i ticket old new me same_newcomers is few new_is waits)
 
-pub undoze_noted : {fl : ℕ} (id slots i ticket : ℕ) (me : Me ℕ View) → me.0.max_newcomers ≡ fl → i ≡ cell_at ticket → (Timely me.0 → IsAsleep ticket me.0)
+pub retract_sleep_noted : {fl : ℕ} (id slots i ticket : ℕ) (me : Me ℕ View) → me.0.max_newcomers ≡ fl → i ≡ cell_at ticket → (Timely me.0 → IsAsleep ticket me.0)
     → Allows (Tickets fl) slots id me i (λ n. (n + 18446744073709486080) % 18446744073709551616) (noting subtracted_word looks (step slots i 65536 0 none) me)
-undoze_noted {fl} id slots i ticket me same_fellows is sleeps = notes id i me (λ n. (n + 18446744073709486080) % 18446744073709551616) (step slots i 65536 0 none) subtracted_word looks (λ n w c l told. told) (undoze_allowed id slots i ticket me same_fellows is sleeps)
+retract_sleep_noted {fl} id slots i ticket me same_newcomers is sleeps = notes id i me (λ n. (n + 18446744073709486080) % 18446744073709551616) (step slots i 65536 0 none) subtracted_word looks (λ n w c l told. told) (retract_sleep_allowed id slots i ticket me same_newcomers is sleeps)
 
-pub mark_noted : {fl : ℕ} (id slots i ticket k x : ℕ) (me : Me ℕ View) → i ≡ cell_at ticket → x ≡ 2 ^ bit_of ticket → k ≤ 15 → (Timely me.0 → IsQueuedWithin k ticket me.0)
+pub withdraw_noted : {fl : ℕ} (id slots i ticket k x : ℕ) (me : Me ℕ View) → i ≡ cell_at ticket → x ≡ 2 ^ bit_of ticket → k ≤ 15 → (Timely me.0 → IsQueuedWithin k ticket me.0)
     → Allows (Tickets fl) slots id me i (λ n. (n + x) % 18446744073709551616) (noting added_word sets_withdrawn (step slots i x 0 none) me)
-mark_noted {fl} id slots i ticket k x me is mask near waits = notes id i me (λ n. (n + x) % 18446744073709551616) (step slots i x 0 none) added_word sets_withdrawn (λ n w c l told. told) (mark_allowed id slots i ticket k x me is mask near waits)
+withdraw_noted {fl} id slots i ticket k x me is mask near waits = notes id i me (λ n. (n + x) % 18446744073709551616) (step slots i x 0 none) added_word sets_withdrawn (λ n w c l told. told) (withdraw_allowed id slots i ticket k x me is mask near waits)
 
 pub clear_noted : {fl : ℕ} (id slots i ticket x : ℕ) (me : Me ℕ View) → i ≡ cell_at ticket → x ≡ 2 ^ bit_of ticket → (Timely me.0 → IsPassing ticket me.0)
     → Allows (Tickets fl) slots id me i (λ n. (n + (18446744073709551616 - x)) % 18446744073709551616) (noting subtracted_word clears_withdrawn (step slots i x 0 none) me)

@@ -22,7 +22,7 @@ use Rattle.lock_core.proofs.Tally.{tally_set}
 abbrev pub gated : Ghost → Ghost → Ghost
 gated g h = record h { turn = g.turn; withdrawn = g.withdrawn; asked_open = g.asked_open; nobody_asleep = g.nobody_asleep }
 
--- what holds of a seat's request stays so: where a newcomer comes in, it counts; where the head takes the outer word, one more ticket is done
+-- what holds of a request stays so: a newcomer that goes in counts, and where the queue head takes the outer word, one more ticket is done
 module _ (fl : ℕ) (g h : Ghost) (b : View) (sums : h.newcomers + fl * g.head_inside + g.since_head ≤ g.newcomers + fl * h.head_inside + h.since_head) (grows : g.head_inside ≤ h.head_inside) where
   pub late_after : Late fl g b → Late fl (gated g h) b
   late_after k = record { came = let c = k.came in omega arith; overtaken = let o = k.overtaken in omega arith }
@@ -214,8 +214,8 @@ module _ {fl : ℕ} (s : State ℕ View) (r : Tickets fl s) (id : ℕ) (v : View
         others = m.others;
       })
 
-pub call_allowed : {fl : ℕ} (id slots old new : ℕ) (me : Me ℕ View) → new / 2 ≡ old / 2 → Allows (Tickets fl) slots id me 0 (λ n. either (eqb n old) new n) (requests_handoff (step slots 0 old new none) me)
-call_allowed {fl} id slots old new me half s r sized at low =
+pub request_handoff_allowed : {fl : ℕ} (id slots old new : ℕ) (me : Me ℕ View) → new / 2 ≡ old / 2 → Allows (Tickets fl) slots id me 0 (λ n. either (eqb n old) new n) (requests_handoff (step slots 0 old new none) me)
+request_handoff_allowed {fl} id slots old new me half s r sized at low =
     let v : View = me.0 in
     let outer : ℕ = slice_index s.words 0 in
     let x : ℕ = either (eqb outer old) new outer in
@@ -255,7 +255,7 @@ call_allowed {fl} id slots old new me half s r sized at low =
     )
 
 pub go_in_allowed : {fl : ℕ} (id slots old new : ℕ) (me : Me ℕ View) → 0 < fl → me.0.max_newcomers ≡ fl → old / 4 % 8 ≡ 0 → new ≡ (old + 36) % 18446744073709551616 → (Timely me.0 → IsIdle me.0) → Allows (Tickets fl) slots id me 0 (λ n. either (eqb n old) new n) (goes_in (step slots 0 old new none) me)
-go_in_allowed {fl} id slots old new me bursts same_fellows free new_is fresh s r sized at low = dite (ℕ_discrete outer old) comes_in stays
+go_in_allowed {fl} id slots old new me bursts same_newcomers free new_is fresh s r sized at low = dite (ℕ_discrete outer old) comes_in stays
   where
     v : View
     v = me.0
@@ -320,7 +320,7 @@ go_in_allowed {fl} id slots old new me bursts same_fellows free new_is fresh s r
             (λ timely.
                 let y = (r.granted timely).counts.room bursts was_free in
                 let d = (fits s r id v at timely).outer.dated in
-                let n = (fits s r id v at timely).outer.rests.takes_seen in ((λ _. ((refl, (refl, refl)), (omega arith, omega arith, (let fl_is = same_fellows in omega arith), refl), (let k = heard s r id v at in omega arith), refl, d, (omega arith, refl))), (λ ne. absurd (ne is)))),
+                let n = (fits s r id v at timely).outer.rests.takes_seen in ((λ _. ((refl, (refl, refl)), (omega arith, omega arith, (let fl_is = same_newcomers in omega arith), refl), (let k = heard s r id v at in omega arith), refl, d, (omega arith, refl))), (λ ne. absurd (ne is)))),
           ),
         )
 
@@ -334,8 +334,8 @@ go_in_allowed {fl} id slots old new me bursts same_fellows free new_is fresh s r
           ((refl, refl, known s r id v at, (let k = heard s r id v at in omega arith)), (λ timely. ((λ is. absurd (ne is)), (λ _. (refl, refl))))),
         )
 
-pub enter_allowed : {fl : ℕ} (id slots ticket old new : ℕ) (me : Me ℕ View) → 0 < fl → me.0.max_newcomers ≡ fl → state_of old ≢ 1 → new ≡ old / 16 % 2 * 16 + 4 → (Timely me.0 → IsAtTurn ticket me.0) → Allows (Tickets fl) slots id me 0 (λ n. either (eqb n old) new n) (takes_outer (step slots 0 old new none) me)
-enter_allowed {fl} id slots ticket old new me bursts same_fellows free new_is has s r sized at low = dite (ℕ_discrete outer old) takes_it stays
+pub take_outer_allowed : {fl : ℕ} (id slots ticket old new : ℕ) (me : Me ℕ View) → 0 < fl → me.0.max_newcomers ≡ fl → state_of old ≢ 1 → new ≡ old / 16 % 2 * 16 + 4 → (Timely me.0 → IsAtTurn ticket me.0) → Allows (Tickets fl) slots id me 0 (λ n. either (eqb n old) new n) (takes_outer (step slots 0 old new none) me)
+take_outer_allowed {fl} id slots ticket old new me bursts same_newcomers free new_is has s r sized at low = dite (ℕ_discrete outer old) takes_it stays
   where
     v : View
     v = me.0
@@ -423,7 +423,7 @@ enter_allowed {fl} id slots ticket old new me bursts same_fellows free new_is ha
                 let none_taken = p.1 in
                 let bound = (r.granted timely).counts.bounded in
                 let c = p.0.late.came in
-                let q = p.0.late.overtaken in (refl, refl, refl, refl, refl, (λ _. (refl, refl, in_bounds fl v.max_newcomers r.g.newcomers v.newcomers_at_ask v.ticket v.first_pending r.g.since_head (v.ticket + 1 - v.first_pending) same_fellows (omega arith) (omega arith) bound, (refl, refl, (fits s r id v at timely).outer.dated), ((let n = (fits s r id v at timely).outer.rests.takes_seen in omega arith), refl))), (λ ne. absurd (ne is)))),
+                let q = p.0.late.overtaken in (refl, refl, refl, refl, refl, (λ _. (refl, refl, in_bounds fl v.max_newcomers r.g.newcomers v.newcomers_at_ask v.ticket v.first_pending r.g.since_head (v.ticket + 1 - v.first_pending) same_newcomers (omega arith) (omega arith) bound, (refl, refl, (fits s r id v at timely).outer.dated), ((let n = (fits s r id v at timely).outer.rests.takes_seen in omega arith), refl))), (λ ne. absurd (ne is)))),
           ),
         )
 
@@ -597,8 +597,8 @@ reopen_allowed {fl} id slots me turns is_alone served s r sized at low =
     still_at_turn le q = ⊎_elim (λ a. ⊎_elim (λ e. cc) (λ e. cc) q) (λ a. ⊎_elim (λ e. cc) (λ e. cc) q) (turns (let k = known s r id me.0 at in omega arith))
 
 -- in a strict lock the one at its turn looks at the outer word
-pub opens_allowed : {fl : ℕ} (id slots ticket : ℕ) (me : Me ℕ View) → fl ≡ 0 → (Timely me.0 → IsAtTurn ticket me.0) → Allows (Tickets fl) slots id me 0 (λ n. n) (checks_open (step slots 0 0 0 none) me)
-opens_allowed {fl} id slots ticket me strict has s r sized at low =
+pub check_open_allowed : {fl : ℕ} (id slots ticket : ℕ) (me : Me ℕ View) → fl ≡ 0 → (Timely me.0 → IsAtTurn ticket me.0) → Allows (Tickets fl) slots id me 0 (λ n. n) (checks_open (step slots 0 0 0 none) me)
+check_open_allowed {fl} id slots ticket me strict has s r sized at low =
     let v : View = me.0 in
     let outer : ℕ = slice_index s.words 0 in
     let is : outer ≡ r.g.outer = r.outer in (
@@ -625,8 +625,8 @@ opens_allowed {fl} id slots ticket me strict has s r sized at low =
     )
 
 -- the head notes at the outer word that it sleeps
-pub nap_allowed : {fl : ℕ} (id slots old new : ℕ) (me : Me ℕ View) → state_of old ≡ 1 → new / 4 ≡ old / 4 → asleep_of new ≡ 1 → Allows (Tickets fl) slots id me 0 (λ n. either (eqb n old) new n) (announces_head_sleep (step slots 0 old new none) me)
-nap_allowed {fl} id slots old new me held half sets s r sized at low = dite (ℕ_discrete outer old) notes stays
+pub announce_head_sleep_allowed : {fl : ℕ} (id slots old new : ℕ) (me : Me ℕ View) → state_of old ≡ 1 → new / 4 ≡ old / 4 → asleep_of new ≡ 1 → Allows (Tickets fl) slots id me 0 (λ n. either (eqb n old) new n) (announces_head_sleep (step slots 0 old new none) me)
+announce_head_sleep_allowed {fl} id slots old new me held half sets s r sized at low = dite (ℕ_discrete outer old) notes stays
   where
     v : View
     v = me.0

@@ -29,8 +29,8 @@ pub fn check_open(table: &SharedTable, seat: &mut TicketSeat, ticket: u64) -> bo
     !is_shut(table.load::<CheckOpen>(seat, OUTER))
 }
 
-/// Whoever is served shuts the lock: one word step. From then on each caller that comes to its turn is told so, and no
-/// newcomer goes in.
+/// Whoever is served shuts the lock: one word step. From then on each caller at its turn is told of it, and no newcomer
+/// goes in.
 #[inline(always)]
 pub fn shut(table: &SharedTable, seat: &mut TicketSeat)
     requires table { IsLockTable table.now.table_id }

@@ -12,7 +12,7 @@ use crate::rule::{SharedTable, TicketSeat};
 /// What `release` did.
 #[derive(Clone, Copy, Debug, PartialEq, Eq)]
 pub enum ReleaseResult {
-    /// The next ticket is granted, and its cell counted so many sleepers: if any, they are to be woken.
+    /// The next ticket is granted. `sleepers` were counted at its cell: if any, they are to be woken.
     Granted { sleepers: u64 },
     /// It passed 64 withdrawn requests, and the turn is its caller's yet: it is to be called again.
     Unfinished,

@@ -24,19 +24,19 @@ const CELLS: u64 = 4;
 /// A round, in a cell.
 pub(crate) const ROUND: u64 = 1 << 34;
 
-/// So many rounds there are, until they begin anew.
+/// The number of rounds, until they begin anew.
 const ROUNDS: u64 = 1 << 30;
 
 /// A sleeper, in a cell.
 pub(crate) const SLEEPER: u64 = 1 << 16;
 
-/// So many sleepers a cell can count.
+/// The most sleepers that a cell can count.
 pub(crate) const MAX_SLEEPERS: u64 = 65535;
 
-/// A request is withdrawn while at most so many rounds are to be granted until its own.
+/// The window of withdrawal: the most rounds to be granted until the request's own.
 pub(crate) const WINDOW: u64 = 15;
 
-/// So many withdrawn requests one release passes.
+/// The most withdrawn requests that one release passes.
 pub(crate) const MAX_PASSED: u64 = 64;
 
 /// In the outer word: the queue head wants it.

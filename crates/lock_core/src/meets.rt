@@ -146,7 +146,7 @@ pub fn tell(table: &SharedTable, seat: &mut TicketSeat) -> TicketSeat
     table.split_seat::<Tell>(seat)
 }
 
-/// Before its request a caller learns what another knows: then its request comes after that one's last turn.
+/// Before its request a caller learns what another knows: then its request is behind that one's last turn.
 pub fn learn(table: &SharedTable, seat: &mut TicketSeat, other: TicketSeat)
     requires table { IsLockTable table.now.table_id }
     requires seat { IsSeatOf table.now.table_id table.now.key seat.old }

@@ -16,8 +16,8 @@ use thiserror::Error;
 pub enum LockKind {
     /// Strict: in the order of tickets.
     Strict,
-    /// In bursts: from one turn of a queue head to the next at most so many turns, the head's and those of newcomers
-    /// that overtake the queue. From 2 to 65,535.
+    /// In bursts: the most turns from one queue head's to the next, the head's and those of newcomers that overtake the
+    /// queue. From 2 to 65,535.
     Bursts(u16),
 }
 

@@ -14,9 +14,9 @@ use crate::rule::{SharedTable, TicketSeat};
 pub enum AskNearResult {
     /// It drew this ticket, which is at its turn.
     AtTurn { ticket: u64 },
-    /// It drew this ticket; so many rounds, at most 15, are to be granted until the ticket's own is.
+    /// It drew this ticket. `rounds`, at most 15, are to be granted until the ticket's own is.
     Queued { ticket: u64, rounds: u64 },
-    /// It drew none: the next ticket has so many rounds to go, more than 15.
+    /// It drew none. The next ticket has `rounds` to go, more than 15.
     Far { rounds: u64 },
     /// It drew none: another caller drew at that moment.
     Changed,

@@ -50,10 +50,10 @@ pub struct View {
     /// The last ticket that it granted; 1: it was told that nobody sleeps for it.
     pub granted: u64,
     pub told_nobody: u64,
-    /// When it asked: the newcomers that had gone in, and the first ticket whose turn was not over.
+    /// When it asked: the newcomers inside before it, and the first ticket whose turn was not over.
     pub newcomers_at_ask: u64,
     pub first_pending: u64,
-    /// At least this number of newcomers have gone in.
+    /// At least this number of newcomers have been inside.
     pub newcomers_seen: u64,
     /// Its last turn as a newcomer: its number among all newcomers' turns, the queue heads before it, and its place since
     /// the last of them.

@@ -15,11 +15,11 @@ use crate::rule::{SharedTable, TicketSeat};
 pub enum SleepResult {
     /// The waiter is at its turn, and is not counted.
     AtTurn,
-    /// The waiter is counted, with so many rounds to go: it may sleep while its cell is `cell`, by the upper 32 bits.
+    /// The waiter is counted, with `rounds` to go: it may sleep while its cell is `cell`, by the upper 32 bits.
     Asleep { rounds: u64, cell: u64 },
-    /// The waiter is not counted: its cell counts 65,535 sleepers. So many rounds are to go.
+    /// The waiter is not counted: its cell counts 65,535 sleepers. It has `rounds` to go.
     Full { rounds: u64 },
-    /// The waiter is not counted: its cell changed at that moment. So many rounds are to go.
+    /// The waiter is not counted: its cell changed at that moment. It has `rounds` to go.
     Changed { rounds: u64 },
 }
 
@@ -107,7 +107,7 @@ pub fn retract_sleep(table: &SharedTable, seat: &mut TicketSeat, ticket: u64) ->
     rounds_to_go(cell, ticket)
 }
 
-/// Withdraws a request that was found at most 15 rounds from its turn: one word step, then the lock may be gone.
+/// Withdraws a request that was found at most 15 rounds from its turn: one word step, the last access to the lock's memory.
 /// `false`: it was granted before, two word steps.
 #[inline(always)]
 pub fn withdraw(table: &SharedTable, seat: &mut TicketSeat, ticket: u64, rounds: u64) -> bool

@@ -1,12 +1,12 @@
 use Rattle.std.proofs.Common.{rules, arith, ◌∙◌, ◌≡◌, ◌⊎◌, subst, sym}
 use Rattle.lock_core.specs.declared.view.Phase.TheVariants.{AtTurn, HeadInside}
 use Rattle.lock_core.specs.Views.{Timely}
-use Rattle.lock_core.proofs.Noting.{read_noted}
+use Rattle.lock_core.proofs.Noting.{read_tail_noted}
 use Rattle.lock_core.proofs.Noting.{reopen_noted}
 use Rattle.lock_core.proofs.closing.reopen.Goals as goal
 
 pub load-requires : goal.load-requires
-load-requires c = (search rules, (let e = c.requires.table in omega arith), read_noted _ _ c.args.seat.now.me (λ t. (c.requires.turn t).2))
+load-requires c = (search rules, (let e = c.requires.table in omega arith), read_tail_noted _ _ c.args.seat.now.me (λ t. (c.requires.turn t).2))
 
 pub fetch_sub-requires : goal.fetch_sub-requires
 fetch_sub-requires c =
