@@ -5,8 +5,8 @@
  *   ./nodes KIND THREADS MICROSECONDS PHASE_MS SECONDS [pinned] [loops]
  *
  * needs Debian's package libck-dev. KIND is ring, link or ticket. MICROSECONDS is the length of a turn, in which the
- * holder adds 1 to a lane of the line, or to a number beside the lock. With `pinned` thread k stays at processor k. With
- * `loops` each of four processors also has a thread that does nothing else than loop.
+ * holder adds 1 to a lane of the line, or to a number beside the lock. With `pinned` thread k stays at processor k.
+ * With `loops` each of four processors also has a thread that does nothing else than loop.
  *
  * It prints the time of a hand-over between each two of four processors, the part of the time that other machines had,
  * and for each way nanoseconds a turn, over all threads: the median of the phases, the quartiles, the ratio of the
