@@ -5,13 +5,14 @@
  *   ./nodes KIND THREADS MICROSECONDS PHASE_MS SECONDS [pinned] [loops]
  *
  * needs Debian's package libck-dev. KIND is ring, link or ticket. MICROSECONDS is the length of a turn, in which the
- * holder adds 1 to a lane of the line, or to a number beside the lock. `pinned`: thread k stays at processor k. `loops`:
- * each of four processors also has a thread that does nothing else than loop.
+ * holder adds 1 to a lane of the line, or to a number beside the lock. With `pinned` thread k stays at processor k.
+ * With `loops` each of four processors also has a thread that does nothing else than loop.
  *
  * It prints the time of a hand-over between each two of four processors, the part of the time that other machines had,
  * and for each way nanoseconds a turn, over all threads: the median of the phases, the quartiles, the ratio of the
- * median to that of MCS, the same of all turns together, and the longest wait in microseconds, the median of the phases
- * and the 99th of 100. Places in memory matter: each way has PLACES lines or locks, and takes one after the other. */
+ * median to that of MCS, and the same of all turns together. Of the waits whose time was taken it prints the 99.9th of
+ * 100, and the longest of a phase, the median of the phases, in microseconds. Places in memory matter: each way has
+ * PLACES lines or locks, and takes one after the other. */
 #define _GNU_SOURCE
 #include <ck_pr.h>
 #include <ck_spinlock.h>
@@ -25,11 +26,20 @@
 #include <time.h>
 #include <unistd.h>
 
-enum { MOST = 64, PLACES = 8, PHASES = 20000, PROCESSORS = 4, PAGE = 4096, APART = 128 };
+enum { MOST = 64, PLACES = 8, PHASES = 20000, PROCESSORS = 4, PAGE = 4096, APART = 128, BINS = 976 };
 
 enum way { MCS, MCS_YIELDS, MUTEX, ACQUIRE, POLLS_4, POLLS_8, POLLS_16, WAYS };
-static const char *const names[WAYS] = {"MCS",          "MCS that yields",       "pthread_mutex",         "qolb_acquire",
-                                        "polls, 4 pauses", "polls, 8 pauses", "polls, 16 pauses"};
+static const char *const names[WAYS] = {"MCS",
+                                        "MCS that yields",
+                                        "pthread_mutex",
+                                        "qolb_acquire",
+                                        "polls, 4 pauses",
+                                        "polls, 8 pauses",
+                                        "polls, 16 pauses"};
+
+/* With more threads than processors only ways that sleep or yield are timed, and compared with the MCS that yields. */
+static int threads;
+static int is_timed(int by) { return threads <= PROCESSORS || (by >= MCS_YIELDS && by <= ACQUIRE); }
 
 /* Looks at MCS's word before its waiter yields. */
 enum { SPINS = 256 };
@@ -47,10 +57,19 @@ struct of_thread {
         _Alignas(APART) ck_spinlock_mcs_context_t context;
     } at[PLACES];
     uint64_t turns, longest;
+    unsigned waits[BINS]; /* how many waits took so long (bin_of) */
 };
 static struct of_thread all[MOST];
 
-static int threads, pinned;
+/* Sixteen bins for each power of two. */
+static unsigned bin_of(uint64_t ns) {
+    unsigned log = 63 - (unsigned)__builtin_clzll(ns | 16);
+    return (log - 4) * 16 + (unsigned)(ns >> (log - 4) & 15);
+}
+
+static double least_of(unsigned bin) { return bin < 16 ? bin : (double)((uint64_t)(16 + bin % 16) << bin / 16); }
+
+static int pinned;
 static uint64_t turn_ns, phase_ns;
 /* The phase that begins, and its way and place; whether it is over; how many threads have begun and ended it; and its
  * length. */
@@ -135,11 +154,13 @@ static void take_turns(struct of_thread *me, int is_first) {
     enum way by = way;
     int at = place;
     uint64_t turns = 0, longest = 0, since = now();
+    memset(me->waits, 0, sizeof me->waits);
     for (; !atomic_load_explicit(&over, memory_order_relaxed); turns++) {
         int timed = turn_ns || turns % 64 == 0;
         uint64_t asked = timed ? now() : 0;
         enter(me, by, at);
         uint64_t came = timed ? now() : 0;
+        if (timed) me->waits[bin_of(came - asked)]++;
         if (came - asked > longest) longest = came - asked;
         while (turn_ns && now() - came < turn_ns) continue;
         leave(me, by, at);
@@ -170,6 +191,7 @@ static void *loop(void *number) {
 
 static struct {
     double times[PHASES], longest[PHASES], turns, took;
+    uint64_t waits[BINS], all_waits;
     int many;
 } found[WAYS];
 
@@ -184,6 +206,10 @@ static void run_phase(int number, enum way by, int at) {
     for (int k = 0; k < threads; k++) {
         turns += all[k].turns;
         if (all[k].longest > longest) longest = all[k].longest;
+        for (int bin = 0; bin < BINS; bin++) {
+            found[by].waits[bin] += all[k].waits[bin];
+            found[by].all_waits += all[k].waits[bin];
+        }
     }
     if (found[by].many == PHASES || turns == 0) return;
     found[by].longest[found[by].many] = (double)longest / 1000;
@@ -236,12 +262,13 @@ static void print_hand_overs(void) {
 /* The processor time of this machine until now, and the part of it that other machines took. */
 static void read_stolen(double *whole, double *stolen) {
     FILE *file = fopen("/proc/stat", "r");
-    double v[8];
-    if (!file || fscanf(file, "cpu %lf %lf %lf %lf %lf %lf %lf %lf", v, v + 1, v + 2, v + 3, v + 4, v + 5, v + 6, v + 7) != 8) abort();
-    fclose(file);
+    double part_of = 0;
     *whole = 0;
-    for (int k = 0; k < 8; k++) *whole += v[k];
-    *stolen = v[7];
+    if (!file || fscanf(file, "cpu") != 0) abort();
+    for (int k = 0; k < 8; k++, *whole += part_of)
+        if (fscanf(file, "%lf", &part_of) != 1) abort();
+    fclose(file);
+    *stolen = part_of;
 }
 
 /* ---- The program ---- */
@@ -253,20 +280,30 @@ static int by_size(const void *a, const void *b) {
 
 static double part(double *sorted, int many, double of) { return many ? sorted[(int)((many - 1) * of)] : 0; }
 
+/* In microseconds, of the waits of this way whose time was taken. */
+static double wait_999(int by) {
+    uint64_t before = 0;
+    for (unsigned bin = 0; bin < BINS; bin++)
+        if ((before += found[by].waits[bin]) * 1000 >= found[by].all_waits * 999) return least_of(bin) / 1000;
+    return 0;
+}
+
 static void print_ways(const char *kind) {
     for (int k = 0; k < WAYS; k++) {
         int many = found[k].many;
         qsort(found[k].times, (size_t)many, sizeof(double), by_size);
         qsort(found[k].longest, (size_t)many, sizeof(double), by_size);
     }
-    double mcs = part(found[MCS].times, found[MCS].many, .5);
-    puts("kind\tthreads\tturn_us\tname\tphases\tmedian\tlow\thigh\tof_mcs\tmean\tlongest_us\tlongest_99_us");
+    int than = is_timed(MCS) ? MCS : MCS_YIELDS;
+    double mcs = part(found[than].times, found[than].many, .5);
+    puts("kind\tthreads\tturn_us\tname\tphases\tmedian\tlow\thigh\tof_mcs\tmean\twait_999_us\tlongest_us");
     for (int k = 0; k < WAYS; k++) {
+        if (!is_timed(k)) continue;
         double *times = found[k].times, median = part(times, found[k].many, .5);
         printf("%s\t%d\t%llu\t%s\t%d\t%.1f\t%.1f\t%.1f\t%.2f\t%.1f\t%.0f\t%.0f\n", kind, threads,
                (unsigned long long)turn_ns / 1000, names[k], found[k].many, median, part(times, found[k].many, .25),
-               part(times, found[k].many, .75), median / mcs, found[k].took / found[k].turns,
-               part(found[k].longest, found[k].many, .5), part(found[k].longest, found[k].many, .99));
+               part(times, found[k].many, .75), median / mcs, found[k].took / found[k].turns, wait_999(k),
+               part(found[k].longest, found[k].many, .5));
     }
 }
 
@@ -303,7 +340,8 @@ int main(int argc, char **argv) {
     uint64_t since = now();
     read_stolen(&whole[0], &stolen[0]);
     for (int round = 0, number = 0; (double)(now() - since) < seconds * 1e9; round++)
-        for (int k = 0; k < WAYS; k++) run_phase(++number, (enum way)((k + round) % WAYS), round % PLACES);
+        for (int k = 0; k < WAYS; k++)
+            if (is_timed((k + round) % WAYS)) run_phase(++number, (enum way)((k + round) % WAYS), round % PLACES);
     read_stolen(&whole[1], &stolen[1]);
     printf("# other machines had %.1f %%\n", (stolen[1] - stolen[0]) / (whole[1] - whole[0]) * 100);
     print_ways(argv[1]);

@@ -2,14 +2,14 @@
  * locks (docs/DECISIONS.md says what was tried). One of the library's internal files.
  *
  * A waiter that finds that it is not at its turn calls qolb_spin_once_, which pauses for some 90 ns, and polls again.
- * Once the call answers 0 the waiter sleeps, and calls it anew when it is woken. At most it spins 50 us if four or fewer
- * are before it; 2 us if more are, as its turn is far; and 20 us if it can't tell. Sleeping and waking cost about as
- * much, so a wait takes at most about twice the best (Karlin and others, SOSP 1991).
+ * Once the call answers 0 the waiter sleeps, and calls it anew when it is woken. At most it spins 50 us if four or
+ * fewer are before it; 2 us if more are, as its turn is far; and 20 us if it can't tell. Sleeping and waking cost about
+ * as much, so a wait takes at most about twice the best (Karlin and others, SOSP 1991).
  *
- * Each thread learns how long spinning pays, as on a machine whose processors have other work who spins keeps the holder
- * from going on. A spin that ends with a sleep halves the length of the thread's next one, down to 2 us, and each spin
- * begins with an eighth more. A spin after a sleep has a length of its own, and lasts 10 us at least: a waiter is woken
- * ahead of its turn, and a wake takes about as long.
+ * Each thread learns how long spinning pays: where processors have other work, who spins keeps the holder from going
+ * on. A spin that ends with a sleep halves the length of the thread's next one, down to 2 us, and each spin begins with
+ * an eighth more. A spin after a sleep has a length of its own, and lasts 10 us at least: a waiter is woken ahead of
+ * its turn, and a wake takes about as long.
  *
  * No waiter yields its processor. A yield by a real-time thread gives way to no thread of a lower priority, and by
  * others it makes handoffs slower. A process that may use one processor only does not spin. */

@@ -35,9 +35,9 @@ enum { US = 1000, MS = 1000000 };
  * holder, the number of wakes, and the calls that a waiter must not make. */
 static uint64_t now, clocks, yields, sleeps, longest, asks, spins, spun, looks, names, wakes, wrong;
 
-/* How often a node polls before it sleeps, each 90 ns, as qolb.h says: for 50 us on a line of at most five nodes and for
- * 20 us on others; at least for 2 us, and once it has slept, for 10. A poll is before the pauses and behind each, and
- * one more comes before the sleep. */
+/* How often a node polls before it sleeps, each 90 ns, as qolb.h says: for 50 us on a line of at most five nodes and
+ * for 20 us on others; at least for 2 us, and once it has slept, for 10. A poll is before the pauses and behind each,
+ * and one more comes before the sleep. */
 enum { NEAR = 555, UNKNOWN = 222, LEAST = 22, WOKEN = 111 };
 /* The same behind a spin in vain: half as often, and an eighth of that more. */
 enum { LESS = NEAR / 2 + NEAR / 2 / 8 };
@@ -392,8 +392,8 @@ static int rests(uint32_t kind) {
     return 0;
 }
 
-/* Each spin in vain halves the next one, which begins with an eighth more: down to the least. A spin after a sleep has a
- * length of its own. On a line of more than five nodes both are shorter. */
+/* Each spin in vain halves the next one, which begins with an eighth more: down to the least. A spin after a sleep has
+ * a length of its own. On a line of more than five nodes both are shorter. */
 static int learns(uint32_t kind, uint64_t nodes) {
     qolb_bytes zeros = {{0}};
     qolb_node n[6] = {{0}};
@@ -925,9 +925,10 @@ int main(void) {
     if (counts_looks() || counts_pauses() || has_one_processor()) return 1;
     atomic_store(&qolb_pauses_, 80); /* also where there is one processor */
     for (uint32_t kind = 0; kind < QOLB_KINDS; kind++)
-        if (rests(kind) || learns(kind, 2) || learns(kind, 6) || withdraws_late(kind, 0) || withdraws_late(kind, 1) || each_passes_on(kind) ||
-            wakes_whom_it_should(kind) || lock_rests(kind) || lock_at_the_end(kind, 0) || lock_at_the_end(kind, 1) ||
-            woken_for_nothing(kind) || sleeps_far_from_door(kind) || late_in_each_crowd(kind))
+        if (rests(kind) || learns(kind, 2) || learns(kind, 6) || withdraws_late(kind, 0) || withdraws_late(kind, 1) ||
+            each_passes_on(kind) || wakes_whom_it_should(kind) || lock_rests(kind) || lock_at_the_end(kind, 0) ||
+            lock_at_the_end(kind, 1) || woken_for_nothing(kind) || sleeps_far_from_door(kind) ||
+            late_in_each_crowd(kind))
             return 1;
     WANT(wrong, 0);
     return 0;
