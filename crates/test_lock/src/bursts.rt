@@ -1,5 +1,5 @@
 //! Turns in bursts.
-ghost use Rattle.std.specs.Prelude.{◌≡◌, ◌≤◌, IfSome, IfNone};
+ghost use Rattle.std.specs.Prelude.{◌≡◌, ◌≤◌, true, false};
 ghost use Rattle.lock_core.specs.Views.{view_of, InTime, IsSeatOf, IsIdle, IsAtTurn, IsHeadInside, IsInside};
 
 use crate::dice::Dice;

@@ -1,5 +1,5 @@
 //! A lock that threads share, and the words on which they sleep.
-ghost use Rattle.std.specs.Prelude.{◌≡◌, ◌<◌, ◌≤◌, OnOk, IfOk, IfSome, IfNone};
+ghost use Rattle.std.specs.Prelude.{◌≡◌, ◌<◌, ◌≤◌, IfOk, IfSome, IfNone, true, false};
 ghost use Rattle.lock_core.specs.Layout.{IsLockTable};
 ghost use Rattle.lock_core.specs.Views.{view_of, InTime, IsSeatOf, IsIdle, IsQueued, IsAtTurn, HasTurnOf, SameTurn};
 ghost use Rattle.lock_core.specs.Answers.{max_burst_of};
