@@ -1,0 +1,6 @@
+//! The tests.
+
+mod answers;
+mod memory;
+mod opening;
+mod threads;
