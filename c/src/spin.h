@@ -1,0 +1,101 @@
+/* How long a waiter spins before it sleeps, and how long it pauses between two polls: the one policy of nodes and of
+ * locks (docs/DECISIONS.md says what was tried). One of the library's internal files.
+ *
+ * A waiter that finds that it is not at its turn calls qolb_spin_once_, which pauses for some 90 ns, and polls again.
+ * Once the call answers 0 the waiter sleeps, and calls it anew when it is woken. At most it spins 50 us if four or fewer
+ * are before it; 2 us if more are, as its turn is far; and 20 us if it can't tell. Sleeping and waking cost about as
+ * much, so a wait takes at most about twice the best (Karlin and others, SOSP 1991).
+ *
+ * Each thread learns how long spinning pays, as on a machine whose processors have other work who spins keeps the holder
+ * from going on. A spin that ends with a sleep halves the length of the thread's next one, down to 2 us, and each spin
+ * begins with an eighth more. A spin after a sleep has a length of its own, and lasts 10 us at least: a waiter is woken
+ * ahead of its turn, and a wake takes about as long.
+ *
+ * No waiter yields its processor. A yield by a real-time thread gives way to no thread of a lower priority, and by
+ * others it makes handoffs slower. A process that may use one processor only does not spin. */
+#ifndef QOLB_SPIN_H
+#define QOLB_SPIN_H
+
+#include "gaps.h"
+#include <stdatomic.h>
+#include <stdint.h>
+
+/* ---- The policy, in nanoseconds ---- */
+
+enum {
+    POLL_PAUSE = 90,     /* between two polls */
+    SPIN_NEAR = 50000,   /* before a sleep, with at most NEAR_TURNS before the waiter, the holder among them */
+    SPIN_FAR = 2000,     /* with more; and the least that a thread learns */
+    SPIN_WOKEN = 10000,  /* the least after a sleep, unless more are before it */
+    SPIN_UNKNOWN = 20000 /* if it can't be told how many */
+};
+enum { NEAR_TURNS = 4, GROWS_BY = 8, SHRINKS_BY = 2 };
+
+/* The number of those before a waiter, if it can't be told. */
+#define UNKNOWN_TURNS UINT64_MAX
+
+/* ---- Pauses ---- */
+
+/* How many instructions `pause` take 1,024 ns, which is counted once: they take 10 to 140 cycles, by the processor. 0:
+ * not counted, or the process may use one processor only. */
+extern __attribute__((visibility("hidden"))) atomic_uint qolb_pauses_;
+
+/* Counts them, unless the process may use one processor only: then 0. */
+__attribute__((visibility("hidden"))) unsigned qolb_count_pauses_(void);
+
+static inline unsigned pauses_in_1024(void) {
+    unsigned counted = atomic_load_explicit(&qolb_pauses_, memory_order_relaxed);
+    return counted ? counted : qolb_count_pauses_();
+}
+
+/* Pauses for so many nanoseconds, at most 1,000,000; returns 0, at once, if the process may use one processor only. */
+static inline int qolb_pause_(unsigned nanoseconds) {
+    unsigned each = pauses_in_1024();
+    if (each == 0) return 0;
+    unsigned pauses = (each * nanoseconds + 512) / 1024;
+    do __builtin_ia32_pause();
+    while (pauses-- > 1);
+    return 1;
+}
+
+/* ---- Spinning ---- */
+
+/* What a waiter has spun since it last slept in this wait. {0} when the wait begins. */
+struct spin {
+    unsigned polls;
+    int slept; /* it has slept in this wait, or was told to */
+};
+
+/* The most polls of the thread's next spins, without a sleep in the same wait and after one. 0: as many as may be. */
+extern __attribute__((visibility("hidden"))) BY_THREAD unsigned qolb_learned_[2];
+
+static inline unsigned polls_before_sleep(uint64_t before) {
+    if (before == UNKNOWN_TURNS) return SPIN_UNKNOWN / POLL_PAUSE;
+    return (before <= NEAR_TURNS ? SPIN_NEAR : SPIN_FAR) / POLL_PAUSE;
+}
+
+/* The most polls of a spin that begins. */
+static inline unsigned begin_spin(unsigned *learned) {
+    unsigned grown = *learned + *learned / GROWS_BY;
+    return *learned = *learned && grown < SPIN_NEAR / POLL_PAUSE ? grown : SPIN_NEAR / POLL_PAUSE;
+}
+
+/* A spin that ends at once, as the turn is far, says nothing of the next one. */
+static inline void end_spin(struct spin *spin, unsigned *learned) {
+    unsigned less = spin->polls / SHRINKS_BY, least = (spin->slept ? SPIN_WOKEN : SPIN_FAR) / POLL_PAUSE;
+    if (spin->polls > SPIN_FAR / POLL_PAUSE) *learned = less > least ? less : least;
+    spin->polls = 0;
+    spin->slept = 1;
+}
+
+/* Pauses between two polls of a waiter that has so many before it: 1. If it is time to sleep: 0, at once; the next call
+ * begins a new spin. How many there are may be told anew with each call. It reads no clock: a thread that loses its
+ * processor spins on afterwards. */
+static inline int qolb_spin_once_(struct spin *spin, uint64_t before) {
+    unsigned *learned = &qolb_learned_[spin->slept], most = polls_before_sleep(before);
+    unsigned patience = spin->polls ? *learned : begin_spin(learned);
+    if (spin->polls < (patience < most ? patience : most) && qolb_pause_(POLL_PAUSE)) return spin->polls++, 1;
+    return end_spin(spin, learned), 0;
+}
+
+#endif
