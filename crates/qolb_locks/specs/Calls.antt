@@ -1,0 +1,133 @@
+-- The promise of each call of a lock, by its answer. `was` and `now` are the ticket before and after. (Of this project.)
+use Rattle.std.specs.Prelude.{◌≡◌, ◌≢◌, ℕ, ◌<◌, ◌≤◌, ◌+◌, ◌/◌, ◌%◌, ◌⊎◌, [], ◌∷◌}
+use Rattle.std.specs.declared.option.Option.{Option}
+use Rattle.std.specs.declared.option.Option.TheVariants.{Some}
+use Rattle.lock_core.specs.declared.view.View.{View}
+use Rattle.lock_core.specs.Layout.{to_go, count_of}
+use Rattle.lock_core.specs.Views.{Timely, IsIdle, HasTurnOf, IsInside, IsOutside, IsNewcomersTurn, IsOvertakenInBounds, GrantedToNobodyAsleep, GrantedAfter, LeftQuietly, SleepsAtOuter, TakesOuter, SameRequest}
+use Rattle.qolb_locks.specs.declared.answer.Answer.{Answer}
+use Rattle.qolb_locks.specs.declared.answer.Answer.TheVariants as answer
+use Rattle.qolb_locks.specs.declared.lock.Lock.{Lock}
+use Rattle.qolb_locks.specs.declared.ticket.Ticket.{Ticket}
+use Rattle.qolb_locks.specs.declared.ticket.State.{State}
+use Rattle.qolb_locks.specs.declared.ticket.State.TheVariants as state
+use Rattle.qolb_locks.specs.Tickets.{Is, Has, Knows, IsStrict, HasBursts}
+
+-- a lock with this bound of bursts, and this label
+abbrev pub IsOpen : Option Lock → ℕ → ℕ → Type 0
+IsOpen lock burst label = (l : Lock) × (lock ≡ Some l) × (l.burst ≡ burst) × (l.label ≡ label)
+
+-- `open`: by its answer
+abbrev pub Opens : ℕ → ℕ → Option Lock → Answer → Type 0
+Opens burst label lock answer.Done = IsOpen lock burst label × (burst ≤ 1073741824) × (label ≢ 0)
+Opens burst label lock answer.BadBurst = 1073741824 < burst
+Opens burst label lock answer.Misuse = label ≡ 0
+Opens burst label lock answer.NoMemory = (burst ≤ 1073741824) × (label ≢ 0)
+Opens burst label lock _ = ⊥
+
+-- the call was not allowed, and nothing changed
+abbrev pub IsMisuse : Ticket → Ticket → Answer → Type 0
+IsMisuse was now a = (a ≡ answer.Misuse) × (now ≡ was)
+
+-- what the caller knew before and knows now
+abbrev pub Learns : Ticket → Ticket → (View → View → Type 0) → Type 0
+Learns was now P = (v w : View) × (was.claim.views ≡ v ∷ []) × (now.claim.views ≡ w ∷ []) × (v.most_open ≤ w.most_open) × (Timely w → P v w)
+
+-- a request comes after the ticket's last turn, and after all that it has heard of
+abbrev pub ComesAfter : View → View → Type 0
+ComesAfter v w = (v.ended ≤ w.first_pending) × (v.newcomers_seen ≤ w.newcomers_at_ask) × (v.epoch ≤ w.asked_in_epoch)
+
+-- no more newcomers overtook the request than the bound allows
+abbrev pub InBounds : Lock → Ticket → Type 0
+InBounds lock t = Knows lock t IsOvertakenInBounds
+
+-- `ask`, and `poll` and `retract_sleep` of a ticket that waits
+abbrev pub Looks : Lock → Ticket → Answer → Type 0
+Looks lock now answer.Granted = Has state.AtTurn lock now × InBounds lock now
+Looks lock now answer.Waiting = Has state.Waiting lock now × (0 < now.rounds)
+Looks lock now _ = ⊥
+
+-- `try_ask`
+abbrev pub Tries : Lock → Ticket → Answer → Type 0
+Tries lock now answer.Granted = Has state.AtTurn lock now
+Tries lock now answer.Busy = Has state.Free lock now
+Tries lock now _ = ⊥
+
+-- `ask_near`: what it draws could be withdrawn
+abbrev pub AsksNear : Lock → Ticket → Answer → Type 0
+AsksNear lock now answer.Granted = Has state.AtTurn lock now
+AsksNear lock now answer.Waiting = Has state.Waiting lock now × (0 < now.rounds) × (now.rounds ≤ 15)
+AsksNear lock now answer.Far = Has state.Free lock now × (15 < now.rounds)
+AsksNear lock now answer.Busy = Has state.Free lock now
+AsksNear lock now _ = ⊥
+
+-- `announce_sleep`: with the word at which to sleep
+abbrev pub AnnouncesSleep : Lock → Ticket → Answer → Type 0
+AnnouncesSleep lock now answer.Granted = Has state.AtTurn lock now × InBounds lock now
+AnnouncesSleep lock now answer.Asleep = Has state.Asleep lock now × (0 < to_go now.word now.number)
+AnnouncesSleep lock now answer.Waiting = Has state.Waiting lock now × (0 < now.rounds)
+AnnouncesSleep lock now answer.Full = Has state.Waiting lock now × (count_of now.word ≡ 65535)
+AnnouncesSleep lock now _ = ⊥
+
+-- `withdraw`: one that is too far away stays as it is
+abbrev pub Withdraws : Lock → Ticket → Ticket → Answer → Type 0
+Withdraws lock was now answer.Withdrawn = Has state.Free lock now
+Withdraws lock was now answer.Granted = Has state.AtTurn lock now
+Withdraws lock was now answer.Far = (15 < was.rounds) × (now ≡ was)
+Withdraws lock was now _ = ⊥
+
+-- the ticket granted the one after its number; where the count of sleepers there was 0, nobody slept
+abbrev pub GrantsNext : Lock → Ticket → Type 0
+GrantsNext lock now = Knows lock now (λ v. GrantedAfter now.number v × (now.sleepers ≡ 0 → GrantedToNobodyAsleep v))
+
+-- a ticket with a turn of the queue
+abbrev pub HasTurnAtQueue : Lock → Ticket → Type 0
+HasTurnAtQueue lock t = (t.label ≡ lock.label) × (3 ≤ t.state) × (t.state ≤ 8)
+
+-- `release`: a head that is in stays in
+abbrev pub Releases : Lock → Ticket → Ticket → Answer → Type 0
+Releases lock was now answer.Done = GrantsNext lock now
+    × (Is state.HeadInside lock was → Has state.Inside lock now)
+    × (Is state.HeadInsideShut lock was → Has state.InsideShut lock now)
+    × (was.state < 7 → Has state.Free lock now)
+Releases lock was now answer.Unfinished = (Is state.HeadInside lock was → Has state.HeadInside lock now)
+    × (Is state.HeadInsideShut lock was → Has state.HeadInsideShut lock now)
+    × (was.state < 7 → Has state.Ending lock now)
+Releases lock was now _ = ⊥
+
+-- a ticket at its turn in a strict lock
+abbrev pub IsAtStrictTurn : Lock → Ticket → Type 0
+IsAtStrictTurn lock t = IsStrict lock × (t.label ≡ lock.label) × (3 ≤ t.state) × (t.state ≤ 5)
+
+-- `check_open`
+abbrev pub ChecksOpen : Lock → Ticket → Answer → Type 0
+ChecksOpen lock now answer.Granted = Has state.Served lock now
+ChecksOpen lock now answer.Closed = Has state.ServedShut lock now
+ChecksOpen lock now _ = ⊥
+
+-- `go_in`
+abbrev pub GoesIn : Lock → Ticket → Answer → Type 0
+GoesIn lock now answer.Granted = Has state.Inside lock now × Knows lock now IsNewcomersTurn
+GoesIn lock now answer.Busy = Has state.Free lock now
+GoesIn lock now _ = ⊥
+
+-- the queue head of a lock with bursts
+abbrev pub IsHead : Lock → Ticket → Type 0
+IsHead lock t = HasBursts lock × Is state.AtTurn lock t
+
+-- `take_outer`: the head is in, and is to release its turn of the queue
+abbrev pub TakesOuterWord : Lock → Ticket → Answer → Type 0
+TakesOuterWord lock now answer.Granted = Has state.HeadInside lock now × InBounds lock now
+TakesOuterWord lock now answer.Closed = Has state.HeadInsideShut lock now × InBounds lock now
+TakesOuterWord lock now answer.Waiting = Has state.AtTurn lock now
+TakesOuterWord lock now _ = ⊥
+
+-- a ticket that is in by the outer word alone
+abbrev pub IsIn : Lock → Ticket → Type 0
+IsIn lock t = (t.label ≡ lock.label) × (9 ≤ t.state) × (t.state ≤ 10)
+
+-- `leave`: where it says that no head sleeps, none does
+abbrev pub Leaves : Lock → Ticket → Ticket → Answer → Type 0
+Leaves lock was now answer.Done = Has state.Free lock now × Knows lock now (λ v. (v.inside ≡ 0) × (now.head_sleeps ≡ false → LeftQuietly v))
+Leaves lock was now answer.Busy = (Is state.Inside lock was → Has state.Inside lock now) × (Is state.InsideShut lock was → Has state.InsideShut lock now)
+Leaves lock was now _ = ⊥

@@ -1,0 +1,26 @@
+//! Locks behind handles for C: what a caller has of a lock is a reference to it, and a ticket.
+//!
+//! A call first checks the ticket's state. If that does not allow the call, the answer is `Misuse` and nothing changes. Each call is made of a
+//! fixed number of atomic steps, and none waits.
+#![tactic(auto)]
+
+mod answer;
+mod asking;
+mod closing;
+mod lock;
+mod lock_ref;
+mod meets;
+mod opening;
+mod outer;
+mod ticket;
+mod waiting;
+
+pub use answer::Answer;
+pub use asking::{ask, ask_near, try_ask};
+pub use closing::{check_open, reopen, shut};
+pub use lock::Lock;
+pub use lock_ref::LockRef;
+pub use opening::open;
+pub use outer::{announce_head_sleep, go_in, leave, release, request_handoff, take_outer};
+pub use ticket::{Claim, State, Ticket};
+pub use waiting::{announce_sleep, poll, retract_sleep, withdraw};
