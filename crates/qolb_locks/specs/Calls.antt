@@ -1,5 +1,5 @@
 -- The promise of each call of a lock, by its answer. `was` and `now` are the ticket before and after. (Of this project.)
-use Rattle.std.specs.Prelude.{◌≡◌, ◌≢◌, ℕ, ◌<◌, ◌≤◌, ◌+◌, ◌/◌, ◌%◌, ◌⊎◌, [], ◌∷◌}
+use Rattle.std.specs.Prelude.{◌≡◌, ◌≢◌, ℕ, ◌<◌, ◌≤◌, ◌+◌, ◌/◌, ◌%◌, ◌⊎◌, true, false, [], ◌∷◌}
 use Rattle.std.specs.declared.option.Option.{Option}
 use Rattle.std.specs.declared.option.Option.TheVariants.{Some}
 use Rattle.lock_core.specs.declared.view.View.{View}
@@ -11,7 +11,7 @@ use Rattle.qolb_locks.specs.declared.lock.Lock.{Lock}
 use Rattle.qolb_locks.specs.declared.ticket.Ticket.{Ticket}
 use Rattle.qolb_locks.specs.declared.ticket.State.{State}
 use Rattle.qolb_locks.specs.declared.ticket.State.TheVariants as state
-use Rattle.qolb_locks.specs.Tickets.{Is, Has, Knows, IsStrict, HasBursts}
+use Rattle.qolb_locks.specs.Tickets.{Is, IsWithin, Has, Knows, IsStrict, HasBursts}
 
 -- a lock with this bound of bursts, and this label
 abbrev pub IsOpen : Option Lock → ℕ → ℕ → Type 0
@@ -35,7 +35,7 @@ Learns was now P = (v w : View) × (was.claim.views ≡ v ∷ []) × (now.claim.
 
 -- a request comes after the ticket's last turn, and after all that it has heard of
 abbrev pub ComesAfter : View → View → Type 0
-ComesAfter v w = (v.ended ≤ w.first_pending) × (v.newcomers_seen ≤ w.newcomers_at_ask) × (v.epoch ≤ w.asked_in_epoch)
+ComesAfter v w = (v.ended ≤ w.first_pending) × (v.newcomers_seen ≤ w.newcomers_at_ask)
 
 -- no more newcomers overtook the request than the bound allows
 abbrev pub InBounds : Lock → Ticket → Type 0
@@ -80,10 +80,6 @@ Withdraws lock was now _ = ⊥
 abbrev pub GrantsNext : Lock → Ticket → Type 0
 GrantsNext lock now = Knows lock now (λ v. GrantedAfter now.number v × (now.sleepers ≡ 0 → GrantedToNobodyAsleep v))
 
--- a ticket with a turn of the queue
-abbrev pub HasTurnAtQueue : Lock → Ticket → Type 0
-HasTurnAtQueue lock t = (t.label ≡ lock.label) × (3 ≤ t.state) × (t.state ≤ 8)
-
 -- `release`: a head that is in stays in
 abbrev pub Releases : Lock → Ticket → Ticket → Answer → Type 0
 Releases lock was now answer.Done = GrantsNext lock now
@@ -95,9 +91,9 @@ Releases lock was now answer.Unfinished = (Is state.HeadInside lock was → Has 
     × (was.state < 7 → Has state.Ending lock now)
 Releases lock was now _ = ⊥
 
--- a ticket at its turn in a strict lock
+-- a ticket at its turn in a strict lock, told of the outer word or not
 abbrev pub IsAtStrictTurn : Lock → Ticket → Type 0
-IsAtStrictTurn lock t = IsStrict lock × (t.label ≡ lock.label) × (3 ≤ t.state) × (t.state ≤ 5)
+IsAtStrictTurn lock t = IsStrict lock × IsWithin 3 5 lock t
 
 -- `check_open`
 abbrev pub ChecksOpen : Lock → Ticket → Answer → Type 0
@@ -122,12 +118,49 @@ TakesOuterWord lock now answer.Closed = Has state.HeadInsideShut lock now × InB
 TakesOuterWord lock now answer.Waiting = Has state.AtTurn lock now
 TakesOuterWord lock now _ = ⊥
 
--- a ticket that is in by the outer word alone
-abbrev pub IsIn : Lock → Ticket → Type 0
-IsIn lock t = (t.label ≡ lock.label) × (9 ≤ t.state) × (t.state ≤ 10)
-
 -- `leave`: where it says that no head sleeps, none does
 abbrev pub Leaves : Lock → Ticket → Ticket → Answer → Type 0
 Leaves lock was now answer.Done = Has state.Free lock now × Knows lock now (λ v. (v.inside ≡ 0) × (now.head_sleeps ≡ false → LeftQuietly v))
 Leaves lock was now answer.Busy = (Is state.Inside lock was → Has state.Inside lock now) × (Is state.InsideShut lock was → Has state.InsideShut lock now)
 Leaves lock was now _ = ⊥
+
+-- `shut`: of a ticket that is served
+abbrev pub IsServed : Lock → Ticket → Type 0
+IsServed lock t = Is state.Served lock t ⊎ Is state.HeadInside lock t ⊎ Is state.Inside lock t
+
+abbrev pub Shuts : Lock → Ticket → Ticket → Answer → Type 0
+Shuts lock was now answer.Done = (Is state.Served lock was → Has state.ServedShut lock now)
+    × (Is state.HeadInside lock was → Has state.HeadInsideShut lock now)
+    × (Is state.Inside lock was → Has state.InsideShut lock now)
+Shuts lock was now _ = ⊥
+
+-- `reopen`: of a ticket with a turn of the queue that was told that the lock is shut
+abbrev pub IsToldShut : Lock → Ticket → Type 0
+IsToldShut lock t = Is state.ServedShut lock t ⊎ Is state.HeadInsideShut lock t
+
+abbrev pub Reopens : Lock → Ticket → Ticket → Answer → Type 0
+Reopens lock was now answer.Granted = (Is state.ServedShut lock was → Has state.Served lock now)
+    × (Is state.HeadInsideShut lock was → Has state.HeadInside lock now)
+Reopens lock was now answer.Busy = (Is state.ServedShut lock was → Has state.ServedShut lock now)
+    × (Is state.HeadInsideShut lock was → Has state.HeadInsideShut lock now)
+Reopens lock was now _ = ⊥
+
+-- what a ticket learns changes neither its number nor its label
+abbrev pub SameTicket : Ticket → Ticket → Type 0
+SameTicket was now = (now.number ≡ was.number) × (now.rounds ≡ was.rounds) × (now.label ≡ was.label) × (now.state ≡ was.state)
+
+-- `request_handoff`
+abbrev pub RequestsHandoff : Lock → Ticket → Answer → Type 0
+RequestsHandoff lock now answer.Done = Has state.AtTurn lock now
+RequestsHandoff lock now answer.Busy = Has state.AtTurn lock now
+RequestsHandoff lock now _ = ⊥
+
+-- the outer word is held, and says that the head sleeps
+abbrev pub HeldWithSleeper : ℕ → Type 0
+HeldWithSleeper outer = outer / 2 % 8 ≡ 3
+
+-- `announce_head_sleep`: with the word at which to sleep
+abbrev pub SleepsAsHead : Lock → Ticket → Answer → Type 0
+SleepsAsHead lock now answer.Asleep = Has state.AtTurn lock now × Knows lock now SleepsAtOuter × HeldWithSleeper now.outer
+SleepsAsHead lock now answer.Waiting = Has state.AtTurn lock now
+SleepsAsHead lock now _ = ⊥

@@ -59,6 +59,10 @@ Knows lock t P = (v : View) × (t.claim.views ≡ v ∷ []) × (t.claim.table_id
 abbrev pub Is : State → Lock → Ticket → Type 0
 Is state lock t = (t.label ≡ lock.label) × (t.state ≡ number_of state)
 
+-- the ticket is of this lock, and in one of the states of these numbers
+abbrev pub IsWithin : ℕ → ℕ → Lock → Ticket → Type 0
+IsWithin low high lock t = (t.label ≡ lock.label) × (low ≤ t.state) × (t.state ≤ high)
+
 abbrev pub Has : State → Lock → Ticket → Type 0
 Has state lock t = Is state lock t × Knows lock t (Says state t.number t.rounds)
 

@@ -1,17 +1,12 @@
 //! A caller's request, as C holds it.
-ghost use Rattle.std.specs.Prelude.{◌≡◌, ℕ, List, [], ◌∷◌, ◌<◌, true, false};
-ghost use base.Stored.{coded_list};
-ghost use Rattle.atomic_table.specs.Seated.{TableId, table_id_coded};
-ghost use Rattle.lock_core.specs.declared.view.View.{View};
+ghost use Rattle.std.specs.Prelude.{◌≡◌, ◌<◌, ◌≤◌, true, false};
 ghost use Rattle.qolb_locks.specs.declared.answer.Answer.{Answer};
-ghost use Rattle.qolb_locks.specs.Held.{view_coded, ticket_owns};
-ghost use Rattle.qolb_locks.specs.Tickets.{number_of, Is, Has, IsKnown};
+ghost use Rattle.qolb_locks.specs.Tickets.{number_of, Is, IsWithin, Has, IsKnown, Knows};
+ghost use Rattle.lock_core.specs.Views.{IsAtTurn, HasTurnOf, IsInside};
 
 use crate::answer::Answer;
+use crate::claim::Claim;
 use crate::lock::Lock;
-use atomic_table::Badge;
-use lock_core::{TicketSeat, View};
-use std::marker::Model;
 
 /// What a ticket has. Its number is C's.
 #[derive(Clone, Copy, Debug, PartialEq, Eq)]
@@ -63,55 +58,6 @@ pub struct Ticket {
     pub claim: Claim,
 }
 
-/// What the caller knows and owns of the lock. C has no struct without a field.
-#[repr(C)]
-#[derive(Drop)]
-pub struct Claim {
-    mark: u8,
-    pub ghost table_id: { TableId } by { table_id_coded },
-    pub ghost id: { ℕ },
-    pub ghost views: { List View } by { coded_list view_coded },
-}
-
-impl Model for Claim {
-    ghost also_owns = { λ t. ticket_owns t.table_id t.id t.views };
-}
-
-impl Claim {
-    /// The claim and the badge exchange what they know. No code.
-    #[inline(always)]
-    fn exchange(&mut self, badge: &mut Badge<View>)
-        ensures { (self.new.table_id ≡ badge.old.table_id) × (self.new.id ≡ badge.old.id)
-            × (self.new.views ≡ badge.old.views) × (badge.new.table_id ≡ self.old.table_id)
-            × (badge.new.id ≡ self.old.id) × (badge.new.views ≡ self.old.views) }
-    {}
-
-    /// Takes the seat out.
-    #[inline(always)]
-    pub(crate) fn take(&mut self) -> TicketSeat
-        requires { (v : View) × (self.old.views ≡ v ∷ []) }
-        ensures table { result.table_id ≡ self.old.table_id }
-        ensures view { self.old.views ≡ result.me.0 ∷ [] }
-        ensures empty { result.me.1 ≡ [] }
-    {
-        let mut badge = Badge::blank();
-        self.exchange(&mut badge);
-        badge.into_seat::<u64>()
-    }
-
-    /// Puts a seat in, in the place of any other.
-    #[inline(always)]
-    pub(crate) fn put(&mut self, seat: TicketSeat)
-        requires { seat.me.1 ≡ [] }
-        ensures table { self.new.table_id ≡ seat.table_id }
-        ensures view { self.new.views ≡ seat.me.0 ∷ [] }
-    {
-        self.exchange(&mut seat.into_badge());
-    }
-}
-
-unsafe impl Send for Claim {}
-
 impl Ticket {
     /// Returns whether the ticket is of this lock, and in this state.
     #[inline(always)]
@@ -123,6 +69,45 @@ impl Ticket {
         self.state == state as u32 && self.label == lock.label
     }
 
+    /// Returns whether the ticket is of this lock, and at its turn, told of the outer word or not.
+    #[inline(always)]
+    pub(crate) fn is_at_turn(&self, lock: &Lock) -> bool
+        requires { IsKnown lock.now self.now }
+        ensures yes { result ≡ true → IsWithin 3 5 lock.now self.now
+            × Knows lock.now self.now (IsAtTurn self.now.number) }
+        ensures no { result ≡ false → ¬ IsWithin 3 5 lock.now self.now }
+    {
+        self.label == lock.label
+            && self.state >= State::AtTurn as u32
+            && self.state <= State::ServedShut as u32
+    }
+
+    /// Returns whether the ticket is of this lock, and has a turn of the queue, and is not in by the outer word.
+    #[inline(always)]
+    pub(crate) fn has_turn_outside(&self, lock: &Lock) -> bool
+        requires { IsKnown lock.now self.now }
+        ensures yes { result ≡ true → IsWithin 3 6 lock.now self.now
+            × Knows lock.now self.now (HasTurnOf self.now.number) }
+        ensures no { result ≡ false → ¬ IsWithin 3 6 lock.now self.now }
+    {
+        self.label == lock.label
+            && self.state >= State::AtTurn as u32
+            && self.state <= State::Ending as u32
+    }
+
+    /// Returns whether the ticket is of this lock, and in by the outer word alone.
+    #[inline(always)]
+    pub(crate) fn is_inside(&self, lock: &Lock) -> bool
+        requires { IsKnown lock.now self.now }
+        ensures yes { result ≡ true → IsWithin 9 10 lock.now self.now
+            × Knows lock.now self.now IsInside }
+        ensures no { result ≡ false → ¬ IsWithin 9 10 lock.now self.now }
+    {
+        self.label == lock.label
+            && self.state >= State::Inside as u32
+            && self.state <= State::InsideShut as u32
+    }
+
     /// Notes that the request is so many rounds from its turn, and answers that.
     #[inline(always)]
     pub(crate) fn settle(&mut self, rounds: u64) -> Answer
@@ -130,6 +115,7 @@ impl Ticket {
             × (self.new ≡ record self.old { state = 3 }) }
         ensures waits { 0 < rounds → (result ≡ Answer.Waiting)
             × (self.new ≡ record self.old { state = 1; rounds = rounds }) }
+        ensures claim { self.new.claim ≡ self.old.claim }
     {
         if rounds == 0 {
             self.state = State::AtTurn as u32;

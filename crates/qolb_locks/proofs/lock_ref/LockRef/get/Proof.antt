@@ -6,7 +6,7 @@ use base.Logic.{SProp, emp}
 use base.Fml.{Lft, ftrue, flft}
 use contract.BorrowLft.{⊑_static}
 use types.Kit.{‵, raw, ◌⊛◌, at_ret, ◌$◌, ◌∵◌, !, qed, by, move, keep, split, join, fsplit, fjoin, use0, use1, use2, rewrite, feq_i}
-use types.Run.{stop, fld, load, addr, of_opd, first, blocks, exec, returns, take_outer}
+use types.Run.{stop, fld, load, addr, of_opd, first, blocks, exec, returns, enter}
 use types.ByLocal.{alloc_all, pass_all, free_all, look_at, get, through, sets, sets_last, env}
 use types.Part.{sub, whole, look_in}
 use contract.Monad.{fact, fact_i}
@@ -51,7 +51,7 @@ get_spec 𝓤 𝓛 𝓜 𝓡 wired =
     let y : (walk_of 𝓛 En hs c).Ghost = ((κs, qs, bounds, a, (vptr b o ∷ [], tt)), gh) in let Post : Val → SProp 𝓤 = (walk_of 𝓛 En hs c).post y in let there : Val = vptr (block_of p) (count_of p) in
     qed 𝓛 (((‵ (flft κ qs.0) ⊛ ‵ ftrue) ⊛ ‵ (owns (types_at En.signature.params κs) a y.0.4)) ∷ raw (fact 𝓤 Asked) ∷ []) ∵
     move ! (1 ∷ []) $ heard ! Asked (λ asked. let x : R.Denot = asked.0 in split ! $ split ! $ move ! (2 ∷ []) $ fsplit ! $ fsplit ! $ keep ! (1 ∷ 3 ∷ 4 ∷ []) $
-    take_outer ! 𝓣.C 𝓣.Λ fn (vptr b o ∷ []) Post $ alloc_all ! (λ l. pass_all ! refl ((tt, tt), tt) $ let Ev = env fn.locals l in
+    enter ! 𝓣.C 𝓣.Λ fn (vptr b o ∷ []) Post $ alloc_all ! (λ l. pass_all ! refl ((tt, tt), tt) $ let Ev = env fn.locals l in
     shr_open ! tt (Whole 𝓛 d b o) (one (Whole 𝓛 d b o)) (opened 𝓛 d b o) (λ q. move ! (1 ∷ []) $
     use1 𝓛 (‵ (part_at Data q (p, tt) b o) ⊛ ‵ (refers p d.lock)) (part_out 𝓛 LockRef.the_type q d b o) $ split ! $ move ! (1 ∷ []) $
     use1 𝓛 (‵ (refers p d.lock) ⊛ ‵ (refers p d.lock)) (twice 𝓛 d b o) $ split ! $ rewrite ! 0 (λ (m : Option R.Denot). ‵ (refers p m)) asked.1 refl $

@@ -5,7 +5,7 @@ use denote.Param.Send.{IsSend, AllSend, owning_send, struct_send, sendable}
 use Rattle.std_alloc.proofs.SendSync.{quiet}
 use Rattle.atomic_table.proofs.Sent.{badge_keyless}
 use Rattle.lock_core.specs.contracts.view.View as View
-use Rattle.qolb_locks.specs.contracts.ticket.Claim.{the_row, the_type}
+use Rattle.qolb_locks.specs.contracts.claim.Claim.{the_row, the_type}
 
 pub send : IsSend the_row
 send =

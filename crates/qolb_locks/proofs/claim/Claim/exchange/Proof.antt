@@ -1,13 +1,13 @@
 -- `exchange` changes no byte: what the two own besides their fields changes hands.
-use Rattle.atomic_table.proofs.Names.{◌≡◌, ℕ, List, [], ◌∷◌, refl, named, Val, vunit, vptr, SProp, emp, ftrue, fsep, flft, ‵, raw, ◌⊛◌, ◌$◌, ◌∵◌, !, qed, by, move, keep, split, join, fsplit, fsplit3, fjoin, fjoin3, use0, feq_i, unit_lit, of_opd, returns, take_outer, alloc_all, pass_all, free_all, look_at, sets, tables, RattleType, owns, types_at, plain, nothing, Stays, walk_of, fact, fact_i, mut_vals, mut_Tells, check_open, closes, stay_ref, Goes-ref}
+use Rattle.atomic_table.proofs.Names.{◌≡◌, ℕ, List, [], ◌∷◌, refl, named, Val, vunit, vptr, SProp, emp, ftrue, fsep, flft, ‵, raw, ◌⊛◌, ◌$◌, ◌∵◌, !, qed, by, move, keep, split, join, fsplit, fsplit3, fjoin, fjoin3, use0, feq_i, unit_lit, of_opd, returns, enter, alloc_all, pass_all, free_all, look_at, sets, tables, RattleType, owns, types_at, plain, nothing, Stays, walk_of, fact, fact_i, mut_vals, mut_Tells, opens, closes, stay_ref, Goes-ref}
 use Rattle.atomic_table.proofs.Walks.{proved, leaves}
 use Rattle.atomic_table.specs.contracts.badge.Badge as badge
 use Rattle.lock_core.specs.contracts.view.View as View
-use Rattle.qolb_locks.specs.contracts.ticket.Claim as Claim
-use Rattle.qolb_locks.specs.contracts.ticket.Claim.exchange.{ended, clauses}
-use Rattle.qolb_locks.specs.contracts.ticket.Claim.exchange.Key.{name as #self}
-use Rattle.qolb_locks.proofs.ticket.Claim.exchange.Statement.{statement}
-use Rattle.qolb_locks.proofs.ticket.Claim.exchange.Code as code
+use Rattle.qolb_locks.specs.contracts.claim.Claim as Claim
+use Rattle.qolb_locks.specs.contracts.claim.Claim.exchange.{ended, clauses}
+use Rattle.qolb_locks.specs.contracts.claim.Claim.exchange.Key.{name as #self}
+use Rattle.qolb_locks.proofs.claim.Claim.exchange.Statement.{statement}
+use Rattle.qolb_locks.proofs.claim.Claim.exchange.Code as code
 
 pub exchange_spec : {M : Type 1} → statement M
 exchange_spec 𝓤 𝓛 𝓜 𝓡 wired =
@@ -23,9 +23,9 @@ exchange_spec 𝓤 𝓛 𝓜 𝓡 wired =
     let y : (walk_of 𝓛 En hs c).Ghost = ((κs, qs, bounds, a, (vptr b o ∷ [], (vptr b' o' ∷ [], tt))), gh) in let Post : Val → SProp 𝓤 = (walk_of 𝓛 En hs c).post y in
     qed 𝓛 (((‵ (flft κs.0 qs.0) ⊛ ‵ (fsep (flft κs.1.0 qs.1.0) ftrue)) ⊛ ‵ (owns (types_at En.signature.params κs) a y.0.4)) ∷ raw ((c κs a).requires gh) ∷ []) ∵
     split ! $ split ! $ move ! (2 ∷ []) $ fsplit ! $ fsplit3 ! $ move ! (3 ∷ []) $ fsplit ! $ fsplit3 ! $ keep ! (8 ∷ 5 ∷ 6 ∷ 7 ∷ 1 ∷ 2 ∷ []) $ fsplit ! $ keep ! (2 ∷ 3 ∷ 4 ∷ 5 ∷ 6 ∷ 0 ∷ 1 ∷ []) $
-    take_outer ! 𝓣.C 𝓣.Λ fn (vptr b o ∷ vptr b' o' ∷ []) Post $ alloc_all ! (λ l. pass_all ! refl ((tt, tt), ((tt, tt), tt)) $
-    check_open ! tt T b o (λ ts. move ! (1 ∷ []) $ fsplit ! $ move ! (6 ∷ 7 ∷ 8 ∷ []) $
-    check_open ! tt B b' o' (λ us. move ! (1 ∷ []) $ fsplit ! $ move ! (0 ∷ 7 ∷ []) $ fjoin ! $ move ! (2 ∷ 0 ∷ 3 ∷ 4 ∷ 5 ∷ []) $ closes ! tt B g' us b' o' $
+    enter ! 𝓣.C 𝓣.Λ fn (vptr b o ∷ vptr b' o' ∷ []) Post $ alloc_all ! (λ l. pass_all ! refl ((tt, tt), ((tt, tt), tt)) $
+    opens ! tt T b o (λ ts. move ! (1 ∷ []) $ fsplit ! $ move ! (6 ∷ 7 ∷ 8 ∷ []) $
+    opens ! tt B b' o' (λ us. move ! (1 ∷ []) $ fsplit ! $ move ! (0 ∷ 7 ∷ []) $ fjoin ! $ move ! (2 ∷ 0 ∷ 3 ∷ 4 ∷ 5 ∷ []) $ closes ! tt B g' us b' o' $
     move ! (4 ∷ 3 ∷ []) $ fjoin ! $ move ! (4 ∷ 0 ∷ 5 ∷ 6 ∷ 7 ∷ []) $ closes ! tt T t' ts b o $
     feq_i ! (List Val) (vptr b o ∷ []) (vptr b o ∷ []) refl $ fjoin3 ! $ move ! (2 ∷ 3 ∷ []) $ feq_i ! (List Val) (vptr b' o' ∷ []) (vptr b' o' ∷ []) refl $ fjoin3 ! $
     nothing ! $ move ! (1 ∷ 0 ∷ []) $ fjoin ! $ move ! (1 ∷ 0 ∷ []) $ fjoin ! $ move ! (2 ∷ 3 ∷ []) $ fjoin ! $ move ! (2 ∷ 0 ∷ []) $ join ! $
