@@ -37,6 +37,7 @@ fn take_new_seat(lock: &Lock, ticket: &mut Ticket)
 #[inline(always)]
 pub fn ask(lock: &Lock, ticket: &mut Ticket) -> Answer
     requires { IsKnown lock.now ticket.old }
+    ensures known { IsKnown lock.now ticket.new }
     ensures misuse { ¬ IsFree ticket.old → IsMisuse ticket.old ticket.new result }
     ensures does { IsFree ticket.old → Looks lock.now ticket.new result }
     ensures after { Is State.Free lock.now ticket.old → Learns ticket.old ticket.new ComesAfter }
@@ -56,6 +57,7 @@ pub fn ask(lock: &Lock, ticket: &mut Ticket) -> Answer
 #[inline(always)]
 pub fn try_ask(lock: &Lock, ticket: &mut Ticket) -> Answer
     requires { IsKnown lock.now ticket.old }
+    ensures known { IsKnown lock.now ticket.new }
     ensures misuse { ¬ IsFree ticket.old → IsMisuse ticket.old ticket.new result }
     ensures does { IsFree ticket.old → Tries lock.now ticket.new result }
 {
@@ -80,6 +82,7 @@ pub fn try_ask(lock: &Lock, ticket: &mut Ticket) -> Answer
 #[inline(always)]
 pub fn ask_near(lock: &Lock, ticket: &mut Ticket) -> Answer
     requires { IsKnown lock.now ticket.old }
+    ensures known { IsKnown lock.now ticket.new }
     ensures misuse { ¬ IsFree ticket.old → IsMisuse ticket.old ticket.new result }
     ensures does { IsFree ticket.old → AsksNear lock.now ticket.new result }
 {
@@ -95,5 +98,9 @@ pub fn ask_near(lock: &Lock, ticket: &mut Ticket) -> Answer
     if drawn {
         return ticket.settle(rounds);
     }
-    if rounds > 15 { Answer::Far } else { Answer::Busy }
+    if rounds > 15 {
+        Answer::Far
+    } else {
+        Answer::Busy
+    }
 }

@@ -13,6 +13,7 @@ use crate::ticket::{State, Ticket};
 #[inline(always)]
 pub fn check_open(lock: &Lock, ticket: &mut Ticket) -> Answer
     requires { IsKnown lock.now ticket.old }
+    ensures known { IsKnown lock.now ticket.new }
     ensures misuse { ¬ IsAtStrictTurn lock.now ticket.old → IsMisuse ticket.old ticket.new result }
     ensures does { IsAtStrictTurn lock.now ticket.old → ChecksOpen lock.now ticket.new result }
 {
@@ -51,6 +52,7 @@ fn shut_served(lock: &Lock, ticket: &mut Ticket)
 /// Shuts the lock, for one that is served: from then on each that comes to its turn is told so, and no newcomer comes in.
 pub fn shut(lock: &Lock, ticket: &mut Ticket) -> Answer
     requires { IsKnown lock.now ticket.old }
+    ensures known { IsKnown lock.now ticket.new }
     ensures misuse { ¬ IsServed lock.now ticket.old → IsMisuse ticket.old ticket.new result }
     ensures does { IsServed lock.now ticket.old → Shuts lock.now ticket.old ticket.new result }
 {
@@ -100,6 +102,7 @@ fn reopen_shut(lock: &Lock, ticket: &mut Ticket) -> bool
 /// Then the caller is served. `Busy` if somebody did: the lock stays shut.
 pub fn reopen(lock: &Lock, ticket: &mut Ticket) -> Answer
     requires { IsKnown lock.now ticket.old }
+    ensures known { IsKnown lock.now ticket.new }
     ensures misuse { ¬ IsToldShut lock.now ticket.old → IsMisuse ticket.old ticket.new result }
     ensures does { IsToldShut lock.now ticket.old → Reopens lock.now ticket.old ticket.new result }
 {

@@ -16,11 +16,12 @@ mod ticket;
 mod waiting;
 
 pub use answer::Answer;
-pub use claim::Claim;
 pub use asking::{ask, ask_near, try_ask};
+pub use claim::Claim;
 pub use closing::{check_open, reopen, shut};
 pub use lock::Lock;
 pub use lock_ref::LockRef;
 pub use opening::open;
 pub use outer::{announce_head_sleep, go_in, leave, release, request_handoff, take_outer};
 pub use ticket::{State, Ticket};
+pub use waiting::{announce_sleep, poll, retract_sleep, withdraw};

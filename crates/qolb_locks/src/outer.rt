@@ -29,8 +29,7 @@ fn pass_on(lock: &Lock, ticket: &mut Ticket) -> bool
         → Knows lock.now ticket.new (Says State.HeadInsideShut ticket.new.number ticket.new.rounds) }
 {
     let mut seat = ticket.claim.take();
-    let (ended, sleepers) =
-        lock_core::release(&lock.table.shared, &mut seat, &mut ticket.number);
+    let (ended, sleepers) = lock_core::release(&lock.table.shared, &mut seat, &mut ticket.number);
     ticket.sleepers = sleepers;
     ticket.claim.put(seat);
     ended
@@ -42,6 +41,7 @@ fn pass_on(lock: &Lock, ticket: &mut Ticket) -> bool
 #[inline(always)]
 pub fn release(lock: &Lock, ticket: &mut Ticket) -> Answer
     requires { IsKnown lock.now ticket.old }
+    ensures known { IsKnown lock.now ticket.new }
     ensures misuse { ¬ IsWithin 3 8 lock.now ticket.old → IsMisuse ticket.old ticket.new result }
     ensures does { IsWithin 3 8 lock.now ticket.old → Releases lock.now ticket.old ticket.new result }
 {
@@ -60,6 +60,7 @@ pub fn release(lock: &Lock, ticket: &mut Ticket) -> Answer
 #[inline(never)]
 fn release_inside(lock: &Lock, ticket: &mut Ticket) -> Answer
     requires { IsKnown lock.now ticket.old }
+    ensures known { IsKnown lock.now ticket.new }
     ensures misuse { ¬ IsWithin 7 8 lock.now ticket.old → IsMisuse ticket.old ticket.new result }
     ensures does { IsWithin 7 8 lock.now ticket.old → Releases lock.now ticket.old ticket.new result }
 {
@@ -84,6 +85,7 @@ fn release_inside(lock: &Lock, ticket: &mut Ticket) -> Answer
 #[inline(always)]
 pub fn go_in(lock: &Lock, ticket: &mut Ticket) -> Answer
     requires { IsKnown lock.now ticket.old }
+    ensures known { IsKnown lock.now ticket.new }
     ensures strict { ¬ HasBursts lock.now → IsMisuse ticket.old ticket.new result }
     ensures misuse { ¬ IsFree ticket.old → IsMisuse ticket.old ticket.new result }
     ensures does { HasBursts lock.now → IsFree ticket.old → GoesIn lock.now ticket.new result }
@@ -111,6 +113,7 @@ pub fn go_in(lock: &Lock, ticket: &mut Ticket) -> Answer
 #[inline(always)]
 pub fn take_outer(lock: &Lock, ticket: &mut Ticket) -> Answer
     requires { IsKnown lock.now ticket.old }
+    ensures known { IsKnown lock.now ticket.new }
     ensures misuse { ¬ IsHead lock.now ticket.old → IsMisuse ticket.old ticket.new result }
     ensures does { IsHead lock.now ticket.old → TakesOuterWord lock.now ticket.new result }
     ensures same { IsHead lock.now ticket.old → Learns ticket.old ticket.new SameRequest }
@@ -141,6 +144,7 @@ pub fn take_outer(lock: &Lock, ticket: &mut Ticket) -> Answer
 #[inline(always)]
 pub fn leave(lock: &Lock, ticket: &mut Ticket) -> Answer
     requires { IsKnown lock.now ticket.old }
+    ensures known { IsKnown lock.now ticket.new }
     ensures misuse { ¬ IsWithin 9 10 lock.now ticket.old → IsMisuse ticket.old ticket.new result }
     ensures does { IsWithin 9 10 lock.now ticket.old → Leaves lock.now ticket.old ticket.new result }
 {
@@ -149,8 +153,7 @@ pub fn leave(lock: &Lock, ticket: &mut Ticket) -> Answer
     }
     let guess = ticket.outer;
     let mut seat = ticket.claim.take();
-    let (left, head_sleeps) =
-        lock_core::leave_if(&lock.table.shared, &mut seat, lock.burst, guess);
+    let (left, head_sleeps) = lock_core::leave_if(&lock.table.shared, &mut seat, lock.burst, guess);
     ticket.claim.put(seat);
     if !left {
         ticket.outer = lock.table.shared.peek(0);
@@ -167,6 +170,7 @@ pub fn leave(lock: &Lock, ticket: &mut Ticket) -> Answer
 /// `Busy` if the outer word changed at that moment.
 pub fn request_handoff(lock: &Lock, ticket: &mut Ticket) -> Answer
     requires { IsKnown lock.now ticket.old }
+    ensures known { IsKnown lock.now ticket.new }
     ensures misuse { ¬ Is State.AtTurn lock.now ticket.old → IsMisuse ticket.old ticket.new result }
     ensures does { Is State.AtTurn lock.now ticket.old → RequestsHandoff lock.now ticket.new result }
 {
@@ -176,7 +180,11 @@ pub fn request_handoff(lock: &Lock, ticket: &mut Ticket) -> Answer
     let mut seat = ticket.claim.take();
     let requested = lock_core::request_handoff(&lock.table.shared, &mut seat);
     ticket.claim.put(seat);
-    if requested { Answer::Done } else { Answer::Busy }
+    if requested {
+        Answer::Done
+    } else {
+        Answer::Busy
+    }
 }
 
 /// The queue head notes at the outer word that it sleeps, while that is held. The ticket has the word at which it may sleep then.
@@ -184,6 +192,7 @@ pub fn request_handoff(lock: &Lock, ticket: &mut Ticket) -> Answer
 /// `Waiting` if the outer word is not held, or changed at that moment.
 pub fn announce_head_sleep(lock: &Lock, ticket: &mut Ticket) -> Answer
     requires { IsKnown lock.now ticket.old }
+    ensures known { IsKnown lock.now ticket.new }
     ensures misuse { ¬ Is State.AtTurn lock.now ticket.old → IsMisuse ticket.old ticket.new result }
     ensures does { Is State.AtTurn lock.now ticket.old → SleepsAsHead lock.now ticket.new result }
 {

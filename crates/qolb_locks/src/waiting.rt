@@ -19,6 +19,7 @@ const WINDOW: u64 = 15;
 #[inline(always)]
 pub fn poll(lock: &Lock, ticket: &mut Ticket) -> Answer
     requires { IsKnown lock.now ticket.old }
+    ensures known { IsKnown lock.now ticket.new }
     ensures misuse { ¬ Is State.Waiting lock.now ticket.old → IsMisuse ticket.old ticket.new result }
     ensures does { Is State.Waiting lock.now ticket.old → Looks lock.now ticket.new result }
     ensures same { Is State.Waiting lock.now ticket.old → Learns ticket.old ticket.new SameRequest }
@@ -38,6 +39,7 @@ pub fn poll(lock: &Lock, ticket: &mut Ticket) -> Answer
 #[inline(always)]
 pub fn announce_sleep(lock: &Lock, ticket: &mut Ticket) -> Answer
     requires { IsKnown lock.now ticket.old }
+    ensures known { IsKnown lock.now ticket.new }
     ensures misuse { ¬ Is State.Waiting lock.now ticket.old → IsMisuse ticket.old ticket.new result }
     ensures does { Is State.Waiting lock.now ticket.old → AnnouncesSleep lock.now ticket.new result }
     ensures same { Is State.Waiting lock.now ticket.old → Learns ticket.old ticket.new SameRequest }
@@ -46,8 +48,11 @@ pub fn announce_sleep(lock: &Lock, ticket: &mut Ticket) -> Answer
         return Answer::Misuse;
     }
     let mut seat = ticket.claim.take();
-    let (rounds, asleep, word) =
-        lock_core::announce_sleep(&lock.table.shared, &mut seat, ticket.number);
+    let (rounds, asleep, word) = lock_core::announce_sleep(
+        &lock.table.shared,
+        &mut seat,
+        ticket.number,
+    );
     ticket.word = word;
     ticket.claim.put(seat);
     if asleep {
@@ -65,6 +70,7 @@ pub fn announce_sleep(lock: &Lock, ticket: &mut Ticket) -> Answer
 #[inline(always)]
 pub fn retract_sleep(lock: &Lock, ticket: &mut Ticket) -> Answer
     requires { IsKnown lock.now ticket.old }
+    ensures known { IsKnown lock.now ticket.new }
     ensures misuse { ¬ Is State.Asleep lock.now ticket.old → IsMisuse ticket.old ticket.new result }
     ensures does { Is State.Asleep lock.now ticket.old → Looks lock.now ticket.new result }
     ensures same { Is State.Asleep lock.now ticket.old → Learns ticket.old ticket.new SameRequest }
@@ -82,6 +88,7 @@ pub fn retract_sleep(lock: &Lock, ticket: &mut Ticket) -> Answer
 #[inline(always)]
 pub fn withdraw(lock: &Lock, ticket: &mut Ticket) -> Answer
     requires { IsKnown lock.now ticket.old }
+    ensures known { IsKnown lock.now ticket.new }
     ensures misuse { ¬ Is State.Waiting lock.now ticket.old → IsMisuse ticket.old ticket.new result }
     ensures does { Is State.Waiting lock.now ticket.old → Withdraws lock.now ticket.old ticket.new result }
 {

@@ -6,9 +6,13 @@ use Rattle.qolb_locks.proofs.asking.ask.Goals as goal
 
 pub returns-clause-after : goal.returns-clause-after
 returns-clause-after c = λ is. (
-    c.take-seat.result.me.0, c.poll-rounds.new.seat.me.0, ap (λ (t : Ticket). t.claim.views) (sym (c.adopt.ensures.same is)) ∙ c.take-seat.ensures.view,
-    ap (λ (claim : Claim). claim.views) c.settle.ensures.claim ∙ c.put.ensures.view, omega (arith, c.ask-ticket.ensures.load, c.poll-rounds.ensures.load),
-    λ t.
-    let early : Timely c.ask-ticket.new.seat.me.0 = omega (arith, t, c.poll-rounds.ensures.load) in
-    let same = c.poll-rounds.ensures.request t in let first = c.ask-ticket.ensures.first early in let heard = c.ask-ticket.ensures.heard early in
-    (omega (arith, first.0, same.2), omega (arith, heard.0, same.1)))
+  c.take-seat.result.me.0,
+  c.poll-rounds.new.seat.me.0,
+  ap (λ (t : Ticket). t.claim.views) (sym (c.adopt.ensures.same is)) ∙ c.take-seat.ensures.view,
+  ap (λ (claim : Claim). claim.views) c.settle.ensures.claim ∙ c.put.ensures.view,
+  omega (arith, c.ask-ticket.ensures.load, c.poll-rounds.ensures.load),
+  λ t.
+      let early : Timely c.ask-ticket.new.seat.me.0 = omega (arith, t, c.poll-rounds.ensures.load) in
+      let same = c.poll-rounds.ensures.request t in let first = c.ask-ticket.ensures.first early in let heard = c.ask-ticket.ensures.heard early in
+      (omega (arith, first.0, same.2), omega (arith, heard.0, same.1)),
+)
