@@ -8,27 +8,42 @@ use crate::answer::Answer;
 use crate::lock::Lock;
 use crate::ticket::{State, Ticket};
 
-/// Has a ticket without a request become one of this lock, if it is not.
-#[inline(always)]
-pub(crate) fn adopt(lock: &Lock, ticket: &mut Ticket)
-    requires known { IsKnown lock.now ticket.old }
-    requires free { IsFree ticket.old }
-    ensures free { Has State.Free lock.now ticket.new }
-    ensures same { Is State.Free lock.now ticket.old → ticket.new ≡ ticket.old }
-{
-    if ticket.label != lock.label {
-        take_new_seat(lock, ticket);
-    }
-}
-
 /// Gives a ticket without a request a new seat of this lock.
-#[inline(never)]
-fn take_new_seat(lock: &Lock, ticket: &mut Ticket)
+#[inline(always)]
+pub(crate) fn take_new_seat(lock: &Lock, ticket: &mut Ticket)
     requires { IsFree ticket.old }
     ensures { Has State.Free lock.now ticket.new }
 {
     ticket.claim.put(lock_core::new_seat(&lock.table.shared));
     ticket.label = lock.label;
+}
+
+/// Requests the lock with a ticket of it, and polls once.
+#[inline(always)]
+fn ask_again(lock: &Lock, ticket: &mut Ticket) -> Answer
+    requires { Has State.Free lock.now ticket.old }
+    ensures known { IsKnown lock.now ticket.new }
+    ensures does { Looks lock.now ticket.new result }
+    ensures after { Learns ticket.old ticket.new ComesAfter }
+{
+    let mut seat = ticket.claim.take();
+    ticket.number = lock_core::ask(&lock.table.shared, &mut seat);
+    let rounds = lock_core::poll(&lock.table.shared, &mut seat, ticket.number);
+    ticket.claim.put(seat);
+    ticket.settle(rounds)
+}
+
+/// Requests the lock with a ticket that is not of it yet.
+///
+/// Not inlined, so that the call of a ticket of the lock saves no registers for it.
+#[inline(never)]
+fn ask_first(lock: &Lock, ticket: &mut Ticket) -> Answer
+    requires { IsFree ticket.old }
+    ensures known { IsKnown lock.now ticket.new }
+    ensures does { Looks lock.now ticket.new result }
+{
+    take_new_seat(lock, ticket);
+    ask_again(lock, ticket)
 }
 
 /// Requests the lock, and polls once.
@@ -45,26 +60,19 @@ pub fn ask(lock: &Lock, ticket: &mut Ticket) -> Answer
     if ticket.state != State::Free as u32 {
         return Answer::Misuse;
     }
-    adopt(lock, ticket);
-    let mut seat = ticket.claim.take();
-    ticket.number = lock_core::ask(&lock.table.shared, &mut seat);
-    let rounds = lock_core::poll(&lock.table.shared, &mut seat, ticket.number);
-    ticket.claim.put(seat);
-    ticket.settle(rounds)
+    if ticket.label != lock.label {
+        return ask_first(lock, ticket);
+    }
+    ask_again(lock, ticket)
 }
 
-/// Requests the lock if nobody has it and nobody waits. Else leaves nothing behind.
+/// Tries for the lock with a ticket of it.
 #[inline(always)]
-pub fn try_ask(lock: &Lock, ticket: &mut Ticket) -> Answer
-    requires { IsKnown lock.now ticket.old }
+fn try_ask_again(lock: &Lock, ticket: &mut Ticket) -> Answer
+    requires { Has State.Free lock.now ticket.old }
     ensures known { IsKnown lock.now ticket.new }
-    ensures misuse { ¬ IsFree ticket.old → IsMisuse ticket.old ticket.new result }
-    ensures does { IsFree ticket.old → Tries lock.now ticket.new result }
+    ensures does { Tries lock.now ticket.new result }
 {
-    if ticket.state != State::Free as u32 {
-        return Answer::Misuse;
-    }
-    adopt(lock, ticket);
     let mut seat = ticket.claim.take();
     let (has, number) = lock_core::try_ask(&lock.table.shared, &mut seat);
     ticket.number = number;
@@ -76,20 +84,45 @@ pub fn try_ask(lock: &Lock, ticket: &mut Ticket) -> Answer
     Answer::Granted
 }
 
-/// Requests the lock if the request could be withdrawn. Else leaves nothing behind.
+/// Tries for the lock with a ticket that is not of it yet.
 ///
-/// `Far` if too many are before it, and `Busy` if another drew a ticket at that moment.
+/// Not inlined, so that the call of a ticket of the lock saves no registers for it.
+#[inline(never)]
+fn try_ask_first(lock: &Lock, ticket: &mut Ticket) -> Answer
+    requires { IsFree ticket.old }
+    ensures known { IsKnown lock.now ticket.new }
+    ensures does { Tries lock.now ticket.new result }
+{
+    take_new_seat(lock, ticket);
+    try_ask_again(lock, ticket)
+}
+
+/// Requests the lock if nobody has it and nobody waits.
+///
+/// Else leaves nothing behind.
 #[inline(always)]
-pub fn ask_near(lock: &Lock, ticket: &mut Ticket) -> Answer
+pub fn try_ask(lock: &Lock, ticket: &mut Ticket) -> Answer
     requires { IsKnown lock.now ticket.old }
     ensures known { IsKnown lock.now ticket.new }
     ensures misuse { ¬ IsFree ticket.old → IsMisuse ticket.old ticket.new result }
-    ensures does { IsFree ticket.old → AsksNear lock.now ticket.new result }
+    ensures does { IsFree ticket.old → Tries lock.now ticket.new result }
 {
     if ticket.state != State::Free as u32 {
         return Answer::Misuse;
     }
-    adopt(lock, ticket);
+    if ticket.label != lock.label {
+        return try_ask_first(lock, ticket);
+    }
+    try_ask_again(lock, ticket)
+}
+
+/// Requests the lock with a ticket of it, if the request could be withdrawn.
+#[inline(always)]
+fn ask_near_again(lock: &Lock, ticket: &mut Ticket) -> Answer
+    requires { Has State.Free lock.now ticket.old }
+    ensures known { IsKnown lock.now ticket.new }
+    ensures does { AsksNear lock.now ticket.new result }
+{
     let mut seat = ticket.claim.take();
     let (drawn, rounds, number) = lock_core::ask_near(&lock.table.shared, &mut seat);
     ticket.number = number;
@@ -103,4 +136,36 @@ pub fn ask_near(lock: &Lock, ticket: &mut Ticket) -> Answer
     } else {
         Answer::Busy
     }
+}
+
+/// Requests the lock with a ticket that is not of it yet, if the request could be withdrawn.
+///
+/// Not inlined, so that the call of a ticket of the lock saves no registers for it.
+#[inline(never)]
+fn ask_near_first(lock: &Lock, ticket: &mut Ticket) -> Answer
+    requires { IsFree ticket.old }
+    ensures known { IsKnown lock.now ticket.new }
+    ensures does { AsksNear lock.now ticket.new result }
+{
+    take_new_seat(lock, ticket);
+    ask_near_again(lock, ticket)
+}
+
+/// Requests the lock if the request could be withdrawn.
+///
+/// Else leaves nothing behind: `Far` if too many are before it, and `Busy` if another drew a ticket at that moment.
+#[inline(always)]
+pub fn ask_near(lock: &Lock, ticket: &mut Ticket) -> Answer
+    requires { IsKnown lock.now ticket.old }
+    ensures known { IsKnown lock.now ticket.new }
+    ensures misuse { ¬ IsFree ticket.old → IsMisuse ticket.old ticket.new result }
+    ensures does { IsFree ticket.old → AsksNear lock.now ticket.new result }
+{
+    if ticket.state != State::Free as u32 {
+        return Answer::Misuse;
+    }
+    if ticket.label != lock.label {
+        return ask_near_first(lock, ticket);
+    }
+    ask_near_again(lock, ticket)
 }

@@ -4,10 +4,10 @@ ghost use Rattle.lock_core.specs.Views.{HasTurnOf, IsIdle, IsNewcomersTurn, Same
 ghost use Rattle.qolb_locks.specs.declared.answer.Answer.{Answer};
 ghost use Rattle.qolb_locks.specs.declared.ticket.State.{State};
 ghost use Rattle.qolb_locks.specs.Calls.{IsMisuse, Learns, SameTicket, GrantsNext, Releases, GoesIn, IsHead, TakesOuterWord, Leaves, RequestsHandoff, SleepsAsHead};
-ghost use Rattle.qolb_locks.specs.Tickets.{Is, IsFree, IsWithin, IsKnown, HasBursts, Knows, Says};
+ghost use Rattle.qolb_locks.specs.Tickets.{Has, Is, IsFree, IsWithin, IsKnown, HasBursts, Knows, Says};
 
 use crate::answer::Answer;
-use crate::asking::adopt;
+use crate::asking::take_new_seat;
 use crate::lock::Lock;
 use crate::ticket::{State, Ticket};
 
@@ -57,7 +57,7 @@ pub fn release(lock: &Lock, ticket: &mut Ticket) -> Answer
 }
 
 /// Ends the turn of the queue of a head that is in.
-#[inline(never)]
+#[inline(always)]
 fn release_inside(lock: &Lock, ticket: &mut Ticket) -> Answer
     requires { IsKnown lock.now ticket.old }
     ensures known { IsKnown lock.now ticket.new }
@@ -81,19 +81,14 @@ fn release_inside(lock: &Lock, ticket: &mut Ticket) -> Answer
     Answer::Misuse
 }
 
-/// A newcomer takes the outer word, if that is as the ticket guesses, free for anyone, and open. Else the ticket has the word that was found.
+/// A newcomer with a ticket of the lock goes in.
 #[inline(always)]
-pub fn go_in(lock: &Lock, ticket: &mut Ticket) -> Answer
-    requires { IsKnown lock.now ticket.old }
+fn go_in_again(lock: &Lock, ticket: &mut Ticket) -> Answer
+    requires bursts { HasBursts lock.now }
+    requires free { Has State.Free lock.now ticket.old }
     ensures known { IsKnown lock.now ticket.new }
-    ensures strict { ¬ HasBursts lock.now → IsMisuse ticket.old ticket.new result }
-    ensures misuse { ¬ IsFree ticket.old → IsMisuse ticket.old ticket.new result }
-    ensures does { HasBursts lock.now → IsFree ticket.old → GoesIn lock.now ticket.new result }
+    ensures does { GoesIn lock.now ticket.new result }
 {
-    if lock.burst < 2 || ticket.state != State::Free as u32 {
-        return Answer::Misuse;
-    }
-    adopt(lock, ticket);
     let guess = ticket.outer;
     let mut seat = ticket.claim.take();
     let inside = lock_core::go_in_if(&lock.table.shared, &mut seat, guess);
@@ -105,6 +100,40 @@ pub fn go_in(lock: &Lock, ticket: &mut Ticket) -> Answer
     ticket.outer = guess.wrapping_add(36);
     ticket.state = State::Inside as u32;
     Answer::Granted
+}
+
+/// A newcomer goes in with a ticket that is not of the lock yet.
+///
+/// Not inlined, so that the call of a ticket of the lock saves no registers for it.
+#[inline(never)]
+fn go_in_first(lock: &Lock, ticket: &mut Ticket) -> Answer
+    requires bursts { HasBursts lock.now }
+    requires free { IsFree ticket.old }
+    ensures known { IsKnown lock.now ticket.new }
+    ensures does { GoesIn lock.now ticket.new result }
+{
+    take_new_seat(lock, ticket);
+    go_in_again(lock, ticket)
+}
+
+/// A newcomer takes the outer word, if that is as the ticket guesses, free for anyone, and open.
+///
+/// Else `Busy`, and the ticket has the word that was found.
+#[inline(always)]
+pub fn go_in(lock: &Lock, ticket: &mut Ticket) -> Answer
+    requires { IsKnown lock.now ticket.old }
+    ensures known { IsKnown lock.now ticket.new }
+    ensures strict { ¬ HasBursts lock.now → IsMisuse ticket.old ticket.new result }
+    ensures misuse { ¬ IsFree ticket.old → IsMisuse ticket.old ticket.new result }
+    ensures does { HasBursts lock.now → IsFree ticket.old → GoesIn lock.now ticket.new result }
+{
+    if lock.burst < 2 || ticket.state != State::Free as u32 {
+        return Answer::Misuse;
+    }
+    if ticket.label != lock.label {
+        return go_in_first(lock, ticket);
+    }
+    go_in_again(lock, ticket)
 }
 
 /// The queue head takes the outer word, if that is free. Then it is to release its turn of the queue, and is in.

@@ -1,14 +1,13 @@
-use Rattle.std.proofs.Common.{ap, ◌∙◌, sym, arith}
+use Rattle.std.proofs.Common.{ap, ◌∙◌, arith}
 use Rattle.lock_core.specs.Views.{Timely}
 use Rattle.qolb_locks.specs.declared.claim.Claim.{Claim}
-use Rattle.qolb_locks.specs.declared.ticket.Ticket.{Ticket}
-use Rattle.qolb_locks.proofs.asking.ask.Goals as goal
+use Rattle.qolb_locks.proofs.asking.ask_again.Goals as goal
 
 pub returns-clause-after : goal.returns-clause-after
-returns-clause-after c = λ is. (
+returns-clause-after c = (
   c.take-seat.result.me.0,
   c.poll-rounds.new.seat.me.0,
-  ap (λ (t : Ticket). t.claim.views) (sym (c.adopt.ensures.same is)) ∙ c.take-seat.ensures.view,
+  c.take-seat.ensures.view,
   ap (λ (claim : Claim). claim.views) c.settle.ensures.claim ∙ c.put.ensures.view,
   omega (arith, c.ask-ticket.ensures.load, c.poll-rounds.ensures.load),
   λ t.
