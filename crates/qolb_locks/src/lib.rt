@@ -10,6 +10,7 @@ mod claim;
 mod closing;
 mod lock;
 mod lock_ref;
+mod meets;
 mod opening;
 mod outer;
 mod ticket;
@@ -21,6 +22,10 @@ pub use claim::Claim;
 pub use closing::{check_open, reopen, shut};
 pub use lock::Lock;
 pub use lock_ref::LockRef;
+pub use meets::{
+    asked_while_open, first_come, never_two, never_two_at_turn, no_lost_wake,
+    no_lost_wake_at_outer, none_left_at_reopening, none_served_after_shut, turns_differ,
+};
 pub use opening::open;
 pub use outer::{announce_head_sleep, go_in, leave, release, request_handoff, take_outer};
 pub use ticket::{State, Ticket};
