@@ -1,9 +1,9 @@
 -- The promise of each call of a lock, by its answer. `was` and `now` are the ticket before and after. (Of this project.)
-use Rattle.std.specs.Prelude.{◌≡◌, ◌≢◌, ℕ, ◌<◌, ◌≤◌, ◌+◌, ◌/◌, ◌%◌, ◌⊎◌, true, false, [], ◌∷◌}
+use Rattle.std.specs.Prelude.{◌≡◌, ◌≢◌, ℕ, ◌<◌, ◌≤◌, ◌+◌, ◌/◌, ◌%◌, ◌⊎◌, true, false, max, [], ◌∷◌}
 use Rattle.std.specs.declared.option.Option.{Option}
 use Rattle.std.specs.declared.option.Option.TheVariants.{Some}
 use Rattle.lock_core.specs.declared.view.View.{View}
-use Rattle.lock_core.specs.Layout.{to_go, count_of}
+use Rattle.lock_core.specs.Layout.{to_go, asleep_of, state_of}
 use Rattle.lock_core.specs.Views.{Timely, IsIdle, HasTurnOf, IsInside, IsOutside, IsNewcomersTurn, IsOvertakenInBounds, GrantedToNobodyAsleep, GrantedAfter, LeftQuietly, SleepsAtOuter, TakesOuter, SameRequest}
 use Rattle.qolb_locks.specs.declared.answer.Answer.{Answer}
 use Rattle.qolb_locks.specs.declared.answer.Answer.TheVariants as answer
@@ -15,14 +15,14 @@ use Rattle.qolb_locks.specs.Tickets.{Is, IsWithin, Has, Knows, IsStrict, HasBurs
 
 -- a lock with this bound of bursts, and this label
 abbrev pub IsOpen : Option Lock → ℕ → ℕ → Type 0
-IsOpen lock burst label = (l : Lock) × (lock ≡ Some l) × (l.burst ≡ burst) × (l.label ≡ label)
+IsOpen lock burst label = (l : Lock) × (lock ≡ Some l) × (l.burst ≡ max burst 1) × (l.label ≡ label)
 
 -- `open`: by its answer
 abbrev pub Opens : ℕ → ℕ → Option Lock → Answer → Type 0
-Opens burst label lock answer.Done = IsOpen lock burst label × (burst ≤ 1073741824) × (label ≢ 0)
-Opens burst label lock answer.BadBurst = 1073741824 < burst
+Opens burst label lock answer.Done = IsOpen lock burst label × (burst ≤ 65535) × (label ≢ 0)
+Opens burst label lock answer.BadBurst = 65535 < burst
 Opens burst label lock answer.Misuse = label ≡ 0
-Opens burst label lock answer.NoMemory = (burst ≤ 1073741824) × (label ≢ 0)
+Opens burst label lock answer.NoMemory = (burst ≤ 65535) × (label ≢ 0)
 Opens burst label lock _ = ⊥
 
 -- the call was not allowed, and nothing changed
@@ -35,7 +35,7 @@ Learns was now P = (v w : View) × (was.claim.views ≡ v ∷ []) × (now.claim.
 
 -- a request comes after the ticket's last turn, and after all that it has heard of
 abbrev pub ComesAfter : View → View → Type 0
-ComesAfter v w = (v.ended ≤ w.first_pending) × (v.newcomers_seen ≤ w.newcomers_at_ask)
+ComesAfter v w = (v.ended ≤ w.first_pending) × (w.first_pending ≤ w.ticket) × (v.newcomers_seen ≤ w.newcomers_at_ask)
 
 -- no more newcomers overtook the request than the bound allows
 abbrev pub InBounds : Lock → Ticket → Type 0
@@ -66,7 +66,7 @@ abbrev pub AnnouncesSleep : Lock → Ticket → Answer → Type 0
 AnnouncesSleep lock now answer.Granted = Has state.AtTurn lock now × InBounds lock now
 AnnouncesSleep lock now answer.Asleep = Has state.Asleep lock now × (0 < to_go now.word now.number)
 AnnouncesSleep lock now answer.Waiting = Has state.Waiting lock now × (0 < now.rounds)
-AnnouncesSleep lock now answer.Full = Has state.Waiting lock now × (count_of now.word ≡ 65535)
+AnnouncesSleep lock now answer.Full = Has state.Waiting lock now × (0 < now.rounds)
 AnnouncesSleep lock now _ = ⊥
 
 -- `withdraw`: one that is too far away stays as it is
@@ -157,7 +157,7 @@ RequestsHandoff lock now _ = ⊥
 
 -- the outer word is held, and says that the head sleeps
 abbrev pub HeldWithSleeper : ℕ → Type 0
-HeldWithSleeper outer = outer / 2 % 8 ≡ 3
+HeldWithSleeper outer = (asleep_of outer ≡ 1) × (state_of outer ≡ 1)
 
 -- `announce_head_sleep`: with the word at which to sleep
 abbrev pub SleepsAsHead : Lock → Ticket → Answer → Type 0

@@ -19,7 +19,7 @@ pub enum Answer {
     Misuse = 8,
     /// No lock was opened: the allocator returned no memory.
     NoMemory = 9,
-    /// No lock was opened: the bound of bursts is above 2^30.
+    /// No lock was opened: the bound of bursts is above 65,535.
     BadBurst = 10,
     /// So many rounds are before the request that it could not be withdrawn.
     Far = 16,

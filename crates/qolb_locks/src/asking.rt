@@ -7,6 +7,7 @@ ghost use Rattle.qolb_locks.specs.Tickets.{Is, Has, IsFree, IsKnown};
 use crate::answer::Answer;
 use crate::lock::Lock;
 use crate::ticket::{State, Ticket};
+use lock_core::AskNearResult;
 
 /// Gives a ticket without a request a new seat of this lock.
 #[inline(always)]
@@ -74,12 +75,12 @@ fn try_ask_again(lock: &Lock, ticket: &mut Ticket) -> Answer
     ensures does { Tries lock.now ticket.new result }
 {
     let mut seat = ticket.claim.take();
-    let (has, number) = lock_core::try_ask(&lock.table.shared, &mut seat);
-    ticket.number = number;
+    let drawn = lock_core::try_ask(&lock.table.shared, &mut seat);
     ticket.claim.put(seat);
-    if !has {
+    let Some(number) = drawn else {
         return Answer::Busy;
-    }
+    };
+    ticket.number = number;
     ticket.state = State::AtTurn as u32;
     Answer::Granted
 }
@@ -124,17 +125,28 @@ fn ask_near_again(lock: &Lock, ticket: &mut Ticket) -> Answer
     ensures does { AsksNear lock.now ticket.new result }
 {
     let mut seat = ticket.claim.take();
-    let (drawn, rounds, number) = lock_core::ask_near(&lock.table.shared, &mut seat);
-    ticket.number = number;
-    ticket.rounds = rounds;
+    let asked = lock_core::ask_near(&lock.table.shared, &mut seat);
     ticket.claim.put(seat);
-    if drawn {
-        return ticket.settle(rounds);
-    }
-    if rounds > 15 {
-        Answer::Far
-    } else {
-        Answer::Busy
+    match asked {
+        AskNearResult::AtTurn { ticket: number } => {
+            ticket.number = number;
+            ticket.state = State::AtTurn as u32;
+            Answer::Granted
+        }
+        AskNearResult::Queued {
+            ticket: number,
+            rounds,
+        } => {
+            ticket.number = number;
+            ticket.rounds = rounds;
+            ticket.state = State::Waiting as u32;
+            Answer::Waiting
+        }
+        AskNearResult::Far { rounds } => {
+            ticket.rounds = rounds;
+            Answer::Far
+        }
+        AskNearResult::Changed => Answer::Busy,
     }
 }
 

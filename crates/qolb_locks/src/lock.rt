@@ -1,5 +1,6 @@
 //! A lock, as its callers share it.
 ghost use Rattle.std.specs.Prelude.{◌≡◌};
+ghost use Rattle.lock_core.specs.Layout.{IsLockTable};
 
 use lock_core::TicketTable;
 
@@ -9,14 +10,14 @@ pub struct Lock {
     pub table: TicketTable,
     pub burst: u64,
     pub label: u64,
-    ghost sized: { table.shared.table_id.words ≡ 21 },
+    ghost sized: { IsLockTable table.shared.table_id },
     ghost bound: { table.shared.key ≡ burst },
 }
 
 impl Lock {
     /// Returns the lock of this table.
     pub fn new(table: TicketTable, burst: u64, label: u64) -> Lock
-        requires sized { table.shared.table_id.words ≡ 21 }
+        requires sized { IsLockTable table.shared.table_id }
         requires bound { table.shared.key ≡ burst }
         ensures table { result.table ≡ table }
         ensures burst { result.burst ≡ burst }

@@ -10,6 +10,7 @@ use crate::answer::Answer;
 use crate::asking::take_new_seat;
 use crate::lock::Lock;
 use crate::ticket::{State, Ticket};
+use lock_core::{HeadSleepResult, LeaveResult, ReleaseResult, TakeResult};
 
 /// Passes a turn of the queue on. Returns `false` if it is not at its end.
 #[inline(always)]
@@ -29,15 +30,20 @@ fn pass_on(lock: &Lock, ticket: &mut Ticket) -> bool
         → Knows lock.now ticket.new (Says State.HeadInsideShut ticket.new.number ticket.new.rounds) }
 {
     let mut seat = ticket.claim.take();
-    let (ended, sleepers) = lock_core::release(&lock.table.shared, &mut seat, &mut ticket.number);
-    ticket.sleepers = sleepers;
+    let released = lock_core::release(&lock.table.shared, &mut seat, &mut ticket.number);
     ticket.claim.put(seat);
-    ended
+    match released {
+        ReleaseResult::Granted { sleepers } => {
+            ticket.sleepers = sleepers;
+            true
+        }
+        ReleaseResult::Unfinished => false,
+    }
 }
 
 /// Ends a turn of the queue: passes withdrawn requests, and grants the next ticket. A head that is in stays in.
 ///
-/// `Unfinished` if it has passed 1,000, and is to be called again.
+/// `Unfinished` if it has passed 64, and is to be called again.
 #[inline(always)]
 pub fn release(lock: &Lock, ticket: &mut Ticket) -> Answer
     requires { IsKnown lock.now ticket.old }
@@ -151,20 +157,24 @@ pub fn take_outer(lock: &Lock, ticket: &mut Ticket) -> Answer
         return Answer::Misuse;
     }
     let mut seat = ticket.claim.take();
-    let (inside, shut) = lock_core::take_outer(&lock.table.shared, &mut seat, ticket.number);
+    let taken = lock_core::take_outer(&lock.table.shared, &mut seat, ticket.number);
     ticket.claim.put(seat);
-    if !inside {
-        ticket.outer = lock.table.shared.peek(0);
-        return Answer::Waiting;
+    match taken {
+        TakeResult::Open => {
+            ticket.outer = 4;
+            ticket.state = State::HeadInside as u32;
+            Answer::Granted
+        }
+        TakeResult::Shut => {
+            ticket.outer = 20;
+            ticket.state = State::HeadInsideShut as u32;
+            Answer::Closed
+        }
+        TakeResult::Held | TakeResult::Changed => {
+            ticket.outer = lock.table.shared.peek(0);
+            Answer::Waiting
+        }
     }
-    if shut {
-        ticket.outer = 20;
-        ticket.state = State::HeadInsideShut as u32;
-        return Answer::Closed;
-    }
-    ticket.outer = 4;
-    ticket.state = State::HeadInside as u32;
-    Answer::Granted
 }
 
 /// Leaves the outer word, if that is as the ticket guesses: for the head alone where it requested so, or after the last turn of a burst.
@@ -182,16 +192,20 @@ pub fn leave(lock: &Lock, ticket: &mut Ticket) -> Answer
     }
     let guess = ticket.outer;
     let mut seat = ticket.claim.take();
-    let (left, head_sleeps) = lock_core::leave_if(&lock.table.shared, &mut seat, lock.burst, guess);
+    let left = lock_core::leave_if(&lock.table.shared, &mut seat, lock.burst, guess);
     ticket.claim.put(seat);
-    if !left {
-        ticket.outer = lock.table.shared.peek(0);
-        return Answer::Busy;
+    match left {
+        LeaveResult::Outside { head_asleep } => {
+            ticket.head_sleeps = head_asleep;
+            ticket.outer = guess / 16 * 16;
+            ticket.state = State::Free as u32;
+            Answer::Done
+        }
+        LeaveResult::Changed => {
+            ticket.outer = lock.table.shared.peek(0);
+            Answer::Busy
+        }
     }
-    ticket.head_sleeps = head_sleeps;
-    ticket.outer = guess / 16 * 16;
-    ticket.state = State::Free as u32;
-    Answer::Done
 }
 
 /// The queue head asks whoever is in to leave the outer word for the head alone.
@@ -229,14 +243,13 @@ pub fn announce_head_sleep(lock: &Lock, ticket: &mut Ticket) -> Answer
         return Answer::Misuse;
     }
     let mut seat = ticket.claim.take();
-    let asleep = lock_core::announce_head_sleep(&lock.table.shared, &mut seat);
+    let announced = lock_core::announce_head_sleep(&lock.table.shared, &mut seat);
     ticket.claim.put(seat);
-    let found = lock.table.shared.peek(0);
-    ticket.outer = found;
-    // Held, and the head sleeps.
-    if asleep && found / 2 % 8 == 3 {
-        Answer::Asleep
-    } else {
-        Answer::Waiting
+    match announced {
+        HeadSleepResult::Asleep { outer } => {
+            ticket.outer = outer;
+            Answer::Asleep
+        }
+        HeadSleepResult::NotHeld | HeadSleepResult::Changed => Answer::Waiting,
     }
 }

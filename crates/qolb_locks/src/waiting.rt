@@ -8,9 +8,7 @@ ghost use Rattle.qolb_locks.specs.Tickets.{Is, IsKnown};
 use crate::answer::Answer;
 use crate::lock::Lock;
 use crate::ticket::{State, Ticket};
-
-/// The most sleepers that a cell counts.
-const MAX_SLEEPERS: u64 = 65_535;
+use lock_core::SleepResult;
 
 /// A request so many rounds from its turn can be withdrawn.
 const WINDOW: u64 = 15;
@@ -48,22 +46,28 @@ pub fn announce_sleep(lock: &Lock, ticket: &mut Ticket) -> Answer
         return Answer::Misuse;
     }
     let mut seat = ticket.claim.take();
-    let (rounds, asleep, word) = lock_core::announce_sleep(
-        &lock.table.shared,
-        &mut seat,
-        ticket.number,
-    );
-    ticket.word = word;
+    let announced = lock_core::announce_sleep(&lock.table.shared, &mut seat, ticket.number);
     ticket.claim.put(seat);
-    if asleep {
-        ticket.state = State::Asleep as u32;
-        return Answer::Asleep;
+    match announced {
+        SleepResult::AtTurn => {
+            ticket.state = State::AtTurn as u32;
+            Answer::Granted
+        }
+        SleepResult::Asleep { rounds, cell } => {
+            ticket.rounds = rounds;
+            ticket.word = cell;
+            ticket.state = State::Asleep as u32;
+            Answer::Asleep
+        }
+        SleepResult::Full { rounds } => {
+            ticket.rounds = rounds;
+            Answer::Full
+        }
+        SleepResult::Changed { rounds } => {
+            ticket.rounds = rounds;
+            Answer::Waiting
+        }
     }
-    let answer = ticket.settle(rounds);
-    if rounds > 0 && word / 65_536 % 65_536 == MAX_SLEEPERS {
-        return Answer::Full;
-    }
-    answer
 }
 
 /// Takes the count of a sleeper back.
@@ -101,13 +105,11 @@ pub fn withdraw(lock: &Lock, ticket: &mut Ticket) -> Answer
     let rounds = ticket.rounds;
     let mut seat = ticket.claim.take();
     let withdrawn = lock_core::withdraw(&lock.table.shared, &mut seat, ticket.number, rounds);
+    ticket.claim.put(seat);
     if withdrawn {
-        ticket.claim.put(seat);
         ticket.state = State::Free as u32;
         return Answer::Withdrawn;
     }
-    lock_core::clear_withdrawn(&lock.table.shared, &mut seat, ticket.number);
-    ticket.claim.put(seat);
     ticket.state = State::AtTurn as u32;
     Answer::Granted
 }

@@ -12,6 +12,6 @@ returns-clause-after c = (
   omega (arith, c.ask-ticket.ensures.load, c.poll-rounds.ensures.load),
   λ t.
       let early : Timely c.ask-ticket.new.seat.me.0 = omega (arith, t, c.poll-rounds.ensures.load) in
-      let same = c.poll-rounds.ensures.request t in let first = c.ask-ticket.ensures.first early in let heard = c.ask-ticket.ensures.heard early in
-      (omega (arith, first.0, same.2), omega (arith, heard.0, same.1)),
+      let same = c.poll-rounds.ensures.request t in let order = c.ask-ticket.ensures.order early in
+      (omega (arith, order.0, same.2), omega (arith, order.1, same.0, same.2), omega (arith, order.2, same.1)),
 )
