@@ -150,7 +150,7 @@ pub extern "C" fn qolb_core_go_in_proved_(lock: &LockRef, ticket: &mut Ticket) -
     ensures known { Of lock.now.lock (λ l. IsKnown l ticket.new) }
     ensures strict { Answers lock.now.lock result (λ l a. ¬ HasBursts l → IsMisuse ticket.old ticket.new a) }
     ensures misuse { Answers lock.now.lock result (λ l a. ¬ IsFree ticket.old → IsMisuse ticket.old ticket.new a) }
-    ensures does { Answers lock.now.lock result (λ l a. HasBursts l → IsFree ticket.old → GoesIn l ticket.new a) }
+    ensures does { Answers lock.now.lock result (λ l a. HasBursts l → IsFree ticket.old → GoesIn l ticket.old.outer ticket.new a) }
 {
     number(qolb_locks::go_in(lock.get(), ticket))
 }

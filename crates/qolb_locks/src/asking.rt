@@ -13,7 +13,8 @@ use lock_core::AskNearResult;
 #[inline(always)]
 pub(crate) fn take_new_seat(lock: &Lock, ticket: &mut Ticket)
     requires { IsFree ticket.old }
-    ensures { Has State.Free lock.now ticket.new }
+    ensures free { Has State.Free lock.now ticket.new }
+    ensures outer { ticket.new.outer ≡ ticket.old.outer }
 {
     ticket.claim.put(lock_core::new_seat(&lock.table.shared));
     ticket.label = lock.label;

@@ -1,8 +1,10 @@
 //! A lock is shut, and opened again.
-ghost use Rattle.std.specs.Prelude.{◌≡◌, true, false};
+ghost use Rattle.std.specs.Prelude.{◌≡◌, ◌≢◌, ◌+◌, ◌%◌, ◌^◌, true, false};
 ghost use Rattle.lock_core.specs.Views.{HasTurnOf, ServedOpen, ServedShut};
 ghost use Rattle.qolb_locks.specs.declared.ticket.State.{State};
-ghost use Rattle.qolb_locks.specs.Calls.{IsMisuse, IsAtStrictTurn, ChecksOpen, SameTicket, IsServed, Shuts, IsToldShut, Reopens};
+ghost use Rattle.qolb_locks.specs.Calls.{IsMisuse, IsAtStrictTurn, ChecksOpen, SameTicket, IsServed, Shuts, IsToldShut, Reopens, Shows};
+ghost use Rattle.lock_core.specs.Layout.{tail_at};
+ghost use Rattle.lock_core.specs.Looks.{Found};
 ghost use Rattle.qolb_locks.specs.Tickets.{IsKnown, Knows, Says};
 
 use crate::answer::Answer;
@@ -83,6 +85,7 @@ fn reopen_shut(lock: &Lock, ticket: &mut Ticket) -> bool
         → Knows lock.now ticket.new (Says State.Served ticket.new.number ticket.new.rounds) }
     ensures head { result ≡ true → Knows lock.now ticket.old (Says State.HeadInsideShut ticket.old.number ticket.old.rounds)
         → Knows lock.now ticket.new (Says State.HeadInside ticket.new.number ticket.new.rounds) }
+    ensures busy { result ≡ false → Shows ticket.new (Found tail_at (λ n. n ≢ (ticket.old.number + 1) % 2 ^ 64)) }
     ensures still_served { result ≡ false → Knows lock.now ticket.old (Says State.ServedShut ticket.old.number ticket.old.rounds)
         → Knows lock.now ticket.new (Says State.ServedShut ticket.new.number ticket.new.rounds) }
     ensures still_head { result ≡ false → Knows lock.now ticket.old (Says State.HeadInsideShut ticket.old.number ticket.old.rounds)

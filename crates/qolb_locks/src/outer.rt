@@ -1,5 +1,5 @@
 //! The outer word, and the end of a turn.
-ghost use Rattle.std.specs.Prelude.{◌≡◌, ◌≤◌, true, false};
+ghost use Rattle.std.specs.Prelude.{◌≡◌, ◌+◌, ◌%◌, ◌^◌, ◌≤◌, true, false};
 ghost use Rattle.lock_core.specs.Views.{HasTurnOf, IsIdle, IsNewcomersTurn, SameRequest, ServedOpen, ServedShut, KnowsShut};
 ghost use Rattle.qolb_locks.specs.declared.answer.Answer.{Answer};
 ghost use Rattle.qolb_locks.specs.declared.ticket.State.{State};
@@ -24,6 +24,7 @@ fn pass_on(lock: &Lock, ticket: &mut Ticket) -> bool
     ensures inside_shut { result ≡ true → Knows lock.now ticket.old (Says State.HeadInsideShut ticket.old.number ticket.old.rounds)
         → Knows lock.now ticket.new (Says State.InsideShut ticket.new.number ticket.new.rounds) }
     ensures ends { result ≡ false → Knows lock.now ticket.new (HasTurnOf ticket.new.number) }
+    ensures passed { result ≡ false → ticket.new.number ≡ (ticket.old.number + 64) % 2 ^ 64 }
     ensures head { result ≡ false → Knows lock.now ticket.old (Says State.HeadInside ticket.old.number ticket.old.rounds)
         → Knows lock.now ticket.new (Says State.HeadInside ticket.new.number ticket.new.rounds) }
     ensures head_shut { result ≡ false → Knows lock.now ticket.old (Says State.HeadInsideShut ticket.old.number ticket.old.rounds)
@@ -93,7 +94,7 @@ fn go_in_again(lock: &Lock, ticket: &mut Ticket) -> Answer
     requires bursts { HasBursts lock.now }
     requires free { Has State.Free lock.now ticket.old }
     ensures known { IsKnown lock.now ticket.new }
-    ensures does { GoesIn lock.now ticket.new result }
+    ensures does { GoesIn lock.now ticket.old.outer ticket.new result }
 {
     let guess = ticket.outer;
     let mut seat = ticket.claim.take();
@@ -116,7 +117,7 @@ fn go_in_first(lock: &Lock, ticket: &mut Ticket) -> Answer
     requires bursts { HasBursts lock.now }
     requires free { IsFree ticket.old }
     ensures known { IsKnown lock.now ticket.new }
-    ensures does { GoesIn lock.now ticket.new result }
+    ensures does { GoesIn lock.now ticket.old.outer ticket.new result }
 {
     take_new_seat(lock, ticket);
     go_in_again(lock, ticket)
@@ -131,7 +132,7 @@ pub fn go_in(lock: &Lock, ticket: &mut Ticket) -> Answer
     ensures known { IsKnown lock.now ticket.new }
     ensures strict { ¬ HasBursts lock.now → IsMisuse ticket.old ticket.new result }
     ensures misuse { ¬ IsFree ticket.old → IsMisuse ticket.old ticket.new result }
-    ensures does { HasBursts lock.now → IsFree ticket.old → GoesIn lock.now ticket.new result }
+    ensures does { HasBursts lock.now → IsFree ticket.old → GoesIn lock.now ticket.old.outer ticket.new result }
 {
     if lock.burst < 2 || ticket.state != State::Free as u32 {
         return Answer::Misuse;
