@@ -59,7 +59,7 @@ struct qolb_ticket {
 
 /* Opens a lock in a block of the heap, or in the calling thread's room (gaps.h). `burst`: at most so many turns from one
  * take of the outer word by a queue head until the next; 0 or 1 is a strict lock. `label`: not 0, and given to no other
- * lock of the process, ever. DONE; BAD_NODES (burst above 2^30), MISUSE (label 0), NO_MEMORY: nothing changed. */
+ * lock of the process, ever. DONE; BAD_NODES (burst above 65,535), MISUSE (label 0), NO_MEMORY: nothing changed. */
 uint32_t qolb_core_open_proved_(uint64_t burst, uint64_t label, struct qolb_core *out);
 
 /* Draws the next ticket, and looks: GRANTED (at its turn) or WAITING. MISUSE: the ticket has a request, or is in. */
@@ -84,7 +84,7 @@ uint32_t qolb_core_retract_sleep_proved_(const struct qolb_core *, struct qolb_t
 uint32_t qolb_core_withdraw_proved_(const struct qolb_core *, struct qolb_ticket *);
 /* Ends the turn of the queue, passes withdrawn requests, and grants the next ticket: DONE (ticket.number + 1 is granted,
  * ticket.sleepers; a head that is in is INSIDE then, else the ticket is FREE and the lock may be gone). UNFINISHED: it passed
- * 1,000. MISUSE unless it is AT_TURN, SERVED, SERVED_SHUT, ENDING, HEAD_INSIDE or HEAD_INSIDE_SHUT. */
+ * 64. MISUSE unless it is AT_TURN, SERVED, SERVED_SHUT, ENDING, HEAD_INSIDE or HEAD_INSIDE_SHUT. */
 uint32_t qolb_core_release_proved_(const struct qolb_core *, struct qolb_ticket *);
 
 /* At the turn of a strict lock: GRANTED (open: SERVED) or CLOSED (SERVED_SHUT: pass the turn on by release, or reopen). MISUSE
