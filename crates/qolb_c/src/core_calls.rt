@@ -5,7 +5,7 @@ ghost use Rattle.std.specs.Prelude.{◌≡◌, ◌≢◌, true};
 ghost use Rattle.lock_core.specs.Views.{SameRequest};
 ghost use Rattle.qolb_locks.specs.declared.answer.Answer.{Answer};
 ghost use Rattle.qolb_locks.specs.declared.ticket.State.{State};
-ghost use Rattle.qolb_locks.specs.Calls.{Opens, IsMisuse, Learns, ComesAfter, Looks, Tries, AsksNear, AnnouncesSleep, Withdraws, Releases, IsAtStrictTurn, ChecksOpen, GoesIn, IsHead, TakesOuterWord, Leaves, RequestsHandoff, SleepsAsHead, IsServed, Shuts, IsToldShut, Reopens};
+ghost use Rattle.qolb_locks.specs.Calls.{Opens, IsMisuse, Learns, IsBehind, Looks, Tries, AsksNear, AnnouncesSleep, Withdraws, Releases, IsAtStrictTurn, ChecksOpen, GoesIn, IsHead, TakesOuterWord, Leaves, RequestsHandoff, SleepsAsHead, IsServed, Shuts, IsToldShut, Reopens};
 ghost use Rattle.qolb_locks.specs.Tickets.{HasBursts, Is, IsFree, IsKnown, IsWithin};
 ghost use Rattle.qolb_c.specs.CoreCalls.{number_of, Of, Answers};
 
@@ -41,9 +41,11 @@ pub extern "C" fn qolb_core_open_proved_(
 pub extern "C" fn qolb_core_ask_proved_(lock: &LockRef, ticket: &mut Ticket) -> u32
     requires { Of lock.now.lock (λ l. IsKnown l ticket.old) }
     ensures known { Of lock.now.lock (λ l. IsKnown l ticket.new) }
-    ensures misuse { Answers lock.now.lock result (λ l a. ¬ IsFree ticket.old → IsMisuse ticket.old ticket.new a) }
+    ensures misuse { Answers lock.now.lock result (λ l a. ¬ IsFree ticket.old →
+        IsMisuse ticket.old ticket.new a) }
     ensures does { Answers lock.now.lock result (λ l a. IsFree ticket.old → Looks l ticket.new a) }
-    ensures after { Answers lock.now.lock result (λ l a. Is State.Free l ticket.old → Learns ticket.old ticket.new ComesAfter) }
+    ensures after { Answers lock.now.lock result (λ l a. Is State.Free l ticket.old →
+        Learns ticket.old ticket.new IsBehind) }
 {
     number(qolb_locks::ask(lock.get(), ticket))
 }
@@ -53,8 +55,10 @@ pub extern "C" fn qolb_core_ask_proved_(lock: &LockRef, ticket: &mut Ticket) -> 
 pub extern "C" fn qolb_core_ask_near_proved_(lock: &LockRef, ticket: &mut Ticket) -> u32
     requires { Of lock.now.lock (λ l. IsKnown l ticket.old) }
     ensures known { Of lock.now.lock (λ l. IsKnown l ticket.new) }
-    ensures misuse { Answers lock.now.lock result (λ l a. ¬ IsFree ticket.old → IsMisuse ticket.old ticket.new a) }
-    ensures does { Answers lock.now.lock result (λ l a. IsFree ticket.old → AsksNear l ticket.new a) }
+    ensures misuse { Answers lock.now.lock result (λ l a. ¬ IsFree ticket.old →
+        IsMisuse ticket.old ticket.new a) }
+    ensures does { Answers lock.now.lock result (λ l a. IsFree ticket.old →
+        AsksNear l ticket.new a) }
 {
     number(qolb_locks::ask_near(lock.get(), ticket))
 }
@@ -64,7 +68,8 @@ pub extern "C" fn qolb_core_ask_near_proved_(lock: &LockRef, ticket: &mut Ticket
 pub extern "C" fn qolb_core_try_ask_proved_(lock: &LockRef, ticket: &mut Ticket) -> u32
     requires { Of lock.now.lock (λ l. IsKnown l ticket.old) }
     ensures known { Of lock.now.lock (λ l. IsKnown l ticket.new) }
-    ensures misuse { Answers lock.now.lock result (λ l a. ¬ IsFree ticket.old → IsMisuse ticket.old ticket.new a) }
+    ensures misuse { Answers lock.now.lock result (λ l a. ¬ IsFree ticket.old →
+        IsMisuse ticket.old ticket.new a) }
     ensures does { Answers lock.now.lock result (λ l a. IsFree ticket.old → Tries l ticket.new a) }
 {
     number(qolb_locks::try_ask(lock.get(), ticket))
@@ -75,9 +80,12 @@ pub extern "C" fn qolb_core_try_ask_proved_(lock: &LockRef, ticket: &mut Ticket)
 pub extern "C" fn qolb_core_poll_proved_(lock: &LockRef, ticket: &mut Ticket) -> u32
     requires { Of lock.now.lock (λ l. IsKnown l ticket.old) }
     ensures known { Of lock.now.lock (λ l. IsKnown l ticket.new) }
-    ensures misuse { Answers lock.now.lock result (λ l a. ¬ Is State.Waiting l ticket.old → IsMisuse ticket.old ticket.new a) }
-    ensures does { Answers lock.now.lock result (λ l a. Is State.Waiting l ticket.old → Looks l ticket.new a) }
-    ensures same { Answers lock.now.lock result (λ l a. Is State.Waiting l ticket.old → Learns ticket.old ticket.new SameRequest) }
+    ensures misuse { Answers lock.now.lock result (λ l a. ¬ Is State.Waiting l ticket.old →
+        IsMisuse ticket.old ticket.new a) }
+    ensures does { Answers lock.now.lock result (λ l a. Is State.Waiting l ticket.old →
+        Looks l ticket.new a) }
+    ensures same { Answers lock.now.lock result (λ l a. Is State.Waiting l ticket.old →
+        Learns ticket.old ticket.new SameRequest) }
 {
     number(qolb_locks::poll(lock.get(), ticket))
 }
@@ -89,9 +97,12 @@ pub extern "C" fn qolb_core_poll_proved_(lock: &LockRef, ticket: &mut Ticket) ->
 pub extern "C" fn qolb_core_announce_sleep_proved_(lock: &LockRef, ticket: &mut Ticket) -> u32
     requires { Of lock.now.lock (λ l. IsKnown l ticket.old) }
     ensures known { Of lock.now.lock (λ l. IsKnown l ticket.new) }
-    ensures misuse { Answers lock.now.lock result (λ l a. ¬ Is State.Waiting l ticket.old → IsMisuse ticket.old ticket.new a) }
-    ensures does { Answers lock.now.lock result (λ l a. Is State.Waiting l ticket.old → AnnouncesSleep l ticket.new a) }
-    ensures same { Answers lock.now.lock result (λ l a. Is State.Waiting l ticket.old → Learns ticket.old ticket.new SameRequest) }
+    ensures misuse { Answers lock.now.lock result (λ l a. ¬ Is State.Waiting l ticket.old →
+        IsMisuse ticket.old ticket.new a) }
+    ensures does { Answers lock.now.lock result (λ l a. Is State.Waiting l ticket.old →
+        AnnouncesSleep l ticket.new a) }
+    ensures same { Answers lock.now.lock result (λ l a. Is State.Waiting l ticket.old →
+        Learns ticket.old ticket.new SameRequest) }
 {
     number(qolb_locks::announce_sleep(lock.get(), ticket))
 }
@@ -101,9 +112,12 @@ pub extern "C" fn qolb_core_announce_sleep_proved_(lock: &LockRef, ticket: &mut 
 pub extern "C" fn qolb_core_retract_sleep_proved_(lock: &LockRef, ticket: &mut Ticket) -> u32
     requires { Of lock.now.lock (λ l. IsKnown l ticket.old) }
     ensures known { Of lock.now.lock (λ l. IsKnown l ticket.new) }
-    ensures misuse { Answers lock.now.lock result (λ l a. ¬ Is State.Asleep l ticket.old → IsMisuse ticket.old ticket.new a) }
-    ensures does { Answers lock.now.lock result (λ l a. Is State.Asleep l ticket.old → Looks l ticket.new a) }
-    ensures same { Answers lock.now.lock result (λ l a. Is State.Asleep l ticket.old → Learns ticket.old ticket.new SameRequest) }
+    ensures misuse { Answers lock.now.lock result (λ l a. ¬ Is State.Asleep l ticket.old →
+        IsMisuse ticket.old ticket.new a) }
+    ensures does { Answers lock.now.lock result (λ l a. Is State.Asleep l ticket.old →
+        Looks l ticket.new a) }
+    ensures same { Answers lock.now.lock result (λ l a. Is State.Asleep l ticket.old →
+        Learns ticket.old ticket.new SameRequest) }
 {
     number(qolb_locks::retract_sleep(lock.get(), ticket))
 }
@@ -113,8 +127,10 @@ pub extern "C" fn qolb_core_retract_sleep_proved_(lock: &LockRef, ticket: &mut T
 pub extern "C" fn qolb_core_withdraw_proved_(lock: &LockRef, ticket: &mut Ticket) -> u32
     requires { Of lock.now.lock (λ l. IsKnown l ticket.old) }
     ensures known { Of lock.now.lock (λ l. IsKnown l ticket.new) }
-    ensures misuse { Answers lock.now.lock result (λ l a. ¬ Is State.Waiting l ticket.old → IsMisuse ticket.old ticket.new a) }
-    ensures does { Answers lock.now.lock result (λ l a. Is State.Waiting l ticket.old → Withdraws l ticket.old ticket.new a) }
+    ensures misuse { Answers lock.now.lock result (λ l a. ¬ Is State.Waiting l ticket.old →
+        IsMisuse ticket.old ticket.new a) }
+    ensures does { Answers lock.now.lock result (λ l a. Is State.Waiting l ticket.old →
+        Withdraws l ticket.old ticket.new a) }
 {
     number(qolb_locks::withdraw(lock.get(), ticket))
 }
@@ -124,8 +140,10 @@ pub extern "C" fn qolb_core_withdraw_proved_(lock: &LockRef, ticket: &mut Ticket
 pub extern "C" fn qolb_core_release_proved_(lock: &LockRef, ticket: &mut Ticket) -> u32
     requires { Of lock.now.lock (λ l. IsKnown l ticket.old) }
     ensures known { Of lock.now.lock (λ l. IsKnown l ticket.new) }
-    ensures misuse { Answers lock.now.lock result (λ l a. ¬ IsWithin 3 8 l ticket.old → IsMisuse ticket.old ticket.new a) }
-    ensures does { Answers lock.now.lock result (λ l a. IsWithin 3 8 l ticket.old → Releases l ticket.old ticket.new a) }
+    ensures misuse { Answers lock.now.lock result (λ l a. ¬ IsWithin 3 8 l ticket.old →
+        IsMisuse ticket.old ticket.new a) }
+    ensures does { Answers lock.now.lock result (λ l a. IsWithin 3 8 l ticket.old →
+        Releases l ticket.old ticket.new a) }
 {
     number(qolb_locks::release(lock.get(), ticket))
 }
@@ -135,8 +153,10 @@ pub extern "C" fn qolb_core_release_proved_(lock: &LockRef, ticket: &mut Ticket)
 pub extern "C" fn qolb_core_check_open_proved_(lock: &LockRef, ticket: &mut Ticket) -> u32
     requires { Of lock.now.lock (λ l. IsKnown l ticket.old) }
     ensures known { Of lock.now.lock (λ l. IsKnown l ticket.new) }
-    ensures misuse { Answers lock.now.lock result (λ l a. ¬ IsAtStrictTurn l ticket.old → IsMisuse ticket.old ticket.new a) }
-    ensures does { Answers lock.now.lock result (λ l a. IsAtStrictTurn l ticket.old → ChecksOpen l ticket.new a) }
+    ensures misuse { Answers lock.now.lock result (λ l a. ¬ IsAtStrictTurn l ticket.old →
+        IsMisuse ticket.old ticket.new a) }
+    ensures does { Answers lock.now.lock result (λ l a. IsAtStrictTurn l ticket.old →
+        ChecksOpen l ticket.new a) }
 {
     number(qolb_locks::check_open(lock.get(), ticket))
 }
@@ -148,9 +168,12 @@ pub extern "C" fn qolb_core_check_open_proved_(lock: &LockRef, ticket: &mut Tick
 pub extern "C" fn qolb_core_go_in_proved_(lock: &LockRef, ticket: &mut Ticket) -> u32
     requires { Of lock.now.lock (λ l. IsKnown l ticket.old) }
     ensures known { Of lock.now.lock (λ l. IsKnown l ticket.new) }
-    ensures strict { Answers lock.now.lock result (λ l a. ¬ HasBursts l → IsMisuse ticket.old ticket.new a) }
-    ensures misuse { Answers lock.now.lock result (λ l a. ¬ IsFree ticket.old → IsMisuse ticket.old ticket.new a) }
-    ensures does { Answers lock.now.lock result (λ l a. HasBursts l → IsFree ticket.old → GoesIn l ticket.old.outer ticket.new a) }
+    ensures strict { Answers lock.now.lock result (λ l a. ¬ HasBursts l →
+        IsMisuse ticket.old ticket.new a) }
+    ensures misuse { Answers lock.now.lock result (λ l a. ¬ IsFree ticket.old →
+        IsMisuse ticket.old ticket.new a) }
+    ensures does { Answers lock.now.lock result (λ l a. HasBursts l → IsFree ticket.old →
+        GoesIn l ticket.old.outer ticket.new a) }
 {
     number(qolb_locks::go_in(lock.get(), ticket))
 }
@@ -162,9 +185,12 @@ pub extern "C" fn qolb_core_go_in_proved_(lock: &LockRef, ticket: &mut Ticket) -
 pub extern "C" fn qolb_core_take_outer_proved_(lock: &LockRef, ticket: &mut Ticket) -> u32
     requires { Of lock.now.lock (λ l. IsKnown l ticket.old) }
     ensures known { Of lock.now.lock (λ l. IsKnown l ticket.new) }
-    ensures misuse { Answers lock.now.lock result (λ l a. ¬ IsHead l ticket.old → IsMisuse ticket.old ticket.new a) }
-    ensures does { Answers lock.now.lock result (λ l a. IsHead l ticket.old → TakesOuterWord l ticket.new a) }
-    ensures same { Answers lock.now.lock result (λ l a. IsHead l ticket.old → Learns ticket.old ticket.new SameRequest) }
+    ensures misuse { Answers lock.now.lock result (λ l a. ¬ IsHead l ticket.old →
+        IsMisuse ticket.old ticket.new a) }
+    ensures does { Answers lock.now.lock result (λ l a. IsHead l ticket.old →
+        TakesOuterWord l ticket.new a) }
+    ensures same { Answers lock.now.lock result (λ l a. IsHead l ticket.old →
+        Learns ticket.old ticket.new SameRequest) }
 {
     number(qolb_locks::take_outer(lock.get(), ticket))
 }
@@ -176,8 +202,10 @@ pub extern "C" fn qolb_core_take_outer_proved_(lock: &LockRef, ticket: &mut Tick
 pub extern "C" fn qolb_core_leave_proved_(lock: &LockRef, ticket: &mut Ticket) -> u32
     requires { Of lock.now.lock (λ l. IsKnown l ticket.old) }
     ensures known { Of lock.now.lock (λ l. IsKnown l ticket.new) }
-    ensures misuse { Answers lock.now.lock result (λ l a. ¬ IsWithin 9 10 l ticket.old → IsMisuse ticket.old ticket.new a) }
-    ensures does { Answers lock.now.lock result (λ l a. IsWithin 9 10 l ticket.old → Leaves l ticket.old ticket.new a) }
+    ensures misuse { Answers lock.now.lock result (λ l a. ¬ IsWithin 9 10 l ticket.old →
+        IsMisuse ticket.old ticket.new a) }
+    ensures does { Answers lock.now.lock result (λ l a. IsWithin 9 10 l ticket.old →
+        Leaves l ticket.old ticket.new a) }
 {
     number(qolb_locks::leave(lock.get(), ticket))
 }
@@ -187,8 +215,10 @@ pub extern "C" fn qolb_core_leave_proved_(lock: &LockRef, ticket: &mut Ticket) -
 pub extern "C" fn qolb_core_request_handoff_proved_(lock: &LockRef, ticket: &mut Ticket) -> u32
     requires { Of lock.now.lock (λ l. IsKnown l ticket.old) }
     ensures known { Of lock.now.lock (λ l. IsKnown l ticket.new) }
-    ensures misuse { Answers lock.now.lock result (λ l a. ¬ Is State.AtTurn l ticket.old → IsMisuse ticket.old ticket.new a) }
-    ensures does { Answers lock.now.lock result (λ l a. Is State.AtTurn l ticket.old → RequestsHandoff l ticket.new a) }
+    ensures misuse { Answers lock.now.lock result (λ l a. ¬ Is State.AtTurn l ticket.old →
+        IsMisuse ticket.old ticket.new a) }
+    ensures does { Answers lock.now.lock result (λ l a. Is State.AtTurn l ticket.old →
+        RequestsHandoff l ticket.new a) }
 {
     number(qolb_locks::request_handoff(lock.get(), ticket))
 }
@@ -200,8 +230,10 @@ pub extern "C" fn qolb_core_request_handoff_proved_(lock: &LockRef, ticket: &mut
 pub extern "C" fn qolb_core_announce_head_sleep_proved_(lock: &LockRef, ticket: &mut Ticket) -> u32
     requires { Of lock.now.lock (λ l. IsKnown l ticket.old) }
     ensures known { Of lock.now.lock (λ l. IsKnown l ticket.new) }
-    ensures misuse { Answers lock.now.lock result (λ l a. ¬ Is State.AtTurn l ticket.old → IsMisuse ticket.old ticket.new a) }
-    ensures does { Answers lock.now.lock result (λ l a. Is State.AtTurn l ticket.old → SleepsAsHead l ticket.new a) }
+    ensures misuse { Answers lock.now.lock result (λ l a. ¬ Is State.AtTurn l ticket.old →
+        IsMisuse ticket.old ticket.new a) }
+    ensures does { Answers lock.now.lock result (λ l a. Is State.AtTurn l ticket.old →
+        SleepsAsHead l ticket.new a) }
 {
     number(qolb_locks::announce_head_sleep(lock.get(), ticket))
 }
@@ -211,8 +243,10 @@ pub extern "C" fn qolb_core_announce_head_sleep_proved_(lock: &LockRef, ticket: 
 pub extern "C" fn qolb_core_shut_proved_(lock: &LockRef, ticket: &mut Ticket) -> u32
     requires { Of lock.now.lock (λ l. IsKnown l ticket.old) }
     ensures known { Of lock.now.lock (λ l. IsKnown l ticket.new) }
-    ensures misuse { Answers lock.now.lock result (λ l a. ¬ IsServed l ticket.old → IsMisuse ticket.old ticket.new a) }
-    ensures does { Answers lock.now.lock result (λ l a. IsServed l ticket.old → Shuts l ticket.old ticket.new a) }
+    ensures misuse { Answers lock.now.lock result (λ l a. ¬ IsServed l ticket.old →
+        IsMisuse ticket.old ticket.new a) }
+    ensures does { Answers lock.now.lock result (λ l a. IsServed l ticket.old →
+        Shuts l ticket.old ticket.new a) }
 {
     number(qolb_locks::shut(lock.get(), ticket))
 }
@@ -222,8 +256,10 @@ pub extern "C" fn qolb_core_shut_proved_(lock: &LockRef, ticket: &mut Ticket) ->
 pub extern "C" fn qolb_core_reopen_proved_(lock: &LockRef, ticket: &mut Ticket) -> u32
     requires { Of lock.now.lock (λ l. IsKnown l ticket.old) }
     ensures known { Of lock.now.lock (λ l. IsKnown l ticket.new) }
-    ensures misuse { Answers lock.now.lock result (λ l a. ¬ IsToldShut l ticket.old → IsMisuse ticket.old ticket.new a) }
-    ensures does { Answers lock.now.lock result (λ l a. IsToldShut l ticket.old → Reopens l ticket.old ticket.new a) }
+    ensures misuse { Answers lock.now.lock result (λ l a. ¬ IsToldShut l ticket.old →
+        IsMisuse ticket.old ticket.new a) }
+    ensures does { Answers lock.now.lock result (λ l a. IsToldShut l ticket.old →
+        Reopens l ticket.old ticket.new a) }
 {
     number(qolb_locks::reopen(lock.get(), ticket))
 }

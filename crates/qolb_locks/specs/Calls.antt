@@ -1,5 +1,5 @@
 -- The promise of each call of a lock, by its answer. `was` and `now` are the ticket before and after. (Of this project.)
-use Rattle.std.specs.Prelude.{◌≡◌, ◌≢◌, ℕ, ◌<◌, ◌≤◌, ◌+◌, ◌/◌, ◌%◌, ◌⊎◌, true, false, max, [], ◌∷◌}
+use Rattle.std.specs.Prelude.{◌≡◌, ◌≢◌, ℕ, ◌<◌, ◌≤◌, ◌+◌, ◌%◌, ◌⊎◌, false, max, [], ◌∷◌}
 use Rattle.std.specs.declared.option.Option.{Option}
 use Rattle.std.specs.declared.option.Option.TheVariants.{Some}
 use Rattle.atomic_table.specs.declared.shared.Seat.{Seat}
@@ -7,12 +7,11 @@ use Rattle.lock_core.specs.declared.view.View.{View}
 use Rattle.lock_core.specs.Layout.{outer_at, tail_at, cell_at, to_go, count_of, handoff_of, asleep_of, state_of}
 use Rattle.lock_core.specs.Looks.{Found, FoundChanged, FoundNext, FoundTailMoved, IsLeftAs, IsNoEntry}
 use Rattle.lock_core.specs.Looks as looks
-use Rattle.lock_core.specs.Views.{Timely, view_of, IsIdle, HasTurnOf, IsInside, IsOutside, IsNewcomersTurn, IsOvertakenInBounds, GrantedToNobodyAsleep, GrantedAfter, LeftQuietly, SleepsAtOuter, TakesOuter, SameRequest}
+use Rattle.lock_core.specs.Views.{Timely, view_of, IsNewcomersTurn, IsOvertakenInBounds, GrantedToNobodyAsleep, GrantedAfter, LeftQuietly, SleepsAtOuter}
 use Rattle.qolb_locks.specs.declared.answer.Answer.{Answer}
 use Rattle.qolb_locks.specs.declared.answer.Answer.TheVariants as answer
 use Rattle.qolb_locks.specs.declared.lock.Lock.{Lock}
 use Rattle.qolb_locks.specs.declared.ticket.Ticket.{Ticket}
-use Rattle.qolb_locks.specs.declared.ticket.State.{State}
 use Rattle.qolb_locks.specs.declared.ticket.State.TheVariants as state
 use Rattle.qolb_locks.specs.Tickets.{Is, IsWithin, Has, Knows, IsStrict, HasBursts}
 
@@ -40,9 +39,9 @@ Shows t P = (seat : Seat ℕ View) × (t.claim.views ≡ view_of seat ∷ []) ×
 abbrev pub Learns : Ticket → Ticket → (View → View → Type 0) → Type 0
 Learns was now P = (v w : View) × (was.claim.views ≡ v ∷ []) × (now.claim.views ≡ w ∷ []) × (v.most_open ≤ w.most_open) × (Timely w → P v w)
 
--- a request comes after the ticket's last turn, and after all that it has heard of
-abbrev pub ComesAfter : View → View → Type 0
-ComesAfter v w = (v.ended ≤ w.first_pending) × (w.first_pending ≤ w.ticket) × (v.newcomers_seen ≤ w.newcomers_at_ask)
+-- a request is behind the ticket's last turn, and all that it has heard of
+abbrev pub IsBehind : View → View → Type 0
+IsBehind v w = (v.ended ≤ w.first_pending) × (w.first_pending ≤ w.ticket) × (v.newcomers_seen ≤ w.newcomers_at_ask)
 
 -- no more newcomers overtook the request than the bound allows
 abbrev pub InBounds : Lock → Ticket → Type 0

@@ -1,8 +1,7 @@
 -- Two tickets of one lock, that meet. (Of this project.)
-use Rattle.std.specs.Prelude.{◌≡◌, ℕ, ◌<◌, ◌≤◌, ◌⊎◌, [], ◌∷◌}
-use Rattle.atomic_table.specs.declared.shared.Seat.{Seat}
+use Rattle.std.specs.Prelude.{◌≡◌, ◌≤◌, ◌⊎◌, [], ◌∷◌}
 use Rattle.lock_core.specs.declared.view.View.{View}
-use Rattle.lock_core.specs.Views.{max_newcomers_of, Timely, view_of}
+use Rattle.lock_core.specs.Views.{max_newcomers_of}
 use Rattle.qolb_locks.specs.declared.lock.Lock.{Lock}
 use Rattle.qolb_locks.specs.declared.ticket.Ticket.{Ticket}
 
@@ -12,10 +11,6 @@ Both lock t u P = (v w : View) × (t.claim.views ≡ v ∷ []) × (u.claim.views
     × (t.claim.table_id ≡ lock.table.shared.table_id) × (u.claim.table_id ≡ lock.table.shared.table_id)
     × (v.max_newcomers ≡ max_newcomers_of lock.table.shared.key) × (w.max_newcomers ≡ max_newcomers_of lock.table.shared.key)
     × P v w
-
--- what this seat has cannot be, if no more load was on the lock than the rule allows
-abbrev pub IsNever : Seat ℕ View → Type 0
-IsNever seat = Timely (view_of seat) → ⊥
 
 -- by its state: in a strict lock at its turn and told of the outer word, or in by the outer word
 abbrev pub IsInService : Lock → Ticket → Type 0

@@ -1,7 +1,7 @@
 //! Requests.
 ghost use Rattle.std.specs.Prelude.{◌≡◌};
 ghost use Rattle.qolb_locks.specs.declared.ticket.State.{State};
-ghost use Rattle.qolb_locks.specs.Calls.{IsMisuse, Learns, ComesAfter, Looks, Tries, AsksNear};
+ghost use Rattle.qolb_locks.specs.Calls.{IsMisuse, Learns, IsBehind, Looks, Tries, AsksNear};
 ghost use Rattle.qolb_locks.specs.Tickets.{Is, Has, IsFree, IsKnown};
 
 use crate::answer::Answer;
@@ -26,7 +26,7 @@ fn ask_again(lock: &Lock, ticket: &mut Ticket) -> Answer
     requires { Has State.Free lock.now ticket.old }
     ensures known { IsKnown lock.now ticket.new }
     ensures does { Looks lock.now ticket.new result }
-    ensures after { Learns ticket.old ticket.new ComesAfter }
+    ensures after { Learns ticket.old ticket.new IsBehind }
 {
     let mut seat = ticket.claim.take();
     ticket.number = lock_core::ask(&lock.table.shared, &mut seat);
@@ -50,14 +50,14 @@ fn ask_first(lock: &Lock, ticket: &mut Ticket) -> Answer
 
 /// Requests the lock, and polls once.
 ///
-/// The request comes after the ticket's last turn at this lock.
+/// The request is behind the ticket's last turn at this lock.
 #[inline(always)]
 pub fn ask(lock: &Lock, ticket: &mut Ticket) -> Answer
     requires { IsKnown lock.now ticket.old }
     ensures known { IsKnown lock.now ticket.new }
     ensures misuse { ¬ IsFree ticket.old → IsMisuse ticket.old ticket.new result }
     ensures does { IsFree ticket.old → Looks lock.now ticket.new result }
-    ensures after { Is State.Free lock.now ticket.old → Learns ticket.old ticket.new ComesAfter }
+    ensures after { Is State.Free lock.now ticket.old → Learns ticket.old ticket.new IsBehind }
 {
     if ticket.state != State::Free as u32 {
         return Answer::Misuse;

@@ -38,12 +38,15 @@ pub fn check_open(lock: &Lock, ticket: &mut Ticket) -> Answer
 fn shut_served(lock: &Lock, ticket: &mut Ticket)
     requires { Knows lock.now ticket.old ServedOpen }
     ensures same { SameTicket ticket.old ticket.new }
-    ensures served { Knows lock.now ticket.old (Says State.Served ticket.old.number ticket.old.rounds)
-        → Knows lock.now ticket.new (Says State.ServedShut ticket.new.number ticket.new.rounds) }
-    ensures head { Knows lock.now ticket.old (Says State.HeadInside ticket.old.number ticket.old.rounds)
-        → Knows lock.now ticket.new (Says State.HeadInsideShut ticket.new.number ticket.new.rounds) }
-    ensures inside { Knows lock.now ticket.old (Says State.Inside ticket.old.number ticket.old.rounds)
-        → Knows lock.now ticket.new (Says State.InsideShut ticket.new.number ticket.new.rounds) }
+    ensures served { Knows lock.now ticket.old (Says State.Served ticket.old.number
+        ticket.old.rounds) →
+        Knows lock.now ticket.new (Says State.ServedShut ticket.new.number ticket.new.rounds) }
+    ensures head { Knows lock.now ticket.old (Says State.HeadInside ticket.old.number
+        ticket.old.rounds) →
+        Knows lock.now ticket.new (Says State.HeadInsideShut ticket.new.number ticket.new.rounds) }
+    ensures inside { Knows lock.now ticket.old (Says State.Inside ticket.old.number
+        ticket.old.rounds) →
+        Knows lock.now ticket.new (Says State.InsideShut ticket.new.number ticket.new.rounds) }
 {
     let mut seat = ticket.claim.take();
     lock_core::shut(&lock.table.shared, &mut seat);
@@ -51,7 +54,7 @@ fn shut_served(lock: &Lock, ticket: &mut Ticket)
     ticket.claim.put(seat);
 }
 
-/// Shuts the lock, for one that is served: from then on each that comes to its turn is told so, and no newcomer comes in.
+/// Shuts the lock, for one that is served: from then on each is told of it at its turn, and no newcomer gets in.
 pub fn shut(lock: &Lock, ticket: &mut Ticket) -> Answer
     requires { IsKnown lock.now ticket.old }
     ensures known { IsKnown lock.now ticket.new }
@@ -81,15 +84,20 @@ pub fn shut(lock: &Lock, ticket: &mut Ticket) -> Answer
 fn reopen_shut(lock: &Lock, ticket: &mut Ticket) -> bool
     requires turn { Knows lock.now ticket.old (λ v. HasTurnOf ticket.old.number v × ServedShut v) }
     ensures same { SameTicket ticket.old ticket.new }
-    ensures served { result ≡ true → Knows lock.now ticket.old (Says State.ServedShut ticket.old.number ticket.old.rounds)
-        → Knows lock.now ticket.new (Says State.Served ticket.new.number ticket.new.rounds) }
-    ensures head { result ≡ true → Knows lock.now ticket.old (Says State.HeadInsideShut ticket.old.number ticket.old.rounds)
-        → Knows lock.now ticket.new (Says State.HeadInside ticket.new.number ticket.new.rounds) }
-    ensures busy { result ≡ false → Shows ticket.new (Found tail_at (λ n. n ≢ (ticket.old.number + 1) % 2 ^ 64)) }
-    ensures still_served { result ≡ false → Knows lock.now ticket.old (Says State.ServedShut ticket.old.number ticket.old.rounds)
-        → Knows lock.now ticket.new (Says State.ServedShut ticket.new.number ticket.new.rounds) }
-    ensures still_head { result ≡ false → Knows lock.now ticket.old (Says State.HeadInsideShut ticket.old.number ticket.old.rounds)
-        → Knows lock.now ticket.new (Says State.HeadInsideShut ticket.new.number ticket.new.rounds) }
+    ensures served { result ≡ true →
+        Knows lock.now ticket.old (Says State.ServedShut ticket.old.number ticket.old.rounds) →
+        Knows lock.now ticket.new (Says State.Served ticket.new.number ticket.new.rounds) }
+    ensures head { result ≡ true →
+        Knows lock.now ticket.old (Says State.HeadInsideShut ticket.old.number ticket.old.rounds) →
+        Knows lock.now ticket.new (Says State.HeadInside ticket.new.number ticket.new.rounds) }
+    ensures busy { result ≡ false → Shows ticket.new (Found tail_at
+        (λ n. n ≢ (ticket.old.number + 1) % 2 ^ 64)) }
+    ensures still_served { result ≡ false →
+        Knows lock.now ticket.old (Says State.ServedShut ticket.old.number ticket.old.rounds) →
+        Knows lock.now ticket.new (Says State.ServedShut ticket.new.number ticket.new.rounds) }
+    ensures still_head { result ≡ false →
+        Knows lock.now ticket.old (Says State.HeadInsideShut ticket.old.number ticket.old.rounds) →
+        Knows lock.now ticket.new (Says State.HeadInsideShut ticket.new.number ticket.new.rounds) }
 {
     let mut seat = ticket.claim.take();
     let open = lock_core::reopen(&lock.table.shared, &mut seat, ticket.number);

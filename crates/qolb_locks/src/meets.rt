@@ -3,10 +3,10 @@
 //! Each function says that two such tickets cannot meet: in the seat that has what both callers know, there was too much load on the lock.
 //! None is to be called: a proof about callers may.
 ghost use Rattle.std.specs.Prelude.{◌≡◌, ◌<◌, ◌≤◌};
-ghost use Rattle.lock_core.specs.Meets.{Served, IsWaiting, GrantedToNobodyAsleepAt, IsStillAsleep, HadNewcomersTurn, AskedOpen, AskedShut};
-ghost use Rattle.lock_core.specs.Views.{Timely, HasTurn, KnowsShut, LeftQuietly, ServedOpen, SleepsAtOuter};
+ghost use Rattle.lock_core.specs.Meets.{IsWaiting, IsWaitingOpen, IsWaitingShut, IsStillAsleep, GrantedToNobodyAsleepAt, HadNewcomersTurn};
+ghost use Rattle.lock_core.specs.Views.{Timely, NeverInTime, HasTurn, KnowsShut, LeftQuietly, ServedOpen, SleepsAtOuter};
 ghost use Rattle.qolb_locks.specs.declared.ticket.State.{State};
-ghost use Rattle.qolb_locks.specs.Meets.{Both, IsInService, IsNever};
+ghost use Rattle.qolb_locks.specs.Meets.{Both, IsInService};
 ghost use Rattle.qolb_locks.specs.Tickets.{IsKnown, IsWithin};
 
 use crate::lock::Lock;
@@ -18,7 +18,7 @@ pub fn never_two(lock: &Lock, ticket: &mut Ticket, other: &mut Ticket) -> Ticket
     requires known { IsKnown lock.now ticket.old × IsKnown lock.now other.old }
     requires one { IsInService lock.now ticket.old }
     requires two { IsInService lock.now other.old }
-    ensures { IsNever result }
+    ensures { NeverInTime result }
 {
     let mut seat = ticket.claim.take();
     lock_core::never_two(&lock.table.shared, &mut seat, other.claim.take());
@@ -30,7 +30,7 @@ pub fn never_two_at_turn(lock: &Lock, ticket: &mut Ticket, other: &mut Ticket) -
     requires known { IsKnown lock.now ticket.old × IsKnown lock.now other.old }
     requires one { IsWithin 3 8 lock.now ticket.old }
     requires two { IsWithin 3 8 lock.now other.old }
-    ensures { IsNever result }
+    ensures { NeverInTime result }
 {
     let mut seat = ticket.claim.take();
     lock_core::never_two_heads(&lock.table.shared, &mut seat, other.claim.take());
@@ -39,8 +39,9 @@ pub fn never_two_at_turn(lock: &Lock, ticket: &mut Ticket, other: &mut Ticket) -
 
 /// No ticket has a turn of the queue while one with a smaller number waits.
 pub fn first_come(lock: &Lock, ticket: &mut Ticket, other: &mut Ticket) -> TicketSeat
-    requires { Both lock.now ticket.old other.old (λ v w. (Timely v → IsWaiting v) × (Timely w → HasTurn w) × (v.ticket < w.ticket)) }
-    ensures { IsNever result }
+    requires { Both lock.now ticket.old other.old (λ v w. (Timely v → IsWaiting v) × (Timely w →
+        HasTurn w) × (v.ticket < w.ticket)) }
+    ensures { NeverInTime result }
 {
     let mut seat = ticket.claim.take();
     lock_core::first_come(&lock.table.shared, &mut seat, other.claim.take());
@@ -49,8 +50,9 @@ pub fn first_come(lock: &Lock, ticket: &mut Ticket, other: &mut Ticket) -> Ticke
 
 /// Where a release tells of no sleeper, no ticket that it granted has announced its sleep.
 pub fn no_lost_wake(lock: &Lock, ticket: &mut Ticket, other: &mut Ticket) -> TicketSeat
-    requires { Both lock.now ticket.old other.old (λ v w. (Timely v → GrantedToNobodyAsleepAt w.ticket v) × (Timely w → IsStillAsleep w)) }
-    ensures { IsNever result }
+    requires { Both lock.now ticket.old other.old (λ v w. (Timely v →
+        GrantedToNobodyAsleepAt w.ticket v) × (Timely w → IsStillAsleep w)) }
+    ensures { NeverInTime result }
 {
     let mut seat = ticket.claim.take();
     lock_core::no_lost_wake(&lock.table.shared, &mut seat, other.claim.take());
@@ -59,8 +61,9 @@ pub fn no_lost_wake(lock: &Lock, ticket: &mut Ticket, other: &mut Ticket) -> Tic
 
 /// Where a leave tells of no head that sleeps, none noted its sleep while that caller was in.
 pub fn no_lost_wake_at_outer(lock: &Lock, ticket: &mut Ticket, other: &mut Ticket) -> TicketSeat
-    requires { Both lock.now ticket.old other.old (λ v w. (Timely v → LeftQuietly v) × (Timely w → SleepsAtOuter w) × (Timely w → w.slept_in_take ≡ v.last_take)) }
-    ensures { IsNever result }
+    requires { Both lock.now ticket.old other.old (λ v w. (Timely v → LeftQuietly v) × (Timely w →
+        SleepsAtOuter w) × (Timely w → w.slept_in_take ≡ v.last_take)) }
+    ensures { NeverInTime result }
 {
     let mut seat = ticket.claim.take();
     lock_core::no_lost_wake_at_outer(&lock.table.shared, &mut seat, other.claim.take());
@@ -69,8 +72,9 @@ pub fn no_lost_wake_at_outer(lock: &Lock, ticket: &mut Ticket, other: &mut Ticke
 
 /// No ticket is served, told that the lock is open, after it was shut, until it is opened again.
 pub fn none_served_after_shut(lock: &Lock, ticket: &mut Ticket, other: &mut Ticket) -> TicketSeat
-    requires { Both lock.now ticket.old other.old (λ v w. (Timely v → KnowsShut v) × (Timely w → ServedOpen w) × (Timely w → w.epoch ≤ v.epoch)) }
-    ensures { IsNever result }
+    requires { Both lock.now ticket.old other.old (λ v w. (Timely v → KnowsShut v) × (Timely w →
+        ServedOpen w) × (Timely w → w.epoch ≤ v.epoch)) }
+    ensures { NeverInTime result }
 {
     let mut seat = ticket.claim.take();
     lock_core::none_served_after_shut(&lock.table.shared, &mut seat, other.claim.take());
@@ -79,8 +83,9 @@ pub fn none_served_after_shut(lock: &Lock, ticket: &mut Ticket, other: &mut Tick
 
 /// No ticket waits that asked while the lock was open, before it was shut and opened again.
 pub fn none_left_at_reopening(lock: &Lock, ticket: &mut Ticket, other: &mut Ticket) -> TicketSeat
-    requires { Both lock.now ticket.old other.old (λ v w. (Timely w → IsWaiting w × AskedOpen w) × (Timely w → w.asked_in_epoch < v.epoch)) }
-    ensures { IsNever result }
+    requires { Both lock.now ticket.old other.old (λ v w. (Timely w → IsWaitingOpen w) × (Timely w
+        → w.asked_in_epoch < v.epoch)) }
+    ensures { NeverInTime result }
 {
     let mut seat = ticket.claim.take();
     lock_core::none_left_at_reopening(&lock.table.shared, &mut seat, other.claim.take());
@@ -89,8 +94,9 @@ pub fn none_left_at_reopening(lock: &Lock, ticket: &mut Ticket, other: &mut Tick
 
 /// No ticket waits that asked while the lock was shut, and one is served open in that epoch.
 pub fn asked_while_open(lock: &Lock, ticket: &mut Ticket, other: &mut Ticket) -> TicketSeat
-    requires { Both lock.now ticket.old other.old (λ v w. (Timely v → ServedOpen v) × (Timely w → IsWaiting w × AskedShut w) × (Timely w → w.asked_in_epoch ≡ v.epoch)) }
-    ensures { IsNever result }
+    requires { Both lock.now ticket.old other.old (λ v w. (Timely v → ServedOpen v) × (Timely w →
+        IsWaitingShut w) × (Timely w → w.asked_in_epoch ≡ v.epoch)) }
+    ensures { NeverInTime result }
 {
     let mut seat = ticket.claim.take();
     lock_core::asked_while_open(&lock.table.shared, &mut seat, other.claim.take());
@@ -99,8 +105,9 @@ pub fn asked_while_open(lock: &Lock, ticket: &mut Ticket, other: &mut Ticket) ->
 
 /// No two newcomers' turns are at the same place between two takes of the outer word by heads.
 pub fn turns_differ(lock: &Lock, ticket: &mut Ticket, other: &mut Ticket) -> TicketSeat
-    requires { Both lock.now ticket.old other.old (λ v w. (Timely v → HadNewcomersTurn v.heads_before v.place_after_head v) × (Timely w → HadNewcomersTurn v.heads_before v.place_after_head w)) }
-    ensures { IsNever result }
+    requires { Both lock.now ticket.old other.old (λ v w. (Timely v → HadNewcomersTurn v v)
+        × (Timely w → HadNewcomersTurn v w)) }
+    ensures { NeverInTime result }
 {
     let mut seat = ticket.claim.take();
     lock_core::turns_differ(&lock.table.shared, &mut seat, other.claim.take());

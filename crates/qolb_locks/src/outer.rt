@@ -19,16 +19,20 @@ fn pass_on(lock: &Lock, ticket: &mut Ticket) -> bool
     ensures label { (ticket.new.label ≡ ticket.old.label) × (ticket.new.state ≡ ticket.old.state) }
     ensures granted { result ≡ true → GrantsNext lock.now ticket.new }
     ensures free { result ≡ true → Knows lock.now ticket.new IsIdle }
-    ensures inside { result ≡ true → Knows lock.now ticket.old (Says State.HeadInside ticket.old.number ticket.old.rounds)
-        → Knows lock.now ticket.new (Says State.Inside ticket.new.number ticket.new.rounds) }
-    ensures inside_shut { result ≡ true → Knows lock.now ticket.old (Says State.HeadInsideShut ticket.old.number ticket.old.rounds)
-        → Knows lock.now ticket.new (Says State.InsideShut ticket.new.number ticket.new.rounds) }
+    ensures inside { result ≡ true →
+        Knows lock.now ticket.old (Says State.HeadInside ticket.old.number ticket.old.rounds) →
+        Knows lock.now ticket.new (Says State.Inside ticket.new.number ticket.new.rounds) }
+    ensures inside_shut { result ≡ true →
+        Knows lock.now ticket.old (Says State.HeadInsideShut ticket.old.number ticket.old.rounds) →
+        Knows lock.now ticket.new (Says State.InsideShut ticket.new.number ticket.new.rounds) }
     ensures ends { result ≡ false → Knows lock.now ticket.new (HasTurnOf ticket.new.number) }
     ensures passed { result ≡ false → ticket.new.number ≡ (ticket.old.number + 64) % 2 ^ 64 }
-    ensures head { result ≡ false → Knows lock.now ticket.old (Says State.HeadInside ticket.old.number ticket.old.rounds)
-        → Knows lock.now ticket.new (Says State.HeadInside ticket.new.number ticket.new.rounds) }
-    ensures head_shut { result ≡ false → Knows lock.now ticket.old (Says State.HeadInsideShut ticket.old.number ticket.old.rounds)
-        → Knows lock.now ticket.new (Says State.HeadInsideShut ticket.new.number ticket.new.rounds) }
+    ensures head { result ≡ false →
+        Knows lock.now ticket.old (Says State.HeadInside ticket.old.number ticket.old.rounds) →
+        Knows lock.now ticket.new (Says State.HeadInside ticket.new.number ticket.new.rounds) }
+    ensures head_shut { result ≡ false →
+        Knows lock.now ticket.old (Says State.HeadInsideShut ticket.old.number ticket.old.rounds) →
+        Knows lock.now ticket.new (Says State.HeadInsideShut ticket.new.number ticket.new.rounds) }
 {
     let mut seat = ticket.claim.take();
     let released = lock_core::release(&lock.table.shared, &mut seat, &mut ticket.number);
@@ -50,7 +54,8 @@ pub fn release(lock: &Lock, ticket: &mut Ticket) -> Answer
     requires { IsKnown lock.now ticket.old }
     ensures known { IsKnown lock.now ticket.new }
     ensures misuse { ¬ IsWithin 3 8 lock.now ticket.old → IsMisuse ticket.old ticket.new result }
-    ensures does { IsWithin 3 8 lock.now ticket.old → Releases lock.now ticket.old ticket.new result }
+    ensures does { IsWithin 3 8 lock.now ticket.old →
+        Releases lock.now ticket.old ticket.new result }
 {
     if ticket.has_turn_outside(lock) {
         if !pass_on(lock, ticket) {
@@ -69,7 +74,8 @@ fn release_inside(lock: &Lock, ticket: &mut Ticket) -> Answer
     requires { IsKnown lock.now ticket.old }
     ensures known { IsKnown lock.now ticket.new }
     ensures misuse { ¬ IsWithin 7 8 lock.now ticket.old → IsMisuse ticket.old ticket.new result }
-    ensures does { IsWithin 7 8 lock.now ticket.old → Releases lock.now ticket.old ticket.new result }
+    ensures does { IsWithin 7 8 lock.now ticket.old →
+        Releases lock.now ticket.old ticket.new result }
 {
     if ticket.has(State::HeadInside, lock) {
         if !pass_on(lock, ticket) {
@@ -132,7 +138,8 @@ pub fn go_in(lock: &Lock, ticket: &mut Ticket) -> Answer
     ensures known { IsKnown lock.now ticket.new }
     ensures strict { ¬ HasBursts lock.now → IsMisuse ticket.old ticket.new result }
     ensures misuse { ¬ IsFree ticket.old → IsMisuse ticket.old ticket.new result }
-    ensures does { HasBursts lock.now → IsFree ticket.old → GoesIn lock.now ticket.old.outer ticket.new result }
+    ensures does { HasBursts lock.now → IsFree ticket.old →
+        GoesIn lock.now ticket.old.outer ticket.new result }
 {
     if lock.burst < 2 || ticket.state != State::Free as u32 {
         return Answer::Misuse;
@@ -186,7 +193,8 @@ pub fn leave(lock: &Lock, ticket: &mut Ticket) -> Answer
     requires { IsKnown lock.now ticket.old }
     ensures known { IsKnown lock.now ticket.new }
     ensures misuse { ¬ IsWithin 9 10 lock.now ticket.old → IsMisuse ticket.old ticket.new result }
-    ensures does { IsWithin 9 10 lock.now ticket.old → Leaves lock.now ticket.old ticket.new result }
+    ensures does { IsWithin 9 10 lock.now ticket.old →
+        Leaves lock.now ticket.old ticket.new result }
 {
     if !ticket.is_inside(lock) {
         return Answer::Misuse;
@@ -216,7 +224,8 @@ pub fn request_handoff(lock: &Lock, ticket: &mut Ticket) -> Answer
     requires { IsKnown lock.now ticket.old }
     ensures known { IsKnown lock.now ticket.new }
     ensures misuse { ¬ Is State.AtTurn lock.now ticket.old → IsMisuse ticket.old ticket.new result }
-    ensures does { Is State.AtTurn lock.now ticket.old → RequestsHandoff lock.now ticket.new result }
+    ensures does { Is State.AtTurn lock.now ticket.old →
+        RequestsHandoff lock.now ticket.new result }
 {
     if !ticket.has(State::AtTurn, lock) {
         return Answer::Misuse;

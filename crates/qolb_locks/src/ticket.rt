@@ -108,7 +108,7 @@ impl Ticket {
             && self.state <= State::InsideShut as u32
     }
 
-    /// Notes that the request is so many rounds from its turn, and answers that.
+    /// Notes how many rounds the request is from its turn, and answers that.
     #[inline(always)]
     pub(crate) fn settle(&mut self, rounds: u64) -> Answer
         ensures granted { rounds ≡ 0 → (result ≡ Answer.Granted)

@@ -10,7 +10,7 @@ use crate::lock::Lock;
 use crate::ticket::{State, Ticket};
 use lock_core::SleepResult;
 
-/// A request so many rounds from its turn can be withdrawn.
+/// The most rounds from which a request can be withdrawn.
 const WINDOW: u64 = 15;
 
 /// Looks whether the request is at its turn.
@@ -18,7 +18,8 @@ const WINDOW: u64 = 15;
 pub fn poll(lock: &Lock, ticket: &mut Ticket) -> Answer
     requires { IsKnown lock.now ticket.old }
     ensures known { IsKnown lock.now ticket.new }
-    ensures misuse { ¬ Is State.Waiting lock.now ticket.old → IsMisuse ticket.old ticket.new result }
+    ensures misuse { ¬ Is State.Waiting lock.now ticket.old →
+        IsMisuse ticket.old ticket.new result }
     ensures does { Is State.Waiting lock.now ticket.old → Looks lock.now ticket.new result }
     ensures same { Is State.Waiting lock.now ticket.old → Learns ticket.old ticket.new SameRequest }
 {
@@ -38,8 +39,10 @@ pub fn poll(lock: &Lock, ticket: &mut Ticket) -> Answer
 pub fn announce_sleep(lock: &Lock, ticket: &mut Ticket) -> Answer
     requires { IsKnown lock.now ticket.old }
     ensures known { IsKnown lock.now ticket.new }
-    ensures misuse { ¬ Is State.Waiting lock.now ticket.old → IsMisuse ticket.old ticket.new result }
-    ensures does { Is State.Waiting lock.now ticket.old → AnnouncesSleep lock.now ticket.new result }
+    ensures misuse { ¬ Is State.Waiting lock.now ticket.old →
+        IsMisuse ticket.old ticket.new result }
+    ensures does { Is State.Waiting lock.now ticket.old →
+        AnnouncesSleep lock.now ticket.new result }
     ensures same { Is State.Waiting lock.now ticket.old → Learns ticket.old ticket.new SameRequest }
 {
     if !ticket.has(State::Waiting, lock) {
@@ -93,8 +96,10 @@ pub fn retract_sleep(lock: &Lock, ticket: &mut Ticket) -> Answer
 pub fn withdraw(lock: &Lock, ticket: &mut Ticket) -> Answer
     requires { IsKnown lock.now ticket.old }
     ensures known { IsKnown lock.now ticket.new }
-    ensures misuse { ¬ Is State.Waiting lock.now ticket.old → IsMisuse ticket.old ticket.new result }
-    ensures does { Is State.Waiting lock.now ticket.old → Withdraws lock.now ticket.old ticket.new result }
+    ensures misuse { ¬ Is State.Waiting lock.now ticket.old →
+        IsMisuse ticket.old ticket.new result }
+    ensures does { Is State.Waiting lock.now ticket.old →
+        Withdraws lock.now ticket.old ticket.new result }
 {
     if !ticket.has(State::Waiting, lock) {
         return Answer::Misuse;
