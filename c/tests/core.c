@@ -1,7 +1,7 @@
-/* The proved lock (src/core.h) by many threads at once, strict and with bursts: sums are exact, no two are served, turns
- * are in the order of tickets, no more newcomers overtake than the bound, nobody is served while the lock is shut; who
- * sleeps by the announced address and value is woken. And by one thread: each call that a ticket's state does not allow
- * is misuse and changes nothing; a lock lies in the room that it is opened in.
+/* The proved lock (src/core.h) by many threads at once, strict and with bursts: sums are exact, no two are served,
+ * turns are in the order of tickets, no more newcomers overtake than the bound, nobody is served while the lock is
+ * shut; who sleeps by the announced address and value is woken. And by one thread: each call that a ticket's state does
+ * not allow is misuse and changes nothing; a lock lies in the room that it is opened in.
  *
  *   build/core_c [ROUNDS [THREADS]]       4,000 rounds by each thread, up to 64 threads */
 #define _GNU_SOURCE
@@ -17,8 +17,8 @@
 #include <sys/syscall.h>
 #include <unistd.h>
 
-#define CHECK(it)                                                          \
-    do {                                                                   \
+#define CHECK(it)                                                           \
+    do {                                                                    \
         if (!(it)) printf("line %d: not so: %s\n", __LINE__, #it), abort(); \
     } while (0)
 
@@ -37,9 +37,7 @@ static uint64_t labels; /* each lock has one of its own */
 
 /* Opens a lock, in a room of its own: a lock on the heap would be there for ever. */
 static struct qolb_core opened(uint64_t burst) {
-    static _Alignas(128) struct {
-        char words[256], slots[128], block[128];
-    } rooms[MOST_LOCKS];
+    static _Alignas(128) struct { char words[256], slots[128], block[128]; } rooms[MOST_LOCKS];
     static int used;
     struct qolb_core core;
     CHECK(used < MOST_LOCKS);
@@ -151,7 +149,8 @@ static void strict_turn(struct caller *caller) {
 static void head_turn(struct caller *caller) {
     uint32_t got;
     for (int looks = 0; (got = qolb_core_take_outer_proved_(&scene.core, &caller->ticket)) == QOLB_WAITING; looks++) {
-        if (looks == 4) while (qolb_core_request_handoff_proved_(&scene.core, &caller->ticket) == QOLB_BUSY) continue;
+        if (looks == 4)
+            while (qolb_core_request_handoff_proved_(&scene.core, &caller->ticket) == QOLB_BUSY) continue;
         if (looks <= 4 || !(scene.does & SLEEPS)) sched_yield();
         else if (qolb_core_announce_head_sleep_proved_(&scene.core, &caller->ticket) == QOLB_ASLEEP_) {
             scene.head_slept++;
@@ -228,8 +227,9 @@ static void *calls(void *of) {
 }
 
 /* Of all scenes. The last one is of luck, and the most in a row stands behind them. */
-static const char *const counted[] = {"turns", "by the outer word", "withdrawn", "slept", "slept at the outer word", "tried", "far",
-                                      "shut", "told", "reopened", "drawn by another"};
+static const char *const counted[] = {
+    "turns", "by the outer word", "withdrawn",       "slept", "slept at the outer word", "tried", "far", "shut",
+    "told",  "reopened",          "drawn by another"};
 enum { COUNTS = sizeof counted / sizeof counted[0] };
 static long sums[COUNTS + 1];
 
@@ -252,9 +252,8 @@ static void plays(int threads, uint64_t burst, int does_what, long rounds) {
     __tsan_acquire(&scene);
     CHECK(scene.shared == scene.turns);
     CHECK(scene.reopened + scene.is_shut == scene.shut);
-    long counts[] = {scene.turns,      scene.by_outer, scene.withdrawn, scene.slept,     scene.head_slept,
-                     scene.tried,      scene.far,      scene.shut,      scene.told_shut, scene.reopened,
-                     scene.drawn_by_another};
+    long counts[] = {scene.turns, scene.by_outer, scene.withdrawn, scene.slept,    scene.head_slept,      scene.tried,
+                     scene.far,   scene.shut,     scene.told_shut, scene.reopened, scene.drawn_by_another};
     for (int k = 0; k < COUNTS; k++) sums[k] += counts[k];
     if (scene.most_newcomers > sums[COUNTS]) sums[COUNTS] = scene.most_newcomers;
 }
@@ -288,7 +287,8 @@ static const struct {
     {"leave", qolb_core_leave_proved_, 1 << QOLB_TICKET_INSIDE_ | 1 << QOLB_TICKET_INSIDE_SHUT_, 0, 9},
     {"request_handoff", qolb_core_request_handoff_proved_, AT_TURN, 0, 9},
     {"announce_head_sleep", qolb_core_announce_head_sleep_proved_, AT_TURN, 0, 9},
-    {"shut", qolb_core_shut_proved_, 1 << QOLB_TICKET_SERVED_ | 1 << QOLB_TICKET_HEAD_INSIDE_ | 1 << QOLB_TICKET_INSIDE_, 0, 9},
+    {"shut", qolb_core_shut_proved_,
+     1 << QOLB_TICKET_SERVED_ | 1 << QOLB_TICKET_HEAD_INSIDE_ | 1 << QOLB_TICKET_INSIDE_, 0, 9},
     {"reopen", qolb_core_reopen_proved_, 1 << QOLB_TICKET_SERVED_SHUT_ | 1 << QOLB_TICKET_HEAD_INSIDE_SHUT_, 0, 9},
 };
 enum { CALLS = sizeof every / sizeof every[0], WORDS = 21 };
@@ -300,7 +300,8 @@ static void is_misuse(const struct qolb_core *core, struct qolb_ticket *ticket, 
     struct qolb_ticket was = *ticket;
     uint64_t words[WORDS];
     memcpy(words, qolb_core_words_(core), sizeof words);
-    if (every[k].call(core, ticket) != QOLB_MISUSE) printf("%s in state %u: allowed\n", every[k].name, was.state), abort();
+    if (every[k].call(core, ticket) != QOLB_MISUSE)
+        printf("%s in state %u: allowed\n", every[k].name, was.state), abort();
     CHECK(!memcmp(&was, ticket, sizeof was));
     CHECK(!memcmp(words, qolb_core_words_(core), sizeof words));
     misused++;
@@ -391,10 +392,12 @@ int main(int argc, char **argv) {
     all_misuse(4);
     printf("%ld calls that are misuse\n", misused);
     static const uint64_t bounds[] = {1, 2, 16, 64};
-    static const int mixes[] = {0, TRIES | NEARS | WITHDRAWS, SLEEPS, SHUTS, TRIES | NEARS | WITHDRAWS | SLEEPS | SHUTS};
+    static const int mixes[] = {0, TRIES | NEARS | WITHDRAWS, SLEEPS, SHUTS,
+                                TRIES | NEARS | WITHDRAWS | SLEEPS | SHUTS};
     for (int threads = 2; threads <= most; threads *= threads < 4 ? 2 : 4)
         for (unsigned b = 0; b < sizeof bounds / sizeof bounds[0]; b++)
-            for (unsigned m = 0; m < sizeof mixes / sizeof mixes[0]; m++) plays(threads, bounds[b], mixes[m], rounds / (threads / 2));
+            for (unsigned m = 0; m < sizeof mixes / sizeof mixes[0]; m++)
+                plays(threads, bounds[b], mixes[m], rounds / (threads / 2));
     for (int k = 0; k < COUNTS; k++) {
         printf("%ld %s, ", sums[k], counted[k]);
         CHECK(sums[k] > 0 || k == COUNTS - 1);

@@ -1,11 +1,11 @@
-/* Random calls of the proved lock (src/core.h) by one thread, each compared with the stand-in for it on which the lock's C
- * is explored (tools/seats/core.c): the answer, what the ticket says, and each word of the lock.
+/* Random calls of the proved lock (src/core.h) by one thread, each compared with the stand-in on which the lock's C is
+ * explored (tools/seats/core.c): the answer, what the ticket says, and each word of the lock.
  *
  *   build/core_calls_c [SCHEDULES [SEED]]        1,000,000 schedules, seed 1
  *
- * A schedule is some calls on a new lock by some tickets, most of them such as the ticket's state allows. At the end each
- * answer of each call must have come 1,000 times, but for those that another thread's step in the course of the call
- * brings about. */
+ * A schedule is some calls on a new lock by some tickets, most of them such as the ticket's state allows. At the end
+ * each answer of each call must have been given 1,000 times, but for those that another thread's step in the course of
+ * the call brings about. */
 #include "../src/core.h"
 #include "../src/gaps.h"
 #include <stdio.h>
@@ -60,7 +60,8 @@ static const struct {
     call *proved, *stand_in;
     unsigned allowed, answers;
 } every[] = {
-#define CALL(name, allowed, answers) {#name, qolb_core_##name##_proved_, stand_in_##name, allowed, (answers) | SAYS(MISUSE)}
+#define CALL(name, allowed, answers) \
+    { #name, qolb_core_##name##_proved_, stand_in_##name, allowed, (answers) | SAYS(MISUSE) }
     CALL(ask, IN(FREE), SAYS(GRANTED) | SAYS(WAITING)),
     CALL(ask_near, IN(FREE), SAYS(GRANTED) | SAYS(WAITING) | SAYS(FAR_)),
     CALL(try_ask, IN(FREE), SAYS(GRANTED) | SAYS(BUSY)),
@@ -78,7 +79,13 @@ static const struct {
     CALL(shut, IN(SERVED) | IN(HEAD_INSIDE) | IN(INSIDE), SAYS(DONE)),
     CALL(reopen, IN(SERVED_SHUT) | IN(HEAD_INSIDE_SHUT), SAYS(GRANTED) | SAYS(BUSY)),
 };
-enum { CALLS = sizeof every / sizeof every[0], ANSWERS = QOLB_UNFINISHED_ + 1, MOST_TICKETS = 96, OFTEN = 1000, FAR_OFF = 80 };
+enum {
+    CALLS = sizeof every / sizeof every[0],
+    ANSWERS = QOLB_UNFINISHED_ + 1,
+    MOST_TICKETS = 96,
+    OFTEN = 1000,
+    FAR_OFF = 80
+};
 
 static long came[CALLS][ANSWERS], done;
 static uint64_t seed;
@@ -99,7 +106,8 @@ struct side {
 };
 static struct side proved, stand_in;
 
-static void opens(struct side *side, uint32_t (*open)(uint64_t, uint64_t, struct qolb_core *), uint64_t burst, uint64_t label) {
+static void opens(struct side *side, uint32_t (*open)(uint64_t, uint64_t, struct qolb_core *), uint64_t burst,
+                  uint64_t label) {
     qolb_core_room_ = (struct core_room){side->words, side->slots, side->block};
     if (open(burst, label, &side->core) != QOLB_DONE) abort();
     qolb_core_room_ = (struct core_room){NULL, NULL, NULL};
@@ -178,7 +186,8 @@ static void full(uint64_t label) {
     opens(&proved, qolb_core_open_proved_, 1, label);
     opens(&stand_in, stand_in_open, 1, label);
     for (int k = 0; k < ALL; k++) {
-        if (every[asks].proved(&proved.core, &tickets[0][k]) != every[asks].stand_in(&stand_in.core, &tickets[1][k])) abort();
+        if (every[asks].proved(&proved.core, &tickets[0][k]) != every[asks].stand_in(&stand_in.core, &tickets[1][k]))
+            abort();
         if (k % 4 || k == 0) continue;
         for (int again = k < ALL - 1 ? 1 : OFTEN; again > 0; again--) {
             uint32_t got = every[announces].proved(&proved.core, &tickets[0][k]);

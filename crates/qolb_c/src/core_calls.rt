@@ -41,11 +41,11 @@ pub extern "C" fn qolb_core_open_proved_(
 pub extern "C" fn qolb_core_ask_proved_(lock: &LockRef, ticket: &mut Ticket) -> u32
     requires { Of lock.now.lock (λ l. IsKnown l ticket.old) }
     ensures known { Of lock.now.lock (λ l. IsKnown l ticket.new) }
-    ensures misuse { Answers lock.now.lock result (λ l a. ¬ IsFree ticket.old →
-        IsMisuse ticket.old ticket.new a) }
+    ensures misuse { Answers lock.now.lock result
+        (λ l a. ¬ IsFree ticket.old → IsMisuse ticket.old ticket.new a) }
     ensures does { Answers lock.now.lock result (λ l a. IsFree ticket.old → Looks l ticket.new a) }
-    ensures after { Answers lock.now.lock result (λ l a. Is State.Free l ticket.old →
-        Learns ticket.old ticket.new IsBehind) }
+    ensures after { Answers lock.now.lock result
+        (λ l a. Is State.Free l ticket.old → Learns ticket.old ticket.new IsBehind) }
 {
     number(qolb_locks::ask(lock.get(), ticket))
 }
@@ -55,10 +55,10 @@ pub extern "C" fn qolb_core_ask_proved_(lock: &LockRef, ticket: &mut Ticket) -> 
 pub extern "C" fn qolb_core_ask_near_proved_(lock: &LockRef, ticket: &mut Ticket) -> u32
     requires { Of lock.now.lock (λ l. IsKnown l ticket.old) }
     ensures known { Of lock.now.lock (λ l. IsKnown l ticket.new) }
-    ensures misuse { Answers lock.now.lock result (λ l a. ¬ IsFree ticket.old →
-        IsMisuse ticket.old ticket.new a) }
-    ensures does { Answers lock.now.lock result (λ l a. IsFree ticket.old →
-        AsksNear l ticket.new a) }
+    ensures misuse { Answers lock.now.lock result
+        (λ l a. ¬ IsFree ticket.old → IsMisuse ticket.old ticket.new a) }
+    ensures does { Answers lock.now.lock result
+        (λ l a. IsFree ticket.old → AsksNear l ticket.new a) }
 {
     number(qolb_locks::ask_near(lock.get(), ticket))
 }
@@ -68,8 +68,8 @@ pub extern "C" fn qolb_core_ask_near_proved_(lock: &LockRef, ticket: &mut Ticket
 pub extern "C" fn qolb_core_try_ask_proved_(lock: &LockRef, ticket: &mut Ticket) -> u32
     requires { Of lock.now.lock (λ l. IsKnown l ticket.old) }
     ensures known { Of lock.now.lock (λ l. IsKnown l ticket.new) }
-    ensures misuse { Answers lock.now.lock result (λ l a. ¬ IsFree ticket.old →
-        IsMisuse ticket.old ticket.new a) }
+    ensures misuse { Answers lock.now.lock result
+        (λ l a. ¬ IsFree ticket.old → IsMisuse ticket.old ticket.new a) }
     ensures does { Answers lock.now.lock result (λ l a. IsFree ticket.old → Tries l ticket.new a) }
 {
     number(qolb_locks::try_ask(lock.get(), ticket))
@@ -80,12 +80,12 @@ pub extern "C" fn qolb_core_try_ask_proved_(lock: &LockRef, ticket: &mut Ticket)
 pub extern "C" fn qolb_core_poll_proved_(lock: &LockRef, ticket: &mut Ticket) -> u32
     requires { Of lock.now.lock (λ l. IsKnown l ticket.old) }
     ensures known { Of lock.now.lock (λ l. IsKnown l ticket.new) }
-    ensures misuse { Answers lock.now.lock result (λ l a. ¬ Is State.Waiting l ticket.old →
-        IsMisuse ticket.old ticket.new a) }
-    ensures does { Answers lock.now.lock result (λ l a. Is State.Waiting l ticket.old →
-        Looks l ticket.new a) }
-    ensures same { Answers lock.now.lock result (λ l a. Is State.Waiting l ticket.old →
-        Learns ticket.old ticket.new SameRequest) }
+    ensures misuse { Answers lock.now.lock result
+        (λ l a. ¬ Is State.Waiting l ticket.old → IsMisuse ticket.old ticket.new a) }
+    ensures does { Answers lock.now.lock result
+        (λ l a. Is State.Waiting l ticket.old → Looks l ticket.new a) }
+    ensures same { Answers lock.now.lock result
+        (λ l a. Is State.Waiting l ticket.old → Learns ticket.old ticket.new SameRequest) }
 {
     number(qolb_locks::poll(lock.get(), ticket))
 }
@@ -97,12 +97,12 @@ pub extern "C" fn qolb_core_poll_proved_(lock: &LockRef, ticket: &mut Ticket) ->
 pub extern "C" fn qolb_core_announce_sleep_proved_(lock: &LockRef, ticket: &mut Ticket) -> u32
     requires { Of lock.now.lock (λ l. IsKnown l ticket.old) }
     ensures known { Of lock.now.lock (λ l. IsKnown l ticket.new) }
-    ensures misuse { Answers lock.now.lock result (λ l a. ¬ Is State.Waiting l ticket.old →
-        IsMisuse ticket.old ticket.new a) }
-    ensures does { Answers lock.now.lock result (λ l a. Is State.Waiting l ticket.old →
-        AnnouncesSleep l ticket.new a) }
-    ensures same { Answers lock.now.lock result (λ l a. Is State.Waiting l ticket.old →
-        Learns ticket.old ticket.new SameRequest) }
+    ensures misuse { Answers lock.now.lock result
+        (λ l a. ¬ Is State.Waiting l ticket.old → IsMisuse ticket.old ticket.new a) }
+    ensures does { Answers lock.now.lock result
+        (λ l a. Is State.Waiting l ticket.old → AnnouncesSleep l ticket.new a) }
+    ensures same { Answers lock.now.lock result
+        (λ l a. Is State.Waiting l ticket.old → Learns ticket.old ticket.new SameRequest) }
 {
     number(qolb_locks::announce_sleep(lock.get(), ticket))
 }
@@ -112,12 +112,12 @@ pub extern "C" fn qolb_core_announce_sleep_proved_(lock: &LockRef, ticket: &mut 
 pub extern "C" fn qolb_core_retract_sleep_proved_(lock: &LockRef, ticket: &mut Ticket) -> u32
     requires { Of lock.now.lock (λ l. IsKnown l ticket.old) }
     ensures known { Of lock.now.lock (λ l. IsKnown l ticket.new) }
-    ensures misuse { Answers lock.now.lock result (λ l a. ¬ Is State.Asleep l ticket.old →
-        IsMisuse ticket.old ticket.new a) }
-    ensures does { Answers lock.now.lock result (λ l a. Is State.Asleep l ticket.old →
-        Looks l ticket.new a) }
-    ensures same { Answers lock.now.lock result (λ l a. Is State.Asleep l ticket.old →
-        Learns ticket.old ticket.new SameRequest) }
+    ensures misuse { Answers lock.now.lock result
+        (λ l a. ¬ Is State.Asleep l ticket.old → IsMisuse ticket.old ticket.new a) }
+    ensures does { Answers lock.now.lock result
+        (λ l a. Is State.Asleep l ticket.old → Looks l ticket.new a) }
+    ensures same { Answers lock.now.lock result
+        (λ l a. Is State.Asleep l ticket.old → Learns ticket.old ticket.new SameRequest) }
 {
     number(qolb_locks::retract_sleep(lock.get(), ticket))
 }
@@ -127,10 +127,10 @@ pub extern "C" fn qolb_core_retract_sleep_proved_(lock: &LockRef, ticket: &mut T
 pub extern "C" fn qolb_core_withdraw_proved_(lock: &LockRef, ticket: &mut Ticket) -> u32
     requires { Of lock.now.lock (λ l. IsKnown l ticket.old) }
     ensures known { Of lock.now.lock (λ l. IsKnown l ticket.new) }
-    ensures misuse { Answers lock.now.lock result (λ l a. ¬ Is State.Waiting l ticket.old →
-        IsMisuse ticket.old ticket.new a) }
-    ensures does { Answers lock.now.lock result (λ l a. Is State.Waiting l ticket.old →
-        Withdraws l ticket.old ticket.new a) }
+    ensures misuse { Answers lock.now.lock result
+        (λ l a. ¬ Is State.Waiting l ticket.old → IsMisuse ticket.old ticket.new a) }
+    ensures does { Answers lock.now.lock result
+        (λ l a. Is State.Waiting l ticket.old → Withdraws l ticket.old ticket.new a) }
 {
     number(qolb_locks::withdraw(lock.get(), ticket))
 }
@@ -140,10 +140,10 @@ pub extern "C" fn qolb_core_withdraw_proved_(lock: &LockRef, ticket: &mut Ticket
 pub extern "C" fn qolb_core_release_proved_(lock: &LockRef, ticket: &mut Ticket) -> u32
     requires { Of lock.now.lock (λ l. IsKnown l ticket.old) }
     ensures known { Of lock.now.lock (λ l. IsKnown l ticket.new) }
-    ensures misuse { Answers lock.now.lock result (λ l a. ¬ IsWithin 3 8 l ticket.old →
-        IsMisuse ticket.old ticket.new a) }
-    ensures does { Answers lock.now.lock result (λ l a. IsWithin 3 8 l ticket.old →
-        Releases l ticket.old ticket.new a) }
+    ensures misuse { Answers lock.now.lock result
+        (λ l a. ¬ IsWithin 3 8 l ticket.old → IsMisuse ticket.old ticket.new a) }
+    ensures does { Answers lock.now.lock result
+        (λ l a. IsWithin 3 8 l ticket.old → Releases l ticket.old ticket.new a) }
 {
     number(qolb_locks::release(lock.get(), ticket))
 }
@@ -153,10 +153,10 @@ pub extern "C" fn qolb_core_release_proved_(lock: &LockRef, ticket: &mut Ticket)
 pub extern "C" fn qolb_core_check_open_proved_(lock: &LockRef, ticket: &mut Ticket) -> u32
     requires { Of lock.now.lock (λ l. IsKnown l ticket.old) }
     ensures known { Of lock.now.lock (λ l. IsKnown l ticket.new) }
-    ensures misuse { Answers lock.now.lock result (λ l a. ¬ IsAtStrictTurn l ticket.old →
-        IsMisuse ticket.old ticket.new a) }
-    ensures does { Answers lock.now.lock result (λ l a. IsAtStrictTurn l ticket.old →
-        ChecksOpen l ticket.new a) }
+    ensures misuse { Answers lock.now.lock result
+        (λ l a. ¬ IsAtStrictTurn l ticket.old → IsMisuse ticket.old ticket.new a) }
+    ensures does { Answers lock.now.lock result
+        (λ l a. IsAtStrictTurn l ticket.old → ChecksOpen l ticket.new a) }
 {
     number(qolb_locks::check_open(lock.get(), ticket))
 }
@@ -168,12 +168,12 @@ pub extern "C" fn qolb_core_check_open_proved_(lock: &LockRef, ticket: &mut Tick
 pub extern "C" fn qolb_core_go_in_proved_(lock: &LockRef, ticket: &mut Ticket) -> u32
     requires { Of lock.now.lock (λ l. IsKnown l ticket.old) }
     ensures known { Of lock.now.lock (λ l. IsKnown l ticket.new) }
-    ensures strict { Answers lock.now.lock result (λ l a. ¬ HasBursts l →
-        IsMisuse ticket.old ticket.new a) }
-    ensures misuse { Answers lock.now.lock result (λ l a. ¬ IsFree ticket.old →
-        IsMisuse ticket.old ticket.new a) }
-    ensures does { Answers lock.now.lock result (λ l a. HasBursts l → IsFree ticket.old →
-        GoesIn l ticket.old.outer ticket.new a) }
+    ensures strict { Answers lock.now.lock result
+        (λ l a. ¬ HasBursts l → IsMisuse ticket.old ticket.new a) }
+    ensures misuse { Answers lock.now.lock result
+        (λ l a. ¬ IsFree ticket.old → IsMisuse ticket.old ticket.new a) }
+    ensures does { Answers lock.now.lock result
+        (λ l a. HasBursts l → IsFree ticket.old → GoesIn l ticket.old.outer ticket.new a) }
 {
     number(qolb_locks::go_in(lock.get(), ticket))
 }
@@ -185,12 +185,12 @@ pub extern "C" fn qolb_core_go_in_proved_(lock: &LockRef, ticket: &mut Ticket) -
 pub extern "C" fn qolb_core_take_outer_proved_(lock: &LockRef, ticket: &mut Ticket) -> u32
     requires { Of lock.now.lock (λ l. IsKnown l ticket.old) }
     ensures known { Of lock.now.lock (λ l. IsKnown l ticket.new) }
-    ensures misuse { Answers lock.now.lock result (λ l a. ¬ IsHead l ticket.old →
-        IsMisuse ticket.old ticket.new a) }
-    ensures does { Answers lock.now.lock result (λ l a. IsHead l ticket.old →
-        TakesOuterWord l ticket.new a) }
-    ensures same { Answers lock.now.lock result (λ l a. IsHead l ticket.old →
-        Learns ticket.old ticket.new SameRequest) }
+    ensures misuse { Answers lock.now.lock result
+        (λ l a. ¬ IsHead l ticket.old → IsMisuse ticket.old ticket.new a) }
+    ensures does { Answers lock.now.lock result
+        (λ l a. IsHead l ticket.old → TakesOuterWord l ticket.new a) }
+    ensures same { Answers lock.now.lock result
+        (λ l a. IsHead l ticket.old → Learns ticket.old ticket.new SameRequest) }
 {
     number(qolb_locks::take_outer(lock.get(), ticket))
 }
@@ -202,10 +202,10 @@ pub extern "C" fn qolb_core_take_outer_proved_(lock: &LockRef, ticket: &mut Tick
 pub extern "C" fn qolb_core_leave_proved_(lock: &LockRef, ticket: &mut Ticket) -> u32
     requires { Of lock.now.lock (λ l. IsKnown l ticket.old) }
     ensures known { Of lock.now.lock (λ l. IsKnown l ticket.new) }
-    ensures misuse { Answers lock.now.lock result (λ l a. ¬ IsWithin 9 10 l ticket.old →
-        IsMisuse ticket.old ticket.new a) }
-    ensures does { Answers lock.now.lock result (λ l a. IsWithin 9 10 l ticket.old →
-        Leaves l ticket.old ticket.new a) }
+    ensures misuse { Answers lock.now.lock result
+        (λ l a. ¬ IsWithin 9 10 l ticket.old → IsMisuse ticket.old ticket.new a) }
+    ensures does { Answers lock.now.lock result
+        (λ l a. IsWithin 9 10 l ticket.old → Leaves l ticket.old ticket.new a) }
 {
     number(qolb_locks::leave(lock.get(), ticket))
 }
@@ -215,10 +215,10 @@ pub extern "C" fn qolb_core_leave_proved_(lock: &LockRef, ticket: &mut Ticket) -
 pub extern "C" fn qolb_core_request_handoff_proved_(lock: &LockRef, ticket: &mut Ticket) -> u32
     requires { Of lock.now.lock (λ l. IsKnown l ticket.old) }
     ensures known { Of lock.now.lock (λ l. IsKnown l ticket.new) }
-    ensures misuse { Answers lock.now.lock result (λ l a. ¬ Is State.AtTurn l ticket.old →
-        IsMisuse ticket.old ticket.new a) }
-    ensures does { Answers lock.now.lock result (λ l a. Is State.AtTurn l ticket.old →
-        RequestsHandoff l ticket.new a) }
+    ensures misuse { Answers lock.now.lock result
+        (λ l a. ¬ Is State.AtTurn l ticket.old → IsMisuse ticket.old ticket.new a) }
+    ensures does { Answers lock.now.lock result
+        (λ l a. Is State.AtTurn l ticket.old → RequestsHandoff l ticket.new a) }
 {
     number(qolb_locks::request_handoff(lock.get(), ticket))
 }
@@ -230,10 +230,10 @@ pub extern "C" fn qolb_core_request_handoff_proved_(lock: &LockRef, ticket: &mut
 pub extern "C" fn qolb_core_announce_head_sleep_proved_(lock: &LockRef, ticket: &mut Ticket) -> u32
     requires { Of lock.now.lock (λ l. IsKnown l ticket.old) }
     ensures known { Of lock.now.lock (λ l. IsKnown l ticket.new) }
-    ensures misuse { Answers lock.now.lock result (λ l a. ¬ Is State.AtTurn l ticket.old →
-        IsMisuse ticket.old ticket.new a) }
-    ensures does { Answers lock.now.lock result (λ l a. Is State.AtTurn l ticket.old →
-        SleepsAsHead l ticket.new a) }
+    ensures misuse { Answers lock.now.lock result
+        (λ l a. ¬ Is State.AtTurn l ticket.old → IsMisuse ticket.old ticket.new a) }
+    ensures does { Answers lock.now.lock result
+        (λ l a. Is State.AtTurn l ticket.old → SleepsAsHead l ticket.new a) }
 {
     number(qolb_locks::announce_head_sleep(lock.get(), ticket))
 }
@@ -243,10 +243,10 @@ pub extern "C" fn qolb_core_announce_head_sleep_proved_(lock: &LockRef, ticket: 
 pub extern "C" fn qolb_core_shut_proved_(lock: &LockRef, ticket: &mut Ticket) -> u32
     requires { Of lock.now.lock (λ l. IsKnown l ticket.old) }
     ensures known { Of lock.now.lock (λ l. IsKnown l ticket.new) }
-    ensures misuse { Answers lock.now.lock result (λ l a. ¬ IsServed l ticket.old →
-        IsMisuse ticket.old ticket.new a) }
-    ensures does { Answers lock.now.lock result (λ l a. IsServed l ticket.old →
-        Shuts l ticket.old ticket.new a) }
+    ensures misuse { Answers lock.now.lock result
+        (λ l a. ¬ IsServed l ticket.old → IsMisuse ticket.old ticket.new a) }
+    ensures does { Answers lock.now.lock result
+        (λ l a. IsServed l ticket.old → Shuts l ticket.old ticket.new a) }
 {
     number(qolb_locks::shut(lock.get(), ticket))
 }
@@ -256,10 +256,10 @@ pub extern "C" fn qolb_core_shut_proved_(lock: &LockRef, ticket: &mut Ticket) ->
 pub extern "C" fn qolb_core_reopen_proved_(lock: &LockRef, ticket: &mut Ticket) -> u32
     requires { Of lock.now.lock (λ l. IsKnown l ticket.old) }
     ensures known { Of lock.now.lock (λ l. IsKnown l ticket.new) }
-    ensures misuse { Answers lock.now.lock result (λ l a. ¬ IsToldShut l ticket.old →
-        IsMisuse ticket.old ticket.new a) }
-    ensures does { Answers lock.now.lock result (λ l a. IsToldShut l ticket.old →
-        Reopens l ticket.old ticket.new a) }
+    ensures misuse { Answers lock.now.lock result
+        (λ l a. ¬ IsToldShut l ticket.old → IsMisuse ticket.old ticket.new a) }
+    ensures does { Answers lock.now.lock result
+        (λ l a. IsToldShut l ticket.old → Reopens l ticket.old ticket.new a) }
 {
     number(qolb_locks::reopen(lock.get(), ticket))
 }
