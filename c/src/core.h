@@ -3,7 +3,7 @@
  * withdrawn request that it passes, of which there are at most 64. Only opening allocates.
  *
  * A lock has a queue of tickets, and an *outer word*. A strict lock (a bound of bursts of at most 1): ask, wait for the
- * ticket's turn, check_open, be served, release. With bursts: a newcomer goes in by the outer word and leaves; who can't
+ * ticket's turn, check_open, be served, release. With bursts: a newcomer goes in by the outer word and leaves; else it
  * asks for a ticket; at its turn it is the queue head, takes the outer word, releases its turn of the queue (it stays
  * in), is served, and leaves.
  *
