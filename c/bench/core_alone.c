@@ -1,5 +1,5 @@
-/* The time of a turn at the proved lock (src/core.h), alone: by its calls, by the same steps written by hand in C, and of
- * a pthread_mutex. A second thread lives, as the C library's mutex else takes no atomic step.
+/* The time of a turn at the proved lock (src/core.h), alone: by its calls, by the same steps written by hand in C, and
+ * of a pthread_mutex. A second thread lives, as the C library's mutex else takes no atomic step.
  *
  *   build/tests/core_alone [RUNS]         the least of 1,500 runs of 20,000 turns, in nanoseconds
  *   build/tests/core_alone count          1,000 calls of each kind, for: valgrind --tool=callgrind
