@@ -22,14 +22,14 @@ LIMITS = {
     "docs/ARCHITECTURE.md": 1600,
     "docs/USING.md": 2500,
     "docs/LOCKS.md": 1200,
-    "docs/PROVED.md": 4000,
+    "docs/PROVED.md": 4100,
     "docs/CHANGING.md": 2000,
-    "docs/DECISIONS.md": 2750,
+    "docs/DECISIONS.md": 2800,
     "docs/SCRIPTS.md": 2000,
     "CHANGELOG.md": 1500,
 }
 # All pages but the CHANGELOG; the READMEs of crates, all and the lines of each; a call of qolb(3).
-ALL, CRATES, CRATE_LINES, CALL = 25000, 4600, 25, 110
+ALL, CRATES, CRATE_LINES, CALL = 25000, 4700, 25, 110
 # Three readers: who needs a lock, who wants the theorems, who carries it on.
 PATHS = {
     "lock user": (["README.md", "docs/USING.md#locks"], 2500),

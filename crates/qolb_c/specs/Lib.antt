@@ -1,2 +1,3 @@
+pub mod CoreCalls
 pub mod Numbers
 pub mod Exports

@@ -13,6 +13,8 @@ ghost use Rattle.qolb_nodes.specs.Waits.{nowhere};
 ghost use Rattle.qolb_c.specs.Exports.{Calls, Closes, TurnsLeft, WaitsAt, WentTo, node_number, label_told, state_told};
 ghost use Rattle.qolb_c.specs.Numbers.{number_of, state_number};
 
+mod core_calls;
+
 use line_lanes::{Line64, Mask};
 use qolb_model::{LineConfig, PortState};
 use qolb_nodes::{Answer, Handle, NO_LEASE};

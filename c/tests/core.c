@@ -1,0 +1,407 @@
+/* The proved lock (src/core.h) by many threads at once, strict and with bursts: sums are exact, no two are served,
+ * turns are in the order of tickets, no more newcomers overtake than the bound, nobody is served while the lock is
+ * shut; who sleeps by the announced address and value is woken. And by one thread: each call that a ticket's state does
+ * not allow is misuse and changes nothing; a lock lies in the room that it is opened in.
+ *
+ *   build/core_c [ROUNDS [THREADS]]       4,000 rounds by each thread, up to 64 threads */
+#define _GNU_SOURCE
+#include "../src/core.h"
+#include "../src/gaps.h"
+#include <linux/futex.h>
+#include <pthread.h>
+#include <sched.h>
+#include <stdatomic.h>
+#include <stdio.h>
+#include <stdlib.h>
+#include <string.h>
+#include <sys/syscall.h>
+#include <unistd.h>
+
+#define CHECK(it)                                                           \
+    do {                                                                    \
+        if (!(it)) printf("line %d: not so: %s\n", __LINE__, #it), abort(); \
+    } while (0)
+
+/* What the proved steps order, as the sanitizer of threads does not see them. */
+#ifdef __SANITIZE_THREAD__
+void __tsan_acquire(void *at);
+void __tsan_release(void *at);
+#else
+#define __tsan_acquire(at) ((void)(at))
+#define __tsan_release(at) ((void)(at))
+#endif
+
+enum { MOST_THREADS = 64, MOST_LOCKS = 256, NEAR = 15 };
+
+static uint64_t labels; /* each lock has one of its own */
+
+/* Opens a lock, in a room of its own: a lock on the heap would be there for ever. */
+static struct qolb_core opened(uint64_t burst) {
+    static _Alignas(128) struct { char words[256], slots[128], block[128]; } rooms[MOST_LOCKS];
+    static int used;
+    struct qolb_core core;
+    CHECK(used < MOST_LOCKS);
+    qolb_core_room_ = (struct core_room){rooms[used].words, rooms[used].slots, rooms[used].block};
+    used++;
+    CHECK(qolb_core_open_proved_(burst, ++labels, &core) == QOLB_DONE);
+    qolb_core_room_ = (struct core_room){NULL, NULL, NULL};
+    return core;
+}
+
+/* ---- Many threads ---- */
+
+/* What a scene's threads do: by bits. */
+enum { TRIES = 1, NEARS = 2, WITHDRAWS = 4, SLEEPS = 8, SHUTS = 16 };
+
+static struct scene {
+    struct qolb_core core;
+    uint64_t burst;
+    int does;
+    long rounds;
+    /* Guarded by the lock. */
+    long shared, newcomers, most_newcomers;
+    int64_t last_number;
+    int is_shut;
+    /* Sums of all threads. */
+    _Atomic long turns, withdrawn, by_outer, slept, head_slept, tried, far, drawn_by_another, shut, told_shut, reopened;
+    _Atomic int in_service;
+} scene;
+
+struct caller {
+    struct qolb_ticket ticket;
+    uint64_t seed;
+};
+
+static uint64_t draw(struct caller *caller, uint64_t below) {
+    caller->seed += 0x9e3779b97f4a7c15;
+    uint64_t z = caller->seed;
+    z = (z ^ z >> 30) * 0xbf58476d1ce4e5b9;
+    z = (z ^ z >> 27) * 0x94d049bb133111eb;
+    return (z ^ z >> 31) % below;
+}
+
+static int does(struct caller *caller, int what) { return (scene.does & what) && draw(caller, 4) == 0; }
+
+static void sleep_at(uint32_t *at, uint32_t value) { syscall(SYS_futex, at, FUTEX_WAIT_PRIVATE, value, NULL, NULL, 0); }
+static void wake_at(uint32_t *at) { syscall(SYS_futex, at, FUTEX_WAKE_PRIVATE, 0x7fffffff, NULL, NULL, 0); }
+
+static int has_bursts(void) { return scene.burst > 1; }
+
+/* A turn: nobody else is served, and the order and the bound are kept. */
+static void is_served(struct caller *caller, int is_head) {
+    __tsan_acquire(&scene);
+    CHECK(!atomic_exchange(&scene.in_service, 1));
+    CHECK(!scene.is_shut);
+    scene.shared++;
+    if (is_head) {
+        CHECK((int64_t)caller->ticket.number > scene.last_number);
+        scene.last_number = (int64_t)caller->ticket.number;
+        scene.newcomers = 0;
+    } else {
+        scene.newcomers++;
+        if (scene.newcomers > scene.most_newcomers) scene.most_newcomers = scene.newcomers;
+        CHECK(scene.newcomers < (long)scene.burst);
+    }
+    if (does(caller, SHUTS)) {
+        CHECK(qolb_core_shut_proved_(&scene.core, &caller->ticket) == QOLB_DONE);
+        scene.is_shut = 1;
+        scene.shut++;
+    }
+    if (draw(caller, 8) == 0) sched_yield(); /* so others come and wait */
+    atomic_store(&scene.in_service, 0);
+    __tsan_release(&scene);
+    scene.turns++;
+}
+
+/* Told that the lock is shut: opens it again, unless others asked after this one. */
+static void is_told_shut(struct caller *caller) {
+    __tsan_acquire(&scene);
+    CHECK(scene.is_shut);
+    scene.newcomers = 0;
+    scene.told_shut++;
+    uint32_t got = qolb_core_reopen_proved_(&scene.core, &caller->ticket);
+    CHECK(got == QOLB_GRANTED || got == QOLB_BUSY);
+    if (got == QOLB_GRANTED) scene.is_shut = 0, scene.reopened++;
+    __tsan_release(&scene);
+}
+
+static void pass_on(struct caller *caller) {
+    uint32_t got;
+    while ((got = qolb_core_release_proved_(&scene.core, &caller->ticket)) == QOLB_UNFINISHED_) continue;
+    CHECK(got == QOLB_DONE);
+    if (caller->ticket.sleepers) wake_at(qolb_core_cell_(&scene.core, caller->ticket.number + 1));
+}
+
+static void leave(struct caller *caller) {
+    while (qolb_core_leave_proved_(&scene.core, &caller->ticket) != QOLB_DONE)
+        CHECK(caller->ticket.state == QOLB_TICKET_INSIDE_ || caller->ticket.state == QOLB_TICKET_INSIDE_SHUT_);
+    if (caller->ticket.head_sleeps) wake_at(qolb_core_outer_(&scene.core));
+}
+
+/* At the turn of a strict lock. */
+static void strict_turn(struct caller *caller) {
+    if (qolb_core_check_open_proved_(&scene.core, &caller->ticket) == QOLB_GRANTED) is_served(caller, 1);
+    else is_told_shut(caller);
+    pass_on(caller);
+}
+
+/* The queue head of a lock with bursts. */
+static void head_turn(struct caller *caller) {
+    uint32_t got;
+    for (int looks = 0; (got = qolb_core_take_outer_proved_(&scene.core, &caller->ticket)) == QOLB_WAITING; looks++) {
+        if (looks == 4)
+            while (qolb_core_request_handoff_proved_(&scene.core, &caller->ticket) == QOLB_BUSY) continue;
+        if (looks <= 4 || !(scene.does & SLEEPS)) sched_yield();
+        else if (qolb_core_announce_head_sleep_proved_(&scene.core, &caller->ticket) == QOLB_ASLEEP_) {
+            scene.head_slept++;
+            sleep_at(qolb_core_outer_(&scene.core), (uint32_t)caller->ticket.outer);
+        }
+    }
+    CHECK(got == QOLB_GRANTED || got == QOLB_CLOSED);
+    if (got == QOLB_CLOSED) is_told_shut(caller);
+    pass_on(caller);
+    if (got == QOLB_GRANTED) is_served(caller, 1);
+    leave(caller);
+}
+
+/* Waits with a ticket; whether it is at its turn then, and not withdrawn. */
+static int waits(struct caller *caller) {
+    struct qolb_ticket *ticket = &caller->ticket;
+    uint32_t got = QOLB_WAITING;
+    while (got == QOLB_WAITING) {
+        if (does(caller, WITHDRAWS) && ticket->rounds <= NEAR) {
+            got = qolb_core_withdraw_proved_(&scene.core, ticket);
+            CHECK(got == QOLB_WITHDRAWN || got == QOLB_GRANTED);
+        } else if (does(caller, SLEEPS)) {
+            got = qolb_core_announce_sleep_proved_(&scene.core, ticket);
+            if (got == QOLB_ASLEEP_) {
+                scene.slept++;
+                sleep_at(qolb_core_cell_(&scene.core, ticket->number), (uint32_t)(ticket->word >> 32));
+                got = qolb_core_retract_sleep_proved_(&scene.core, ticket);
+            }
+        } else {
+            sched_yield();
+            got = qolb_core_poll_proved_(&scene.core, ticket);
+        }
+    }
+    if (got == QOLB_WITHDRAWN) scene.withdrawn++;
+    return got == QOLB_GRANTED;
+}
+
+/* Draws a ticket; whether it did. */
+static int asks(struct caller *caller) {
+    if (does(caller, TRIES)) {
+        scene.tried++;
+        return qolb_core_try_ask_proved_(&scene.core, &caller->ticket) == QOLB_GRANTED;
+    }
+    if (!does(caller, NEARS)) return qolb_core_ask_proved_(&scene.core, &caller->ticket) != QOLB_MISUSE;
+    uint32_t got = qolb_core_ask_near_proved_(&scene.core, &caller->ticket);
+    if (got == QOLB_FAR_) scene.far++;
+    if (got == QOLB_BUSY) scene.drawn_by_another++;
+    return got == QOLB_GRANTED || got == QOLB_WAITING;
+}
+
+static int goes_in(struct caller *caller) {
+    uint32_t got = qolb_core_go_in_proved_(&scene.core, &caller->ticket);
+    if (got == QOLB_BUSY) got = qolb_core_go_in_proved_(&scene.core, &caller->ticket);
+    return got == QOLB_GRANTED;
+}
+
+static pthread_barrier_t all_there;
+
+static void *calls(void *of) {
+    struct caller *caller = of;
+    pthread_barrier_wait(&all_there);
+    for (long k = 0; k < scene.rounds; k++) {
+        if (has_bursts() && goes_in(caller)) {
+            is_served(caller, 0);
+            leave(caller);
+            scene.by_outer++;
+        } else if (asks(caller) && (caller->ticket.state == QOLB_TICKET_AT_TURN_ || waits(caller))) {
+            if (has_bursts()) head_turn(caller);
+            else strict_turn(caller);
+        }
+        CHECK(caller->ticket.state == QOLB_TICKET_FREE_);
+    }
+    return NULL;
+}
+
+/* Of all scenes. The last one is of luck, and the most in a row stands behind them. */
+static const char *const counted[] = {
+    "turns", "by the outer word", "withdrawn",       "slept", "slept at the outer word", "tried", "far", "shut",
+    "told",  "reopened",          "drawn by another"};
+enum { COUNTS = sizeof counted / sizeof counted[0] };
+static long sums[COUNTS + 1];
+
+static void plays(int threads, uint64_t burst, int does_what, long rounds) {
+    static struct caller callers[MOST_THREADS];
+    pthread_t thread[MOST_THREADS];
+    memset(&scene, 0, sizeof scene);
+    memset(callers, 0, sizeof callers);
+    scene.core = opened(burst);
+    scene.burst = burst;
+    scene.does = does_what;
+    scene.rounds = rounds;
+    scene.last_number = -1;
+    pthread_barrier_init(&all_there, NULL, (unsigned)threads);
+    for (int k = 0; k < threads; k++) {
+        callers[k].seed = (uint64_t)k + 1;
+        CHECK(!pthread_create(&thread[k], NULL, calls, &callers[k]));
+    }
+    for (int k = 0; k < threads; k++) pthread_join(thread[k], NULL);
+    __tsan_acquire(&scene);
+    CHECK(scene.shared == scene.turns);
+    CHECK(scene.reopened + scene.is_shut == scene.shut);
+    long counts[] = {scene.turns, scene.by_outer, scene.withdrawn, scene.slept,    scene.head_slept,      scene.tried,
+                     scene.far,   scene.shut,     scene.told_shut, scene.reopened, scene.drawn_by_another};
+    for (int k = 0; k < COUNTS; k++) sums[k] += counts[k];
+    if (scene.most_newcomers > sums[COUNTS]) sums[COUNTS] = scene.most_newcomers;
+}
+
+/* ---- One thread: misuse ---- */
+
+typedef uint32_t call(const struct qolb_core *core, struct qolb_ticket *ticket);
+
+static const struct {
+    const char *name;
+    call *call;
+    int allowed; /* the states that allow it, as bits */
+    uint64_t least_burst, most_burst;
+} every[] = {
+#define FREE (1 << QOLB_TICKET_FREE_)
+#define WAITING (1 << QOLB_TICKET_WAITING_)
+#define AT_TURN (1 << QOLB_TICKET_AT_TURN_)
+#define TURNS (AT_TURN | 1 << QOLB_TICKET_SERVED_ | 1 << QOLB_TICKET_SERVED_SHUT_)
+#define HEADS (1 << QOLB_TICKET_HEAD_INSIDE_ | 1 << QOLB_TICKET_HEAD_INSIDE_SHUT_)
+    {"ask", qolb_core_ask_proved_, FREE, 0, 9},
+    {"ask_near", qolb_core_ask_near_proved_, FREE, 0, 9},
+    {"try_ask", qolb_core_try_ask_proved_, FREE, 0, 9},
+    {"poll", qolb_core_poll_proved_, WAITING, 0, 9},
+    {"announce_sleep", qolb_core_announce_sleep_proved_, WAITING, 0, 9},
+    {"retract_sleep", qolb_core_retract_sleep_proved_, 1 << QOLB_TICKET_ASLEEP_, 0, 9},
+    {"withdraw", qolb_core_withdraw_proved_, WAITING, 0, 9},
+    {"release", qolb_core_release_proved_, TURNS | 1 << QOLB_TICKET_ENDING_ | HEADS, 0, 9},
+    {"check_open", qolb_core_check_open_proved_, TURNS, 0, 1},
+    {"go_in", qolb_core_go_in_proved_, FREE, 2, 9},
+    {"take_outer", qolb_core_take_outer_proved_, AT_TURN, 2, 9},
+    {"leave", qolb_core_leave_proved_, 1 << QOLB_TICKET_INSIDE_ | 1 << QOLB_TICKET_INSIDE_SHUT_, 0, 9},
+    {"request_handoff", qolb_core_request_handoff_proved_, AT_TURN, 0, 9},
+    {"announce_head_sleep", qolb_core_announce_head_sleep_proved_, AT_TURN, 0, 9},
+    {"shut", qolb_core_shut_proved_,
+     1 << QOLB_TICKET_SERVED_ | 1 << QOLB_TICKET_HEAD_INSIDE_ | 1 << QOLB_TICKET_INSIDE_, 0, 9},
+    {"reopen", qolb_core_reopen_proved_, 1 << QOLB_TICKET_SERVED_SHUT_ | 1 << QOLB_TICKET_HEAD_INSIDE_SHUT_, 0, 9},
+};
+enum { CALLS = sizeof every / sizeof every[0], WORDS = 21 };
+
+static long misused;
+
+/* The call is misuse, and neither the ticket nor a word of the lock changes. */
+static void is_misuse(const struct qolb_core *core, struct qolb_ticket *ticket, int k) {
+    struct qolb_ticket was = *ticket;
+    uint64_t words[WORDS];
+    memcpy(words, qolb_core_words_(core), sizeof words);
+    if (every[k].call(core, ticket) != QOLB_MISUSE)
+        printf("%s in state %u: allowed\n", every[k].name, was.state), abort();
+    CHECK(!memcmp(&was, ticket, sizeof was));
+    CHECK(!memcmp(words, qolb_core_words_(core), sizeof words));
+    misused++;
+}
+
+/* With a ticket in this state: each call that the state or the lock does not allow, and each call of another lock. */
+static void misuses(const struct qolb_core *core, uint64_t burst, struct qolb_ticket *ticket, uint32_t state) {
+    struct qolb_core other = opened(burst);
+    CHECK(ticket->state == state);
+    for (int k = 0; k < CALLS; k++) {
+        int fits = burst >= every[k].least_burst && burst <= every[k].most_burst;
+        if (!fits || !(every[k].allowed >> state & 1)) is_misuse(core, ticket, k);
+        if (state != QOLB_TICKET_FREE_) is_misuse(&other, ticket, k);
+    }
+}
+
+static void all_misuse(uint64_t burst) {
+    struct qolb_core core = opened(burst);
+    struct qolb_ticket a, b, c;
+    memset(&a, 0, sizeof a), memset(&b, 0, sizeof b), memset(&c, 0, sizeof c);
+    misuses(&core, burst, &a, QOLB_TICKET_FREE_);
+    CHECK(qolb_core_ask_proved_(&core, &a) == QOLB_GRANTED);
+    misuses(&core, burst, &a, QOLB_TICKET_AT_TURN_);
+    CHECK(qolb_core_ask_proved_(&core, &b) == QOLB_WAITING);
+    misuses(&core, burst, &b, QOLB_TICKET_WAITING_);
+    CHECK(qolb_core_announce_sleep_proved_(&core, &b) == QOLB_ASLEEP_);
+    misuses(&core, burst, &b, QOLB_TICKET_ASLEEP_);
+    CHECK(qolb_core_retract_sleep_proved_(&core, &b) == QOLB_WAITING);
+    call *serve = burst > 1 ? qolb_core_take_outer_proved_ : qolb_core_check_open_proved_;
+    CHECK(serve(&core, &a) == QOLB_GRANTED);
+    misuses(&core, burst, &a, burst > 1 ? QOLB_TICKET_HEAD_INSIDE_ : QOLB_TICKET_SERVED_);
+    if (burst > 1) {
+        CHECK(qolb_core_release_proved_(&core, &a) == QOLB_DONE);
+        misuses(&core, burst, &a, QOLB_TICKET_INSIDE_);
+        CHECK(qolb_core_shut_proved_(&core, &a) == QOLB_DONE);
+        misuses(&core, burst, &a, QOLB_TICKET_INSIDE_SHUT_);
+        CHECK(qolb_core_leave_proved_(&core, &a) == QOLB_DONE);
+    } else {
+        CHECK(qolb_core_shut_proved_(&core, &a) == QOLB_DONE);
+        misuses(&core, burst, &a, QOLB_TICKET_SERVED_SHUT_);
+        CHECK(qolb_core_release_proved_(&core, &a) == QOLB_DONE);
+    }
+    misuses(&core, burst, &a, QOLB_TICKET_FREE_);
+    CHECK(qolb_core_poll_proved_(&core, &b) == QOLB_GRANTED && serve(&core, &b) == QOLB_CLOSED);
+    misuses(&core, burst, &b, burst > 1 ? QOLB_TICKET_HEAD_INSIDE_SHUT_ : QOLB_TICKET_SERVED_SHUT_);
+    CHECK(qolb_core_reopen_proved_(&core, &b) == QOLB_GRANTED && qolb_core_release_proved_(&core, &b) == QOLB_DONE);
+    if (burst > 1) CHECK(qolb_core_leave_proved_(&core, &b) == QOLB_DONE);
+    /* A free ticket may go to another lock. */
+    struct qolb_core other = opened(burst);
+    CHECK(qolb_core_ask_proved_(&other, &b) == QOLB_GRANTED && qolb_core_release_proved_(&other, &b) == QOLB_DONE);
+    CHECK(qolb_core_try_ask_proved_(&core, &c) == QOLB_GRANTED && qolb_core_release_proved_(&core, &c) == QOLB_DONE);
+}
+
+/* ---- One thread: opening ---- */
+
+static void opens(void) {
+    struct qolb_core core = {&labels};
+    CHECK(qolb_core_open_proved_(65536, 1, &core) == QOLB_BAD_NODES && core.at == &labels);
+    CHECK(qolb_core_open_proved_(1, 0, &core) == QOLB_MISUSE && core.at == &labels);
+    /* In a room: its blocks are there, and a later opening is on the heap again. */
+    static _Alignas(128) char words[256], slots[64], block[128];
+    struct qolb_ticket ticket;
+    memset(&ticket, 0, sizeof ticket);
+    for (int again = 0; again < 2; again++) {
+        qolb_core_room_ = (struct core_room){words, slots, block};
+        CHECK(qolb_core_open_proved_(4, ++labels, &core) == QOLB_DONE);
+        CHECK(!qolb_core_room_.words && !qolb_core_room_.slots && !qolb_core_room_.block);
+        CHECK(core.at == (void *)block && qolb_core_words_(&core) == (void *)words);
+        /* The second time the ticket is of the lock that lay there before. */
+        CHECK(qolb_core_ask_proved_(&core, &ticket) == QOLB_GRANTED && ticket.number == 0);
+        CHECK(qolb_core_take_outer_proved_(&core, &ticket) == QOLB_GRANTED);
+        CHECK(qolb_core_release_proved_(&core, &ticket) == QOLB_DONE);
+        CHECK(qolb_core_leave_proved_(&core, &ticket) == QOLB_DONE);
+    }
+    static struct qolb_core on_heap;
+    CHECK(qolb_core_open_proved_(4, ++labels, &on_heap) == QOLB_DONE);
+    CHECK(on_heap.at != (void *)block && qolb_core_words_(&on_heap) != (void *)words);
+    /* The tail and the cells are in one cache line. */
+    CHECK((uintptr_t)(qolb_core_words_(&on_heap) + 16) / 64 == (uintptr_t)(qolb_core_words_(&on_heap) + 20) / 64);
+}
+
+int main(int argc, char **argv) {
+    long rounds = argc > 1 ? atol(argv[1]) : 4000;
+    int most = argc > 2 ? atoi(argv[2]) : MOST_THREADS;
+    alarm(600);
+    opens();
+    all_misuse(1);
+    all_misuse(4);
+    printf("%ld calls that are misuse\n", misused);
+    static const uint64_t bounds[] = {1, 2, 16, 64};
+    static const int mixes[] = {0, TRIES | NEARS | WITHDRAWS, SLEEPS, SHUTS,
+                                TRIES | NEARS | WITHDRAWS | SLEEPS | SHUTS};
+    for (int threads = 2; threads <= most; threads *= threads < 4 ? 2 : 4)
+        for (unsigned b = 0; b < sizeof bounds / sizeof bounds[0]; b++)
+            for (unsigned m = 0; m < sizeof mixes / sizeof mixes[0]; m++)
+                plays(threads, bounds[b], mixes[m], rounds / (threads / 2));
+    for (int k = 0; k < COUNTS; k++) {
+        printf("%ld %s, ", sums[k], counted[k]);
+        CHECK(sums[k] > 0 || k == COUNTS - 1);
+    }
+    printf("at most %ld newcomers in a row\n", sums[COUNTS]);
+    return 0;
+}

@@ -1,0 +1,7 @@
+-- A `&` to a reference to a lock holds shares of it.
+use denote.Param.Send.{IsSync, part_keyless}
+use Rattle.qolb_locks.specs.contracts.lock_ref.LockRef.{the_row}
+use Rattle.qolb_locks.proofs.lock_ref.LockRef.TheSendSync.Send.{send}
+
+pub sync : IsSync the_row
+sync = record { shared = λ d b o κ q. part_keyless the_row send q d b o }

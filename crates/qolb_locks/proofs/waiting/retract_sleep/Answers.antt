@@ -1,0 +1,13 @@
+use Rattle.std.proofs.Common.{ap, ◌∙◌}
+use Rattle.qolb_locks.specs.declared.claim.Claim.{Claim}
+use Rattle.qolb_locks.proofs.waiting.retract_sleep.Goals as goal
+
+pub returns-clause-same : goal.returns-clause-same
+returns-clause-same c = λ _. (
+  c.take-seat.result.me.0,
+  c.retract_sleep-rounds.new.seat.me.0,
+  c.take-seat.ensures.view,
+  ap (λ (claim : Claim). claim.views) c.settle.ensures.claim ∙ c.put.ensures.view,
+  c.retract_sleep-rounds.ensures.load,
+  c.retract_sleep-rounds.ensures.request,
+)

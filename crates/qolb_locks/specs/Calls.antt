@@ -1,0 +1,186 @@
+-- The promise of each call of a lock, by its answer. `was` and `now` are the ticket before and after. (Of this project.)
+use Rattle.std.specs.Prelude.{◌≡◌, ◌≢◌, ℕ, ◌<◌, ◌≤◌, ◌+◌, ◌%◌, ◌⊎◌, false, max, [], ◌∷◌}
+use Rattle.std.specs.declared.option.Option.{Option}
+use Rattle.std.specs.declared.option.Option.TheVariants.{Some}
+use Rattle.atomic_table.specs.declared.shared.Seat.{Seat}
+use Rattle.lock_core.specs.declared.view.View.{View}
+use Rattle.lock_core.specs.Layout.{outer_at, tail_at, cell_at, to_go, count_of, handoff_of, asleep_of, state_of}
+use Rattle.lock_core.specs.Looks.{Found, FoundChanged, FoundNext, FoundTailMoved, IsLeftAs, IsNoEntry}
+use Rattle.lock_core.specs.Looks as looks
+use Rattle.lock_core.specs.Views.{Timely, view_of, IsNewcomersTurn, IsOvertakenInBounds, GrantedToNobodyAsleep, GrantedAfter, LeftQuietly, SleepsAtOuter}
+use Rattle.qolb_locks.specs.declared.answer.Answer.{Answer}
+use Rattle.qolb_locks.specs.declared.answer.Answer.TheVariants as answer
+use Rattle.qolb_locks.specs.declared.lock.Lock.{Lock}
+use Rattle.qolb_locks.specs.declared.ticket.Ticket.{Ticket}
+use Rattle.qolb_locks.specs.declared.ticket.State.TheVariants as state
+use Rattle.qolb_locks.specs.Tickets.{Is, IsWithin, Has, Knows, IsStrict, HasBursts}
+
+-- a lock with this bound of bursts, and this label
+abbrev pub IsOpen : Option Lock → ℕ → ℕ → Type 0
+IsOpen lock burst label = (l : Lock) × (lock ≡ Some l) × (l.burst ≡ max burst 1) × (l.label ≡ label)
+
+-- `open`: by its answer
+abbrev pub Opens : ℕ → ℕ → Option Lock → Answer → Type 0
+Opens burst label lock answer.Done = IsOpen lock burst label × (burst ≤ 65535) × (label ≢ 0)
+Opens burst label lock answer.BadBurst = 65535 < burst
+Opens burst label lock answer.Misuse = label ≡ 0
+Opens burst label lock answer.NoMemory = (burst ≤ 65535) × (label ≢ 0)
+Opens burst label lock _ = ⊥
+
+-- the call was not allowed, and nothing changed
+abbrev pub IsMisuse : Ticket → Ticket → Answer → Type 0
+IsMisuse was now a = (a ≡ answer.Misuse) × (now ≡ was)
+
+-- the seat of the ticket's caller, and this is so of it: what its last steps found
+abbrev pub Shows : Ticket → (Seat ℕ View → Type 0) → Type 0
+Shows t P = (seat : Seat ℕ View) × (t.claim.views ≡ view_of seat ∷ []) × P seat
+
+-- what the caller knew before and knows now
+abbrev pub Learns : Ticket → Ticket → (View → View → Type 0) → Type 0
+Learns was now P = (v w : View) × (was.claim.views ≡ v ∷ []) × (now.claim.views ≡ w ∷ []) × (v.most_open ≤ w.most_open) × (Timely w → P v w)
+
+-- a request is behind the ticket's last turn, and all that it has heard of
+abbrev pub IsBehind : View → View → Type 0
+IsBehind v w = (v.ended ≤ w.first_pending) × (w.first_pending ≤ w.ticket) × (v.newcomers_seen ≤ w.newcomers_at_ask)
+
+-- no more newcomers overtook the request than the bound allows
+abbrev pub InBounds : Lock → Ticket → Type 0
+InBounds lock t = Knows lock t IsOvertakenInBounds
+
+-- `ask`, and `poll` and `retract_sleep` of a ticket that waits
+abbrev pub Looks : Lock → Ticket → Answer → Type 0
+Looks lock now answer.Granted = Has state.AtTurn lock now × InBounds lock now
+Looks lock now answer.Waiting = Has state.Waiting lock now × (0 < now.rounds)
+    × Shows now (Found (cell_at now.number) (λ n. to_go n now.number ≡ now.rounds))
+Looks lock now _ = ⊥
+
+-- `try_ask`
+abbrev pub Tries : Lock → Ticket → Answer → Type 0
+Tries lock now answer.Granted = Has state.AtTurn lock now
+Tries lock now answer.Busy = Has state.Free lock now
+    × Shows now (λ seat. FoundNext (λ rounds. 0 < rounds) seat ⊎ FoundTailMoved seat)
+Tries lock now _ = ⊥
+
+-- `ask_near`: what it draws could be withdrawn
+abbrev pub AsksNear : Lock → Ticket → Answer → Type 0
+AsksNear lock now answer.Granted = Has state.AtTurn lock now
+AsksNear lock now answer.Waiting = Has state.Waiting lock now × (0 < now.rounds) × (now.rounds ≤ 15)
+AsksNear lock now answer.Far = Has state.Free lock now × (15 < now.rounds)
+    × Shows now (FoundNext (λ rounds. rounds ≡ now.rounds))
+AsksNear lock now answer.Busy = Has state.Free lock now × Shows now FoundTailMoved
+AsksNear lock now _ = ⊥
+
+-- `announce_sleep`: with the word at which to sleep
+abbrev pub AnnouncesSleep : Lock → Ticket → Answer → Type 0
+AnnouncesSleep lock now answer.Granted = Has state.AtTurn lock now × InBounds lock now
+AnnouncesSleep lock now answer.Asleep = Has state.Asleep lock now × (0 < to_go now.word now.number)
+    × Shows now (looks.Leaves (cell_at now.number) (λ n. n ≡ now.word))
+AnnouncesSleep lock now answer.Waiting = Has state.Waiting lock now × (0 < now.rounds)
+    × Shows now (FoundChanged (cell_at now.number))
+AnnouncesSleep lock now answer.Full = Has state.Waiting lock now × (0 < now.rounds)
+    × Shows now (Found (cell_at now.number) (λ n. count_of n ≡ 65535))
+AnnouncesSleep lock now _ = ⊥
+
+-- `withdraw`: one that is too far away stays as it is
+abbrev pub Withdraws : Lock → Ticket → Ticket → Answer → Type 0
+Withdraws lock was now answer.Withdrawn = Has state.Free lock now
+Withdraws lock was now answer.Granted = Has state.AtTurn lock now
+Withdraws lock was now answer.Far = (15 < was.rounds) × (now ≡ was)
+Withdraws lock was now _ = ⊥
+
+-- the ticket granted the one after its number; where the count of sleepers there was 0, nobody slept
+abbrev pub GrantsNext : Lock → Ticket → Type 0
+GrantsNext lock now = Knows lock now (λ v. GrantedAfter now.number v × (now.sleepers ≡ 0 → GrantedToNobodyAsleep v))
+
+-- `release`: a head that is in stays in
+abbrev pub Releases : Lock → Ticket → Ticket → Answer → Type 0
+Releases lock was now answer.Done = GrantsNext lock now
+    × (Is state.HeadInside lock was → Has state.Inside lock now)
+    × (Is state.HeadInsideShut lock was → Has state.InsideShut lock now)
+    × (was.state < 7 → Has state.Free lock now)
+Releases lock was now answer.Unfinished = (Is state.HeadInside lock was → Has state.HeadInside lock now)
+    × (Is state.HeadInsideShut lock was → Has state.HeadInsideShut lock now)
+    × (was.state < 7 → Has state.Ending lock now)
+    × (now.number ≡ (was.number + 64) % 18446744073709551616)
+Releases lock was now _ = ⊥
+
+-- a ticket at its turn in a strict lock, told of the outer word or not
+abbrev pub IsAtStrictTurn : Lock → Ticket → Type 0
+IsAtStrictTurn lock t = IsStrict lock × IsWithin 3 5 lock t
+
+-- `check_open`
+abbrev pub ChecksOpen : Lock → Ticket → Answer → Type 0
+ChecksOpen lock now answer.Granted = Has state.Served lock now
+ChecksOpen lock now answer.Closed = Has state.ServedShut lock now
+ChecksOpen lock now _ = ⊥
+
+-- `go_in`, with this guess of the outer word
+abbrev pub GoesIn : Lock → ℕ → Ticket → Answer → Type 0
+GoesIn lock guess now answer.Granted = Has state.Inside lock now × Knows lock now IsNewcomersTurn
+GoesIn lock guess now answer.Busy = Has state.Free lock now
+    × (IsNoEntry guess ⊎ Shows now (Found outer_at (λ n. n ≢ guess)))
+GoesIn lock guess now _ = ⊥
+
+-- the queue head of a lock with bursts
+abbrev pub IsHead : Lock → Ticket → Type 0
+IsHead lock t = HasBursts lock × Is state.AtTurn lock t
+
+-- `take_outer`: the head is in, and is to release its turn of the queue
+abbrev pub TakesOuterWord : Lock → Ticket → Answer → Type 0
+TakesOuterWord lock now answer.Granted = Has state.HeadInside lock now × InBounds lock now
+TakesOuterWord lock now answer.Closed = Has state.HeadInsideShut lock now × InBounds lock now
+TakesOuterWord lock now answer.Waiting = Has state.AtTurn lock now
+    × Shows now (λ seat. Found outer_at (λ n. state_of n ≡ 1) seat ⊎ FoundChanged outer_at seat)
+TakesOuterWord lock now _ = ⊥
+
+-- `leave`: where it says that no head sleeps, none does
+abbrev pub Leaves : Lock → Ticket → Ticket → Answer → Type 0
+Leaves lock was now answer.Done = Has state.Free lock now × Knows lock now (λ v. (v.inside ≡ 0) × (now.head_sleeps ≡ false → LeftQuietly v))
+    × Shows now (looks.Leaves outer_at (IsLeftAs lock.burst was.outer))
+Leaves lock was now answer.Busy = (Is state.Inside lock was → Has state.Inside lock now) × (Is state.InsideShut lock was → Has state.InsideShut lock now)
+    × Shows now (Found outer_at (λ n. n ≢ was.outer))
+Leaves lock was now _ = ⊥
+
+-- `shut`: of a ticket that is served
+abbrev pub IsServed : Lock → Ticket → Type 0
+IsServed lock t = Is state.Served lock t ⊎ Is state.HeadInside lock t ⊎ Is state.Inside lock t
+
+abbrev pub Shuts : Lock → Ticket → Ticket → Answer → Type 0
+Shuts lock was now answer.Done = (Is state.Served lock was → Has state.ServedShut lock now)
+    × (Is state.HeadInside lock was → Has state.HeadInsideShut lock now)
+    × (Is state.Inside lock was → Has state.InsideShut lock now)
+Shuts lock was now _ = ⊥
+
+-- `reopen`: of a ticket with a turn of the queue that was told that the lock is shut
+abbrev pub IsToldShut : Lock → Ticket → Type 0
+IsToldShut lock t = Is state.ServedShut lock t ⊎ Is state.HeadInsideShut lock t
+
+abbrev pub Reopens : Lock → Ticket → Ticket → Answer → Type 0
+Reopens lock was now answer.Granted = (Is state.ServedShut lock was → Has state.Served lock now)
+    × (Is state.HeadInsideShut lock was → Has state.HeadInside lock now)
+Reopens lock was now answer.Busy = (Is state.ServedShut lock was → Has state.ServedShut lock now)
+    × (Is state.HeadInsideShut lock was → Has state.HeadInsideShut lock now)
+    × Shows now (Found tail_at (λ n. n ≢ (was.number + 1) % 18446744073709551616))
+Reopens lock was now _ = ⊥
+
+-- what a ticket learns changes neither its number nor its label
+abbrev pub SameTicket : Ticket → Ticket → Type 0
+SameTicket was now = (now.number ≡ was.number) × (now.rounds ≡ was.rounds) × (now.label ≡ was.label) × (now.state ≡ was.state)
+
+-- `request_handoff`
+abbrev pub RequestsHandoff : Lock → Ticket → Answer → Type 0
+RequestsHandoff lock now answer.Done = Has state.AtTurn lock now × Shows now (looks.Leaves outer_at (λ n. handoff_of n ≡ 1))
+RequestsHandoff lock now answer.Busy = Has state.AtTurn lock now × Shows now (FoundChanged outer_at)
+RequestsHandoff lock now _ = ⊥
+
+-- the outer word is held, and says that the head sleeps
+abbrev pub HeldWithSleeper : ℕ → Type 0
+HeldWithSleeper outer = (asleep_of outer ≡ 1) × (state_of outer ≡ 1)
+
+-- `announce_head_sleep`: with the word at which to sleep
+abbrev pub SleepsAsHead : Lock → Ticket → Answer → Type 0
+SleepsAsHead lock now answer.Asleep = Has state.AtTurn lock now × Knows lock now SleepsAtOuter × HeldWithSleeper now.outer
+    × Shows now (looks.Leaves outer_at (λ n. n ≡ now.outer))
+SleepsAsHead lock now answer.Waiting = Has state.AtTurn lock now
+    × Shows now (λ seat. Found outer_at (λ n. state_of n ≢ 1) seat ⊎ FoundChanged outer_at seat)
+SleepsAsHead lock now _ = ⊥

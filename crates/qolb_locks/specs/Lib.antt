@@ -1,0 +1,5 @@
+pub mod Calls
+pub mod Held
+pub mod Meets
+pub mod Shared
+pub mod Tickets

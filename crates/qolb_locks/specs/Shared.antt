@@ -1,0 +1,17 @@
+-- What a reference to a lock holds: nothing, or what a `&'static` to the lock holds, which can be copied.
+use Rattle.std.specs.Prelude.{[]}
+use base.Fml.{Fml, ftrue}
+use base.Stored.{Coded}
+use denote.RawPtr.{Ptr}
+use denote.Struct.Lending.{lent_at}
+use Rattle.std.specs.Coded.{coded_option}
+use Rattle.std.specs.declared.option.Option.{Option}
+use Rattle.std.specs.declared.option.Option.TheVariants.{None, Some}
+use Rattle.qolb_locks.specs.contracts.lock.Lock.{the_row}
+
+abbrev pub lock_coded : Coded (Option the_row.Denot)
+lock_coded = coded_option the_row.coded
+
+abbrev pub refers : Ptr → Option the_row.Denot → Fml
+refers at None = ftrue
+refers at (Some lock) = lent_at the_row at lock []

@@ -1,0 +1,75 @@
+-- What a ticket has, and what it knows of its lock. (Of this project.)
+use Rattle.std.specs.Prelude.{◌≡◌, ℕ, ◌==◌, if◌then◌else◌, ◌≤◌, [], ◌∷◌}
+use Rattle.lock_core.specs.declared.view.View.{View}
+use Rattle.lock_core.specs.Views.{max_newcomers_of, Timely, IsIdle, IsQueuedWithin, IsAsleep, IsAtTurn, HasTurnOf, IsInside, ServedOpen, ServedShut, KnowsShut}
+use Rattle.qolb_locks.specs.declared.lock.Lock.{Lock}
+use Rattle.qolb_locks.specs.declared.ticket.Ticket.{Ticket}
+use Rattle.qolb_locks.specs.declared.ticket.State.{State}
+use Rattle.qolb_locks.specs.declared.ticket.State.TheVariants as state
+
+-- C's number of a state
+abbrev pub number_of : State → ℕ
+number_of state.Free = 0
+number_of state.Waiting = 1
+number_of state.Asleep = 2
+number_of state.AtTurn = 3
+number_of state.Served = 4
+number_of state.ServedShut = 5
+number_of state.Ending = 6
+number_of state.HeadInside = 7
+number_of state.HeadInsideShut = 8
+number_of state.Inside = 9
+number_of state.InsideShut = 10
+
+-- the state of a number; no other number is ever made
+abbrev pub state_of : ℕ → State
+state_of n =
+    if n == 1 then state.Waiting else if n == 2 then state.Asleep else if n == 3 then state.AtTurn
+    else if n == 4 then state.Served else if n == 5 then state.ServedShut else if n == 6 then state.Ending
+    else if n == 7 then state.HeadInside else if n == 8 then state.HeadInsideShut
+    else if n == 9 then state.Inside else if n == 10 then state.InsideShut else state.Free
+
+-- a strict lock; one with bursts
+abbrev pub IsStrict : Lock → Type 0
+IsStrict lock = lock.burst ≤ 1
+
+abbrev pub HasBursts : Lock → Type 0
+HasBursts lock = 2 ≤ lock.burst
+
+-- what the caller of a ticket knows, by the ticket's state, number and rounds to go
+abbrev pub Says : State → ℕ → ℕ → View → Type 0
+Says state.Free number rounds v = IsIdle v
+Says state.Waiting number rounds v = IsQueuedWithin rounds number v
+Says state.Asleep number rounds v = IsAsleep number v
+Says state.AtTurn number rounds v = IsAtTurn number v
+Says state.Served number rounds v = (v.max_newcomers ≡ 0) × IsAtTurn number v × ServedOpen v
+Says state.ServedShut number rounds v = (v.max_newcomers ≡ 0) × IsAtTurn number v × ServedShut v × KnowsShut v
+Says state.Ending number rounds v = HasTurnOf number v
+Says state.HeadInside number rounds v = HasTurnOf number v × (v.inside ≡ 1) × ServedOpen v
+Says state.HeadInsideShut number rounds v = HasTurnOf number v × (v.inside ≡ 1) × ServedShut v × KnowsShut v
+Says state.Inside number rounds v = IsInside v × ServedOpen v
+Says state.InsideShut number rounds v = IsInside v × ServedShut v × KnowsShut v
+
+-- the ticket has a seat of this lock, and this is so of its view, if no more load was on the lock than the rule allows
+abbrev pub Knows : Lock → Ticket → (View → Type 0) → Type 0
+Knows lock t P = (v : View) × (t.claim.views ≡ v ∷ []) × (t.claim.table_id ≡ lock.table.shared.table_id)
+    × (v.max_newcomers ≡ max_newcomers_of lock.table.shared.key) × (Timely v → P v)
+
+-- the ticket is of this lock by its label, and in this state by its number; and what that says is so
+abbrev pub Is : State → Lock → Ticket → Type 0
+Is state lock t = (t.label ≡ lock.label) × (t.state ≡ number_of state)
+
+-- the ticket is of this lock, and in one of the states of these numbers
+abbrev pub IsWithin : ℕ → ℕ → Lock → Ticket → Type 0
+IsWithin low high lock t = (t.label ≡ lock.label) × (low ≤ t.state) × (t.state ≤ high)
+
+abbrev pub Has : State → Lock → Ticket → Type 0
+Has state lock t = Is state lock t × Knows lock t (Says state t.number t.rounds)
+
+-- What a call asks of a ticket: if it has the lock's label, what its state says is so. A ticket of zeros has no lock's label.
+abbrev pub IsKnown : Lock → Ticket → Type 0
+IsKnown lock t = t.label ≡ lock.label → Knows lock t (Says (state_of t.state) t.number t.rounds)
+
+-- it has no request of any lock
+abbrev pub IsFree : Ticket → Type 0
+IsFree t = t.state ≡ 0

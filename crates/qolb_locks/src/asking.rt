@@ -1,0 +1,184 @@
+//! Requests.
+ghost use Rattle.std.specs.Prelude.{◌≡◌};
+ghost use Rattle.qolb_locks.specs.declared.ticket.State.{State};
+ghost use Rattle.qolb_locks.specs.Calls.{IsMisuse, Learns, IsBehind, Looks, Tries, AsksNear};
+ghost use Rattle.qolb_locks.specs.Tickets.{Is, Has, IsFree, IsKnown};
+
+use crate::answer::Answer;
+use crate::lock::Lock;
+use crate::ticket::{State, Ticket};
+use lock_core::AskNearResult;
+
+/// Gives a ticket without a request a new seat of this lock.
+#[inline(always)]
+pub(crate) fn take_new_seat(lock: &Lock, ticket: &mut Ticket)
+    requires { IsFree ticket.old }
+    ensures free { Has State.Free lock.now ticket.new }
+    ensures outer { ticket.new.outer ≡ ticket.old.outer }
+{
+    ticket.claim.put(lock_core::new_seat(&lock.table.shared));
+    ticket.label = lock.label;
+}
+
+/// Requests the lock with a ticket of it, and polls once.
+#[inline(always)]
+fn ask_again(lock: &Lock, ticket: &mut Ticket) -> Answer
+    requires { Has State.Free lock.now ticket.old }
+    ensures known { IsKnown lock.now ticket.new }
+    ensures does { Looks lock.now ticket.new result }
+    ensures after { Learns ticket.old ticket.new IsBehind }
+{
+    let mut seat = ticket.claim.take();
+    ticket.number = lock_core::ask(&lock.table.shared, &mut seat);
+    let rounds = lock_core::poll(&lock.table.shared, &mut seat, ticket.number);
+    ticket.claim.put(seat);
+    ticket.settle(rounds)
+}
+
+/// Requests the lock with a ticket that is not of it yet.
+///
+/// Not inlined, so that the call of a ticket of the lock saves no registers for it.
+#[inline(never)]
+fn ask_first(lock: &Lock, ticket: &mut Ticket) -> Answer
+    requires { IsFree ticket.old }
+    ensures known { IsKnown lock.now ticket.new }
+    ensures does { Looks lock.now ticket.new result }
+{
+    take_new_seat(lock, ticket);
+    ask_again(lock, ticket)
+}
+
+/// Requests the lock, and polls once.
+///
+/// The request is behind the ticket's last turn at this lock.
+#[inline(always)]
+pub fn ask(lock: &Lock, ticket: &mut Ticket) -> Answer
+    requires { IsKnown lock.now ticket.old }
+    ensures known { IsKnown lock.now ticket.new }
+    ensures misuse { ¬ IsFree ticket.old → IsMisuse ticket.old ticket.new result }
+    ensures does { IsFree ticket.old → Looks lock.now ticket.new result }
+    ensures after { Is State.Free lock.now ticket.old → Learns ticket.old ticket.new IsBehind }
+{
+    if ticket.state != State::Free as u32 {
+        return Answer::Misuse;
+    }
+    if ticket.label != lock.label {
+        return ask_first(lock, ticket);
+    }
+    ask_again(lock, ticket)
+}
+
+/// Tries for the lock with a ticket of it.
+#[inline(always)]
+fn try_ask_again(lock: &Lock, ticket: &mut Ticket) -> Answer
+    requires { Has State.Free lock.now ticket.old }
+    ensures known { IsKnown lock.now ticket.new }
+    ensures does { Tries lock.now ticket.new result }
+{
+    let mut seat = ticket.claim.take();
+    let drawn = lock_core::try_ask(&lock.table.shared, &mut seat);
+    ticket.claim.put(seat);
+    let Some(number) = drawn else {
+        return Answer::Busy;
+    };
+    ticket.number = number;
+    ticket.state = State::AtTurn as u32;
+    Answer::Granted
+}
+
+/// Tries for the lock with a ticket that is not of it yet.
+///
+/// Not inlined, so that the call of a ticket of the lock saves no registers for it.
+#[inline(never)]
+fn try_ask_first(lock: &Lock, ticket: &mut Ticket) -> Answer
+    requires { IsFree ticket.old }
+    ensures known { IsKnown lock.now ticket.new }
+    ensures does { Tries lock.now ticket.new result }
+{
+    take_new_seat(lock, ticket);
+    try_ask_again(lock, ticket)
+}
+
+/// Requests the lock if nobody has it and nobody waits.
+///
+/// Else leaves nothing behind.
+#[inline(always)]
+pub fn try_ask(lock: &Lock, ticket: &mut Ticket) -> Answer
+    requires { IsKnown lock.now ticket.old }
+    ensures known { IsKnown lock.now ticket.new }
+    ensures misuse { ¬ IsFree ticket.old → IsMisuse ticket.old ticket.new result }
+    ensures does { IsFree ticket.old → Tries lock.now ticket.new result }
+{
+    if ticket.state != State::Free as u32 {
+        return Answer::Misuse;
+    }
+    if ticket.label != lock.label {
+        return try_ask_first(lock, ticket);
+    }
+    try_ask_again(lock, ticket)
+}
+
+/// Requests the lock with a ticket of it, if the request could be withdrawn.
+#[inline(always)]
+fn ask_near_again(lock: &Lock, ticket: &mut Ticket) -> Answer
+    requires { Has State.Free lock.now ticket.old }
+    ensures known { IsKnown lock.now ticket.new }
+    ensures does { AsksNear lock.now ticket.new result }
+{
+    let mut seat = ticket.claim.take();
+    let asked = lock_core::ask_near(&lock.table.shared, &mut seat);
+    ticket.claim.put(seat);
+    match asked {
+        AskNearResult::AtTurn { ticket: number } => {
+            ticket.number = number;
+            ticket.state = State::AtTurn as u32;
+            Answer::Granted
+        }
+        AskNearResult::Queued {
+            ticket: number,
+            rounds,
+        } => {
+            ticket.number = number;
+            ticket.rounds = rounds;
+            ticket.state = State::Waiting as u32;
+            Answer::Waiting
+        }
+        AskNearResult::Far { rounds } => {
+            ticket.rounds = rounds;
+            Answer::Far
+        }
+        AskNearResult::Changed => Answer::Busy,
+    }
+}
+
+/// Requests the lock with a ticket that is not of it yet, if the request could be withdrawn.
+///
+/// Not inlined, so that the call of a ticket of the lock saves no registers for it.
+#[inline(never)]
+fn ask_near_first(lock: &Lock, ticket: &mut Ticket) -> Answer
+    requires { IsFree ticket.old }
+    ensures known { IsKnown lock.now ticket.new }
+    ensures does { AsksNear lock.now ticket.new result }
+{
+    take_new_seat(lock, ticket);
+    ask_near_again(lock, ticket)
+}
+
+/// Requests the lock if the request could be withdrawn.
+///
+/// Else leaves nothing behind: `Far` if too many are before it, and `Busy` if another drew a ticket at that moment.
+#[inline(always)]
+pub fn ask_near(lock: &Lock, ticket: &mut Ticket) -> Answer
+    requires { IsKnown lock.now ticket.old }
+    ensures known { IsKnown lock.now ticket.new }
+    ensures misuse { ¬ IsFree ticket.old → IsMisuse ticket.old ticket.new result }
+    ensures does { IsFree ticket.old → AsksNear lock.now ticket.new result }
+{
+    if ticket.state != State::Free as u32 {
+        return Answer::Misuse;
+    }
+    if ticket.label != lock.label {
+        return ask_near_first(lock, ticket);
+    }
+    ask_near_again(lock, ticket)
+}

@@ -1,0 +1,115 @@
+//! What two tickets of one lock know of one another.
+//!
+//! Each function says that two such tickets cannot meet: in the seat that has what both callers know, there was too much load on the lock.
+//! None is to be called: a proof about callers may.
+ghost use Rattle.std.specs.Prelude.{◌≡◌, ◌<◌, ◌≤◌};
+ghost use Rattle.lock_core.specs.Meets.{IsWaiting, IsWaitingOpen, IsWaitingShut, IsStillAsleep, GrantedToNobodyAsleepAt, HadNewcomersTurn};
+ghost use Rattle.lock_core.specs.Views.{Timely, NeverInTime, HasTurn, KnowsShut, LeftQuietly, ServedOpen, SleepsAtOuter};
+ghost use Rattle.qolb_locks.specs.declared.ticket.State.{State};
+ghost use Rattle.qolb_locks.specs.Meets.{Both, IsInService};
+ghost use Rattle.qolb_locks.specs.Tickets.{IsKnown, IsWithin};
+
+use crate::lock::Lock;
+use crate::ticket::Ticket;
+use lock_core::TicketSeat;
+
+/// No two tickets are served at one time, by their states.
+pub fn never_two(lock: &Lock, ticket: &mut Ticket, other: &mut Ticket) -> TicketSeat
+    requires known { IsKnown lock.now ticket.old × IsKnown lock.now other.old }
+    requires one { IsInService lock.now ticket.old }
+    requires two { IsInService lock.now other.old }
+    ensures { NeverInTime result }
+{
+    let mut seat = ticket.claim.take();
+    lock_core::never_two(&lock.table.shared, &mut seat, other.claim.take());
+    seat
+}
+
+/// No two tickets have a turn of the queue at one time, by their states: with bursts there is one head.
+pub fn never_two_at_turn(lock: &Lock, ticket: &mut Ticket, other: &mut Ticket) -> TicketSeat
+    requires known { IsKnown lock.now ticket.old × IsKnown lock.now other.old }
+    requires one { IsWithin 3 8 lock.now ticket.old }
+    requires two { IsWithin 3 8 lock.now other.old }
+    ensures { NeverInTime result }
+{
+    let mut seat = ticket.claim.take();
+    lock_core::never_two_heads(&lock.table.shared, &mut seat, other.claim.take());
+    seat
+}
+
+/// No ticket has a turn of the queue while one with a smaller number waits.
+pub fn first_come(lock: &Lock, ticket: &mut Ticket, other: &mut Ticket) -> TicketSeat
+    requires { Both lock.now ticket.old other.old (λ v w. (Timely v → IsWaiting v) × (Timely w →
+        HasTurn w) × (v.ticket < w.ticket)) }
+    ensures { NeverInTime result }
+{
+    let mut seat = ticket.claim.take();
+    lock_core::first_come(&lock.table.shared, &mut seat, other.claim.take());
+    seat
+}
+
+/// Where a release tells of no sleeper, no ticket that it granted has announced its sleep.
+pub fn no_lost_wake(lock: &Lock, ticket: &mut Ticket, other: &mut Ticket) -> TicketSeat
+    requires { Both lock.now ticket.old other.old (λ v w. (Timely v →
+        GrantedToNobodyAsleepAt w.ticket v) × (Timely w → IsStillAsleep w)) }
+    ensures { NeverInTime result }
+{
+    let mut seat = ticket.claim.take();
+    lock_core::no_lost_wake(&lock.table.shared, &mut seat, other.claim.take());
+    seat
+}
+
+/// Where a leave tells of no head that sleeps, none noted its sleep while that caller was in.
+pub fn no_lost_wake_at_outer(lock: &Lock, ticket: &mut Ticket, other: &mut Ticket) -> TicketSeat
+    requires { Both lock.now ticket.old other.old (λ v w. (Timely v → LeftQuietly v) × (Timely w →
+        SleepsAtOuter w) × (Timely w → w.slept_in_take ≡ v.last_take)) }
+    ensures { NeverInTime result }
+{
+    let mut seat = ticket.claim.take();
+    lock_core::no_lost_wake_at_outer(&lock.table.shared, &mut seat, other.claim.take());
+    seat
+}
+
+/// No ticket is served, told that the lock is open, after it was shut, until it is opened again.
+pub fn none_served_after_shut(lock: &Lock, ticket: &mut Ticket, other: &mut Ticket) -> TicketSeat
+    requires { Both lock.now ticket.old other.old (λ v w. (Timely v → KnowsShut v) × (Timely w →
+        ServedOpen w) × (Timely w → w.epoch ≤ v.epoch)) }
+    ensures { NeverInTime result }
+{
+    let mut seat = ticket.claim.take();
+    lock_core::none_served_after_shut(&lock.table.shared, &mut seat, other.claim.take());
+    seat
+}
+
+/// No ticket waits that asked while the lock was open, before it was shut and opened again.
+pub fn none_left_at_reopening(lock: &Lock, ticket: &mut Ticket, other: &mut Ticket) -> TicketSeat
+    requires { Both lock.now ticket.old other.old (λ v w. (Timely w → IsWaitingOpen w) × (Timely w
+        → w.asked_in_epoch < v.epoch)) }
+    ensures { NeverInTime result }
+{
+    let mut seat = ticket.claim.take();
+    lock_core::none_left_at_reopening(&lock.table.shared, &mut seat, other.claim.take());
+    seat
+}
+
+/// No ticket waits that asked while the lock was shut, and one is served open in that epoch.
+pub fn asked_while_open(lock: &Lock, ticket: &mut Ticket, other: &mut Ticket) -> TicketSeat
+    requires { Both lock.now ticket.old other.old (λ v w. (Timely v → ServedOpen v) × (Timely w →
+        IsWaitingShut w) × (Timely w → w.asked_in_epoch ≡ v.epoch)) }
+    ensures { NeverInTime result }
+{
+    let mut seat = ticket.claim.take();
+    lock_core::asked_while_open(&lock.table.shared, &mut seat, other.claim.take());
+    seat
+}
+
+/// No two newcomers' turns are at the same place between two takes of the outer word by heads.
+pub fn turns_differ(lock: &Lock, ticket: &mut Ticket, other: &mut Ticket) -> TicketSeat
+    requires { Both lock.now ticket.old other.old (λ v w. (Timely v → HadNewcomersTurn v v)
+        × (Timely w → HadNewcomersTurn v w)) }
+    ensures { NeverInTime result }
+{
+    let mut seat = ticket.claim.take();
+    lock_core::turns_differ(&lock.table.shared, &mut seat, other.claim.take());
+    seat
+}

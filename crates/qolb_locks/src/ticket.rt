@@ -1,0 +1,128 @@
+//! A caller's request, as C holds it.
+ghost use Rattle.std.specs.Prelude.{◌≡◌, ◌<◌, ◌≤◌, true, false};
+ghost use Rattle.qolb_locks.specs.declared.answer.Answer.{Answer};
+ghost use Rattle.qolb_locks.specs.Tickets.{number_of, Is, IsWithin, Has, IsKnown, Knows};
+ghost use Rattle.lock_core.specs.Views.{IsAtTurn, HasTurnOf, IsInside};
+
+use crate::answer::Answer;
+use crate::claim::Claim;
+use crate::lock::Lock;
+
+/// What a ticket has. Its number is C's.
+#[derive(Clone, Copy, Debug, PartialEq, Eq)]
+pub enum State {
+    /// No request.
+    Free = 0,
+    /// It waits.
+    Waiting = 1,
+    /// It waits, and its sleep is announced.
+    Asleep = 2,
+    /// At its turn; in a lock with bursts, the queue head.
+    AtTurn = 3,
+    /// At its turn in a strict lock, and told that this is open.
+    Served = 4,
+    /// At its turn in a strict lock, and told that this is shut.
+    ServedShut = 5,
+    /// A turn to be passed on yet, by a release.
+    Ending = 6,
+    /// The queue head, in by the outer word, of an open lock.
+    HeadInside = 7,
+    /// The queue head, in by the outer word, of a lock that is shut.
+    HeadInsideShut = 8,
+    /// In by the outer word alone, of an open lock.
+    Inside = 9,
+    /// In by the outer word alone, of a lock that is shut.
+    InsideShut = 10,
+}
+
+/// A request, or none.
+#[repr(C)]
+#[derive(Drop)]
+pub struct Ticket {
+    /// The ticket's number; after a release, the last one whose turn ended.
+    pub number: u64,
+    /// While it waits: the rounds to be granted yet, when it last looked.
+    pub rounds: u64,
+    /// What the outer word is, as far as the caller knows: a guess for the next call.
+    pub outer: u64,
+    /// After a sleep is announced: the cell's word.
+    pub word: u64,
+    /// After a release: the sleepers that were counted at the granted ticket's cell.
+    pub sleepers: u64,
+    /// The label of its lock; 0 if it has none.
+    pub label: u64,
+    /// The number of its `State`.
+    pub state: u32,
+    /// After a leave: whether the queue head sleeps at the outer word.
+    pub head_sleeps: bool,
+    pub claim: Claim,
+}
+
+impl Ticket {
+    /// Returns whether the ticket is of this lock, and in this state.
+    #[inline(always)]
+    pub(crate) fn has(&self, state: State, lock: &Lock) -> bool
+        requires { IsKnown lock.now self.now }
+        ensures yes { result ≡ true → Has state lock.now self.now }
+        ensures no { result ≡ false → ¬ Is state lock.now self.now }
+    {
+        self.state == state as u32 && self.label == lock.label
+    }
+
+    /// Returns whether the ticket is of this lock, and at its turn, told of the outer word or not.
+    #[inline(always)]
+    pub(crate) fn is_at_turn(&self, lock: &Lock) -> bool
+        requires { IsKnown lock.now self.now }
+        ensures yes { result ≡ true → IsWithin 3 5 lock.now self.now
+            × Knows lock.now self.now (IsAtTurn self.now.number) }
+        ensures no { result ≡ false → ¬ IsWithin 3 5 lock.now self.now }
+    {
+        self.label == lock.label
+            && self.state >= State::AtTurn as u32
+            && self.state <= State::ServedShut as u32
+    }
+
+    /// Returns whether the ticket is of this lock, and has a turn of the queue, and is not in by the outer word.
+    #[inline(always)]
+    pub(crate) fn has_turn_outside(&self, lock: &Lock) -> bool
+        requires { IsKnown lock.now self.now }
+        ensures yes { result ≡ true → IsWithin 3 6 lock.now self.now
+            × Knows lock.now self.now (HasTurnOf self.now.number) }
+        ensures no { result ≡ false → ¬ IsWithin 3 6 lock.now self.now }
+    {
+        self.label == lock.label
+            && self.state >= State::AtTurn as u32
+            && self.state <= State::Ending as u32
+    }
+
+    /// Returns whether the ticket is of this lock, and in by the outer word alone.
+    #[inline(always)]
+    pub(crate) fn is_inside(&self, lock: &Lock) -> bool
+        requires { IsKnown lock.now self.now }
+        ensures yes { result ≡ true → IsWithin 9 10 lock.now self.now
+            × Knows lock.now self.now IsInside }
+        ensures no { result ≡ false → ¬ IsWithin 9 10 lock.now self.now }
+    {
+        self.label == lock.label
+            && self.state >= State::Inside as u32
+            && self.state <= State::InsideShut as u32
+    }
+
+    /// Notes how many rounds the request is from its turn, and answers that.
+    #[inline(always)]
+    pub(crate) fn settle(&mut self, rounds: u64) -> Answer
+        ensures granted { rounds ≡ 0 → (result ≡ Answer.Granted)
+            × (self.new ≡ record self.old { state = 3 }) }
+        ensures waits { 0 < rounds → (result ≡ Answer.Waiting)
+            × (self.new ≡ record self.old { state = 1; rounds = rounds }) }
+        ensures claim { self.new.claim ≡ self.old.claim }
+    {
+        if rounds == 0 {
+            self.state = State::AtTurn as u32;
+            return Answer::Granted;
+        }
+        self.rounds = rounds;
+        self.state = State::Waiting as u32;
+        Answer::Waiting
+    }
+}

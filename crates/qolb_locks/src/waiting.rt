@@ -1,0 +1,120 @@
+//! Waiting, sleeping, withdrawing.
+ghost use Rattle.std.specs.Prelude.{◌≡◌};
+ghost use Rattle.lock_core.specs.Views.{SameRequest};
+ghost use Rattle.qolb_locks.specs.declared.ticket.State.{State};
+ghost use Rattle.qolb_locks.specs.Calls.{IsMisuse, Learns, Looks, AnnouncesSleep, Withdraws};
+ghost use Rattle.qolb_locks.specs.Tickets.{Is, IsKnown};
+
+use crate::answer::Answer;
+use crate::lock::Lock;
+use crate::ticket::{State, Ticket};
+use lock_core::SleepResult;
+
+/// The most rounds from which a request can be withdrawn.
+const WINDOW: u64 = 15;
+
+/// Looks whether the request is at its turn.
+#[inline(always)]
+pub fn poll(lock: &Lock, ticket: &mut Ticket) -> Answer
+    requires { IsKnown lock.now ticket.old }
+    ensures known { IsKnown lock.now ticket.new }
+    ensures misuse { ¬ Is State.Waiting lock.now ticket.old →
+        IsMisuse ticket.old ticket.new result }
+    ensures does { Is State.Waiting lock.now ticket.old → Looks lock.now ticket.new result }
+    ensures same { Is State.Waiting lock.now ticket.old → Learns ticket.old ticket.new SameRequest }
+{
+    if !ticket.has(State::Waiting, lock) {
+        return Answer::Misuse;
+    }
+    let mut seat = ticket.claim.take();
+    let rounds = lock_core::poll(&lock.table.shared, &mut seat, ticket.number);
+    ticket.claim.put(seat);
+    ticket.settle(rounds)
+}
+
+/// Counts the waiter as a sleeper of its cell, unless it is at its turn. The ticket has the word at which it may sleep then.
+///
+/// `Waiting` if the cell changed at that moment, and `Full` if it counts no more sleepers: then it is not counted.
+#[inline(always)]
+pub fn announce_sleep(lock: &Lock, ticket: &mut Ticket) -> Answer
+    requires { IsKnown lock.now ticket.old }
+    ensures known { IsKnown lock.now ticket.new }
+    ensures misuse { ¬ Is State.Waiting lock.now ticket.old →
+        IsMisuse ticket.old ticket.new result }
+    ensures does { Is State.Waiting lock.now ticket.old →
+        AnnouncesSleep lock.now ticket.new result }
+    ensures same { Is State.Waiting lock.now ticket.old → Learns ticket.old ticket.new SameRequest }
+{
+    if !ticket.has(State::Waiting, lock) {
+        return Answer::Misuse;
+    }
+    let mut seat = ticket.claim.take();
+    let announced = lock_core::announce_sleep(&lock.table.shared, &mut seat, ticket.number);
+    ticket.claim.put(seat);
+    match announced {
+        SleepResult::AtTurn => {
+            ticket.state = State::AtTurn as u32;
+            Answer::Granted
+        }
+        SleepResult::Asleep { rounds, cell } => {
+            ticket.rounds = rounds;
+            ticket.word = cell;
+            ticket.state = State::Asleep as u32;
+            Answer::Asleep
+        }
+        SleepResult::Full { rounds } => {
+            ticket.rounds = rounds;
+            Answer::Full
+        }
+        SleepResult::Changed { rounds } => {
+            ticket.rounds = rounds;
+            Answer::Waiting
+        }
+    }
+}
+
+/// Takes the count of a sleeper back.
+#[inline(always)]
+pub fn retract_sleep(lock: &Lock, ticket: &mut Ticket) -> Answer
+    requires { IsKnown lock.now ticket.old }
+    ensures known { IsKnown lock.now ticket.new }
+    ensures misuse { ¬ Is State.Asleep lock.now ticket.old → IsMisuse ticket.old ticket.new result }
+    ensures does { Is State.Asleep lock.now ticket.old → Looks lock.now ticket.new result }
+    ensures same { Is State.Asleep lock.now ticket.old → Learns ticket.old ticket.new SameRequest }
+{
+    if !ticket.has(State::Asleep, lock) {
+        return Answer::Misuse;
+    }
+    let mut seat = ticket.claim.take();
+    let rounds = lock_core::retract_sleep(&lock.table.shared, &mut seat, ticket.number);
+    ticket.claim.put(seat);
+    ticket.settle(rounds)
+}
+
+/// Withdraws a request that was at most 15 rounds away when it last looked.
+#[inline(always)]
+pub fn withdraw(lock: &Lock, ticket: &mut Ticket) -> Answer
+    requires { IsKnown lock.now ticket.old }
+    ensures known { IsKnown lock.now ticket.new }
+    ensures misuse { ¬ Is State.Waiting lock.now ticket.old →
+        IsMisuse ticket.old ticket.new result }
+    ensures does { Is State.Waiting lock.now ticket.old →
+        Withdraws lock.now ticket.old ticket.new result }
+{
+    if !ticket.has(State::Waiting, lock) {
+        return Answer::Misuse;
+    }
+    if ticket.rounds > WINDOW {
+        return Answer::Far;
+    }
+    let rounds = ticket.rounds;
+    let mut seat = ticket.claim.take();
+    let withdrawn = lock_core::withdraw(&lock.table.shared, &mut seat, ticket.number, rounds);
+    ticket.claim.put(seat);
+    if withdrawn {
+        ticket.state = State::Free as u32;
+        return Answer::Withdrawn;
+    }
+    ticket.state = State::AtTurn as u32;
+    Answer::Granted
+}
