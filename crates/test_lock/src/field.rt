@@ -2,7 +2,7 @@
 ghost use Rattle.std.specs.Prelude.{◌≡◌, ◌<◌, ◌≤◌, IfOk, IfSome, IfNone, true, false};
 ghost use Rattle.lock_core.specs.Layout.{IsLockTable};
 ghost use Rattle.lock_core.specs.Views.{view_of, InTime, IsSeatOf, IsIdle, IsQueued, IsAtTurn, HasTurnOf, SameTurn};
-ghost use Rattle.lock_core.specs.Answers.{max_burst_of};
+ghost use Rattle.lock_core.specs.Answers.{max_burst_of, HasLongBursts};
 
 use crate::counts::Counts;
 use crate::dice::Dice;
@@ -31,6 +31,7 @@ pub(crate) struct Field {
 impl Field {
     pub(crate) fn open(alloc: Global, kind: LockKind) -> Result<Field, OpenError>
         ensures kind { IfOk result (λ field. field.table.shared.key ≡ max_burst_of kind) }
+        ensures long { IfOk result (λ _. HasLongBursts kind) }
     {
         let table = open(alloc, kind)?;
         Ok(Field {
