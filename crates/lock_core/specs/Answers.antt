@@ -29,7 +29,7 @@ HasLongBursts (kind.Bursts turns) = 2 ≤ turns
 
 -- the error fits the kind that was asked for
 abbrev pub IsOpenErrorOf : LockKind → OpenError → Type 0
-IsOpenErrorOf k error.Memory = Unit {0}
+IsOpenErrorOf k error.Memory = HasLongBursts k
 IsOpenErrorOf k (error.ShortBurst turns) = (k ≡ kind.Bursts turns) × (turns < 2)
 
 -- `ask_near` drew a ticket, or none
@@ -93,6 +93,12 @@ IfSleepChanged sleep.AtTurn P = Unit {0}
 IfSleepChanged (sleep.Asleep rounds cell) P = Unit {0}
 IfSleepChanged (sleep.Full rounds) P = Unit {0}
 IfSleepChanged (sleep.Changed rounds) P = P rounds
+
+abbrev pub IfSleepRefused : SleepResult → (ℕ → Type 0) → Type 0
+IfSleepRefused sleep.AtTurn P = Unit {0}
+IfSleepRefused (sleep.Asleep rounds cell) P = Unit {0}
+IfSleepRefused (sleep.Full rounds) P = P rounds
+IfSleepRefused (sleep.Changed rounds) P = P rounds
 
 -- `release` granted the next ticket, or is to be called again
 abbrev pub IfGranted : ReleaseResult → (ℕ → Type 0) → Type 0
