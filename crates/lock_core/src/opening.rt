@@ -69,8 +69,8 @@ const FIRST_WORDS: [u64; 21] = [
     0,
 ];
 
-/// Opens a lock: two blocks of at most 256 bytes together, 168 of them its words. Refused by name: bursts of fewer than
-/// two turns, and where memory is short. Nothing is kept then.
+/// Opens a lock: one block of 168 bytes, its words. Refused by name: bursts of fewer than two turns, and where memory is
+/// short. Nothing is kept then.
 pub fn open(alloc: Global, kind: LockKind) -> Result<TicketTable, OpenError>
     ensures table { IfOk result (λ lock. IsLockTable lock.shared.table_id) }
     ensures kind { IfOk result (λ lock. lock.shared.key ≡ max_burst_of kind) }

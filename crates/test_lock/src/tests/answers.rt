@@ -98,7 +98,10 @@ fn far_and_busy_draw_no_ticket(rt: HostRuntime) -> Result<(), Fail> {
     }
     // Ticket 61 is in round 15 of its cell, in which none is granted.
     let mut late = new_seat(lock);
-    assert_eq!(rt; ask_near(lock, &mut late), AskNearResult::Far { rounds: 16 });
+    assert_eq!(rt;
+        ask_near(lock, &mut late),
+        AskNearResult::Far { rounds: 16 }
+    );
     let mut other = new_seat(lock);
     assert_eq!(rt; try_ask(lock, &mut other), None);
     assert_eq!(rt; draw_one(lock), 61);
