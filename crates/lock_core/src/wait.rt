@@ -68,7 +68,8 @@ pub fn announce_sleep(table: &SharedTable, seat: &mut TicketSeat, ticket: u64) -
         Found (cell_at ticket) (λ n. to_go n ticket ≡ rounds) seat.new) }
     ensures found_turn { IfSleepAtTurn result
         (Found (cell_at ticket) (λ n. to_go n ticket ≡ 0) seat.new) }
-    ensures queued { IfSleepRefused result (λ rounds. InTime seat.new (IsQueuedWithin rounds ticket)) }
+    ensures queued { IfSleepRefused result (λ rounds.
+        InTime seat.new (IsQueuedWithin rounds ticket)) }
 {
     let found = table.load::<Look>(seat, cell_word(ticket));
     let rounds = rounds_to_go(found, ticket);
