@@ -1,5 +1,5 @@
 -- A waiter sets its bit, and who has the turn of a withdrawn request clears it.
-use Rattle.std.proofs.Common.{◌≡◌, ◌≢◌, ℕ, ◌+◌, ◌-◌, ◌/◌, ◌%◌, ◌^◌, ◌<◌, ◌≤◌, set, slice_index, sym, refl, ap, ◌∙◌, subst, arith, length-set, get_or-set_other, bit_or, ⊎_elim}
+use Rattle.std.proofs.Common.{◌*◌, ◌-◌, ◌≡◌, ◌≢◌, ℕ, ◌+◌, ◌-◌, ◌/◌, ◌%◌, ◌^◌, ◌<◌, ◌≤◌, set, slice_index, sym, refl, ap, ◌∙◌, subst, arith, length-set, get_or-set_other, bit_or, ⊎_elim}
 use Rattle.std.specs.Prelude.{bit_xor}
 use Rattle.std.specs.Int.{bit_at}
 use mathlib.Core.Logic.{dite}
@@ -14,7 +14,7 @@ use Rattle.lock_core.specs.Layout.{cell_at, bit_of, rounds, rounds_of}
 use Rattle.lock_core.specs.Views.{limit, Timely, IsQueuedWithin, IsPassing}
 use Rattle.lock_core.specs.Invariant.{tally, Ghost, Waiter, Holder, Place, Fits, Cell, Tickets}
 use Rattle.lock_core.specs.Steps.{sets_withdrawn, clears_withdrawn}
-use Rattle.lock_core.proofs.Base.{put, put_here, put_else, each_after, cells_after, tally_none, known, heard, fits, place_of, other, door_on, idle_asks, asks_on}
+use Rattle.lock_core.proofs.Base.{put, put_here, put_else, each_after, cells_after, tally_none, known, heard, fits, place_of, other, door_on, idle_asks, asks_on, in_bounds}
 use Rattle.lock_core.proofs.Words.{or_high, xor_high, or_same, or_other, xor_same, xor_other, or_is_sum, xor_is_less}
 
 abbrev remark : Ghost → ℕ → ℕ → Ghost
@@ -113,9 +113,9 @@ module _ {fl : ℕ} (s : State ℕ View) (r : Tickets fl s) (id : ℕ) (v : View
       g : Ghost
       g = remark r.g v.ticket y
 
-pub withdraw_allowed : {fl : ℕ} (id slots i ticket k x : ℕ) (me : Me ℕ View) → i ≡ cell_at ticket → x ≡ 2 ^ bit_of ticket → k ≤ 15 → (Timely me.0 → IsQueuedWithin k ticket me.0)
+pub withdraw_allowed : {fl : ℕ} (id slots i ticket k x : ℕ) (me : Me ℕ View) → me.0.max_newcomers ≡ fl → i ≡ cell_at ticket → x ≡ 2 ^ bit_of ticket → k ≤ 15 → (Timely me.0 → IsQueuedWithin k ticket me.0)
     → Allows (Tickets fl) slots id me i (λ n. (n + x) % 18446744073709551616) (sets_withdrawn (step slots i x 0 none) me)
-withdraw_allowed {fl} id slots i ticket k x me is mask near waits s r sized at low = dite (ℕ_discrete (rounds_of found) ((v.ticket / 4 + 1) % 1073741824)) granted withdrawn
+withdraw_allowed {fl} id slots i ticket k x me same_newcomers is mask near waits s r sized at low = dite (ℕ_discrete (rounds_of found) ((v.ticket / 4 + 1) % 1073741824)) granted withdrawn
   where
     v : View
     v = me.0
@@ -155,6 +155,22 @@ withdraw_allowed {fl} id slots i ticket k x me is mask near waits s r sized at l
           other_bit = λ j ne. ap (λ z. bit_at z j) new ∙ or_other found (bit_of v.ticket) j ne;
         }
 
+    -- granted before, it was overtaken within the bound
+    overtaken : (le : r.most_open ≤ limit) → rounds_of found ≡ (v.ticket / 4 + 1) % 1073741824 → r.g.newcomers ≤ v.newcomers_at_ask + v.max_newcomers * (v.ticket + 1 - v.first_pending)
+    overtaken le is_ =
+        let m = open_fits le in
+        let a = m.0 in
+        let b = m.1 in
+        let c = (r.granted le).few in
+        let h = (cell le).high in
+        let turn : v.ticket ≡ r.g.turn = omega arith in
+        let q = placed le in
+        let o = q.late.came in
+        let c0 = q.at_turn turn in
+        let e : fl * (r.g.turn + r.g.head_inside) ≡ fl * v.ticket = ap (λ z. fl * z) (omega arith) in
+        let k = q.late.overtaken in
+        in_bounds fl v.max_newcomers r.g.newcomers v.newcomers_at_ask v.ticket v.first_pending r.g.since_head (v.ticket + 1 - v.first_pending) same_newcomers (omega arith) (omega arith) (r.granted le).counts.bounded
+
     Goal : Type 0
     Goal = (w : View) × (a : Act ℕ) × Valid s.homes me.1 a × Tickets fl (stepped s i ((found + x) % 18446744073709551616) id me.1 w a) × sets_withdrawn (step slots i x 0 none) me found (w, carried_after me.1 a)
 
@@ -183,7 +199,7 @@ withdraw_allowed {fl} id slots i ticket k x me is mask near waits s r sized at l
                 tail_seen = (fits s r id v at le).tail_seen;
                 asks = asks_on r.asked r.g v v.phase Passing (λ e. let z = (queued le).0.0 in cc) (λ w. absurd (⊎_elim (λ e. cc) (λ e. cc) w)) (fits s r id v at le).asks;
               }),
-          (((refl, refl, known s r id v at, (let k = heard s r id v at in omega arith)), ((refl, refl, refl), refl, (refl, refl), (refl, refl), (refl, refl), (λ _. refl))), (λ timely. (refl, refl, (λ _. refl), (λ ne. absurd (ne is_))))),
+          (((refl, refl, known s r id v at, (let k = heard s r id v at in omega arith)), ((refl, refl, refl), refl, (refl, refl), (refl, refl), (refl, refl), (λ _. refl))), (λ timely. (refl, refl, (λ _. (refl, (refl, refl, refl), overtaken timely is_)), (λ ne. absurd (ne is_))))),
         )
 
     withdrawn : rounds_of found ≢ (v.ticket / 4 + 1) % 1073741824 → Goal
@@ -218,7 +234,7 @@ clear_allowed {fl} id slots i ticket x me is mask passes s r sized at low =
             tail_seen = f.tail_seen;
             asks = asks_on r.asked r.g v v.phase AtTurn (λ e. let z = p.0 in cc) (λ w. absurd (⊎_elim (λ e. cc) (λ e. cc) w)) f.asks;
           }),
-      (((refl, refl, known s r id v at, (let k = heard s r id v at in omega arith)), ((refl, refl, refl), refl, (refl, refl), (refl, refl), (refl, refl), (λ _. refl))), (λ timely. (refl, refl, refl, refl))),
+      (((refl, refl, known s r id v at, (let k = heard s r id v at in omega arith)), ((refl, refl, refl), refl, (refl, refl), (refl, refl), (refl, refl), (λ _. refl))), (λ timely. (refl, refl, refl, refl, (refl, refl, refl), refl))),
     )
   where
     v : View

@@ -190,12 +190,12 @@ tell_splits {fl} id v s r at = subst (λ (l : List View). Tickets fl record { wo
       };
 }
 
-pub learn_joins : {fl : ℕ} (id other : ℕ) (v w : View) → IsIdle v → IsIdle w → Joins (Tickets fl) id v other w (learns v w) (initial_view 0)
+pub learn_joins : {fl : ℕ} (id other : ℕ) (v w : View) → (Timely v → IsIdle v) → (Timely w → IsIdle w) → Joins (Tickets fl) id v other w (learns v w) (initial_view 0)
 learn_joins {fl} id other v w a b s r at apart at_other =
     let there : get_elem? s.views other ≡ some w = sym (set_else s.views id other (learns v w) apart) ∙ at_other in
     let sv = r.seen id v at in
     let sw = r.seen other w there in
     let hv = r.heard id v at in
     let hw = r.heard other w there in
-    let one = viewed s r id v at (learns v w) (omega arith) (omega arith) (λ le. a.1) refl (λ le. let f = fits s r id v at le in let h = fits s r other w there le in record { knows = let x = f.knows in let y = h.knows in omega arith; lowest = omega arith; mine = λ ne. absurd (ne refl); place = tt; told_nobody = f.told_nobody; outer = record { turn_of = f.outer.turn_of; guest = λ e. absurd (omega arith); rests = record { takes_seen = let n = f.outer.rests.takes_seen in let m = h.outer.rests.takes_seen in omega arith; held = λ e. absurd (omega arith); lulls = f.outer.rests.lulls; sleeps_at_outer = f.outer.rests.sleeps_at_outer }; dated = f.outer.dated; barrier = f.outer.barrier }; door = λ ne. absurd (ne refl); tail_seen = f.tail_seen; asks = idle_asks r.asked r.g (learns v w) f.asks.early refl }) in
-    viewed record { words = s.words; homes = s.homes; views = set s.views id (learns v w) } one other w at_other (initial_view 0) (omega arith) (omega arith) (λ le. b.1) refl (λ le. record { knows = omega arith; lowest = omega arith; mine = λ ne. absurd (ne refl); place = tt; told_nobody = λ e. absurd (omega arith); outer = record { turn_of = λ e. absurd (omega arith); guest = λ e. absurd (omega arith); rests = record { takes_seen = omega arith; held = λ e. absurd (omega arith); lulls = λ e. absurd (omega arith); sleeps_at_outer = λ e. absurd (omega arith) }; dated = omega arith; barrier = λ e. absurd (omega arith) }; door = λ ne. absurd (ne refl); tail_seen = record { probed = omega arith; next_is_at_turn = λ e. absurd (omega arith) }; asks = idle_asks one.asked one.g (initial_view 0) (omega arith) refl })
+    let one = viewed s r id v at (learns v w) (omega arith) (omega arith) (λ le. (a (omega arith)).1) refl (λ le. let f = fits s r id v at le in let h = fits s r other w there le in record { knows = let x = f.knows in let y = h.knows in omega arith; lowest = omega arith; mine = λ ne. absurd (ne refl); place = tt; told_nobody = f.told_nobody; outer = record { turn_of = f.outer.turn_of; guest = λ e. absurd (omega arith); rests = record { takes_seen = let n = f.outer.rests.takes_seen in let m = h.outer.rests.takes_seen in omega arith; held = λ e. absurd (omega arith); lulls = f.outer.rests.lulls; sleeps_at_outer = f.outer.rests.sleeps_at_outer }; dated = f.outer.dated; barrier = f.outer.barrier }; door = λ ne. absurd (ne refl); tail_seen = f.tail_seen; asks = idle_asks r.asked r.g (learns v w) f.asks.early refl }) in
+    viewed record { words = s.words; homes = s.homes; views = set s.views id (learns v w) } one other w at_other (initial_view 0) (omega arith) (omega arith) (λ le. (b (let k = one.seen other w at_other in omega arith)).1) refl (λ le. record { knows = omega arith; lowest = omega arith; mine = λ ne. absurd (ne refl); place = tt; told_nobody = λ e. absurd (omega arith); outer = record { turn_of = λ e. absurd (omega arith); guest = λ e. absurd (omega arith); rests = record { takes_seen = omega arith; held = λ e. absurd (omega arith); lulls = λ e. absurd (omega arith); sleeps_at_outer = λ e. absurd (omega arith) }; dated = omega arith; barrier = λ e. absurd (omega arith) }; door = λ ne. absurd (ne refl); tail_seen = record { probed = omega arith; next_is_at_turn = λ e. absurd (omega arith) }; asks = idle_asks one.asked one.g (initial_view 0) (omega arith) refl })

@@ -170,9 +170,9 @@ pub retract_sleep_noted : {fl : ℕ} (id slots i ticket : ℕ) (me : Me ℕ View
     → Allows (Tickets fl) slots id me i (λ n. (n + 18446744073709486080) % 18446744073709551616) (noting subtracted_word looks (step slots i 65536 0 none) me)
 retract_sleep_noted {fl} id slots i ticket me same_newcomers is sleeps = notes id i me (λ n. (n + 18446744073709486080) % 18446744073709551616) (step slots i 65536 0 none) subtracted_word looks (λ n w c l told. told) (retract_sleep_allowed id slots i ticket me same_newcomers is sleeps)
 
-pub withdraw_noted : {fl : ℕ} (id slots i ticket k x : ℕ) (me : Me ℕ View) → i ≡ cell_at ticket → x ≡ 2 ^ bit_of ticket → k ≤ 15 → (Timely me.0 → IsQueuedWithin k ticket me.0)
+pub withdraw_noted : {fl : ℕ} (id slots i ticket k x : ℕ) (me : Me ℕ View) → me.0.max_newcomers ≡ fl → i ≡ cell_at ticket → x ≡ 2 ^ bit_of ticket → k ≤ 15 → (Timely me.0 → IsQueuedWithin k ticket me.0)
     → Allows (Tickets fl) slots id me i (λ n. (n + x) % 18446744073709551616) (noting added_word sets_withdrawn (step slots i x 0 none) me)
-withdraw_noted {fl} id slots i ticket k x me is mask near waits = notes id i me (λ n. (n + x) % 18446744073709551616) (step slots i x 0 none) added_word sets_withdrawn (λ n w c l told. told) (withdraw_allowed id slots i ticket k x me is mask near waits)
+withdraw_noted {fl} id slots i ticket k x me same_newcomers is mask near waits = notes id i me (λ n. (n + x) % 18446744073709551616) (step slots i x 0 none) added_word sets_withdrawn (λ n w c l told. told) (withdraw_allowed id slots i ticket k x me same_newcomers is mask near waits)
 
 pub clear_noted : {fl : ℕ} (id slots i ticket x : ℕ) (me : Me ℕ View) → i ≡ cell_at ticket → x ≡ 2 ^ bit_of ticket → (Timely me.0 → IsPassing ticket me.0)
     → Allows (Tickets fl) slots id me i (λ n. (n + (18446744073709551616 - x)) % 18446744073709551616) (noting subtracted_word clears_withdrawn (step slots i x 0 none) me)

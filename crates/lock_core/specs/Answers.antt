@@ -1,5 +1,5 @@
 -- What the answers of calls say, by their cases.
-use Rattle.std.specs.Prelude.{◌≡◌, ℕ, Bool, ◌<◌}
+use Rattle.std.specs.Prelude.{◌≡◌, ℕ, Bool, ◌<◌, ◌≤◌}
 use Rattle.lock_core.specs.declared.opening.LockKind.{LockKind}
 use Rattle.lock_core.specs.declared.opening.LockKind.TheVariants as kind
 use Rattle.lock_core.specs.declared.opening.OpenError.{OpenError}
@@ -22,9 +22,14 @@ abbrev pub max_burst_of : LockKind → ℕ
 max_burst_of kind.Strict = 1
 max_burst_of (kind.Bursts turns) = turns
 
+-- a burst has at least two turns
+abbrev pub HasLongBursts : LockKind → Type 0
+HasLongBursts kind.Strict = Unit {0}
+HasLongBursts (kind.Bursts turns) = 2 ≤ turns
+
 -- the error fits the kind that was asked for
 abbrev pub IsOpenErrorOf : LockKind → OpenError → Type 0
-IsOpenErrorOf k error.Memory = Unit {0}
+IsOpenErrorOf k error.Memory = HasLongBursts k
 IsOpenErrorOf k (error.ShortBurst turns) = (k ≡ kind.Bursts turns) × (turns < 2)
 
 -- `ask_near` drew a ticket, or none
@@ -88,6 +93,12 @@ IfSleepChanged sleep.AtTurn P = Unit {0}
 IfSleepChanged (sleep.Asleep rounds cell) P = Unit {0}
 IfSleepChanged (sleep.Full rounds) P = Unit {0}
 IfSleepChanged (sleep.Changed rounds) P = P rounds
+
+abbrev pub IfSleepRefused : SleepResult → (ℕ → Type 0) → Type 0
+IfSleepRefused sleep.AtTurn P = Unit {0}
+IfSleepRefused (sleep.Asleep rounds cell) P = Unit {0}
+IfSleepRefused (sleep.Full rounds) P = P rounds
+IfSleepRefused (sleep.Changed rounds) P = P rounds
 
 -- `release` granted the next ticket, or is to be called again
 abbrev pub IfGranted : ReleaseResult → (ℕ → Type 0) → Type 0

@@ -1,10 +1,10 @@
 -- What a caller's last word steps found: so an answer that gives up says what the word showed.
-use Rattle.std.specs.Prelude.{◌≡◌, ◌≢◌, ℕ, ◌+◌, ◌%◌, ◌<◌, ◌≤◌, ◌⊎◌}
+use Rattle.std.specs.Prelude.{◌≡◌, ◌≢◌, ℕ, ◌+◌, ◌*◌, ◌/◌, ◌%◌, ◌<◌, ◌≤◌, ◌⊎◌}
 use Rattle.atomic_table.specs.Table.{Step}
 use Rattle.atomic_table.specs.declared.shared.Seat.{Seat}
 use Rattle.lock_core.specs.declared.view.View.{View}
 use Rattle.lock_core.specs.declared.view.Looks.{Looks}
-use Rattle.lock_core.specs.Layout.{cell_at, tail_at, outer_at, to_go, state_of, shut_of, handoff_of, came_of}
+use Rattle.lock_core.specs.Layout.{cell_at, tail_at, outer_at, to_go, state_of, shut_of, asleep_of, handoff_of, came_of}
 use Rattle.lock_core.specs.Views.{Timely, view_of}
 
 -- after a step that found `found` in its word, and left `left` there
@@ -35,6 +35,14 @@ Found word P seat = ((view_of seat).looks.word ≡ word) × P (view_of seat).loo
 abbrev pub Leaves : ℕ → (ℕ → Type 0) → Seat ℕ View → Type 0
 Leaves word P seat = ((view_of seat).looks.word ≡ word) × P (view_of seat).looks.left
 
+-- its last step but one found this in the word
+abbrev pub FoundBefore : ℕ → (ℕ → Type 0) → Seat ℕ View → Type 0
+FoundBefore word P seat = ((view_of seat).looks.word_before ≡ word) × P (view_of seat).looks.found_before
+
+-- its last step changed the word so, from what it found to what it left
+abbrev pub Changes : ℕ → (ℕ → ℕ → Type 0) → Seat ℕ View → Type 0
+Changes word R seat = ((view_of seat).looks.word ≡ word) × R (view_of seat).looks.found (view_of seat).looks.left
+
 -- its last two steps found the word changed
 abbrev pub FoundChanged : ℕ → Seat ℕ View → Type 0
 FoundChanged word seat = Found word (λ n. n ≢ (view_of seat).looks.found_before) seat × ((view_of seat).looks.word_before ≡ word)
@@ -62,6 +70,26 @@ FoundNoEntry expected old new = (LooksNoMore old new × IsNoEntry expected) ⊎ 
 -- the outer word is no entry, or has changed
 abbrev pub FoundNotFree : Seat ℕ View → Seat ℕ View → Type 0
 FoundNotFree old new = (StepsLater 1 old new × Found outer_at IsNoEntry new) ⊎ (StepsLater 2 old new × FoundChanged outer_at new)
+
+-- the outer word as a newcomer takes it: held, with one newcomer more
+abbrev pub IsHeldByNewcomer : ℕ → ℕ → Type 0
+IsHeldByNewcomer found left = left ≡ (found + 36) % 18446744073709551616
+
+-- the outer word as the queue head takes it: held, with no newcomer since and nothing requested, and shut if it was
+abbrev pub IsHeldAnew : ℕ → ℕ → Type 0
+IsHeldAnew found left = (state_of left ≡ 1) × (came_of left ≡ 0) × (handoff_of left ≡ 0) × (asleep_of left ≡ 0) × (shut_of left ≡ shut_of found)
+
+-- the outer word as it is left: nothing is requested and nobody asleep; shut, if it was, and with as many newcomers
+abbrev pub IsLeftClean : ℕ → ℕ → Type 0
+IsLeftClean found left = (handoff_of left ≡ 0) × (asleep_of left ≡ 0) × (shut_of left ≡ shut_of found) × (came_of left ≡ came_of found)
+
+-- the outer word with the handoff requested, and else as it was
+abbrev pub IsRequested : ℕ → ℕ → Type 0
+IsRequested found left = left ≡ found / 2 * 2 + 1
+
+-- the outer word with the queue head's sleep noted, and else as it was
+abbrev pub IsNotedAsleep : ℕ → ℕ → Type 0
+IsNotedAsleep found left = left ≡ found / 4 * 4 + 2 + found % 2
 
 -- the outer word as it is left: reserved where a handoff is requested and after the last turn of a burst, else free
 abbrev pub IsLeftAs : ℕ → ℕ → ℕ → Type 0

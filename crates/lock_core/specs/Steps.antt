@@ -8,7 +8,7 @@ use Rattle.lock_core.specs.declared.view.Phase.{Phase}
 use Rattle.lock_core.specs.declared.view.Phase.TheVariants.{Idle, Queued, Asleep, AtTurn, Passing, HeadInside}
 use Rattle.lock_core.specs.Layout.{asleep_of, bit_of, count_of, rounds_of, shut_of, to_go}
 use Rattle.lock_core.specs.Looks.{looked}
-use Rattle.lock_core.specs.Views.{OnlyLooks, AsksAfter, IsAtTurn, GrantedToNobodyAsleep, HasGrantedNext, HasTurn, IsIdle, IsInside, IsNewcomersTurn, IsOutside, IsOvertakenInBounds, IsQueued, Kept, KnowsShut, LeftQuietly, SameKnown, SameNewcomerTurn, SameSleepAtOuter, SameTurn, ServedOpen, ServedShut, SleepsAtOuter, TakesOuter, Timely}
+use Rattle.lock_core.specs.Views.{OnlyLooks, AsksAfter, IsAtTurn, GrantedToNobodyAsleep, HasGrantedNext, HasTurn, IsIdle, IsInside, IsNewcomersTurn, IsOutside, IsOvertakenInBounds, IsQueued, Kept, KnowsShut, LeftQuietly, SameKnown, SameNewcomerTurn, SameRequest, SameSleepAtOuter, SameTurn, ServedOpen, ServedShut, SleepsAtOuter, TakesOuter, Timely}
 
 -- the word that a step leaves: after a load, a sum, a difference (of 0 too), an exchange where the word was the expected
 abbrev pub kept_word : Step ℕ → ℕ → ℕ
@@ -70,7 +70,7 @@ abbrev pub announces_sleep : Step ℕ → Me ℕ View → ℕ → Me ℕ View �
 announces_sleep st m n m' = same m m' × (Timely m'.0 → (n ≡ st.first → finds 1 Asleep 1 m.0 n m'.0) × (n ≢ st.first → finds 0 Queued 0 m.0 n m'.0))
 
 abbrev pub sets_withdrawn : Step ℕ → Me ℕ View → ℕ → Me ℕ View → Type 0
-sets_withdrawn st m n m' = same m m' × (Timely m'.0 → (m'.0.ticket ≡ m.0.ticket) × (m'.0.counted ≡ 0) × (rounds_of n ≡ (m.0.ticket / 4 + 1) % 1073741824 → m'.0.phase ≡ Passing) × (rounds_of n ≢ (m.0.ticket / 4 + 1) % 1073741824 → m'.0.phase ≡ Idle))
+sets_withdrawn st m n m' = same m m' × (Timely m'.0 → (m'.0.ticket ≡ m.0.ticket) × (m'.0.counted ≡ 0) × (rounds_of n ≡ (m.0.ticket / 4 + 1) % 1073741824 → (m'.0.phase ≡ Passing) × SameRequest m.0 m'.0 × IsOvertakenInBounds m'.0) × (rounds_of n ≢ (m.0.ticket / 4 + 1) % 1073741824 → m'.0.phase ≡ Idle))
 
 -- a grant
 abbrev pub grants_to : View → ℕ → View → Type 0
@@ -80,7 +80,7 @@ abbrev pub grants : Step ℕ → Me ℕ View → ℕ → Me ℕ View → Type 0
 grants st m n m' = same m m' × (Timely m'.0 → grants_to m.0 n m'.0)
 
 abbrev pub clears_withdrawn : Step ℕ → Me ℕ View → ℕ → Me ℕ View → Type 0
-clears_withdrawn st m n m' = same m m' × (Timely m'.0 → (m'.0.ticket ≡ m.0.ticket) × (m'.0.phase ≡ AtTurn) × (m'.0.ended ≡ m'.0.ticket) × (m'.0.counted ≡ 0))
+clears_withdrawn st m n m' = same m m' × (Timely m'.0 → (m'.0.ticket ≡ m.0.ticket) × (m'.0.phase ≡ AtTurn) × (m'.0.ended ≡ m'.0.ticket) × (m'.0.counted ≡ 0) × SameRequest m.0 m'.0 × (m'.0.newcomers_seen ≡ m.0.newcomers_seen))
 
 -- by the outer word's word, in no earlier epoch
 abbrev pub Told : ℕ → View → View → Type 0

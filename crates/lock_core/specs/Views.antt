@@ -184,3 +184,15 @@ Kept v w = (w.phase ≡ v.phase) × (w.ticket ≡ v.ticket) × (w.ended ≡ v.en
 -- all but what its steps found is the same
 abbrev pub OnlyLooks : View → View → Type 0
 OnlyLooks v w = w ≡ record v { looks = w.looks }
+
+-- it has the ticket behind the one that it had
+abbrev pub HasNextTicket : View → View → Type 0
+HasNextTicket v w = w.ticket ≡ v.ticket + 1
+
+-- it knows that the request that it had has ended
+abbrev pub HasEnded : View → View → Type 0
+HasEnded v w = v.ticket < w.ended
+
+-- it knows of as many newcomers
+abbrev pub SameNewcomersSeen : View → View → Type 0
+SameNewcomersSeen v w = w.newcomers_seen ≡ v.newcomers_seen

@@ -1,8 +1,8 @@
 //! The one at its turn grants the next ticket, and passes withdrawn requests.
 ghost use Rattle.std.specs.Prelude.{◌≡◌, ◌+◌, ◌%◌, ◌^◌, ◌≤◌, true, false};
-ghost use Rattle.lock_core.specs.Layout.{IsLockTable};
-ghost use Rattle.lock_core.specs.Views.{view_of, InTime, InTimeFrom, LoadGrows, IsSeatOf, IsIdle, IsAtTurn, IsPassing, HasTurnOf, HasGrantedNext, GrantedAfter, GrantedToNobodyAsleep, SameTurn};
-ghost use Rattle.lock_core.specs.Looks.{StepsLater, StepsAtMost};
+ghost use Rattle.lock_core.specs.Layout.{IsLockTable, cell_at, count_of};
+ghost use Rattle.lock_core.specs.Views.{view_of, InTime, InTimeFrom, LoadGrows, IsSeatOf, IsIdle, IsAtTurn, IsPassing, HasTurnOf, HasGrantedNext, HasNextTicket, HasEnded, SameRequest, SameNewcomersSeen, GrantedAfter, GrantedToNobodyAsleep, SameTurn};
+ghost use Rattle.lock_core.specs.Looks.{StepsLater, StepsAtMost, Found};
 ghost use Rattle.lock_core.specs.Answers.{IfGranted, IfUnfinished};
 
 use crate::layout::{MAX_PASSED, ROUND, bit, cell_word, is_withdrawn, sleepers};
@@ -33,6 +33,8 @@ fn grant(table: &SharedTable, seat: &mut TicketSeat, ticket: u64) -> (bool, u64)
     ensures granted { result.0 ≡ false → InTime seat.new (GrantedAfter ticket) }
     ensures nobody { result.0 ≡ false → result.1 ≡ 0 → InTime seat.new GrantedToNobodyAsleep }
     ensures passes { result.0 ≡ true → InTime seat.new (IsPassing ((ticket + 1) % 2 ^ 64)) }
+    ensures passes_next { result.0 ≡ true → InTimeFrom seat.old seat.new HasNextTicket }
+    ensures sleepers { Found (cell_at (ticket + 1)) (λ n. count_of n ≡ result.1) seat.new }
 {
     let next = ticket.wrapping_add(1);
     let cell = table.fetch_add::<Grant>(seat, cell_word(next), ROUND);
@@ -50,6 +52,8 @@ pub(crate) fn clear_withdrawn(table: &SharedTable, seat: &mut TicketSeat, ticket
     ensures steps { StepsLater 1 seat.old seat.new }
     ensures turn { SameTurn (view_of seat.old) (view_of seat.new) }
     ensures at_turn { InTime seat.new (IsAtTurn ticket) }
+    ensures request { InTimeFrom seat.old seat.new SameRequest }
+    ensures newcomers { InTimeFrom seat.old seat.new SameNewcomersSeen }
 {
     table.fetch_sub::<ClearWithdrawn>(seat, cell_word(ticket), bit(ticket));
 }
@@ -64,12 +68,15 @@ pub fn release(table: &SharedTable, seat: &mut TicketSeat, ticket: &mut u64) -> 
     requires has { InTime seat.old (HasTurnOf ticket.old) }
     ensures seat { IsSeatOf table.now.table_id table.now.key seat.new }
     ensures load { LoadGrows seat.old seat.new }
-    ensures steps { StepsAtMost 129 seat.old seat.new }
+    ensures steps { StepsAtMost 128 seat.old seat.new }
     ensures turn { SameTurn (view_of seat.old) (view_of seat.new) }
     ensures idle { IfGranted result (λ _. InTime seat.new IsIdle) }
+    ensures ended { IfGranted result (λ _. InTimeFrom seat.old seat.new HasEnded) }
     ensures granted { IfGranted result (λ _. InTime seat.new (GrantedAfter ticket.new)) }
     ensures nobody { IfGranted result (λ sleepers. sleepers ≡ 0
         → InTime seat.new GrantedToNobodyAsleep) }
+    ensures sleepers { IfGranted result (λ sleepers.
+        Found (cell_at (ticket.new + 1)) (λ n. count_of n ≡ sleepers) seat.new) }
     ensures has { IfUnfinished result (InTime seat.new (HasTurnOf ticket.new)) }
     ensures passed { IfUnfinished result (StepsLater 128 seat.old seat.new
         × (ticket.new ≡ (ticket.old + 64) % 2 ^ 64)) }

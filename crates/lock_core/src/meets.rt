@@ -151,8 +151,8 @@ pub fn learn(table: &SharedTable, seat: &mut TicketSeat, other: TicketSeat)
     requires table { IsLockTable table.now.table_id }
     requires seat { IsSeatOf table.now.table_id table.now.key seat.old }
     requires other { IsSeatOf table.now.table_id table.now.key other }
-    requires idle { IsIdle (view_of seat.old) }
-    requires tells { IsIdle (view_of other) }
+    requires idle { InTime seat.old IsIdle }
+    requires tells { InTime other IsIdle }
     ensures seat { IsSeatOf table.now.table_id table.now.key seat.new }
     ensures idle { IsIdle (view_of seat.new) }
     ensures own { HasHeard (view_of seat.old) (view_of seat.new) }

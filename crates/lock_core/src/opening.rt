@@ -1,9 +1,8 @@
 //! A lock is opened, and callers come.
-ghost use Rattle.std.specs.Prelude.{◌≡◌, ◌≢◌, ◌<◌, ◌≤◌, IfOk, IfErr};
+ghost use Rattle.std.specs.Prelude.{◌≡◌, ◌≤◌, IfOk, IfErr};
 ghost use Rattle.lock_core.specs.Layout.{IsLockTable};
 ghost use Rattle.lock_core.specs.Views.{view_of, IsSeatOf, IsIdle};
-ghost use Rattle.lock_core.specs.Answers.{max_burst_of, IsOpenErrorOf};
-ghost use Rattle.lock_core.specs.declared.opening.LockKind.TheVariants.{Bursts};
+ghost use Rattle.lock_core.specs.Answers.{max_burst_of, HasLongBursts, IsOpenErrorOf};
 
 use crate::layout::UNWRITTEN;
 use crate::plays::Come;
@@ -70,12 +69,12 @@ const FIRST_WORDS: [u64; 21] = [
     0,
 ];
 
-/// Opens a lock: two blocks of at most 256 bytes together, 168 of them its words. Refused by name: bursts of fewer than
-/// two turns, and where memory is short. Nothing is kept then.
+/// Opens a lock: one block of 168 bytes, its words. Refused by name: bursts of fewer than two turns, and where memory is
+/// short. Nothing is kept then.
 pub fn open(alloc: Global, kind: LockKind) -> Result<TicketTable, OpenError>
     ensures table { IfOk result (λ lock. IsLockTable lock.shared.table_id) }
     ensures kind { IfOk result (λ lock. lock.shared.key ≡ max_burst_of kind) }
-    ensures long { IfOk result (λ lock. (kind ≢ Bursts 0) × (kind ≢ Bursts 1)) }
+    ensures long { IfOk result (λ _. HasLongBursts kind) }
     ensures err { IfErr result (IsOpenErrorOf kind) }
 {
     if let LockKind::Bursts(turns) = kind {

@@ -2,7 +2,7 @@
 ghost use Rattle.std.specs.Prelude.{◌≡◌, ◌≢◌, ◌+◌, ◌/◌, ◌<◌, ◌≤◌, ◌⊎◌, true, false};
 ghost use Rattle.lock_core.specs.Layout.{IsLockTable, outer_at, state_of, handoff_of, asleep_of};
 ghost use Rattle.lock_core.specs.Views.{view_of, InTime, InTimeFrom, LoadGrows, IsSeatOf, IsIdle, IsAtTurn, IsOvertakenInBounds, IsInside, IsOutside, IsHeadInside, IsNewcomersTurn, GoesInAfter, TakesOuter, LeftQuietly, SleepsAtOuter, ServedOpen, ServedShut, KnowsShut, Kept, SameRequest, SameNewcomerTurn, SameKnown, SameSleepAtOuter, IsLaterEpoch, LeavesSameTake, SleepsInTake, SameDoor, OnlyLooks};
-ghost use Rattle.lock_core.specs.Looks.{StepsLater, LooksOnce, Found, FoundChanged, FoundNoEntry, FoundNotFree, Leaves, LeavesAsFound, IsLeftAs};
+ghost use Rattle.lock_core.specs.Looks.{StepsLater, LooksOnce, Found, Changes, IsHeldByNewcomer, IsLeftClean, IsRequested, IsNotedAsleep, FoundChanged, FoundNoEntry, FoundNotFree, Leaves, LeavesAsFound, IsHeldAnew, IsLeftAs};
 ghost use Rattle.lock_core.specs.Answers.{IfTakenOpen, IfTakenShut, IfTaken, IfNotTaken, IfHeld, IfTakeChanged, IfLeft, IfNotLeft, IfHeadAsleep, IfNotHeld, IfHeadChanged};
 
 use crate::layout::{HANDOFF, HEAD_ASLEEP, HELD, NEWCOMER, OUTER, RESERVED, SHUT, is_shut, state};
@@ -57,6 +57,8 @@ pub fn go_in_if(table: &SharedTable, seat: &mut TicketSeat, expected: u64) -> bo
     ensures open { result ≡ true → InTime seat.new ServedOpen }
     ensures newcomer { result ≡ true → InTime seat.new IsNewcomersTurn }
     ensures order { result ≡ true → InTimeFrom seat.old seat.new GoesInAfter }
+    ensures held { result ≡ true → Changes outer_at IsHeldByNewcomer seat.new }
+    ensures as_found { result ≡ true → Found outer_at (λ n. n ≡ expected) seat.new }
     ensures idle { result ≡ false → InTime seat.new IsIdle }
     ensures no_entry { result ≡ false → FoundNoEntry expected seat.old seat.new }
 {
@@ -81,6 +83,7 @@ pub fn go_in(table: &SharedTable, seat: &mut TicketSeat) -> bool
     ensures open { result ≡ true → InTime seat.new ServedOpen }
     ensures newcomer { result ≡ true → InTime seat.new IsNewcomersTurn }
     ensures order { result ≡ true → InTimeFrom seat.old seat.new GoesInAfter }
+    ensures held { result ≡ true → Changes outer_at IsHeldByNewcomer seat.new }
     ensures idle { result ≡ false → InTime seat.new IsIdle }
     ensures not_in { result ≡ false → FoundNotFree seat.old seat.new }
 {
@@ -105,6 +108,7 @@ pub fn take_outer(table: &SharedTable, seat: &mut TicketSeat, ticket: u64) -> Ta
     ensures order { IfTaken result (InTimeFrom seat.old seat.new TakesOuter) }
     ensures epoch { IfTaken result (InTimeFrom seat.old seat.new IsLaterEpoch) }
     ensures steps { IfTaken result (StepsLater 2 seat.old seat.new) }
+    ensures held_anew { IfTaken result (Changes outer_at IsHeldAnew seat.new) }
     ensures open { IfTakenOpen result (InTime seat.new ServedOpen) }
     ensures shut { IfTakenShut result (InTime seat.new ServedShut) }
     ensures knows { IfTakenShut result (InTime seat.new KnowsShut) }
@@ -147,6 +151,7 @@ fn leave_free(table: &SharedTable, seat: &mut TicketSeat, expected: u64) -> bool
     ensures outside { result ≡ true → InTime seat.new IsOutside }
     ensures free { result ≡ true → Leaves outer_at (λ n. state_of n ≡ 0) seat.new }
     ensures as_found { result ≡ true → Found outer_at (λ n. n ≡ expected) seat.new }
+    ensures clean { result ≡ true → Changes outer_at IsLeftClean seat.new }
     ensures inside { result ≡ false → InTime seat.new IsInside }
     ensures door { result ≡ false → InTimeFrom seat.old seat.new SameDoor }
     ensures found { result ≡ false → Found outer_at (λ n. n ≢ expected) seat.new }
@@ -171,6 +176,7 @@ fn leave_reserved(table: &SharedTable, seat: &mut TicketSeat, expected: u64) -> 
     ensures outside { result ≡ true → InTime seat.new IsOutside }
     ensures reserved { result ≡ true → Leaves outer_at (λ n. state_of n ≡ 2) seat.new }
     ensures as_found { result ≡ true → Found outer_at (λ n. n ≡ expected) seat.new }
+    ensures clean { result ≡ true → Changes outer_at IsLeftClean seat.new }
     ensures inside { result ≡ false → InTime seat.new IsInside }
     ensures door { result ≡ false → InTimeFrom seat.old seat.new SameDoor }
     ensures found { result ≡ false → Found outer_at (λ n. n ≢ expected) seat.new }
@@ -200,8 +206,10 @@ pub fn leave_if(
     ensures take { LeavesSameTake seat.old seat.new }
     ensures outside { IfLeft result (λ _. InTime seat.new IsOutside) }
     ensures quiet { IfLeft result (λ asleep. asleep ≡ false → InTime seat.new LeftQuietly) }
+    ensures asleep { IfLeft result (λ asleep. asleep ≡ true → asleep_of expected ≡ 1) }
     ensures left { IfLeft result (λ _. Leaves outer_at (IsLeftAs burst expected) seat.new) }
     ensures found { IfLeft result (λ _. Found outer_at (λ n. n ≡ expected) seat.new) }
+    ensures clean { IfLeft result (λ _. Changes outer_at IsLeftClean seat.new) }
     ensures inside { IfNotLeft result (InTime seat.new IsInside) }
     ensures door { IfNotLeft result (InTimeFrom seat.old seat.new SameDoor) }
     ensures changed { IfNotLeft result (Found outer_at (λ n. n ≢ expected) seat.new) }
@@ -236,7 +244,10 @@ pub fn leave(table: &SharedTable, seat: &mut TicketSeat, burst: u64) -> LeaveRes
     ensures take { LeavesSameTake seat.old seat.new }
     ensures outside { IfLeft result (λ _. InTime seat.new IsOutside) }
     ensures quiet { IfLeft result (λ asleep. asleep ≡ false → InTime seat.new LeftQuietly) }
+    ensures asleep { IfLeft result (λ asleep. asleep ≡ true
+        → Found outer_at (λ n. asleep_of n ≡ 1) seat.new) }
     ensures left { IfLeft result (λ _. LeavesAsFound burst seat.new) }
+    ensures clean { IfLeft result (λ _. Changes outer_at IsLeftClean seat.new) }
     ensures inside { IfNotLeft result (InTime seat.new IsInside) }
     ensures door { IfNotLeft result (InTimeFrom seat.old seat.new SameDoor) }
     ensures changed { IfNotLeft result (FoundChanged outer_at seat.new) }
@@ -255,6 +266,9 @@ pub fn request_handoff(table: &SharedTable, seat: &mut TicketSeat) -> bool
     ensures same { OnlyLooks (view_of seat.old) (view_of seat.new) }
     ensures steps { StepsLater 1 seat.old seat.new ⊎ StepsLater 2 seat.old seat.new }
     ensures requested { result ≡ true → Leaves outer_at (λ n. handoff_of n ≡ 1) seat.new }
+    ensures rest { result ≡ true → Changes outer_at IsRequested seat.new }
+    ensures once { result ≡ true → StepsLater 2 seat.old seat.new
+        → Found outer_at (λ n. handoff_of n ≡ 0) seat.new }
     ensures changed { result ≡ false → FoundChanged outer_at seat.new }
 {
     let outer = table.load::<ReadOuter>(seat, OUTER);
@@ -279,6 +293,7 @@ pub fn announce_head_sleep(table: &SharedTable, seat: &mut TicketSeat) -> HeadSl
     ensures in_take { IfHeadAsleep result (λ _. InTimeFrom seat.old seat.new SleepsInTake) }
     ensures word { IfHeadAsleep result (λ outer. (asleep_of outer ≡ 1) × (state_of outer ≡ 1)
         × Leaves outer_at (λ n. n ≡ outer) seat.new) }
+    ensures rest { IfHeadAsleep result (λ _. Changes outer_at IsNotedAsleep seat.new) }
     ensures steps { IfHeadAsleep result (λ _. StepsLater 2 seat.old seat.new) }
     ensures not_held { IfNotHeld result (StepsLater 1 seat.old seat.new
         × Found outer_at (λ n. state_of n ≢ 1) seat.new) }

@@ -1,8 +1,8 @@
 //! A caller asks for a turn: it draws a ticket.
 ghost use Rattle.std.specs.Prelude.{◌≡◌, ◌<◌, ◌≤◌, IfSome, IfNone};
-ghost use Rattle.lock_core.specs.Layout.{IsLockTable};
+ghost use Rattle.lock_core.specs.Layout.{IsLockTable, cell_at, to_go};
 ghost use Rattle.lock_core.specs.Views.{view_of, InTime, InTimeFrom, LoadGrows, IsSeatOf, IsIdle, IsQueued, IsQueuedWithin, IsAtTurn, AsksAfter, SameTurn};
-ghost use Rattle.lock_core.specs.Looks.{StepsLater, FoundNext, FoundTailMoved, FoundBusy};
+ghost use Rattle.lock_core.specs.Looks.{StepsLater, FoundBefore, FoundNext, FoundTailMoved, FoundBusy};
 ghost use Rattle.lock_core.specs.Answers.{IfNearAtTurn, IfNearQueued, IfNearFar, IfNearChanged, IfDrawn, IfNotDrawn};
 
 use crate::layout::{TAIL, WINDOW, cell_word, rounds_to_go};
@@ -78,6 +78,8 @@ pub fn ask_near(table: &SharedTable, seat: &mut TicketSeat) -> AskNearResult
     ensures at_turn { IfNearAtTurn result (λ ticket. InTime seat.new (IsAtTurn ticket)) }
     ensures queued { IfNearQueued result (λ ticket rounds. (0 < rounds) × (rounds ≤ 15)
         × InTime seat.new (IsQueuedWithin rounds ticket)) }
+    ensures rounds { IfNearQueued result (λ ticket rounds.
+        FoundBefore (cell_at ticket) (λ n. to_go n ticket ≡ rounds) seat.new) }
     ensures order { IfDrawn result (InTimeFrom seat.old seat.new AsksAfter) }
     ensures steps { IfDrawn result (StepsLater 3 seat.old seat.new) }
     ensures idle { IfNotDrawn result (InTime seat.new IsIdle) }

@@ -3,7 +3,7 @@ ghost use Rattle.std.specs.Prelude.{◌≡◌, ◌<◌, ◌≤◌, ◌⊎◌, tr
 ghost use Rattle.lock_core.specs.Layout.{IsLockTable, cell_at, count_of, to_go};
 ghost use Rattle.lock_core.specs.Views.{view_of, InTime, InTimeFrom, LoadGrows, IsSeatOf, IsIdle, IsQueued, IsQueuedWithin, IsAsleep, IsAtTurn, IsOvertakenInBounds, SameRequest, SameTurn};
 ghost use Rattle.lock_core.specs.Looks.{StepsLater, Found, FoundChanged, Leaves};
-ghost use Rattle.lock_core.specs.Answers.{IfSleepAtTurn, IfSleepAnnounced, IfSleepFull, IfSleepChanged};
+ghost use Rattle.lock_core.specs.Answers.{IfSleepAtTurn, IfSleepAnnounced, IfSleepFull, IfSleepChanged, IfSleepRefused};
 
 use crate::handoff::clear_withdrawn;
 use crate::layout::{MAX_SLEEPERS, SLEEPER, bit, cell_word, is_round_of, rounds_to_go, sleepers};
@@ -60,10 +60,16 @@ pub fn announce_sleep(table: &SharedTable, seat: &mut TicketSeat, ticket: u64) -
     ensures asleep { IfSleepAnnounced result (λ rounds cell. InTime seat.new (IsAsleep ticket)) }
     ensures word { IfSleepAnnounced result (λ rounds cell. (0 < rounds)
         × (to_go cell ticket ≡ rounds) × Leaves (cell_at ticket) (λ n. n ≡ cell) seat.new) }
-    ensures full { IfSleepFull result (λ rounds. InTime seat.new (IsQueuedWithin rounds ticket)
-        × (0 < rounds) × Found (cell_at ticket) (λ n. count_of n ≡ 65535) seat.new) }
+    ensures full { IfSleepFull result (λ rounds. (0 < rounds)
+        × Found (cell_at ticket) (λ n. (count_of n ≡ 65535) × (to_go n ticket ≡ rounds)) seat.new) }
     ensures changed { IfSleepChanged result (λ rounds. (0 < rounds)
-        × InTime seat.new (IsQueuedWithin rounds ticket) × FoundChanged (cell_at ticket) seat.new) }
+        × FoundChanged (cell_at ticket) seat.new) }
+    ensures found { IfSleepChanged result (λ rounds.
+        Found (cell_at ticket) (λ n. to_go n ticket ≡ rounds) seat.new) }
+    ensures found_turn { IfSleepAtTurn result
+        (Found (cell_at ticket) (λ n. to_go n ticket ≡ 0) seat.new) }
+    ensures queued { IfSleepRefused result (λ rounds.
+        InTime seat.new (IsQueuedWithin rounds ticket)) }
 {
     let found = table.load::<Look>(seat, cell_word(ticket));
     let rounds = rounds_to_go(found, ticket);
@@ -122,6 +128,8 @@ pub fn withdraw(table: &SharedTable, seat: &mut TicketSeat, ticket: u64, rounds:
     ensures at_turn { result ≡ false → InTime seat.new (IsAtTurn ticket) }
     ensures steps { result ≡ true → StepsLater 1 seat.old seat.new }
     ensures more_steps { result ≡ false → StepsLater 2 seat.old seat.new }
+    ensures request { result ≡ false → InTimeFrom seat.old seat.new SameRequest }
+    ensures overtaken { result ≡ false → InTime seat.new IsOvertakenInBounds }
 {
     let cell = table.fetch_add::<SetWithdrawn>(seat, cell_word(ticket), bit(ticket));
     if !is_round_of(cell, ticket) {

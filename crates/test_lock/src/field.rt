@@ -1,8 +1,8 @@
 //! A lock that threads share, and the words on which they sleep.
 ghost use Rattle.std.specs.Prelude.{◌≡◌, ◌<◌, ◌≤◌, IfOk, IfSome, IfNone, true, false};
 ghost use Rattle.lock_core.specs.Layout.{IsLockTable};
-ghost use Rattle.lock_core.specs.Views.{view_of, InTime, IsSeatOf, IsIdle, IsQueued, IsAtTurn, HasTurnOf, SameTurn};
-ghost use Rattle.lock_core.specs.Answers.{max_burst_of};
+ghost use Rattle.lock_core.specs.Views.{view_of, InTime, LoadGrows, IsSeatOf, IsIdle, IsQueued, IsAtTurn, HasTurnOf, SameTurn};
+ghost use Rattle.lock_core.specs.Answers.{max_burst_of, HasLongBursts};
 
 use crate::counts::Counts;
 use crate::dice::Dice;
@@ -31,6 +31,7 @@ pub(crate) struct Field {
 impl Field {
     pub(crate) fn open(alloc: Global, kind: LockKind) -> Result<Field, OpenError>
         ensures kind { IfOk result (λ field. field.table.shared.key ≡ max_burst_of kind) }
+        ensures long { IfOk result (λ _. HasLongBursts kind) }
     {
         let table = open(alloc, kind)?;
         Ok(Field {
@@ -167,6 +168,7 @@ impl Field {
         requires seat { IsSeatOf self.now.table.shared.table_id self.now.table.shared.key seat.old }
         requires has { InTime seat.old (HasTurnOf ticket) }
         ensures seat { IsSeatOf self.now.table.shared.table_id self.now.table.shared.key seat.new }
+        ensures load { LoadGrows seat.old seat.new }
         ensures turn { SameTurn (view_of seat.old) (view_of seat.new) }
         ensures idle { InTime seat.new IsIdle }
     {

@@ -3,4 +3,5 @@
 mod answers;
 mod memory;
 mod opening;
+mod outer;
 mod threads;

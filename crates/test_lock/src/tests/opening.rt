@@ -20,7 +20,10 @@ fn kinds_are_opened_or_refused(rt: HostRuntime) -> Result<(), Fail> {
 #[test]
 fn errors_say_what_is_wrong(rt: HostRuntime) -> Result<(), Fail> {
     let short = format!(in rt.alloc(); "{}", OpenError::ShortBurst(1))?;
-    assert_eq!(rt; short.as_str(), "bursts of 1: a burst has from 2 to 65,535 turns");
+    assert_eq!(rt;
+        short.as_str(),
+        "bursts of 1: a burst has from 2 to 65,535 turns"
+    );
     let memory = format!(in rt.alloc(); "{}", OpenError::Memory)?;
     assert_eq!(rt; memory.as_str(), "out of memory");
     Ok(())

@@ -1,8 +1,7 @@
 //! Threads share a lock: they ask, try, withdraw, sleep and are woken. Nobody is inside with another, no turn is lost or made up, tickets
 //! have their turns in order, and newcomers are within their bounds.
-use crate::bursts;
 use crate::field::Field;
-use crate::strict;
+use crate::{bursts, strict};
 use lock_core::LockKind;
 use std::alloc::Global;
 use std::process::Abort;
@@ -21,9 +20,12 @@ fn run_strict<R: Threads + Wait + Sync + Abort>(
 ) -> Result<(), Fail> {
     let field = Field::open(alloc, LockKind::Strict).ok().ok_or("opened")?;
     let requests = REQUESTS / threads.max(1);
-    let turns = map_indices(rt, alloc, threads as usize, &|place| {
-        strict::turns(rt, &field, place as u64, requests)
-    })?;
+    let turns = map_indices(
+        rt,
+        alloc,
+        threads as usize,
+        &|place| { strict::turns(rt, &field, place as u64, requests) },
+    )?;
     let sum = turns.iter().fold(0u64, |sum, n| sum.wrapping_add(*n));
     assert_eq!(rt; field.counts.faults(), 0, "{threads} threads");
     assert_eq!(rt; field.counts.turns(), sum, "{threads} threads");
@@ -43,12 +45,23 @@ fn run_bursts<R: Threads + Wait + Sync + Abort>(
     let requests = REQUESTS / threads.max(1);
     let most = u64::from(burst);
     let bound = threads.wrapping_mul(most.saturating_sub(1));
-    let turns = map_indices(rt, alloc, threads as usize, &|place| {
-        bursts::turns(rt, &field, place as u64, requests, most, bound)
-    })?;
+    let turns = map_indices(
+        rt,
+        alloc,
+        threads as usize,
+        &|place| { bursts::turns(rt, &field, place as u64, requests, most, bound) },
+    )?;
     let sum = turns.iter().fold(0u64, |sum, n| sum.wrapping_add(*n));
-    assert_eq!(rt; field.counts.faults(), 0, "{threads} threads, bursts of {burst}");
-    assert_eq!(rt; field.counts.turns(), sum, "{threads} threads, bursts of {burst}");
+    assert_eq!(rt;
+        field.counts.faults(),
+        0,
+        "{threads} threads, bursts of {burst}"
+    );
+    assert_eq!(rt;
+        field.counts.turns(),
+        sum,
+        "{threads} threads, bursts of {burst}"
+    );
     Ok(())
 }
 
