@@ -273,7 +273,7 @@ def step_lines(script):
     for number, (name, node) in enumerate(events, 1):
         told = core.step(name, node) or "refused"
         letters = "".join(POINTS[core.nodes[n].point] for n in range(1, nodes + 1))
-        yield f"{letters}  {number}: {name} {node}: {told}; the line lies "
+        yield f"{letters} {number:>6}: {name} {node}: {told}; the line lies "
 
 
 def largest_step_picture(program):

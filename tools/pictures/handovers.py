@@ -104,7 +104,7 @@ def draw_step(picture, step, y, places, nodes):
     """An arrow from the node to the place, with its words; what is there afterwards; what the node is told."""
     x, to = nodes[step.node], places[step.place]
     inward = 1 if to > x else -1
-    line, tip, word = ("hotline", "hottip", "code hot") if step.hot else ("dashed" if step.plain else "line", "tip", "small" if step.plain else "code")
+    line, tip, word = ("arrow", "hottip", "code hot") if step.hot else ("faint" if step.plain else "line", "tip", "small" if step.plain else "code")
     picture.line(x + 5 * inward, y, to - 4 * inward, y, line, tip)
     picture.text(x + inward * LANE / 2, y - 6, step.does, word)
     if step.after:
@@ -118,14 +118,14 @@ def draw(scene):
     nodes = {LEFT: SIDE, RIGHT: SIDE + LANE * last}
     places = {name: SIDE + LANE * (k + 1) for k, name in enumerate(scene.places)}
     end = TOP + ROW * len(scene.steps) + 6
-    picture = Picture(2 * SIDE + LANE * last, end + (34 if scene.note else 12), scene.title)
+    picture = Picture(2 * SIDE + LANE * last, end + (64 if scene.note else 42), scene.title)
     picture.text(picture.width / 2, 20, scene.title, "strong")
     times = [TOP + 24 + ROW * k for k in range(len(scene.steps))]
     for name, x in nodes.items():
         picture.text(x, 50, name, "strong")
         picture.line(x, 60, x, end)
         first, until = (60, times[scene.held_until]) if name == LEFT else (times[scene.holds_from], end)
-        picture.box(x - 5, first, 10, until - first, "a", 2)
+        picture.box(x - 5, first, 10, until - first, "holds", 2)
     for name, x in places.items():
         picture.box(x - 46, 34, 92, 36)
         picture.text(x, 49, name, "strong small")
@@ -135,7 +135,17 @@ def draw(scene):
         draw_step(picture, step, y, places, nodes)
     if scene.note:
         picture.text(picture.width / 2, end + 22, scene.note, "small")
+    draw_key(picture, picture.height - 20)
     return picture
+
+
+def draw_key(picture, y):
+    """What a bar and the arrows mean."""
+    x = picture.key(SIDE - 90, y, ("holds",)) + 8
+    for kind, tip, says in (("line", "tip", "a step on a word"), ("arrow", "hottip", "the step that hands over"), ("faint", "tip", "the 64 bytes are copied")):
+        picture.line(x, y + 7, x + 26, y + 7, kind, tip)
+        picture.text(x + 34, y + 12, says, "small", "start")
+        x += 50 + 6.6 * len(says)
 
 
 SCENES = {"hand_over_ring": RING, "hand_over_link": LINK, "hand_over_ticket": TICKET, "late_link": LATE_LINK}

@@ -9,8 +9,9 @@ BOX, TALL = 112, 36
 def state(picture, x, y, name, says, kind="box"):
     """Draws a state as a box, with its meaning below its name."""
     picture.box(x - BOX / 2, y - TALL / 2, BOX, TALL, kind)
-    picture.text(x, y - 1, name, "strong")
-    picture.text(x, y + 13, says, "small")
+    inside = "" if kind == "box" else " inside"
+    picture.text(x, y - 1, name, f"strong{inside}")
+    picture.text(x, y + 13, says, f"small{inside}")
 
 
 def label(picture, x, y, call, answer, anchor="middle"):
@@ -22,14 +23,14 @@ def label(picture, x, y, call, answer, anchor="middle"):
 
 def draw_states(picture):
     """The seven states."""
-    picture.box(24, 70, 150, 250, "d", 8)
+    picture.box(24, 70, 150, 250, "box", 8)
     picture.text(99, 60, "may ask", "strong")
     for y, name, says in ((102, "Idle", "nothing is open"), (164, "Rolled", "withdrawn"), (226, "Left", "link line: left here"), (288, "Shut", "knows: closed")):
         picture.box(34, y - TALL / 2, 130, TALL)
         picture.text(99, y - 1, name, "strong")
         picture.text(99, y + 13, says, "small")
-    state(picture, 460, 164, "Queued", "its request waits", "c")
-    state(picture, 800, 164, "Holding", "has the line", "a")
+    state(picture, 460, 164, "Queued", "its request waits", "waits")
+    state(picture, 800, 164, "Holding", "has the line", "holds")
     state(picture, 460, 344, "Linking", "not linked yet")
 
 
@@ -41,11 +42,11 @@ def draw_calls(picture):
     label(picture, 280, 195, "withdraw: Withdrawn", "to Rolled")
     picture.path("M406,182 C400,262 340,276 176,276", "line", "tip")
     label(picture, 276, 240, "poll, withdraw: Closed", "to Shut or Left")
-    picture.line(516, 164, 742, 164, "hotline", "hottip")
+    picture.line(516, 164, 742, 164, "arrow", "hottip")
     label(picture, 629, 156, "poll, withdraw: Granted", "")
     picture.path("M440,146 C430,104 490,104 480,145", "line", "tip")
     label(picture, 460, 106, "poll: Waiting", "")
-    picture.path("M174,88 C360,44 700,44 790,144", "hotline", "hottip")
+    picture.path("M174,88 C360,44 700,44 790,144", "arrow", "hottip")
     label(picture, 470, 48, "enqolb: Granted", "")
     picture.path("M800,182 C800,330 640,302 520,302 C400,302 300,302 176,302", "line", "tip")
     label(picture, 640, 262, "deqolb: Idle or Left", "")

@@ -1,6 +1,31 @@
-"""Drawing a picture in SVG that can be read on a light page and on a dark one."""
+"""Drawing a picture in SVG that can be read on a light page and on a dark one.
 
+A node's bar and a hand-over have the colours of the program's pictures (`qolb draw --svg`), whose style is read from the source: one key for all.
+"""
+
+import pathlib
+import re
 from xml.sax.saxutils import escape
+
+PROGRAM = pathlib.Path(__file__).resolve().parents[2] / "crates/qolb_shapes/src/svg.rt"
+# The key: the class of a bar in the program's pictures, and what it means.
+KEY = {"waits": "waits", "turn": "may take its turn", "holds": "holds the line"}
+
+
+def colours():
+    """The colours of the bars and of the arrow in the program's pictures, on a light page and on a dark one."""
+    style = PROGRAM.read_text().split("<style>", 1)[1].split("</style>", 1)[0]
+    parts = style.split("@media(prefers-color-scheme:dark){")
+    return [{name: re.search(rf"^\.{name}\{{.*?(?:fill|stroke):(#\w+)", part.replace("fill:none;", ""), re.M)[1] for name in (*KEY, "arrow")} for part in parts]
+
+
+LIGHT, DARK = colours()
+
+
+def bars(page):
+    """The style of bars and arrows on a page of these colours."""
+    return " ".join([*(f".{name} {{ fill: {page[name]} }}" for name in KEY), f".arrow {{ stroke: {page['arrow']} }} .tip, .hot {{ fill: {page['arrow']} }}"])
+
 
 # The colours are of middle tone, so that they can be read on white and on black where a viewer knows no colour scheme.
 STYLE = """
@@ -8,24 +33,26 @@ STYLE = """
     .strong { font-weight: 600 }
     .small { font-size: 12px }
     .code { font-family: ui-monospace, SFMono-Regular, Menlo, Consolas, "DejaVu Sans Mono", monospace; font-size: 12px }
-    .hot { fill: #c9651b; font-weight: 600 }
+    .hot { font-weight: 600 }
     .line { stroke: #818b98; fill: none }
     .faint { stroke: #818b98; fill: none; stroke-opacity: .45 }
-    .dashed { stroke: #818b98; fill: none; stroke-dasharray: 4 3 }
-    .hotline { stroke: #c9651b; fill: none; stroke-width: 2 }
+    .arrow { fill: none; stroke-width: 2 }
+    .call { fill: #727d8b }
+    .inside { fill: #1f2328 }
     .box { stroke: #818b98; fill: #818b98; fill-opacity: .10 }
     .a { stroke: #3f83c8; fill: #3f83c8; fill-opacity: .16 }
     .b { stroke: #35955b; fill: #35955b; fill-opacity: .16 }
     .c { stroke: #c9651b; fill: #c9651b; fill-opacity: .16 }
-    .d { stroke: #818b98; fill: #818b98; fill-opacity: .06; stroke-dasharray: 4 3 }
-    @media (prefers-color-scheme: light) { text { fill: #424a53 } .hot { fill: #a8500f } }
-    @media (prefers-color-scheme: dark) { text { fill: #b7c0ca } .hot { fill: #e8934f } }
-"""
+    .d { stroke: #818b98; fill: none }
+    %s
+    @media (prefers-color-scheme: light) { text, .call { fill: #424a53 } .inside { fill: #1f2328 } .hot { fill: %s } }
+    @media (prefers-color-scheme: dark) { text, .call { fill: #b7c0ca } .inside { fill: #e6edf3 } %s }
+""" % (bars(LIGHT), LIGHT["arrow"], bars(DARK))
 
 MARKERS = "".join(
     f'<marker id="{name}" viewBox="0 0 8 8" refX="7" refY="4" markerWidth="8" markerHeight="8" markerUnits="userSpaceOnUse" orient="auto">'
-    f'<path d="M0,0.5 L8,4 L0,7.5 z" fill="{colour}"/></marker>'
-    for name, colour in (("tip", "#818b98"), ("hottip", "#c9651b"))
+    f'<path d="M0,0.5 L8,4 L0,7.5 z" {colour}/></marker>'
+    for name, colour in (("tip", 'fill="#818b98"'), ("hottip", 'class="tip"'))
 )
 
 
@@ -49,6 +76,14 @@ class Picture:
 
     def line(self, x1, y1, x2, y2, kind="line", tip=None):
         self.path(f"M{x1:g},{y1:g} L{x2:g},{y2:g}", kind, tip)
+
+    def key(self, x, y, names):
+        """The key of these bars, from a place on; returns the place behind it."""
+        for name in names:
+            self.box(x, y, 22, 14, name, 3)
+            self.text(x + 30, y + 12, KEY[name], "small", "start")
+            x += 54 + 6.4 * len(KEY[name])
+        return x
 
     def svg(self):
         """The whole picture as text."""

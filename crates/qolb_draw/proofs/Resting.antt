@@ -35,7 +35,8 @@ use Rattle.qolb_script.specs.Reply.{is_queued, is_holding, said_of, after_comman
 use Rattle.qolb_shapes.specs.declared.symbol.Symbol.{Symbol}
 use Rattle.qolb_shapes.specs.declared.symbol.Symbol.TheVariants as symbol
 use Rattle.qolb_shapes.specs.declared.symbol.Change.{Change}
-use Rattle.qolb_shapes.specs.Marks.{is_node, is_handed_on, mark_of_state, mark_of, at_rest, at_turn, mark_by}
+use Rattle.qolb_shapes.specs.Marks.{is_node, is_handed_on, mark_of_state, mark_of, at_rest, at_turn, mark_by, effect_by, is_misuse, unless_misuse}
+use Rattle.qolb_shapes.specs.Shapes.{stand_of}
 use Rattle.qolb_draw.specs.Changes.{waiting_nodes}
 use Rattle.qolb_draw.specs.Following as following
 use Rattle.qolb_draw.specs.Following.{has_asked, has_stayed, state_ended, is_among, is_shut, differs, Follows, Rests, AreAtRest, ArePassed, AreLookedAt, IsKept}
@@ -326,8 +327,9 @@ plain_mark line n (Some w) turn = by w.withdrawn (line.granted && is_oldest line
 
 mark_is : (line : PlainView) (change : Change) (n : ℕ) → mark_of change (node_state line n) n ≡ mark_by change (at_rest (node_state line n)) n
 mark_is line change n =
-    ap (λ m. cond ((change.node == n) && change.told) symbol.Told (cond (is_handed_on change.before change.after n) symbol.Gives (cond (is_handed_on change.after change.before n) symbol.Takes m)))
-    (plain_mark line n (find (is_at n) line.waiting) (is_node change.after n))
+    ap (λ m. unless_misuse change m n)
+    (ap (λ m. cond ((change.node == n) && change.told) symbol.Told (cond (is_handed_on change.before change.after n) symbol.Gives (cond (is_handed_on change.after change.before n) symbol.Takes m)))
+    (plain_mark line n (find (is_at n) line.waiting) (is_node change.after n)))
 
 marks_are : (line : PlainView) (change : Change) (resting : List Symbol) (a n : ℕ) → ((k : ℕ) → k < a + n → get_or resting k symbol.Idle ≡ at_rest (node_state line k))
     → map (λ k. mark_by change (get_or resting k symbol.Idle) k) (range_with_len a n) ≡ map (λ k. mark_of change (node_state line k) k) (range_with_len a n)
@@ -345,7 +347,8 @@ column_is_by line change resting closed nodes r same =
 -- a mark that a command leaves as it is at rest
 is_by : (change : Change) (resting : Symbol) (n : ℕ) → is_node (Some change.node) n ≡ false → is_node change.before n ≡ false → is_node change.after n ≡ false → mark_by change resting n ≡ resting
 is_by change resting n a b c =
-    ap (λ t. cond (t && change.told) symbol.Told (cond (is_handed_on change.before change.after n) symbol.Gives (cond (is_handed_on change.after change.before n) symbol.Takes (cond (is_node change.after n) (at_turn resting) resting)))) a
+    ap (λ t. cond (t && is_misuse change.said) (symbol.Misuse (stand_of (effect_by change resting n))) (effect_by change resting n)) a
+    ∙ ap (λ t. cond (t && change.told) symbol.Told (cond (is_handed_on change.before change.after n) symbol.Gives (cond (is_handed_on change.after change.before n) symbol.Takes (cond (is_node change.after n) (at_turn resting) resting)))) a
     ∙ ap (λ t. cond t symbol.Gives (cond (is_handed_on change.after change.before n) symbol.Takes (cond (is_node change.after n) (at_turn resting) resting))) (not_from change.before change.after b)
     ∙ ap (λ t. cond t symbol.Takes (cond (is_node change.after n) (at_turn resting) resting)) (not_from change.after change.before c)
     ∙ ap (λ t. cond t (at_turn resting) resting) c

@@ -19,6 +19,10 @@ two_lines : picture_to Text (codes "nodes 3 lines 2\nenq 1 0\nenq 3 1\n\ndeq 3 1
     ≡ Ok (codes "line 0\n\n         14\nnode   1 H.\n\nline 1\n\n         23\nnode   3 H.\n\n" ++ legend)
 two_lines = refl
 
+-- commands that are misuse
+misused : picture_to Text (codes "nodes 2 lines 1\npoll 1 0\nenq 1 0\nenq 2 0\ndeq 2 0\n") ≡ Ok (codes "line 0\n\n         1234\nnode   1 !HHH\nnode   2 ..w!\n\n" ++ legend)
+misused = refl
+
 -- no command
 no_commands : picture_to Text (codes "nodes 2 lines 1\n") ≡ Ok (codes "line 0\n\n" ++ legend)
 no_commands = refl

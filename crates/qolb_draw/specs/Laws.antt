@@ -35,7 +35,7 @@ abbrev pub BarsCoverMarks : Type 0
 BarsCoverMarks = (script : Script) (line n column : ℕ) (step : Step) → 1 ≤ n → n ≤ script.nodes → list_any (λ (s : Step). node_of s.command == n) (steps_on line script) ≡ true → slice_get (steps_on line script) column ≡ Some step → kinds_over n column (timeline_of script line) ≡ shown_as (stand_of (mark_at step n))
 
 -- the end of a shape, from the left and from the top of its line: a sign is 8 pixels wide on each side of its middle and 12 high, half
--- a word above a row 24 wide, and letters go 3 below their line
+-- a word above a row or a column 24 wide, and letters go 3 below their line
 abbrev pub right_of : Shape → ℕ
 right_of (Lane row columns) = x_of columns
 right_of (Bar row start end s node) = x_of start + 32 * (end - start)
@@ -43,7 +43,7 @@ right_of (Name row column node) = x_of column
 right_of (Number column number) = x_of column + 24
 right_of (Arrow column number giver from taker to) = x_of column + 8
 right_of (Bytes row column bytes places) = x_of column + 24
-right_of (Call row column event) = x_of column + 8
+right_of (Call row column event) = x_of column + 24
 
 abbrev pub foot_of : Shape → ℕ
 foot_of (Lane row columns) = y_of row + 1

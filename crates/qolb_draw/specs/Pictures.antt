@@ -25,6 +25,7 @@ letter_of symbol.Shut = 45
 letter_of symbol.Told = 99
 letter_of symbol.Gives = 62
 letter_of symbol.Takes = 60
+letter_of (symbol.Misuse stand) = 33
 
 -- a node's row: its number, in three places, and its mark after each command
 abbrev pub label_of : ℕ → List ℕ
@@ -57,7 +58,7 @@ line_text script line = codes "line " ++ (48 + line) ∷ 10 ∷ [] ++ blocks_tex
 
 -- the legend of the letters
 abbrev pub legend : List ℕ
-legend = codes ". idle   w waits   t its turn has come   H holds   > hands over to <\nx withdrawn   c told that the line is closed   - closed\n"
+legend = codes ". idle   w waits   t its turn has come   H holds   > hands over to <\nx withdrawn   c told that the line is closed   - closed   ! misuse\n"
 
 -- the picture of a schedule: that of each line, and the legend
 abbrev pub picture_of : Script → List ℕ

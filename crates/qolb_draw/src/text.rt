@@ -20,7 +20,7 @@ const MARGIN: &[u8] = b"         ";
 
 /// The legend of the letters.
 pub const LEGEND: &[u8] =
-    b". idle   w waits   t its turn has come   H holds   > hands over to <\nx withdrawn   c told that the line is closed   - closed\n";
+    b". idle   w waits   t its turn has come   H holds   > hands over to <\nx withdrawn   c told that the line is closed   - closed   ! misuse\n";
 
 /// Returns the letter of a mark.
 fn letter(mark: Symbol) -> u8
@@ -36,6 +36,7 @@ fn letter(mark: Symbol) -> u8
         Symbol::Told => b'c',
         Symbol::Gives => b'>',
         Symbol::Takes => b'<',
+        Symbol::Misuse(_) => b'!',
     }
 }
 

@@ -30,7 +30,7 @@ abbrev pub BarsCoverPoints : Type 0
 BarsCoverPoints = (script : StepScript) (all : List Seen) (last : State) (n column : ℕ) (seen : Seen) → Watches (first (line_of script)) script.events all last → slice_get all column ≡ Some seen → points_over n column (step_timeline script all) ≡ (if has_acted n (column + 1) script.events then point seen.after n ∷ [] else [])
 
 -- the end of a shape, from the left and from the top of the rows: a sign is 8 pixels wide on each side of its middle and 12 high, half
--- a word above a row 24 wide, a point's name at most 16 wider than a short bar, and letters go 3 below their line
+-- a word above a row or a column 24 wide, a point's name at most 16 wider than a short bar, and letters go 3 below their line
 abbrev pub step_right_of : StepShape → ℕ
 step_right_of (Lane row columns) = step_x columns
 step_right_of (Name row column) = step_x column
@@ -39,7 +39,7 @@ step_right_of (At node start end p) = step_x start + 72 * (end - start) + 16
 step_right_of (Lies column place) = step_x column + 72
 step_right_of (Home column word) = step_x column + 24
 step_right_of (Word column node e) = step_x column + 24
-step_right_of (Act column e what) = step_x column + 8
+step_right_of (Act column e what) = step_x column + 24
 
 abbrev pub step_foot_of : StepShape → ℕ
 step_foot_of (Lane row columns) = step_y row + 1

@@ -13,10 +13,10 @@ use Rattle.qolb_shapes.specs.declared.form.Form.TheVariants as form
 use Rattle.qolb_draw_steps.specs.declared.step_text.TheConstants.{LETTERS}
 use Rattle.qolb_draw_steps.specs.declared.step_svg.TheConstants.{STEPS_LEGEND}
 use Rattle.qolb_shapes.specs.declared.svg.TheConstants.{TAIL}
-use Rattle.qolb_shapes.specs.Heads.{heads_text}
+use Rattle.qolb_shapes.specs.Heads.{digit_at, heads_text}
 use Rattle.qolb_shapes.specs.Svg.{svg_head}
 use Rattle.qolb_draw_steps.specs.StepShapes.{Seen, Watches, step_timeline}
-use Rattle.qolb_draw_steps.specs.StepSvg.{place_words, step_texts, step_x, step_y, told_words}
+use Rattle.qolb_draw_steps.specs.StepSvg.{heard_words, place_words, step_texts, step_x, step_y}
 
 -- the letter of a point
 abbrev pub letter_at : Point → ℕ
@@ -37,9 +37,14 @@ letter_at at.Shut = 45
 abbrev pub letters_of : State → List ℕ
 letters_of c = map (λ k. letter_at (point c (k + 1))) (range_with_len 0 c.nodes)
 
+-- a number in six places
+abbrev pub number_text : ℕ → List ℕ
+number_text n = map (λ value. digit_at value n) (100000 ∷ 10000 ∷ 1000 ∷ 100 ∷ 10 ∷ 1 ∷ [])
+
 -- a line of plain text: the letter of each node after the event, the event and what it told, and the place of the line
 abbrev pub event_line : ℕ → Seen → List ℕ
-event_line column seen = letters_of seen.after ++ codes "  " ++ told_words column seen.event seen.told ++ codes "; " ++ place_words seen.after.place ++ codes "\n"
+event_line column seen =
+    letters_of seen.after ++ codes " " ++ number_text (column + 1) ++ codes ": " ++ heard_words seen.event seen.told ++ codes "; " ++ place_words seen.after.place ++ codes "\n"
 
 -- the lines of some events, from a column on
 abbrev pub event_lines : ℕ → List Seen → List ℕ

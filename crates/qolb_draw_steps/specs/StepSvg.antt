@@ -14,7 +14,7 @@ use Rattle.qolb_model.specs.declared.config.TheConstants.{MAX_NODES}
 use Rattle.qolb_script.specs.declared.command.Command.TheVariants.{Write}
 use Rattle.qolb_script.specs.Said.{said_words}
 use Rattle.qolb_script.specs.StepReply.{step_said}
-use Rattle.qolb_shapes.specs.Svg.{field, written_words}
+use Rattle.qolb_shapes.specs.Svg.{field, verb_text, written_words}
 use Rattle.qolb_draw_steps.specs.StepShapes.{StepShape, Lane, Name, Number, At, Lies, Home, Word, Act}
 
 -- the place of an event, from the left; the middle of a row, from the top
@@ -68,10 +68,10 @@ class_at point.Ready = codes "waits"
 class_at (point.Linking n) = codes "waits"
 class_at point.Queued = codes "waits"
 class_at point.Holding = codes "holds"
-class_at (point.Leaving n) = codes "turn"
-class_at (point.Marking n) = codes "turn"
-class_at (point.Granting n) = codes "turn"
-class_at point.Freeing = codes "turn"
+class_at (point.Leaving n) = codes "releases"
+class_at (point.Marking n) = codes "releases"
+class_at (point.Granting n) = codes "releases"
+class_at point.Freeing = codes "releases"
 class_at point.Left = codes "rests"
 class_at point.Rolled = codes "withdrawn"
 class_at point.Shut = codes "rests"
@@ -128,9 +128,12 @@ placed_words e = []
 abbrev pub event_words : Event → List ℕ
 event_words e = step_verb e ++ field (codes " ") (node_of e) ++ placed_words e
 
--- the words of an event of this column, and of what it told
+-- the words of an event and of what it told; the same with the number of its column before them
+abbrev pub heard_words : Event → Option Told → List ℕ
+heard_words e what = event_words e ++ codes ": " ++ said_words (step_said what)
+
 abbrev pub told_words : ℕ → Event → Option Told → List ℕ
-told_words column e what = field [] (column + 1) ++ codes ": " ++ event_words e ++ codes ": " ++ said_words (step_said what)
+told_words column e what = field [] (column + 1) ++ codes ": " ++ heard_words e what
 
 -- the sign of an event that told this
 abbrev pub sign_at : Option Told → List ℕ
@@ -180,6 +183,7 @@ abbrev pub act_text : ℕ → Event → Option Told → List ℕ
 act_text column e what =
     codes "<use href='#" ++ sign_at what ++ field (codes "' x='") (step_x column) ++ field (codes "' y='") (step_y (node_of e))
     ++ codes "'><title>" ++ told_words column e what ++ codes "</title></use>\n"
+    ++ verb_text (step_x column) (step_verb e)
 
 abbrev pub step_shape_text : StepShape → List ℕ
 step_shape_text (Lane row columns) = step_lane_text row columns

@@ -9,21 +9,24 @@ ghost use Rattle.qolb_draw_steps.specs.StepSvg as spec;
 
 use crate::step_words::{
     class_at, class_of_place, push_entry, push_place, push_point, push_told, row_of_place, sign_at,
+    step_verb,
 };
 use link_core::{Entry, Event, Place, Point, Told};
-use qolb_shapes::svg::{NAMED_EVERY, push_field};
+use qolb_shapes::svg::{NAMED_EVERY, push_field, push_verb};
 use std::alloc::{AllocError, Allocator};
 
 /// The text before the shapes: the colours that a timeline does not have, and the legend.
 pub const STEPS_LEGEND: &[u8] = b"<style>
 .at{font-size:9px;pointer-events:none}
 .rests{fill:none;stroke:#d0d7de;pointer-events:all}
+.releases{fill:#e89ac7}
 .hand{fill:#8250df}
 .mailbox{fill:none;stroke:#8250df;pointer-events:all}
 .home{fill:#8250df;fill-opacity:.4}
 @media(prefers-color-scheme:dark){
 .at{paint-order:stroke;stroke:#0d1117;stroke-width:2px}
 .rests{stroke:#30363d}
+.releases{fill:#8e3a6b}
 .hand{fill:#a371f7}
 .mailbox{stroke:#a371f7}
 .home{fill:#a371f7}
@@ -32,7 +35,7 @@ pub const STEPS_LEGEND: &[u8] = b"<style>
 <rect class='rests' x='8' y='8' width='32' height='16'/><text x='46' y='20'>in no call</text>
 <rect class='waits' x='132' y='8' width='32' height='16'/><text x='170' y='20'>asks or waits</text>
 <rect class='holds' x='280' y='8' width='32' height='16'/><text x='318' y='20'>holds the line</text>
-<rect class='turn' x='436' y='8' width='32' height='16'/><text x='474' y='20'>releases</text>
+<rect class='releases' x='436' y='8' width='32' height='16'/><text x='474' y='20'>releases</text>
 <rect class='withdrawn' x='548' y='8' width='32' height='16'/><text x='586' y='20'>has withdrawn</text>
 <rect class='hand' x='8' y='39' width='32' height='5'/><text x='46' y='46'>line in a hand</text>
 <rect class='mailbox' x='160' y='39' width='32' height='5'/><text x='198' y='46'>in a mailbox</text>
@@ -285,7 +288,7 @@ pub fn push_word<A: Allocator>(
     Ok(())
 }
 
-/// Appends the sign of an event.
+/// Appends the sign of an event, and its first word above the column.
 pub fn push_act<A: Allocator>(
     alloc: A,
     svg: &mut Vec<u8, A>,
@@ -303,5 +306,6 @@ pub fn push_act<A: Allocator>(
     svg.extend_from_slice(b"'><title>")?;
     push_told(alloc, svg, column, event, told)?;
     svg.extend_from_slice(b"</title></use>\n")?;
+    push_verb(svg, step_x(column), step_verb(event))?;
     Ok(())
 }

@@ -6,9 +6,9 @@ ghost use Rattle.link_core.specs.declared.state.State.{State};
 ghost use Rattle.qolb_draw_steps.specs.StepPictures as spec;
 ghost use Rattle.qolb_draw_steps.specs.StepShapes.{Seen};
 
-use crate::step_words::{push_place, push_told};
+use crate::step_words::{push_heard, push_place};
 use link_core::{Core, Event, Point, Told};
-use qolb_shapes::push_heads;
+use qolb_shapes::{digit_at, push_heads};
 use std::alloc::{AllocError, Allocator};
 
 /// The legend of the letters.
@@ -71,6 +71,21 @@ fn push_letters<A: Allocator>(text: &mut Vec<u8, A>, core: &Core) -> Result<(), 
     Ok(())
 }
 
+/// Appends a number in six places, so that the columns behind it are the same in each line.
+fn push_number<A: Allocator>(text: &mut Vec<u8, A>, number: u64) -> Result<(), AllocError>
+    ensures { OnOk result (text.new.items ≡ text.old.items ++ spec.number_text number) }
+{
+    text.extend_from_slice(&[
+        digit_at(100_000, number),
+        digit_at(10_000, number),
+        digit_at(1000, number),
+        digit_at(100, number),
+        digit_at(10, number),
+        digit_at(1, number),
+    ])?;
+    Ok(())
+}
+
 /// Appends the line of an event that told this and left this core.
 pub fn push_event_line<A: Allocator>(
     alloc: A,
@@ -89,8 +104,10 @@ pub fn push_event_line<A: Allocator>(
         } in text.new.items ≡ text.old.items ++ spec.event_line column seen) }
 {
     push_letters(text, core)?;
-    text.extend_from_slice(b"  ")?;
-    push_told(alloc, text, column, event, told)?;
+    text.extend_from_slice(b" ")?;
+    push_number(text, u64::from(column) + 1)?;
+    text.extend_from_slice(b": ")?;
+    push_heard(alloc, text, event, told)?;
     text.extend_from_slice(b"; ")?;
     push_place(text, core.place())?;
     text.extend_from_slice(b"\n")?;

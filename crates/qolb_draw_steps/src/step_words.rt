@@ -73,7 +73,7 @@ pub fn class_at(point: Point) -> &'static [u8]
     match point {
         Point::Ready | Point::Linking(_) | Point::Queued => b"waits",
         Point::Holding => b"holds",
-        Point::Leaving(_) | Point::Marking(_) | Point::Granting(_) | Point::Freeing => b"turn",
+        Point::Leaving(_) | Point::Marking(_) | Point::Granting(_) | Point::Freeing => b"releases",
         Point::Rolled => b"withdrawn",
         Point::Idle | Point::Left | Point::Shut => b"rests",
     }
@@ -151,7 +151,7 @@ pub fn push_entry<A: Allocator>(text: &mut Vec<u8, A>, entry: &Entry) -> Result<
 }
 
 /// Returns the first word of an event.
-fn step_verb(event: &Event) -> &'static [u8]
+pub fn step_verb(event: &Event) -> &'static [u8]
     ensures { result.now ≡ spec.step_verb event.now }
 {
     match *event {
@@ -213,6 +213,21 @@ fn said_of(told: Option<Told>) -> Said
     }
 }
 
+/// Appends an event and what it told.
+pub fn push_heard<A: Allocator>(
+    alloc: A,
+    text: &mut Vec<u8, A>,
+    event: &Event,
+    told: Option<Told>,
+) -> Result<(), AllocError>
+    ensures { OnOk result (text.new.items ≡ text.old.items ++ spec.heard_words event.now told) }
+{
+    push_event_words(alloc, text, event)?;
+    text.extend_from_slice(b": ")?;
+    push_answer(text, &said_of(told))?;
+    Ok(())
+}
+
 /// Appends the event of this column, with its number and what it told.
 pub fn push_told<A: Allocator>(
     alloc: A,
@@ -226,9 +241,7 @@ pub fn push_told<A: Allocator>(
 {
     push_field(text, b"", u64::from(column) + 1)?;
     text.extend_from_slice(b": ")?;
-    push_event_words(alloc, text, event)?;
-    text.extend_from_slice(b": ")?;
-    push_answer(text, &said_of(told))?;
+    push_heard(alloc, text, event, told)?;
     Ok(())
 }
 

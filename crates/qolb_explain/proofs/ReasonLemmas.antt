@@ -11,6 +11,7 @@ use Rattle.qolb_script.specs.declared.error.ScriptError.{ScriptError}
 use Rattle.qolb_script.specs.declared.error.ScriptError.TheVariants as error
 use Rattle.qolb_explain.specs.declared.reason.Reason.{Reason}
 use Rattle.qolb_explain.specs.declared.reason.Reason.TheVariants as reason
+use Rattle.qolb_explain.specs.declared.reason.ScriptKind.TheVariants as script
 use Rattle.qolb_script.specs.declared.schedule.TheConstants.{MAX_COMMANDS}
 use Rattle.qolb_script.specs.declared.text.LineFault.{LineFault}
 use Rattle.qolb_script.specs.declared.text.LineFault.TheVariants.{Bad, Number}
@@ -21,7 +22,7 @@ use Rattle.qolb_script.specs.Jobs.{job_of, work_header_of}
 use Rattle.qolb_script.specs.Script.{commands_of, followed_by, found_at, items_of, script_from, script_of, under_header, with_commands}
 use Rattle.qolb_script.specs.StepScript.{events_of, steps_from, steps_of, under_step_header, with_events}
 use Rattle.qolb_script.specs.WorkScript.{jobs_of, under_work_header, with_jobs, work_from, work_of}
-use Rattle.qolb_explain.specs.Reasons.{Complaint, below_first, first_refused, or_below, schedule_complaint, steps_complaint, why_command, why_event, why_header, why_job, why_line, why_step_header, why_work_header, work_complaint}
+use Rattle.qolb_explain.specs.Reasons.{Complaint, below_first, first_refused, or_below, schedule_complaint, script_kind, steps_complaint, unless_other, why_command, why_event, why_header, why_job, why_line, why_step_header, why_work_header, work_complaint}
 use Rattle.qolb_explain.specs.Laws.{refused_line, told_line}
 
 one_more : {A : Type 0} (many : Bool) (r : Result A LineFault) (n : ℕ) (line : List ℕ) (why : Reason) (later : Option Complaint) (others : Result (List A) ScriptError) → told_line later ≡ refused_line others
@@ -49,9 +50,9 @@ under (Err Bad) n line why rest = refl
 under (Err Number) n line why rest = refl
 under (Ok h) n line why rest = items (command_of h.nodes h.lines) (why_command h.nodes h.lines) 0 rest ∙ commands h (commands_of h 0 rest)
 
-from : (lines : List (ℕ × List ℕ)) → told_line (below_first header_of why_header (λ (h : Header) rest. first_refused (command_of h.nodes h.lines) (why_command h.nodes h.lines) 0 rest) lines) ≡ refused_line (script_from lines)
+from : (lines : List (ℕ × List ℕ)) → told_line (below_first script.Schedule header_of why_header (λ (h : Header) rest. first_refused (command_of h.nodes h.lines) (why_command h.nodes h.lines) 0 rest) lines) ≡ refused_line (script_from lines)
 from [] = refl
-from (line ∷ rest) = under (read_line header_of line.1) line.0 line.1 (why_line why_header line.1) rest
+from (line ∷ rest) = under (read_line header_of line.1) line.0 line.1 (unless_other line.1 (why_line why_header line.1)) rest
 
 pub schedules : (text : List ℕ) → told_line (schedule_complaint text) ≡ refused_line (script_of text)
 schedules text = from (worded (numbered_lines text))
@@ -66,9 +67,9 @@ under_step (Err Bad) n line why rest = refl
 under_step (Err Number) n line why rest = refl
 under_step (Ok h) n line why rest = items (event_of h.nodes) (why_event h.nodes) 0 rest ∙ events h (events_of h.nodes 0 rest)
 
-from_step : (lines : List (ℕ × List ℕ)) → told_line (below_first step_header_of why_step_header (λ (h : StepHeader) rest. first_refused (event_of h.nodes) (why_event h.nodes) 0 rest) lines) ≡ refused_line (steps_from lines)
+from_step : (lines : List (ℕ × List ℕ)) → told_line (below_first script.Steps step_header_of why_step_header (λ (h : StepHeader) rest. first_refused (event_of h.nodes) (why_event h.nodes) 0 rest) lines) ≡ refused_line (steps_from lines)
 from_step [] = refl
-from_step (line ∷ rest) = under_step (read_line step_header_of line.1) line.0 line.1 (why_line why_step_header line.1) rest
+from_step (line ∷ rest) = under_step (read_line step_header_of line.1) line.0 line.1 (unless_other line.1 (why_line why_step_header line.1)) rest
 
 pub step_scripts : (text : List ℕ) → told_line (steps_complaint text) ≡ refused_line (steps_of text)
 step_scripts text = from_step (worded (numbered_lines text))
@@ -84,9 +85,9 @@ under_work kind (Err Number) n line why rest = refl
 under_work kind (Ok h) n line why rest = items (job_of kind h.workers h.lines) (why_job kind h.workers h.lines) 0 rest ∙ jobs kind h (jobs_of kind h 0 rest)
 
 from_work : (kind : WorkKind) (lines : List (ℕ × List ℕ))
-    → told_line (below_first (work_header_of kind) (why_work_header kind) (λ (h : WorkHeader) rest. first_refused (job_of kind h.workers h.lines) (why_job kind h.workers h.lines) 0 rest) lines) ≡ refused_line (work_from kind lines)
+    → told_line (below_first (script_kind kind) (work_header_of kind) (why_work_header kind) (λ (h : WorkHeader) rest. first_refused (job_of kind h.workers h.lines) (why_job kind h.workers h.lines) 0 rest) lines) ≡ refused_line (work_from kind lines)
 from_work kind [] = refl
-from_work kind (line ∷ rest) = under_work kind (read_line (work_header_of kind) line.1) line.0 line.1 (why_line (why_work_header kind) line.1) rest
+from_work kind (line ∷ rest) = under_work kind (read_line (work_header_of kind) line.1) line.0 line.1 (unless_other line.1 (why_line (why_work_header kind) line.1)) rest
 
 pub work_scripts : (kind : WorkKind) (text : List ℕ) → told_line (work_complaint kind text) ≡ refused_line (work_of kind text)
 work_scripts kind text = from_work kind (worded (numbered_lines text))

@@ -1,12 +1,12 @@
 //! Explanations: the first line of a script that is refused, and why.
-ghost use Rattle.std.specs.Prelude.{◌≡◌, Some, None, MatchOption};
+ghost use Rattle.std.specs.Prelude.{◌≡◌, [], Some, None, MatchOption};
 ghost use Rattle.qolb_explain.specs.Reasons as spec;
 ghost use Rattle.qolb_script.specs.Reading.{lines_left};
 
-use crate::reason::{Complaint, Reason};
+use crate::reason::{Complaint, Reason, ScriptKind};
 use crate::why_command::{why_command, why_header};
 use crate::why_event::{why_event, why_step_header};
-use crate::why_job::{why_job, why_work_header};
+use crate::why_job::{script_kind, why_job, why_work_header};
 use qolb_script::WorkKind;
 use qolb_script::readers::{
     CommandReader, EventReader, Header, JobReader, MAX_COMMANDS, NumberedLines, ReadItem,
@@ -51,12 +51,45 @@ impl ExplainItem for JobReader {
     }
 }
 
-/// The complaint about a script that has no header.
-const NO_HEADER: Complaint<'static> = Complaint {
-    number: 1,
-    line: &[],
-    reason: Reason::Empty,
-};
+/// Returns the complaint about a script of this kind that has no header.
+fn no_header(kind: ScriptKind) -> Complaint<'static>
+    ensures number { result.number ≡ 1 }
+    ensures line { result.line.now ≡ [] }
+    ensures reason { result.reason ≡ Reason.Empty kind }
+{
+    Complaint {
+        number: 1,
+        line: &[],
+        reason: Reason::Empty(kind),
+    }
+}
+
+/// Returns the kind of script that has this line as its header. No line is a header of two kinds.
+fn kind_of_header(line: &[u8]) -> Option<ScriptKind>
+    ensures { result ≡ spec.kind_of_header line.now }
+{
+    if read_header(line).is_ok() {
+        Some(ScriptKind::Schedule)
+    } else if read_step_header(line).is_ok() {
+        Some(ScriptKind::Steps)
+    } else if read_work_header(WorkKind::Board, line).is_ok() {
+        Some(ScriptKind::Board)
+    } else if read_work_header(WorkKind::Bank, line).is_ok() {
+        Some(ScriptKind::Bank)
+    } else {
+        None
+    }
+}
+
+/// Returns the fault of a refused header: that it is of another kind of script, else `why`.
+fn unless_other(line: &[u8], why: Reason) -> Reason
+    ensures { result ≡ spec.unless_other line.now why }
+{
+    match kind_of_header(line) {
+        Some(kind) => Reason::Other(kind),
+        None => why,
+    }
+}
 
 /// Returns the first refused line below a header, with its fault.
 fn explain_items<'a, R: ExplainItem>(reader: &R, rest: NumberedLines<'a>) -> Option<Complaint<'a>>
@@ -94,14 +127,14 @@ pub fn explain_schedule<'a>(text: &'a [u8]) -> Option<Complaint<'a>>
 {
     let mut rest = NumberedLines::new(text);
     let Some((number, line)) = rest.next() else {
-        return Some(NO_HEADER);
+        return Some(no_header(ScriptKind::Schedule));
     };
     match read_header(line) {
         Ok(Header { nodes, lines, .. }) => explain_items(&CommandReader { nodes, lines }, rest),
         Err(_) => Some(Complaint {
             number,
             line,
-            reason: why_header(line),
+            reason: unless_other(line, why_header(line)),
         }),
     }
 }
@@ -114,14 +147,14 @@ pub fn explain_steps<'a>(text: &'a [u8]) -> Option<Complaint<'a>>
 {
     let mut rest = NumberedLines::new(text);
     let Some((number, line)) = rest.next() else {
-        return Some(NO_HEADER);
+        return Some(no_header(ScriptKind::Steps));
     };
     match read_step_header(line) {
         Ok(StepHeader { nodes, .. }) => explain_items(&EventReader { nodes }, rest),
         Err(_) => Some(Complaint {
             number,
             line,
-            reason: why_step_header(line),
+            reason: unless_other(line, why_step_header(line)),
         }),
     }
 }
@@ -134,7 +167,7 @@ pub fn explain_work<'a>(text: &'a [u8], kind: WorkKind) -> Option<Complaint<'a>>
 {
     let mut rest = NumberedLines::new(text);
     let Some((number, line)) = rest.next() else {
-        return Some(NO_HEADER);
+        return Some(no_header(script_kind(kind)));
     };
     match read_work_header(kind, line) {
         Ok(WorkHeader { workers, lines }) => {
@@ -148,7 +181,7 @@ pub fn explain_work<'a>(text: &'a [u8], kind: WorkKind) -> Option<Complaint<'a>>
         Err(_) => Some(Complaint {
             number,
             line,
-            reason: why_work_header(kind, line),
+            reason: unless_other(line, why_work_header(kind, line)),
         }),
     }
 }

@@ -1,12 +1,15 @@
-//! Explanations of refused scripts: the first line that is refused, and what is wrong with it.
+//! Explanations: the first line that is refused of a script, and what may stand there; and what an answer `misuse` or `refused` means.
 #![tactic(auto)]
 
 mod explain;
 pub mod laws;
+mod notes;
 mod reason;
+mod told;
 mod why_command;
 mod why_event;
 mod why_job;
 
 pub use explain::{explain_schedule, explain_steps, explain_work};
-pub use reason::{Complaint, Reason};
+pub use notes::{notes_of_schedule, notes_of_steps};
+pub use reason::{Allowed, Complaint, Form, Reason, ScriptKind};

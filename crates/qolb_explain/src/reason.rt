@@ -1,37 +1,81 @@
-//! Faults of scripts, told to people.
+//! Faults of lines of scripts.
 ghost use Rattle.std.specs.Prelude.{◌≡◌};
-ghost use Rattle.qolb_explain.specs.Reasons.{unless_number, unless_word};
+ghost use Rattle.qolb_explain.specs.Reasons.{unless_begin, unless_number, unless_word};
 
 use qolb_script::readers::number_within;
-use std::fmt;
-use thiserror::Error;
 
-/// The largest number of bytes of a line that are shown.
-const MAX_SHOWN: usize = 200;
+/// The kind of a script, by its header.
+#[derive(Clone, Copy, Debug, PartialEq, Eq)]
+pub enum ScriptKind {
+    Schedule,
+    Steps,
+    Board,
+    Bank,
+}
+
+/// The words that are allowed at a place.
+#[derive(Clone, Copy, Debug, PartialEq, Eq)]
+pub enum Allowed {
+    /// The first words of a schedule's commands.
+    Commands,
+    /// The first words of events.
+    Events,
+    /// The second words of a board's jobs.
+    BoardJobs,
+    /// The second words of a bank's jobs.
+    BankJobs,
+    /// `lines`, of a header.
+    Lines,
+    /// `lease`, of a header.
+    Lease,
+    /// `workers`, of a header.
+    Workers,
+}
+
+/// The form of a line: its words, and what its numbers are.
+#[derive(Clone, Copy, Debug, PartialEq, Eq)]
+pub enum Form {
+    /// The first line of a script.
+    Header(ScriptKind),
+    /// A command of a node and a line.
+    Call,
+    /// A write of a schedule.
+    Write,
+    /// An event of a node.
+    Event,
+    /// A write of a step script.
+    StepWrite,
+    /// A job of this kind of script, whose second word is left out.
+    Job(ScriptKind),
+    Put,
+    Take,
+    /// A job of a bank, `in` or `out`.
+    Payment,
+    Move,
+}
 
 /// The fault of a line. Places of words count from 1.
-#[derive(Clone, Copy, Debug, PartialEq, Eq, Error)]
+#[derive(Clone, Copy, Debug, PartialEq, Eq)]
 pub enum Reason {
-    /// No line has a word.
-    #[error("no line has a word, and a script begins with a header")]
-    Empty,
-    #[error("a byte is neither a space nor a visible ASCII character")]
+    /// No line has a word, and the script is to be of this kind.
+    Empty(ScriptKind),
+    /// The line is the header of a script of this kind, another than was asked for.
+    Other(ScriptKind),
+    /// The first word is not that of the header of this kind.
+    Begin(ScriptKind),
+    /// A byte is neither a space nor a visible ASCII character.
     Byte,
     /// The word at this place is none of those that are allowed there.
-    #[error("word {0} is unknown")]
-    Word(u64),
-    #[error("wrong number of words")]
-    Count,
+    Word { place: u64, allowed: Allowed },
+    /// A line of this form has another number of words.
+    Count(Form),
     /// The word at this place is no number, or is out of its range.
-    #[error("word {place} is no number from {low} to {high}")]
     Number { place: u64, low: u64, high: u64 },
-    #[error("word {0} is not hex, of two digits a byte")]
+    /// The word at this place is not hex.
     Hex(u64),
     /// The bytes of the word at this place go past the end of the line.
-    #[error("the bytes of word {0} do not fit: a line has 64")]
     Fit(u64),
     /// The line is the first past the largest number below a header.
-    #[error("more than 100,000 commands")]
     TooMany,
 }
 
@@ -47,14 +91,25 @@ impl Reason {
         }
     }
 
-    /// Returns the fault of a word that is not `name`, else `self`.
-    pub fn unless_word(self, place: u64, name: &[u8], word: &[u8]) -> Reason
-        ensures { result ≡ unless_word place name.now word.now self }
+    /// Returns the fault of a word that is not `name`, which is all that is allowed there; else `self`.
+    pub fn unless_word(self, place: u64, allowed: Allowed, name: &[u8], word: &[u8]) -> Reason
+        ensures { result ≡ unless_word place allowed name.now word.now self }
     {
         if word == name {
             self
         } else {
-            Reason::Word(place)
+            Reason::Word { place, allowed }
+        }
+    }
+
+    /// Returns the fault of a script's first word that is not `name`, by which a script of this kind begins; else `self`.
+    pub fn unless_begin(self, kind: ScriptKind, name: &[u8], word: &[u8]) -> Reason
+        ensures { result ≡ unless_begin kind name.now word.now self }
+    {
+        if word == name {
+            self
+        } else {
+            Reason::Begin(kind)
         }
     }
 }
@@ -65,30 +120,4 @@ pub struct Complaint<'a> {
     pub number: u64,
     pub line: &'a [u8],
     pub reason: Reason,
-}
-
-impl<'a> fmt::Display for Complaint<'a> {
-    fn fmt<W: fmt::Write>(&self, f: &mut fmt::Formatter<W>) -> fmt::Result {
-        if !self.line.is_empty() {
-            write_line(f, self.line)?;
-        }
-        let reason = self.reason;
-        write!(f, "{reason}")
-    }
-}
-
-/// Writes a line: with bytes that no script has as `\xNN`, and at most `MAX_SHOWN` bytes of it.
-fn write_line<W: fmt::Write>(f: &mut fmt::Formatter<W>, line: &[u8]) -> fmt::Result {
-    f.write_str("    ")?;
-    for byte in line.iter().copied().take(MAX_SHOWN) {
-        if b' ' <= byte && byte <= b'~' {
-            f.write_char(char::from(byte))?;
-        } else {
-            write!(f, "\\x{byte:02x}")?;
-        }
-    }
-    if line.len() > MAX_SHOWN {
-        f.write_str(" ..")?;
-    }
-    f.write_str("\n")
 }

@@ -5,7 +5,7 @@ ghost use Rattle.hex.specs.Hex as hex;
 ghost use Rattle.qolb_explain.specs.Reasons as spec;
 ghost use Rattle.qolb_script.specs.Reading.{words_left};
 
-use crate::reason::Reason;
+use crate::reason::{Allowed, Form, Reason, ScriptKind};
 use qolb_model::MAX_NODES;
 use qolb_script::readers::{LAST_PLACE, LEASE, LINES, MAX_LINES, NODES, Verb, WRITE, Words};
 
@@ -52,14 +52,17 @@ pub fn why_command(nodes: u64, lines: u64, line: &[u8]) -> Reason
         return Reason::Byte;
     };
     let Some(first) = words.next() else {
-        return Reason::Count;
+        return Reason::Count(Form::Call);
     };
     if first == WRITE {
         return why_write(nodes, lines, words);
     }
     match Verb::named(first) {
         Some(_) => why_call(nodes, lines, words),
-        None => Reason::Word(1),
+        None => Reason::Word {
+            place: 1,
+            allowed: Allowed::Commands,
+        },
     }
 }
 
@@ -75,7 +78,7 @@ fn why_call(nodes: u64, lines: u64, mut words: Words) -> Reason
             high: lines - 1,
         }
         .unless_number(2, 1, nodes, node),
-        _ => Reason::Count,
+        _ => Reason::Count(Form::Call),
     }
 }
 
@@ -85,13 +88,13 @@ fn why_write(nodes: u64, lines: u64, mut words: Words) -> Reason
     ensures { result ≡ spec.why_write nodes lines (words_left words.entry) }
 {
     let (Some(node), Some(line)) = (words.next(), words.next()) else {
-        return Reason::Count;
+        return Reason::Count(Form::Write);
     };
     match (words.next(), words.next(), words.next()) {
         (Some(off), Some(hex), None) => why_placed(4, off, hex)
             .unless_number(3, 0, lines - 1, line)
             .unless_number(2, 1, nodes, node),
-        _ => Reason::Count,
+        _ => Reason::Count(Form::Write),
     }
 }
 
@@ -103,8 +106,8 @@ pub fn why_header(line: &[u8]) -> Reason
         return Reason::Byte;
     };
     match words.next() {
-        None => Reason::Count,
-        Some(first) => why_sizes(words).unless_word(1, NODES, first),
+        None => Reason::Count(Form::Header(ScriptKind::Schedule)),
+        Some(first) => why_sizes(words).unless_begin(ScriptKind::Schedule, NODES, first),
     }
 }
 
@@ -113,14 +116,14 @@ fn why_sizes(mut words: Words) -> Reason
     ensures { result ≡ spec.why_sizes (words_left words.entry) }
 {
     let (Some(nodes), Some(third), Some(lines)) = (words.next(), words.next(), words.next()) else {
-        return Reason::Count;
+        return Reason::Count(Form::Header(ScriptKind::Schedule));
     };
     match (words.next(), words.next(), words.next()) {
-        (None, _, _) => why_two(nodes).unless_word(3, LINES, third),
+        (None, _, _) => why_two(nodes).unless_word(3, Allowed::Lines, LINES, third),
         (Some(fifth), Some(_), None) => why_three(nodes, lines)
-            .unless_word(5, LEASE, fifth)
-            .unless_word(3, LINES, third),
-        _ => Reason::Count,
+            .unless_word(5, Allowed::Lease, LEASE, fifth)
+            .unless_word(3, Allowed::Lines, LINES, third),
+        _ => Reason::Count(Form::Header(ScriptKind::Schedule)),
     }
 }
 

@@ -3,7 +3,7 @@ ghost use Rattle.std.specs.Prelude.{◌≡◌};
 ghost use Rattle.qolb_explain.specs.Reasons as spec;
 ghost use Rattle.qolb_script.specs.Reading.{words_left};
 
-use crate::reason::Reason;
+use crate::reason::{Allowed, Form, Reason, ScriptKind};
 use crate::why_command::why_placed;
 use qolb_model::MAX_NODES;
 use qolb_script::readers::{LEASE, NODES, Step, WRITE, Words};
@@ -16,14 +16,17 @@ pub fn why_event(nodes: u64, line: &[u8]) -> Reason
         return Reason::Byte;
     };
     let Some(first) = words.next() else {
-        return Reason::Count;
+        return Reason::Count(Form::Event);
     };
     if first == WRITE {
         return why_step_write(nodes, words);
     }
     match Step::named(first) {
         Some(_) => why_step(nodes, words),
-        None => Reason::Word(1),
+        None => Reason::Word {
+            place: 1,
+            allowed: Allowed::Events,
+        },
     }
 }
 
@@ -37,7 +40,7 @@ fn why_step(nodes: u64, mut words: Words) -> Reason
             low: 1,
             high: nodes,
         },
-        _ => Reason::Count,
+        _ => Reason::Count(Form::Event),
     }
 }
 
@@ -46,11 +49,11 @@ fn why_step_write(nodes: u64, mut words: Words) -> Reason
     ensures { result ≡ spec.why_step_write nodes (words_left words.entry) }
 {
     let Some(node) = words.next() else {
-        return Reason::Count;
+        return Reason::Count(Form::StepWrite);
     };
     match (words.next(), words.next(), words.next()) {
         (Some(off), Some(hex), None) => why_placed(3, off, hex).unless_number(2, 1, nodes, node),
-        _ => Reason::Count,
+        _ => Reason::Count(Form::StepWrite),
     }
 }
 
@@ -62,8 +65,8 @@ pub fn why_step_header(line: &[u8]) -> Reason
         return Reason::Byte;
     };
     match words.next() {
-        None => Reason::Count,
-        Some(first) => why_nodes(words).unless_word(1, NODES, first),
+        None => Reason::Count(Form::Header(ScriptKind::Steps)),
+        Some(first) => why_nodes(words).unless_begin(ScriptKind::Steps, NODES, first),
     }
 }
 
@@ -72,7 +75,7 @@ fn why_nodes(mut words: Words) -> Reason
     ensures { result ≡ spec.why_nodes (words_left words.entry) }
 {
     let Some(nodes) = words.next() else {
-        return Reason::Count;
+        return Reason::Count(Form::Header(ScriptKind::Steps));
     };
     match (words.next(), words.next(), words.next()) {
         (None, _, _) => Reason::Number {
@@ -86,7 +89,7 @@ fn why_nodes(mut words: Words) -> Reason
             high: u64::MAX,
         }
         .unless_number(2, 1, MAX_NODES, nodes)
-        .unless_word(3, LEASE, third),
-        _ => Reason::Count,
+        .unless_word(3, Allowed::Lease, LEASE, third),
+        _ => Reason::Count(Form::Header(ScriptKind::Steps)),
     }
 }

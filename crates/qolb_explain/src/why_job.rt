@@ -4,13 +4,23 @@ ghost use Rattle.qolb_explain.specs.Reasons as spec;
 ghost use Rattle.qolb_script.specs.Reading.{words_left};
 ghost use Rattle.qolb_script.specs.declared.schedule.TheConstants.{MAX_LINES};
 
-use crate::reason::Reason;
+use crate::reason::{Allowed, Form, Reason, ScriptKind};
 use qolb_model::MAX_NODES;
 use qolb_script::WorkKind;
 use qolb_script::readers::{
     ACCOUNTS_A_LINE, BANK, BOARD, LINES, MAX_LINES, MOVE, PAY_IN, PAY_OUT, PUT, TAKE, WORKERS,
     Words,
 };
+
+/// Returns the kind of the scripts of this work.
+pub fn script_kind(kind: WorkKind) -> ScriptKind
+    ensures { result ≡ spec.script_kind kind }
+{
+    match kind {
+        WorkKind::Board => ScriptKind::Board,
+        WorkKind::Bank => ScriptKind::Bank,
+    }
+}
 
 /// Returns the fault of a job of this kind.
 pub fn why_job(kind: WorkKind, workers: u64, lines: u64, line: &[u8]) -> Reason
@@ -22,7 +32,7 @@ pub fn why_job(kind: WorkKind, workers: u64, lines: u64, line: &[u8]) -> Reason
         return Reason::Byte;
     };
     let (Some(worker), Some(verb)) = (words.next(), words.next()) else {
-        return Reason::Count;
+        return Reason::Count(Form::Job(script_kind(kind)));
     };
     match kind {
         WorkKind::Board => why_board_job(workers, worker, verb, words),
@@ -39,7 +49,10 @@ fn why_board_job(workers: u64, worker: &[u8], verb: &[u8], words: Words) -> Reas
     } else if verb == PUT {
         why_put(workers, worker, words)
     } else {
-        Reason::Word(2)
+        Reason::Word {
+            place: 2,
+            allowed: Allowed::BoardJobs,
+        }
     }
 }
 
@@ -53,7 +66,7 @@ fn why_take(workers: u64, mut words: Words) -> Reason
             low: 1,
             high: workers,
         },
-        Some(_) => Reason::Count,
+        Some(_) => Reason::Count(Form::Take),
     }
 }
 
@@ -63,7 +76,7 @@ fn why_put(workers: u64, worker: &[u8], mut words: Words) -> Reason
 {
     match (words.next(), words.next()) {
         (Some(_), None) => any_number_at(3).unless_number(1, 1, workers, worker),
-        _ => Reason::Count,
+        _ => Reason::Count(Form::Put),
     }
 }
 
@@ -79,7 +92,10 @@ fn why_bank_job(workers: u64, lines: u64, worker: &[u8], verb: &[u8], words: Wor
     } else if verb == MOVE {
         why_move(workers, lines, worker, words)
     } else {
-        Reason::Word(2)
+        Reason::Word {
+            place: 2,
+            allowed: Allowed::BankJobs,
+        }
     }
 }
 
@@ -93,7 +109,7 @@ fn why_payment(workers: u64, lines: u64, worker: &[u8], mut words: Words) -> Rea
         (Some(account), Some(_), None) => any_number_at(4)
             .unless_number(3, 0, ACCOUNTS_A_LINE * lines - 1, account)
             .unless_number(1, 1, workers, worker),
-        _ => Reason::Count,
+        _ => Reason::Count(Form::Payment),
     }
 }
 
@@ -105,14 +121,14 @@ fn why_move(workers: u64, lines: u64, worker: &[u8], mut words: Words) -> Reason
 {
     let last = ACCOUNTS_A_LINE * lines - 1;
     let Some(source) = words.next() else {
-        return Reason::Count;
+        return Reason::Count(Form::Move);
     };
     match (words.next(), words.next(), words.next()) {
         (Some(target), Some(_), None) => any_number_at(5)
             .unless_number(4, 0, last, target)
             .unless_number(3, 0, last, source)
             .unless_number(1, 1, workers, worker),
-        _ => Reason::Count,
+        _ => Reason::Count(Form::Move),
     }
 }
 
@@ -135,11 +151,11 @@ pub fn why_work_header(kind: WorkKind, line: &[u8]) -> Reason
         return Reason::Byte;
     };
     let Some(first) = words.next() else {
-        return Reason::Count;
+        return Reason::Count(Form::Header(script_kind(kind)));
     };
     match kind {
-        WorkKind::Board => why_board(words).unless_word(1, BOARD, first),
-        WorkKind::Bank => why_bank(words).unless_word(1, BANK, first),
+        WorkKind::Board => why_board(words).unless_begin(ScriptKind::Board, BOARD, first),
+        WorkKind::Bank => why_bank(words).unless_begin(ScriptKind::Bank, BANK, first),
     }
 }
 
@@ -153,8 +169,8 @@ fn why_board(mut words: Words) -> Reason
             low: 1,
             high: MAX_NODES,
         }
-        .unless_word(2, WORKERS, second),
-        _ => Reason::Count,
+        .unless_word(2, Allowed::Workers, WORKERS, second),
+        _ => Reason::Count(Form::Header(ScriptKind::Board)),
     }
 }
 
@@ -163,7 +179,7 @@ fn why_bank(mut words: Words) -> Reason
     ensures { result ≡ spec.why_bank (words_left words.entry) }
 {
     let (Some(second), Some(workers)) = (words.next(), words.next()) else {
-        return Reason::Count;
+        return Reason::Count(Form::Header(ScriptKind::Bank));
     };
     match (words.next(), words.next(), words.next()) {
         (Some(fourth), Some(_), None) => Reason::Number {
@@ -172,8 +188,8 @@ fn why_bank(mut words: Words) -> Reason
             high: MAX_LINES,
         }
         .unless_number(3, 1, MAX_NODES, workers)
-        .unless_word(4, LINES, fourth)
-        .unless_word(2, WORKERS, second),
-        _ => Reason::Count,
+        .unless_word(4, Allowed::Lines, LINES, fourth)
+        .unless_word(2, Allowed::Workers, WORKERS, second),
+        _ => Reason::Count(Form::Header(ScriptKind::Bank)),
     }
 }

@@ -14,7 +14,7 @@ use Rattle.qolb_script.specs.Commands.{line_of}
 use Rattle.qolb_script.specs.Script.{Script, IsInRange}
 use Rattle.qolb_script.specs.Said.{said_text}
 use Rattle.qolb_script.specs.Reply.{Replay, config_of, line_at, replay_start, replay_step, replay_of, said_of, text_of, summary_of, reply_of, times_said, is_served, is_withdrawn, is_told}
-use Rattle.qolb_replay.specs.declared.counts.CountingLine.{CountingLine}
+use Rattle.qolb_replay.specs.declared.line.CountingLine.{CountingLine}
 use Rattle.qolb_replay.specs.Tallies.{AreWithin, no_counts, Does, IsLineOf, AreLinesOf}
 use Rattle.qolb_replay.proofs.Tallying.{lines_step, said_is}
 

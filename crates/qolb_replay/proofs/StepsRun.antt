@@ -18,7 +18,7 @@ use Rattle.qolb_script.specs.Said.{said_text}
 use Rattle.qolb_script.specs.StepScript.{StepScript}
 use Rattle.qolb_script.specs.Reply.{is_served, is_withdrawn, is_told}
 use Rattle.qolb_script.specs.StepReply.{step_said, step_summary}
-use Rattle.qolb_replay.specs.declared.counts.Counts.{Counts}
+use Rattle.qolb_replay.specs.declared.line.Counts.{Counts}
 use Rattle.qolb_replay.specs.Tallies.{one_if, no_counts, AreWithin, Counted}
 use Rattle.qolb_replay.specs.StepRuns.{line_of, Tells, nothing, told, refused, IsStepReply, Heard, said_by, heard_text, nodes_busy, is_busy}
 use Rattle.qolb_replay.proofs.Tallying.{count_by_one_more, range_more}

@@ -11,7 +11,7 @@ use Rattle.qolb_script.specs.declared.command.Command.{Command}
 use Rattle.qolb_script.specs.declared.reply_text.Said.{Said}
 use Rattle.qolb_script.specs.Commands.{line_of}
 use Rattle.qolb_script.specs.Reply.{nodes_left, is_queued, is_holding, Replay, line_at, no_line, said_of, after_command, replay_step, times_said, is_served, is_withdrawn, is_told}
-use Rattle.qolb_replay.specs.declared.counts.CountingLine.{CountingLine}
+use Rattle.qolb_replay.specs.declared.line.CountingLine.{CountingLine}
 use Rattle.qolb_replay.specs.Tallies.{one_if, Does, IsLineOf, AreLinesOf}
 
 one : (b : Bool) → 0 + cond b 1 0 ≡ one_if b

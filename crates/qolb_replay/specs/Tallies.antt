@@ -5,8 +5,8 @@ use Rattle.qolb_model.specs.OneOwner.{OwnerState}
 use Rattle.qolb_script.specs.declared.command.Command.{Command}
 use Rattle.qolb_script.specs.declared.reply_text.Said.{Said}
 use Rattle.qolb_script.specs.Reply.{Replay, line_at, said_of, after_command, times_said, is_served, is_withdrawn, is_told}
-use Rattle.qolb_replay.specs.declared.counts.Counts.{Counts}
-use Rattle.qolb_replay.specs.declared.counts.CountingLine.{CountingLine}
+use Rattle.qolb_replay.specs.declared.line.Counts.{Counts}
+use Rattle.qolb_replay.specs.declared.line.CountingLine.{CountingLine}
 
 -- 1 if the test passes, else 0
 abbrev pub one_if : Bool → ℕ

@@ -1,11 +1,9 @@
 //! Replays of scripts over queued lines of any type: schedules, and steps on the core of reversed links.
 #![tactic(auto)]
 
-mod counts;
 mod input;
 mod line;
 mod plain;
-mod ported_line;
 mod replay;
 mod steps;
 

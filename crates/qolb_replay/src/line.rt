@@ -1,12 +1,18 @@
-//! The interface by which a replay calls a line.
-ghost use Rattle.std.specs.Prelude.{◌≡◌, ℕ, ◌≤◌};
-ghost use Rattle.qolb_model.specs.OneOwner.{OwnerState, state_of};
-ghost use Rattle.qolb_model.specs.Whole.{seen};
+//! The lines of a replay: the interface by which it calls one, a line that each node calls through its own port, and the counts of its answers.
+ghost use Rattle.std.specs.Prelude.{◌≡◌, ℕ, ◌<◌, ◌≤◌, ◌||◌, length, map, All};
+ghost use Rattle.qolb_model.specs.OneOwner.{OwnerState, opened, state_of};
+ghost use Rattle.qolb_model.specs.Opening.{AreNew, MayOpen};
+ghost use Rattle.qolb_model.specs.Whole.{AreSynced, seen};
 ghost use Rattle.qolb_script.specs.Commands.{node_of};
-ghost use Rattle.qolb_script.specs.Reply.{is_allowed, said_of, after_command};
+ghost use Rattle.qolb_script.specs.Reply.{is_allowed, said_of, after_command, nodes_left, is_queued, is_holding};
+ghost use Rattle.line_blocking.specs.ViewAndTurn.{view_and_turn};
+ghost use Rattle.qolb_replay.specs.Calls.{Calls, AnswersByPort};
 
-use qolb_model::PortState;
+use line_blocking::meet_others;
+use link_core::Told;
+use qolb_model::{Enq, Free, LineSync, MAX_NODES, Out, Poll, PortState};
 use qolb_script::{Command, Said};
+use std::marker::Model;
 
 /// A line of a replay. Nodes are numbered from 1.
 pub trait ReplayLine {
@@ -41,4 +47,235 @@ pub fn allows(state: PortState, command: &Command) -> bool
         Command::Poll { .. } | Command::Out { .. } => state == PortState::Queued,
         _ => state == PortState::Holding,
     }
+}
+
+/// A line with the ports of its nodes, in the order of the nodes.
+///
+/// Contracts see the ports alone: the view of each, and the turn of its holder.
+#[derive(Drop)]
+pub struct PortedLine<L: LineSync<Free> + Drop>
+where
+    L::Port: Drop,
+{
+    line: L,
+    ports: Vec<L::Port>,
+}
+
+impl<L: LineSync<Free> + Drop> Model for PortedLine<L>
+where
+    L::Port: Drop,
+{
+    ghost use Rattle.std.specs.Prelude.{List, map, All};
+    ghost use Rattle.qolb_model.specs.Whole.{ViewAndTurn};
+    ghost use Rattle.line_blocking.specs.ViewAndTurn.{view_and_turn};
+
+    ghost Value = { List ViewAndTurn };
+
+    ghost view = { λ p. map (view_and_turn L.view L.turn) p.ports.items };
+
+    ghost invariant = { λ p. All (L.belongs p.line) p.ports.items };
+}
+
+impl<L: LineSync<Free> + Drop> PortedLine<L>
+where
+    L::Port: Drop,
+{
+    /// Wraps a line that was just opened, with the ports of its nodes in order.
+    pub fn new(line: L, ports: Vec<L::Port>) -> PortedLine<L>
+        requires belongs { All (L.belongs line) ports.items }
+        requires bytes { length (L.config_of line).opening.bytes ≡ 64 }
+        requires may_open { MayOpen (L.config_of line) }
+        requires new { AreNew (L.label_of line) (L.config_of line) (map L.view ports.items) }
+        ensures nodes { length result ≡ (L.config_of line).nodes }
+        ensures represents { AreSynced (opened (L.config_of line)) result }
+    {
+        PortedLine { line, ports }
+    }
+}
+
+impl<L: LineSync<Free> + Drop> ReplayLine for PortedLine<L>
+where
+    L::Port: Drop,
+{
+    ghost represents = { λ ports s. AreSynced s ports };
+
+    ghost nodes_of = { λ ports. length ports };
+
+    fn state(&self, node: u64) -> PortState {
+        L::state(&self.ports[node as usize - 1])
+    }
+
+    fn answer(&mut self, command: &Command) -> Said {
+        answer(&self.line, &mut self.ports, command)
+    }
+}
+
+/// Does the command by the port of its node. That port meets each other port before and after the call, so its answer is a single owner's.
+fn answer<L: LineSync<Free>>(line: &L, ports: &mut [L::Port], command: &Command) -> Said
+    requires first { 1 ≤ node_of command.now }
+    requires last { node_of command.now ≤ length ports.old }
+    requires belongs { All (L.belongs line.now) ports.old }
+    ensures belongs { All (L.belongs line.now) ports.new }
+    ensures answers { AnswersByPort command.now result (map (view_and_turn L.view L.turn) ports.old)
+        (map (view_and_turn L.view L.turn) ports.new) }
+{
+    let place = command.node() as usize - 1;
+    meet_others(line, ports, place);
+    let said = call(line, &mut ports[place], command);
+    meet_others(line, ports, place);
+    said
+}
+
+/// Does the command by this port if its state allows it, and else answers misuse.
+fn call<L: LineSync<Free>>(line: &L, port: &mut L::Port, command: &Command) -> Said
+    requires belongs { L.belongs line.now port.old }
+    ensures belongs { L.belongs line.now port.new }
+    ensures does { Calls command.now result (view_and_turn L.view L.turn port.old)
+        (view_and_turn L.view L.turn port.new) }
+{
+    if !allows(L::state(port), command) {
+        return Said::Misuse;
+    }
+    match *command {
+        Command::Enq { .. } => Said::Enq(line.enqolb(port)),
+        Command::Poll { .. } => Said::Poll(line.poll(port)),
+        Command::Out { .. } => Said::Out(line.withdraw(port)),
+        Command::Show { .. } => Said::Bytes(*L::bytes(port)),
+        Command::Write { mask, bytes, .. } => {
+            L::write(port, mask, &bytes);
+            Said::Written
+        }
+        Command::Deq { .. } => {
+            line.deqolb(port);
+            Said::Released
+        }
+        Command::Shut { .. } => {
+            line.shut(port);
+            Said::Shut
+        }
+    }
+}
+
+/// Counts the ends of requests in the answers: served, withdrawn, told closed.
+#[derive(Clone, Copy)]
+pub struct Counts {
+    pub served: u64,
+    pub withdrawn: u64,
+    pub told: u64,
+}
+
+impl Counts {
+    ghost use Rattle.std.specs.Prelude.{◌^◌, ◌-◌};
+    ghost use Rattle.qolb_replay.specs.Tallies.{AreWithin, Counted, no_counts};
+
+    /// Returns counts that are all 0.
+    pub fn none() -> Counts
+        ensures { result ≡ no_counts }
+    {
+        Counts {
+            served: 0,
+            withdrawn: 0,
+            told: 0,
+        }
+    }
+
+    /// Counts `said`, the answer of a call or of an event.
+    pub fn add(&mut self, said: &Said)
+        requires { AreWithin (2 ^ 64 - 2) self.old }
+        ensures { Counted said.now self.old self.new }
+    {
+        match *said {
+            Said::Released | Said::Shut | Said::Told(Told::Released | Told::Shut) => {
+                self.served += 1;
+            }
+            Said::Out(Out::Withdrawn) | Said::Told(Told::Withdrawn) => self.withdrawn += 1,
+            Said::Enq(Enq::Closed)
+            | Said::Poll(Poll::Closed)
+            | Said::Out(Out::Closed)
+            | Said::Told(Told::Closed) => self.told += 1,
+            _ => {}
+        }
+    }
+
+    /// Returns the last answer of line number `line`, of which `left` nodes wait or hold.
+    pub fn summary(self, line: u64, left: u64) -> Said
+        ensures { result ≡ Said.Summary line self.served self.withdrawn self.told left }
+    {
+        Said::Summary {
+            line,
+            served: self.served,
+            withdrawn: self.withdrawn,
+            told: self.told,
+            left,
+        }
+    }
+}
+
+/// A line of a replay, with the counts of its answers.
+#[derive(Drop)]
+pub struct CountingLine<R> {
+    pub line: R,
+    pub counts: Counts,
+}
+
+impl<R: ReplayLine> CountingLine<R> {
+    ghost use Rattle.std.specs.Prelude.{◌≡◌, ℕ, ◌≤◌, ◌-◌, ◌^◌};
+    ghost use Rattle.qolb_script.specs.Commands.{node_of};
+    ghost use Rattle.qolb_script.specs.Reply.{Replay, summary_of};
+    ghost use Rattle.qolb_replay.specs.Tallies.{AreWithin, Does, IsLineOf, no_counts};
+
+    /// Wraps a line of a replay, with counts that are all 0.
+    pub fn new(line: R) -> CountingLine<R>
+        ensures { result ≡ record { line = line; counts = no_counts } }
+    {
+        CountingLine {
+            line,
+            counts: Counts::none(),
+        }
+    }
+
+    /// Does a command, and counts its answer.
+    pub fn take(&mut self, command: &Command) -> Said
+        requires first { 1 ≤ node_of command.now }
+        requires last { node_of command.now ≤ R.nodes_of self.old.line }
+        requires fits { AreWithin (2 ^ 64 - 2) self.old.counts }
+        ensures { Does R.represents R.nodes_of command.now result self.old self.new }
+    {
+        let said = self.line.answer(command);
+        self.counts.add(&said);
+        said
+    }
+
+    /// Returns the summary of the line: its number, its counts, and how many of the nodes wait or hold.
+    pub fn summary(&self, number: u64, nodes: u64) -> Said
+        requires in_range { nodes ≤ MAX_NODES }
+        requires nodes { nodes ≤ R.nodes_of self.now.line }
+        ensures { (r : Replay) → IsLineOf R.represents R.nodes_of nodes r number self.now
+            → result ≡ summary_of nodes r number }
+    {
+        self.counts
+            .summary(number, nodes_left_at(&self.line, nodes))
+    }
+}
+
+/// Returns `true` if a node in this state waits at its line or holds it.
+fn is_left(state: PortState) -> bool
+    ensures { result ≡ (is_queued state || is_holding state) }
+{
+    matches!(state, PortState::Queued | PortState::Holding)
+}
+
+/// Returns how many of the nodes wait at the line or hold it.
+fn nodes_left_at<R: ReplayLine>(line: &R, nodes: u64) -> u64
+    requires in_range { nodes ≤ MAX_NODES }
+    requires nodes { nodes ≤ R.nodes_of line.now }
+    ensures { (s : OwnerState) → R.represents line.now s → result ≡ nodes_left nodes s }
+{
+    let mut left = 0;
+    for node in 1..nodes + 1 {
+        if is_left(line.state(node)) {
+            left += 1;
+        }
+    }
+    left
 }

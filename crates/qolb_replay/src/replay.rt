@@ -11,10 +11,8 @@ ghost use Rattle.qolb_replay.specs.Tallies.{AreLinesOf};
 ghost use Rattle.qolb_replay.specs.declared.replay.ReplayError.TheVariants.{Memory, Write};
 ghost use Rattle.qolb_replay.specs.Outcome.{IsReply, ReplayMayFail, HasNoReply, script_error};
 
-use crate::counts::CountingLine;
 use crate::input::read_all;
-use crate::line::ReplayLine;
-use crate::ported_line::PortedLine;
+use crate::line::{CountingLine, PortedLine, ReplayLine};
 use line_lanes::Line64;
 use qolb_model::{Free, LineConfig, OpenLine, PlainLine};
 use qolb_script::{Fault, Schedule, ScriptError, Watched, push_said, read_schedule};

@@ -9,8 +9,8 @@ ghost use Rattle.qolb_replay.specs.declared.input.TheConstants.{MAX_BYTES};
 ghost use Rattle.qolb_replay.specs.declared.steps.Detail.TheVariants as detail;
 ghost use Rattle.qolb_replay.specs.StepRuns.{IsStepReply, IsStepReplyTo, Heard, heard_text, is_busy, nodes_busy};
 
-use crate::counts::Counts;
 use crate::input::read_all;
+use crate::line::Counts;
 use crate::replay::ReplayError;
 use line_lanes::Line64;
 use link_core::{Core, Point, Told};

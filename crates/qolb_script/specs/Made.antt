@@ -2,8 +2,8 @@
 use Rattle.std.specs.Prelude.{ℕ, List, codes}
 use Rattle.qolb_script.specs.declared.command.Command.{Command}
 use Rattle.qolb_script.specs.declared.command.Command.TheVariants as command
-use Rattle.qolb_script.specs.declared.command.Verb.{Verb}
-use Rattle.qolb_script.specs.declared.command.Verb.TheVariants.{Enq, Poll, Show, Deq, Out, Shut}
+use Rattle.qolb_script.specs.declared.command_reader.Verb.{Verb}
+use Rattle.qolb_script.specs.declared.command_reader.Verb.TheVariants.{Enq, Poll, Show, Deq, Out, Shut}
 
 -- the first word of its commands
 abbrev pub word_of : Verb → List ℕ

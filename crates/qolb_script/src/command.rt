@@ -1,7 +1,5 @@
-ghost use Rattle.std.specs.Prelude.{◌≡◌, ℕ, find};
-ghost use Rattle.std.specs.Str.{bytes_eq};
+ghost use Rattle.std.specs.Prelude.{◌≡◌, ℕ};
 ghost use Rattle.qolb_script.specs.Commands.{node_of, line_of};
-ghost use Rattle.qolb_script.specs.Made.{word_of, made};
 
 use line_lanes::{Line64, Mask};
 
@@ -68,64 +66,6 @@ impl Command {
             Command::Out { line, .. } => line,
             Command::Shut { line, .. } => line,
             Command::Write { line, .. } => line,
-        }
-    }
-}
-
-/// The kind of a command of a node and a line, by its first word.
-#[derive(Clone, Copy)]
-pub enum Verb {
-    Enq,
-    Poll,
-    Show,
-    Deq,
-    Out,
-    Shut,
-}
-
-/// All kinds.
-const VERBS: [Verb; 6] = [
-    Verb::Enq,
-    Verb::Poll,
-    Verb::Show,
-    Verb::Deq,
-    Verb::Out,
-    Verb::Shut,
-];
-
-impl Verb {
-    /// Returns the kind that a first word names, or `None` if it names none.
-    pub fn named(word: &[u8]) -> Option<Verb>
-        ensures { result ≡ find (λ verb. bytes_eq word.now (word_of verb)) VERBS }
-    {
-        VERBS.iter().find(|verb| word == verb.word()).copied()
-    }
-
-    /// Returns the first word of its commands.
-    fn word(self) -> &'static [u8]
-        ensures { result.now ≡ word_of self }
-    {
-        match self {
-            Verb::Enq => b"enq",
-            Verb::Poll => b"poll",
-            Verb::Show => b"show",
-            Verb::Deq => b"deq",
-            Verb::Out => b"out",
-            Verb::Shut => b"shut",
-        }
-    }
-
-    /// Returns the command of this kind of a node and a line.
-    pub fn command(self, node: u64, line: u64) -> Command
-        ensures { result ≡ made self node line }
-    {
-        match self {
-            Verb::Enq => Command::Enq { node, line },
-            Verb::Poll => Command::Poll { node, line },
-            Verb::Show => Command::Show { node, line },
-            Verb::Deq => Command::Deq { node, line },
-            Verb::Out => Command::Out { node, line },
-            Verb::Shut => Command::Shut { node, line },
         }
     }
 }

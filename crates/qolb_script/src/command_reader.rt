@@ -1,15 +1,16 @@
-ghost use Rattle.std.specs.Prelude.{◌≡◌, ◌≤◌, ◌<◌, IfOk, MatchResult};
+ghost use Rattle.std.specs.Prelude.{◌≡◌, ◌≤◌, ◌<◌, IfOk, MatchResult, find};
 ghost use Rattle.std.specs.Option.{option_copied};
+ghost use Rattle.std.specs.Str.{bytes_eq};
 ghost use Rattle.qolb_model.specs.Opening.{AreNodes};
 ghost use Rattle.qolb_model.specs.Leases.{IsLease};
 ghost use Rattle.hex.specs.Hex.{decode_of};
 ghost use Rattle.qolb_script.specs.Commands as spec;
+ghost use Rattle.qolb_script.specs.Made.{word_of, made};
 ghost use Rattle.qolb_script.specs.Reading.{words_left, lease_words, IsNoLease};
 
-use crate::command::{Command, Verb};
-use crate::items::ReadItem;
+use crate::command::Command;
 use crate::schedule::MAX_LINES;
-use crate::text::{LineFault, Words, number_within};
+use crate::text::{LineFault, ReadItem, Words, number_within};
 use hex::decode_to_slice;
 use line_lanes::{Line64, Mask, placed};
 use qolb_model::MAX_NODES;
@@ -31,6 +32,64 @@ pub const LINES: &[u8] = b"lines";
 
 /// The word of a header before its lease.
 pub const LEASE: &[u8] = b"lease";
+
+/// The kind of a command of a node and a line, by its first word.
+#[derive(Clone, Copy)]
+pub enum Verb {
+    Enq,
+    Poll,
+    Show,
+    Deq,
+    Out,
+    Shut,
+}
+
+/// All kinds.
+const VERBS: [Verb; 6] = [
+    Verb::Enq,
+    Verb::Poll,
+    Verb::Show,
+    Verb::Deq,
+    Verb::Out,
+    Verb::Shut,
+];
+
+impl Verb {
+    /// Returns the kind that a first word names, or `None` if it names none.
+    pub fn named(word: &[u8]) -> Option<Verb>
+        ensures { result ≡ find (λ verb. bytes_eq word.now (word_of verb)) VERBS }
+    {
+        VERBS.iter().find(|verb| word == verb.word()).copied()
+    }
+
+    /// Returns the first word of its commands.
+    fn word(self) -> &'static [u8]
+        ensures { result.now ≡ word_of self }
+    {
+        match self {
+            Verb::Enq => b"enq",
+            Verb::Poll => b"poll",
+            Verb::Show => b"show",
+            Verb::Deq => b"deq",
+            Verb::Out => b"out",
+            Verb::Shut => b"shut",
+        }
+    }
+
+    /// Returns the command of this kind of a node and a line.
+    pub fn command(self, node: u64, line: u64) -> Command
+        ensures { result ≡ made self node line }
+    {
+        match self {
+            Verb::Enq => Command::Enq { node, line },
+            Verb::Poll => Command::Poll { node, line },
+            Verb::Show => Command::Show { node, line },
+            Verb::Deq => Command::Deq { node, line },
+            Verb::Out => Command::Out { node, line },
+            Verb::Shut => Command::Shut { node, line },
+        }
+    }
+}
 
 /// The numbers in the header of a schedule.
 #[derive(Clone, Copy)]

@@ -5,7 +5,6 @@ mod command;
 mod command_reader;
 mod error;
 mod event_reader;
-mod items;
 mod job;
 mod job_reader;
 pub mod readers;

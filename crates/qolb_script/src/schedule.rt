@@ -4,7 +4,6 @@ ghost use Rattle.qolb_script.specs.Script.{script_of};
 use crate::command::Command;
 use crate::command_reader::{CommandReader, Header, read_header};
 use crate::error::ScriptError;
-use crate::items::read_items;
 use crate::text::NumberedLines;
 use std::alloc::{Allocator, Global};
 use std::marker::Model;
@@ -101,7 +100,7 @@ pub fn read_schedule<A: Allocator>(alloc: A, text: &[u8]) -> Result<Schedule<A>,
         lines,
         lease,
     } = read_header(line).map_err(|fault| fault.at(number))?;
-    let commands = read_items(alloc, &CommandReader { nodes, lines }, rest)?;
+    let commands = rest.read_items(alloc, &CommandReader { nodes, lines })?;
     Ok(Schedule {
         nodes,
         lines,

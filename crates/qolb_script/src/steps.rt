@@ -3,7 +3,6 @@ ghost use Rattle.qolb_script.specs.StepScript.{steps_of};
 
 use crate::error::ScriptError;
 use crate::event_reader::{EventReader, StepHeader, read_step_header};
-use crate::items::read_items;
 use crate::text::NumberedLines;
 use link_core::Event;
 use std::alloc::{Allocator, Global};
@@ -73,7 +72,7 @@ pub fn read_steps<A: Allocator>(alloc: A, text: &[u8]) -> Result<Steps<A>, Scrip
         return Err(ScriptError::BadLine(1));
     };
     let StepHeader { nodes, lease } = read_step_header(line).map_err(|fault| fault.at(number))?;
-    let events = read_items(alloc, &EventReader { nodes }, rest)?;
+    let events = rest.read_items(alloc, &EventReader { nodes })?;
     Ok(Steps {
         nodes,
         lease,

@@ -1,4 +1,4 @@
-//! The text of scripts: its lines, their words, and the numbers that words write.
+//! The text of scripts: its lines, their words, the numbers that words write, and the items that lines are.
 ghost use Rattle.std.specs.Prelude.{◌≡◌, ◌==◌, ◌+◌, ◌<◌, ◌≤◌, ◌^◌, ◌∷◌, [], length, not, IfOk, IfSome, MatchOption};
 ghost use Rattle.std.specs.List.{slice_split};
 ghost use Rattle.std.specs.Option.{ForSome};
@@ -7,6 +7,8 @@ ghost use Rattle.qolb_script.specs.Text.{words_of, is_plain};
 ghost use Rattle.qolb_script.specs.Script.{fault_at};
 
 use crate::error::ScriptError;
+use crate::schedule::MAX_COMMANDS;
+use std::alloc::Allocator;
 use std::str;
 
 /// The largest number of digits of a number.
@@ -71,7 +73,8 @@ pub struct NumberedLines<'a> {
 }
 
 impl<'a> NumberedLines<'a> {
-    ghost use Rattle.std.specs.Prelude.{◌≡◌};
+    ghost use Rattle.std.specs.Prelude.{◌≡◌, ◌≢◌, ◌≤◌, All, IfErr, IfOk, length};
+    ghost use Rattle.qolb_script.specs.Script.{items_of};
     ghost use Rattle.qolb_script.specs.Text.{numbered_lines, worded};
     ghost use Rattle.qolb_script.specs.Reading.{lines_left};
 
@@ -83,6 +86,32 @@ impl<'a> NumberedLines<'a> {
             rest: Some(text),
             number: 1,
         }
+    }
+
+    /// Reads the items on these lines.
+    pub fn read_items<R: ReadItem, A: Allocator>(
+        self,
+        alloc: A,
+        reader: &R,
+    ) -> Result<Vec<R::Item, A>, ScriptError>
+        ensures ok { IfOk result (λ items. items_of (R.item_of reader.now) 0 (lines_left self.entry)
+            ≡ Ok items.items) }
+        ensures refused { IfErr result (λ error. error ≢ ScriptError.Memory
+            → items_of (R.item_of reader.now) 0 (lines_left self.entry) ≡ Err error) }
+        ensures range { IfOk result (λ items. All (R.in_range reader.now) items.items) }
+        ensures most { IfOk result (λ items. length items.items ≤ MAX_COMMANDS) }
+    {
+        let mut items = Vec::new(alloc);
+        for (number, line) in self {
+            if items.len() as u64 >= MAX_COMMANDS {
+                return Err(ScriptError::TooMany(number));
+            }
+            let item = reader.read_item(line).map_err(|fault| fault.at(number))?;
+            let Ok(()) = items.push(item) else {
+                return Err(ScriptError::Memory);
+            };
+        }
+        Ok(items)
     }
 }
 
@@ -222,4 +251,24 @@ pub fn number_within(low: u64, high: u64, word: &[u8]) -> Result<u64, LineFault>
         Some(n) if low <= n && n <= high => Ok(n),
         _ => Err(LineFault::Number),
     }
+}
+
+/// A reader of the lines below a header, each of which is an item.
+pub trait ReadItem {
+    ghost use Rattle.std.specs.Prelude.{◌≡◌, ℕ, List, Result, IfOk};
+    ghost use Rattle.qolb_script.specs.declared.text.LineFault.{LineFault};
+    ghost use Rattle.qolb_script.specs.Commands.{read_line};
+
+    type Item: Drop;
+
+    /// The item that these words are.
+    ghost item_of: { Self → List (List ℕ) → Result Self.Item LineFault };
+
+    /// The item's numbers are in the ranges that the header gives.
+    ghost in_range: { Self → Self.Item → Type 0 };
+
+    /// Reads the item on a line.
+    fn read_item(&self, line: &[u8]) -> Result<Self::Item, LineFault>
+        ensures item { result ≡ read_line (item_of self.now) line.now }
+        ensures range { IfOk result (λ item. in_range self.now item) };
 }

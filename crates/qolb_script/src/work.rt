@@ -3,7 +3,6 @@ ghost use Rattle.std.specs.Prelude.{◌≡◌, ◌≢◌, IfOk, IfErr};
 ghost use Rattle.qolb_script.specs.WorkScript.{work_of};
 
 use crate::error::ScriptError;
-use crate::items::read_items;
 use crate::job::{Job, WorkKind};
 use crate::job_reader::{JobReader, WorkHeader, read_work_header};
 use crate::schedule::MAX_LINES;
@@ -99,7 +98,7 @@ pub fn read_work<A: Allocator>(
         workers,
         lines,
     };
-    let jobs = read_items(alloc, &reader, rest)?;
+    let jobs = rest.read_items(alloc, &reader)?;
     Ok(Work {
         kind,
         workers,

@@ -7,12 +7,11 @@ use Rattle.clap.specs.Words.{App, Row, Rule, Text, first_of, new_app, new_rule, 
 use Rattle.clap.specs.declared.builder.ArgAction.TheVariants.{Set, SetTrue}
 use Rattle.clap.specs.declared.builder.value_parser.ValueParser.TheVariants as parser
 use Rattle.qolb_script.specs.declared.job.WorkKind.TheVariants.{Board, Bank}
-use Rattle.qolb_run.specs.Kinds.{kind_of}
-use Rattle.qolb_run.specs.declared.each_lock.Kind.{Kind}
-use Rattle.qolb_run.specs.declared.each_lock.Kind.TheVariants as kind
+use Rattle.qolb_run.specs.declared.each_lock.AnyKind.{AnyKind}
+use Rattle.qolb_run.specs.declared.each_lock.AnyKind.TheVariants as kind
 use Rattle.line_kinds.specs.Locks.{lock_named, lock_names}
-use Rattle.line_kinds.specs.declared.Lines.{Lines}
-use Rattle.line_kinds.specs.declared.Lines.TheVariants as lines
+use Rattle.line_kinds.specs.declared.Lock.{Lock}
+use Rattle.line_kinds.specs.declared.Lock.TheVariants as lock
 use Rattle.qolb_shapes.specs.declared.form.Form.{Form}
 use Rattle.qolb_shapes.specs.declared.form.Form.TheVariants as form
 use Rattle.qolb_serve.specs.declared.command_line.Subcommand.{Subcommand}
@@ -99,13 +98,18 @@ abbrev pub the_command : KindNames → App
 the_command names = with_subcommand (any_answer names) draw_command.top
 
 -- the kind of this name
-abbrev pub kind_of_name : Option Text → Kind
-kind_of_name None = kind.Plain
-kind_of_name (Some name) = unwrap_or (option_map kind_of (lock_named name)) kind.Plain
+abbrev pub kind_of_lock : Option Lock → AnyKind
+kind_of_lock None = kind.Plain
+kind_of_lock (Some lock) = kind.Shared lock
 
-abbrev pub lines_of_name : Option Text → Lines
-lines_of_name None = lines.Link
-lines_of_name (Some name) = unwrap_or (lock_named name) lines.Link
+abbrev pub kind_of_name : Option Text → AnyKind
+kind_of_name None = kind.Plain
+kind_of_name (Some name) = kind_of_lock (lock_named name)
+
+-- the lock of this name
+abbrev pub lock_of_name : Option Text → Lock
+lock_of_name None = lock.Link
+lock_of_name (Some name) = unwrap_or (lock_named name) lock.Link
 
 -- what is written of each event, by the value of `--rank`
 abbrev pub detail_of : Option Text → Detail
@@ -129,8 +133,8 @@ is_given_at flag rows = is_given (first_of flag rows)
 abbrev pub task_by : Text → Option Text → Detail → WaitMode → Task
 task_by name kind detail waits =
     if bytes_eq name (codes "steps") then task.Steps detail
-    else if bytes_eq name (codes "board") then task.Work Board (lines_of_name kind) waits
-    else if bytes_eq name (codes "bank") then task.Work Bank (lines_of_name kind) waits
+    else if bytes_eq name (codes "board") then task.Work Board (lock_of_name kind) waits
+    else if bytes_eq name (codes "bank") then task.Work Bank (lock_of_name kind) waits
     else task.Replay (kind_of_name kind)
 
 abbrev pub task_at : Text × List Row → Task

@@ -1,14 +1,14 @@
 -- The answer of a subcommand to the bytes on standard input.
 use Rattle.std.specs.Prelude.{ℕ, List, Option}
-use Rattle.line_kinds.specs.declared.Lines.{Lines}
+use Rattle.line_kinds.specs.declared.Lock.{Lock}
 use Rattle.qolb_script.specs.declared.report.Report.{Report}
 use Rattle.qolb_script.specs.WorkScript.{WorkScript}
-use Rattle.qolb_run.specs.declared.each_lock.Kind.TheVariants.{Plain}
+use Rattle.qolb_run.specs.declared.each_lock.AnyKind.TheVariants.{Plain}
 use Rattle.qolb_explain.specs.Reasons.{Complaint, schedule_complaint, steps_complaint, work_complaint}
 use Rattle.qolb_replay.specs.declared.steps.Detail.TheVariants.{Words}
 use Rattle.qolb_run.specs.declared.task.Task.{Task}
 use Rattle.qolb_run.specs.declared.task.Task.TheVariants.{Replay, Steps, Work}
-use Rattle.qolb_run.specs.declared.report.TaskError.{TaskError}
+use Rattle.qolb_run.specs.declared.task.TaskError.{TaskError}
 use Rattle.qolb_run.specs.Outcome.{Answers, IsRefused, MayEnd}
 use Rattle.qolb_draw.specs.Pictures.{IsPicture}
 use Rattle.qolb_draw_steps.specs.StepPictures.{IsStepPicture}
@@ -16,7 +16,7 @@ use Rattle.qolb_serve.specs.declared.command_line.Subcommand.{Subcommand}
 use Rattle.qolb_serve.specs.declared.command_line.Subcommand.TheVariants.{Answer, Draw, DrawSteps}
 
 -- the text is the answer to the bytes, or their picture. Work was done over lines with this property of work and report
-abbrev pub Performs : (Lines → WorkScript → Report → Type 0) → Subcommand → List ℕ → List ℕ → Type 0
+abbrev pub Performs : (Lock → WorkScript → Report → Type 0) → Subcommand → List ℕ → List ℕ → Type 0
 Performs KindSpec (Answer task) input text = Answers KindSpec task input text
 Performs KindSpec (Draw form) input text = IsPicture form input text
 Performs KindSpec (DrawSteps form) input text = IsStepPicture form input text
@@ -37,7 +37,7 @@ MayDeny (DrawSteps form) input error = MayEnd (Steps Words) input error
 abbrev pub complaint_of_task : Task → List ℕ → Option Complaint
 complaint_of_task (Replay kind) input = schedule_complaint input
 complaint_of_task (Steps detail) input = steps_complaint input
-complaint_of_task (Work kind lines waits) input = work_complaint kind input
+complaint_of_task (Work kind lock waits) input = work_complaint kind input
 
 abbrev pub complaint : Subcommand → List ℕ → Option Complaint
 complaint (Answer task) input = complaint_of_task task input

@@ -6,8 +6,8 @@ ghost use Rattle.qolb_serve.specs.CommandLine.{KindNames, NamesFlag, NamesWish, 
 
 use clap::error::ErrorKind;
 use clap::{Arg, ArgAction, ArgMatches, Command, Error};
-use line_kinds::{LOCKS, Lines, NAMES, lock_names};
-use qolb_run::{Detail, Kind, Task, WaitMode};
+use line_kinds::{LOCKS, Lock, NAMES, lock_names};
+use qolb_run::{AnyKind, Detail, Task, WaitMode};
 use qolb_script::WorkKind;
 use qolb_shapes::Form;
 use std::alloc::{AllocError, Global};
@@ -256,29 +256,29 @@ fn task_of(name: &str, kind: Option<&str>, detail: Detail, waits: WaitMode) -> T
     if name == "steps" {
         Task::Steps(detail)
     } else if name == "board" {
-        Task::Work(WorkKind::Board, lines_named(kind), waits)
+        Task::Work(WorkKind::Board, lock_named(kind), waits)
     } else if name == "bank" {
-        Task::Work(WorkKind::Bank, lines_named(kind), waits)
+        Task::Work(WorkKind::Bank, lock_named(kind), waits)
     } else {
         Task::Replay(kind_named(kind))
     }
 }
 
 /// Returns the kind of this name.
-fn kind_named(name: Option<&str>) -> Kind
+fn kind_named(name: Option<&str>) -> AnyKind
     ensures { result ≡ spec.kind_of_name (option_map (λ n. n.now) name.entry) }
 {
-    match name.and_then(Lines::named) {
-        Some(lines) => Kind::of(lines),
-        None => Kind::Plain,
+    match name.and_then(Lock::named) {
+        Some(lock) => AnyKind::Shared(lock),
+        None => AnyKind::Plain,
     }
 }
 
-/// Returns the lines of this name.
-fn lines_named(name: Option<&str>) -> Lines
-    ensures { result ≡ spec.lines_of_name (option_map (λ n. n.now) name.entry) }
+/// Returns the lock of this name.
+fn lock_named(name: Option<&str>) -> Lock
+    ensures { result ≡ spec.lock_of_name (option_map (λ n. n.now) name.entry) }
 {
-    name.and_then(Lines::named).unwrap_or(Lines::Link)
+    name.and_then(Lock::named).unwrap_or(Lock::Link)
 }
 
 /// Builds the program's command.
@@ -340,7 +340,7 @@ fn steps<'a>(alloc: Global) -> Result<Command<'a>, AllocError>
 {
     Command::new(alloc, "steps")
         .about(
-            "Runs the step script on standard input on the core of reversed links, and prints what\neach event tells",
+            "Runs the step script on standard input on the link line's core, and prints what each\nevent tells",
         )
         .after_help(STEPS)
         .arg(flag(
@@ -416,7 +416,7 @@ fn explain<'a>(alloc: Global) -> Arg<'a>
     flag(
         alloc,
         "explain",
-        "Says under `bad line N` what is wrong with that line",
+        "Explains a refused line, and each answer of misuse or refused",
     )
 }
 

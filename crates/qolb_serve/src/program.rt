@@ -1,10 +1,10 @@
 //! Does what the words ask for, and reports how that ended.
-ghost use Rattle.std.specs.Prelude.{◌≡◌, ◌≢◌, ◌≤◌, ℕ, List, length, Err, Some, None, map, string_bytes, IfSome, IfErr, IfOk, MatchOption};
+ghost use Rattle.std.specs.Prelude.{◌≡◌, ◌≢◌, ◌≤◌, ◌++◌, [], ℕ, Bool, false, List, length, Err, Some, None, codes, map, string_bytes, IfSome, IfErr, IfOk, MatchOption};
 ghost use Rattle.std.specs.Io.KnownBytes.{Appends};
 ghost use Rattle.std.specs.IoError.{error_kind};
 ghost use Rattle.std.specs.declared.io.ErrorKind.TheVariants as io_kind;
 ghost use Rattle.qolb_replay.specs.declared.input.TheConstants.{MAX_BYTES};
-ghost use Rattle.qolb_serve.specs.CommandLine.{NamesWish, IsNotTaken};
+ghost use Rattle.qolb_serve.specs.CommandLine.{NamesFlag, NamesWish, IsNotTaken};
 ghost use Rattle.qolb_serve.specs.declared.command_line.Subcommand.{Subcommand};
 ghost use Rattle.qolb_run.specs.Outcome.{IsReplyOver, HasNoReport};
 ghost use Rattle.qolb_serve.specs.Subcommands.{Performs, IsDenied, MayDeny, complaint};
@@ -14,13 +14,15 @@ use crate::command_line::{Args, Subcommand, parse_args};
 use clap::error::ErrorKind;
 use qolb_draw::draw_schedule;
 use qolb_draw_steps::draw_steps;
-use qolb_explain::{Complaint, explain_schedule, explain_steps, explain_work};
+use qolb_explain::{
+    Complaint, explain_schedule, explain_steps, explain_work, notes_of_schedule, notes_of_steps,
+};
 use qolb_run::{
-    AlwaysOpen, KindSpec, Lines, Locks, Progress, ReplayError, Task, TaskError, WaitMode,
-    answer_schedule, answer_steps, answer_work, read_all,
+    AlwaysOpen, KindSpec, Lock, Locks, Progress, Task, TaskError, WaitMode, answer_schedule,
+    answer_steps, answer_work, read_all,
 };
 use qolb_script::{Watched, WorkKind};
-use std::alloc::Global;
+use std::alloc::{AllocError, Global};
 use std::io::{self, Read, Write};
 use std::rt::Clock;
 use std::sync::Wait;
@@ -39,11 +41,14 @@ pub fn serve<T: Threads + Wait + Clock + Eprint + Sync, R: Read, W: Write, E: Wr
     err: &mut E,
 ) -> u8
     ensures statuses { result ≤ 4 }
-    ensures done { result ≡ 0 → (subcommand : Subcommand)
+    // The notes are those of `--explain`.
+    ensures done { result ≡ 0 → (subcommand : Subcommand) × (explain : Bool)
         × NamesWish (map string_bytes words.now) subcommand
+        × NamesFlag (codes "explain") (map string_bytes words.now) explain
         × IfSome (R.remaining reader.old) (λ script.
-        (text : List ℕ) × Performs ⟦<Locks as KindSpec>⟧.done_over subcommand script text
-        × Appends (W.contents out.old) (W.contents out.new) text) }
+        (text notes : List ℕ) × Performs ⟦<Locks as KindSpec>⟧.done_over subcommand script text
+        × (explain ≡ false → notes ≡ [])
+        × Appends (W.contents out.old) (W.contents out.new) (text ++ notes)) }
     ensures refused { result ≡ 1 → (subcommand : Subcommand)
         × NamesWish (map string_bytes words.now) subcommand
         × IfSome (R.remaining reader.old) (IsDenied subcommand) }
@@ -57,7 +62,7 @@ pub fn serve<T: Threads + Wait + Clock + Eprint + Sync, R: Read, W: Write, E: Wr
     let request = match parse_args(alloc, words) {
         Ok(request) => request,
         Err(error) if error.kind() == ErrorKind::OutOfMemory => {
-            return fail(err, TaskError::Replay(ReplayError::Memory));
+            return fail(err, TaskError::Memory);
         }
         Err(error) => {
             let _ = write!(err, "{error}");
@@ -66,14 +71,17 @@ pub fn serve<T: Threads + Wait + Clock + Eprint + Sync, R: Read, W: Write, E: Wr
     };
     let script = match read_all(alloc, &mut Watched::new(&mut *reader)) {
         Ok(script) => script,
-        Err(error) => return fail(err, TaskError::Replay(error)),
+        Err(error) => return fail(err, error.into()),
     };
     let text = match answer(rt, alloc, request, &script) {
         Ok(text) => text,
         Err(error) => return refuse(err, request, &script, error),
     };
+    let Ok(text) = with_notes(alloc, request, &script, text) else {
+        return fail(err, TaskError::Memory);
+    };
     if out.write_all(&text).is_err() {
-        return fail(err, TaskError::Replay(ReplayError::Write));
+        return fail(err, TaskError::Write);
     }
     0
 }
@@ -94,11 +102,38 @@ fn answer<T: Threads + Wait + Clock + Eprint + Sync>(
     match request.subcommand {
         Subcommand::Answer(Task::Replay(kind)) => Ok(answer_schedule(alloc, script, kind)?),
         Subcommand::Answer(Task::Steps(detail)) => Ok(answer_steps(alloc, script, detail)?),
-        Subcommand::Answer(Task::Work(kind, lines, waits)) => {
-            work(rt, alloc, request.progress, script, kind, lines, waits)
+        Subcommand::Answer(Task::Work(kind, lock, waits)) => {
+            work(rt, alloc, request.progress, script, kind, lock, waits)
         }
         Subcommand::Draw(form) => Ok(draw_schedule(alloc, script, form)?),
         Subcommand::DrawSteps(form) => Ok(draw_steps(alloc, script, form)?),
+    }
+}
+
+/// Returns the answer to a request, and behind it the notes on its misuses and refusals, if these are to be explained.
+fn with_notes(
+    alloc: Global,
+    request: Args,
+    script: &[u8],
+    text: Vec<u8>,
+) -> Result<Vec<u8>, AllocError>
+    ensures { IfOk result (λ all. (notes : List ℕ) × (all.items ≡ text.items ++ notes)
+        × (request.explain ≡ false → notes ≡ [])) }
+{
+    let mut text = text;
+    if request.explain {
+        let notes = notes_on(alloc, request.subcommand, script)?;
+        text.extend_from_slice(notes.as_bytes())?;
+    }
+    Ok(text)
+}
+
+/// Returns the notes on the misuses of a replay, or on the refusals of a step script.
+fn notes_on(alloc: Global, subcommand: Subcommand, script: &[u8]) -> Result<String, AllocError> {
+    match subcommand {
+        Subcommand::Answer(Task::Replay(_)) => notes_of_schedule(alloc, script),
+        Subcommand::Answer(Task::Steps(_)) => notes_of_steps(alloc, script),
+        _ => Ok(String::new(alloc)),
     }
 }
 
@@ -109,20 +144,20 @@ fn work<T: Threads + Wait + Clock + Eprint + Sync>(
     progress: bool,
     script: &[u8],
     kind: WorkKind,
-    lines: Lines,
+    lock: Lock,
     waits: WaitMode,
 ) -> Result<Vec<u8>, TaskError>
     ensures ok { IfOk result (λ text. length script.now ≤ MAX_BYTES
-        → IsReplyOver (⟦<Locks as KindSpec>⟧.done_over lines) kind script.now text.items) }
+        → IsReplyOver (⟦<Locks as KindSpec>⟧.done_over lock) kind script.now text.items) }
     ensures refused { IfErr result (HasNoReport kind script.now) }
     ensures never_stalls { (worker : ℕ) → result ≢ Err (TaskError.Stalled worker) }
 {
     if progress {
         if let Ok(gate) = Progress::new(rt) {
-            return answer_work(rt, alloc, &gate, script, kind, lines, waits);
+            return answer_work(rt, alloc, &gate, script, kind, lock, waits);
         }
     }
-    answer_work(rt, alloc, &AlwaysOpen, script, kind, lines, waits)
+    answer_work(rt, alloc, &AlwaysOpen, script, kind, lock, waits)
 }
 
 /// Writes the error and, if that is asked for and the script is refused, its fault. Returns the exit status.
@@ -157,7 +192,7 @@ pub fn refuse_words<E: Write>(err: &mut E, error: &io::Error) -> u8
     ensures other { error_kind error.now ≢ io_kind.OutOfMemory → result ≡ 2 }
 {
     if error.kind() == io::ErrorKind::OutOfMemory {
-        return fail(err, TaskError::Replay(ReplayError::Memory));
+        return fail(err, TaskError::Memory);
     }
     let _ = writeln!(err, "error: the arguments are no UTF-8 text");
     2
@@ -169,8 +204,8 @@ pub fn fail<E: Write>(err: &mut E, error: TaskError) -> u8
 {
     let _ = writeln!(err, "{error}");
     match error {
-        TaskError::Replay(ReplayError::Script(_) | ReplayError::Long) => 1,
-        TaskError::Replay(ReplayError::Memory) | TaskError::Stalled(_) => 3,
-        TaskError::Replay(ReplayError::Read | ReplayError::Write) => 4,
+        TaskError::Script(_) | TaskError::Long => 1,
+        TaskError::Memory | TaskError::Stalled(_) => 3,
+        TaskError::Read | TaskError::Write => 4,
     }
 }

@@ -37,6 +37,7 @@ stand_of symbol.Shut = stand.Away
 stand_of symbol.Told = stand.Away
 stand_of symbol.Gives = stand.Away
 stand_of symbol.Takes = stand.AtTurn
+stand_of (symbol.Misuse stand) = stand
 
 abbrev pub is_same : Stand → Stand → Bool
 is_same stand.Away stand.Away = true

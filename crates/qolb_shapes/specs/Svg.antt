@@ -112,10 +112,15 @@ abbrev pub bytes_text : ℕ → ℕ → List ℕ → List ℕ → List ℕ
 bytes_text row column bytes places =
     field (codes "<text class='small' x='") (x_of column) ++ field (codes "' y='") (y_of row - 13) ++ codes "'>" ++ shortened bytes places ++ codes "</text>\n"
 
+-- the first word of a command or an event, at this place from the left: above the column, below its number
+abbrev pub verb_text : ℕ → List ℕ → List ℕ
+verb_text x verb = field (codes "<text class='small' x='") x ++ codes "' y='47'>" ++ verb ++ codes "</text>\n"
+
 abbrev pub call_text : ℕ → ℕ → Event → List ℕ
 call_text row column event =
     codes "<use href='#" ++ sign_of event.change.said ++ field (codes "' x='") (x_of column) ++ field (codes "' y='") (y_of row)
     ++ field (codes "'><title>") event.number ++ codes ": " ++ command_words event.command ++ codes ": " ++ said_words event.change.said ++ codes "</title></use>\n"
+    ++ verb_text (x_of column) (verb_of event.command)
 
 abbrev pub shape_text : Shape → List ℕ
 shape_text (Lane row columns) = lane_text row columns

@@ -31,6 +31,7 @@ impl Stand {
             Symbol::AtTurn | Symbol::Takes => Stand::AtTurn,
             Symbol::Holds => Stand::Holds,
             Symbol::Withdrawn => Stand::Withdrawn,
+            Symbol::Misuse(stand) => stand,
         }
     }
 
@@ -41,12 +42,22 @@ impl Stand {
         match self {
             Stand::Away => !matches!(
                 mark,
-                Symbol::Idle | Symbol::Shut | Symbol::Told | Symbol::Gives
+                Symbol::Idle
+                    | Symbol::Shut
+                    | Symbol::Told
+                    | Symbol::Gives
+                    | Symbol::Misuse(Stand::Away)
             ),
-            Stand::Waits => !matches!(mark, Symbol::Waits),
-            Stand::AtTurn => !matches!(mark, Symbol::AtTurn | Symbol::Takes),
-            Stand::Holds => !matches!(mark, Symbol::Holds),
-            Stand::Withdrawn => !matches!(mark, Symbol::Withdrawn),
+            Stand::Waits => !matches!(mark, Symbol::Waits | Symbol::Misuse(Stand::Waits)),
+            Stand::AtTurn => !matches!(
+                mark,
+                Symbol::AtTurn | Symbol::Takes | Symbol::Misuse(Stand::AtTurn)
+            ),
+            Stand::Holds => !matches!(mark, Symbol::Holds | Symbol::Misuse(Stand::Holds)),
+            Stand::Withdrawn => !matches!(
+                mark,
+                Symbol::Withdrawn | Symbol::Misuse(Stand::Withdrawn)
+            ),
         }
     }
 

@@ -31,7 +31,7 @@ pub fn sign(said: &Said) -> &'static [u8]
 }
 
 /// Returns the first word of a command.
-fn verb(command: &Command) -> &'static [u8]
+pub fn verb(command: &Command) -> &'static [u8]
     ensures { result.now ≡ spec.verb_of command.now }
 {
     match *command {

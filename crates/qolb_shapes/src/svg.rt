@@ -4,7 +4,7 @@ ghost use Rattle.qolb_script.specs.declared.schedule.TheConstants.{MAX_COMMANDS}
 ghost use Rattle.qolb_shapes.specs.Svg as spec;
 
 use crate::bar::Stand;
-use crate::call::{push_answer, push_command, push_shortened, sign};
+use crate::call::{push_answer, push_command, push_shortened, sign, verb};
 use crate::event::Event;
 use itoa::Buffer;
 use std::alloc::{AllocError, Allocator};
@@ -230,7 +230,18 @@ pub fn push_bytes<A: Allocator>(
     Ok(())
 }
 
-/// Appends the sign of a command, in a row at a column.
+/// Appends the first word of a command or an event, at this place from the left: above the column, below its number.
+pub fn push_verb<A: Allocator>(svg: &mut Vec<u8, A>, x: u64, verb: &[u8]) -> Result<(), AllocError>
+    ensures { OnOk result (svg.new.items ≡ svg.old.items ++ spec.verb_text x verb.now) }
+{
+    push_field(svg, b"<text class='small' x='", x)?;
+    svg.extend_from_slice(b"' y='47'>")?;
+    svg.extend_from_slice(verb)?;
+    svg.extend_from_slice(b"</text>\n")?;
+    Ok(())
+}
+
+/// Appends the sign of a command, in a row at a column, and its first word above the column.
 pub fn push_call<A: Allocator + Copy>(
     alloc: A,
     svg: &mut Vec<u8, A>,
@@ -250,6 +261,7 @@ pub fn push_call<A: Allocator + Copy>(
     svg.extend_from_slice(b": ")?;
     push_answer(svg, &event.change.said)?;
     svg.extend_from_slice(b"</title></use>\n")?;
+    push_verb(svg, x_of(column), verb(&event.command))?;
     Ok(())
 }
 

@@ -2,6 +2,7 @@
 ghost use Rattle.std.specs.Prelude.{◌≡◌};
 ghost use Rattle.qolb_shapes.specs.Marks as spec;
 
+use crate::bar::Stand;
 use qolb_model::PortState;
 use qolb_script::Said;
 
@@ -26,6 +27,8 @@ pub enum Symbol {
     Gives,
     /// By this command the node's turn began, and another node's ended.
     Takes,
+    /// The node's command was misuse, and it is as before in this state.
+    Misuse(Stand),
 }
 
 impl Symbol {
@@ -72,6 +75,18 @@ impl Change {
     /// Returns the mark of a node that has this mark at rest after the command.
     pub fn mark(&self, resting: Symbol, node: u64) -> Symbol
         ensures { result ≡ spec.mark_by self.now resting node }
+    {
+        let mark = self.effect(resting, node);
+        if self.node == node && matches!(self.said, Said::Misuse) {
+            Symbol::Misuse(Stand::of(mark))
+        } else {
+            mark
+        }
+    }
+
+    /// Returns the mark of a node that has this mark at rest, as if the command were no misuse.
+    fn effect(&self, resting: Symbol, node: u64) -> Symbol
+        ensures { result ≡ spec.effect_by self.now resting node }
     {
         if self.node == node && self.told {
             Symbol::Told

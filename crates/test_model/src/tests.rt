@@ -10,5 +10,7 @@ mod reports;
 mod rows;
 mod schedules;
 mod steps;
+mod texts;
 mod watching;
 mod work;
+mod work_reasons;

@@ -3,5 +3,6 @@
 mod helps;
 mod hostile;
 mod long;
+mod notes;
 mod runs;
 mod scarce;

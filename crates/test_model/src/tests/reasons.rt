@@ -1,22 +1,58 @@
 //! The reasons for refusing a script: the line, and the first thing that is wrong with it.
 use crate::tests::rows::{expect, expect_at};
-use qolb_explain::{Complaint, Reason, explain_schedule, explain_steps, explain_work};
-use qolb_script::{WorkKind, read_schedule};
+use qolb_explain::{Allowed, Complaint, Form, Reason, ScriptKind, explain_schedule, explain_steps};
+use qolb_script::read_schedule;
 use std::alloc::Global;
 use std::process::Abort;
 use std::test::Fail;
 
 /// Schedules, with the number of the refused line and the reason.
-static SCHEDULES: [(&str, Option<(u64, Reason)>); 31] = [
-    ("", Some((1, Reason::Empty))),
-    ("\n  \n", Some((1, Reason::Empty))),
+static SCHEDULES: [(&str, Option<(u64, Reason)>); 37] = [
+    ("", Some((1, Reason::Empty(ScriptKind::Schedule)))),
+    ("\n  \n", Some((1, Reason::Empty(ScriptKind::Schedule)))),
     ("\n\t\n", Some((2, Reason::Byte))),
-    ("node 2 lines\n", Some((1, Reason::Word(1)))),
-    ("nodes 2 line 9\n", Some((1, Reason::Word(3)))),
-    ("nodes 2 lines\n", Some((1, Reason::Count))),
-    ("nodes 2 lines 1 1\n", Some((1, Reason::Count))),
-    ("nodes 0 line 9 leases 0\n", Some((1, Reason::Word(3)))),
-    ("nodes 0 lines 9 leases 0\n", Some((1, Reason::Word(5)))),
+    (
+        "node 2 lines\n",
+        Some((1, Reason::Begin(ScriptKind::Schedule))),
+    ),
+    (
+        "nodes 2 line 9\n",
+        Some((
+            1,
+            Reason::Word {
+                place: 3,
+                allowed: Allowed::Lines,
+            },
+        )),
+    ),
+    (
+        "nodes 2 lines\n",
+        Some((1, Reason::Count(Form::Header(ScriptKind::Schedule)))),
+    ),
+    (
+        "nodes 2 lines 1 1\n",
+        Some((1, Reason::Count(Form::Header(ScriptKind::Schedule)))),
+    ),
+    (
+        "nodes 0 line 9 leases 0\n",
+        Some((
+            1,
+            Reason::Word {
+                place: 3,
+                allowed: Allowed::Lines,
+            },
+        )),
+    ),
+    (
+        "nodes 0 lines 9 leases 0\n",
+        Some((
+            1,
+            Reason::Word {
+                place: 5,
+                allowed: Allowed::Lease,
+            },
+        )),
+    ),
     (
         "nodes 201 lines 9\n",
         Some((
@@ -72,10 +108,28 @@ static SCHEDULES: [(&str, Option<(u64, Reason)>); 31] = [
             },
         )),
     ),
-    ("nodes 2 lines 1\nask\n", Some((2, Reason::Word(1)))),
-    ("nodes 2 lines 1\n\nenq 3\n", Some((3, Reason::Count))),
-    ("nodes 2 lines 1\nenq 1 0 0\n", Some((2, Reason::Count))),
-    ("nodes 2 lines 1\nwrite 1 0 0\n", Some((2, Reason::Count))),
+    (
+        "nodes 2 lines 1\nask\n",
+        Some((
+            2,
+            Reason::Word {
+                place: 1,
+                allowed: Allowed::Commands,
+            },
+        )),
+    ),
+    (
+        "nodes 2 lines 1\n\nenq 3\n",
+        Some((3, Reason::Count(Form::Call))),
+    ),
+    (
+        "nodes 2 lines 1\nenq 1 0 0\n",
+        Some((2, Reason::Count(Form::Call))),
+    ),
+    (
+        "nodes 2 lines 1\nwrite 1 0 0\n",
+        Some((2, Reason::Count(Form::Write))),
+    ),
     ("nodes 2 lines 1\nenq 1 0\r\n", Some((2, Reason::Byte))),
     (
         "nodes 2 lines 1\nenq 3 1\n",
@@ -168,16 +222,52 @@ static SCHEDULES: [(&str, Option<(u64, Reason)>); 31] = [
             },
         )),
     ),
+    ("enq 1 0\n", Some((1, Reason::Begin(ScriptKind::Schedule)))),
+    (
+        "board workers 0\n",
+        Some((1, Reason::Begin(ScriptKind::Schedule))),
+    ),
+    (
+        "\nnodes 2\nenq 1 0\n",
+        Some((2, Reason::Other(ScriptKind::Steps))),
+    ),
+    (
+        "nodes 2 lease 1\n",
+        Some((1, Reason::Other(ScriptKind::Steps))),
+    ),
+    (
+        "board workers 200\n",
+        Some((1, Reason::Other(ScriptKind::Board))),
+    ),
+    (
+        "bank workers 1 lines 8\n",
+        Some((1, Reason::Other(ScriptKind::Bank))),
+    ),
 ];
 
 /// Step scripts, with the number of the refused line and the reason.
-static STEPS: [(&str, Option<(u64, Reason)>); 18] = [
-    ("\n", Some((1, Reason::Empty))),
+static STEPS: [(&str, Option<(u64, Reason)>); 21] = [
+    ("\n", Some((1, Reason::Empty(ScriptKind::Steps)))),
     ("nodes\t2\n", Some((1, Reason::Byte))),
-    ("node\n", Some((1, Reason::Word(1)))),
-    ("nodes\n", Some((1, Reason::Count))),
-    ("nodes 2 lease\n", Some((1, Reason::Count))),
-    ("nodes 0 leases 0\n", Some((1, Reason::Word(3)))),
+    ("node\n", Some((1, Reason::Begin(ScriptKind::Steps)))),
+    (
+        "nodes\n",
+        Some((1, Reason::Count(Form::Header(ScriptKind::Steps)))),
+    ),
+    (
+        "nodes 2 lease\n",
+        Some((1, Reason::Count(Form::Header(ScriptKind::Steps)))),
+    ),
+    (
+        "nodes 0 leases 0\n",
+        Some((
+            1,
+            Reason::Word {
+                place: 3,
+                allowed: Allowed::Lease,
+            },
+        )),
+    ),
     (
         "nodes 0\n",
         Some((
@@ -211,9 +301,21 @@ static STEPS: [(&str, Option<(u64, Reason)>); 18] = [
             },
         )),
     ),
-    ("nodes 2\nenq\n", Some((2, Reason::Word(1)))),
-    ("nodes 2\nreset\n", Some((2, Reason::Count))),
-    ("nodes 2\nwrite 1 0\n", Some((2, Reason::Count))),
+    (
+        "nodes 2\nenq\n",
+        Some((
+            2,
+            Reason::Word {
+                place: 1,
+                allowed: Allowed::Events,
+            },
+        )),
+    ),
+    ("nodes 2\nreset\n", Some((2, Reason::Count(Form::Event)))),
+    (
+        "nodes 2\nwrite 1 0\n",
+        Some((2, Reason::Count(Form::StepWrite))),
+    ),
     (
         "nodes 2\nreset 3\n",
         Some((
@@ -250,188 +352,28 @@ static STEPS: [(&str, Option<(u64, Reason)>); 18] = [
     ("nodes 2\nwrite 1 0 f\n", Some((2, Reason::Hex(4)))),
     ("nodes 2\nwrite 1 63 ffff\n", Some((2, Reason::Fit(4)))),
     ("nodes 2\nreset 1\nclose 2\nwrite 1 62 ffff\n", None),
-];
-
-/// Work scripts of boards, with the number of the refused line and the reason.
-static BOARDS: [(&str, Option<(u64, Reason)>); 12] = [
-    ("", Some((1, Reason::Empty))),
-    ("bank workers 1 lines 1\n", Some((1, Reason::Word(1)))),
-    ("board workers\n", Some((1, Reason::Count))),
-    ("board worker 0\n", Some((1, Reason::Word(2)))),
     (
-        "board workers 0\n",
+        "nodes 2 lines 8\n",
+        Some((1, Reason::Other(ScriptKind::Schedule))),
+    ),
+    (
+        "nodes 2 lines 1 lease 3\n",
+        Some((1, Reason::Other(ScriptKind::Schedule))),
+    ),
+    (
+        "nodes 2 lines 9\n",
         Some((
             1,
-            Reason::Number {
+            Reason::Word {
                 place: 3,
-                low: 1,
-                high: 200,
+                allowed: Allowed::Lease,
             },
         )),
     ),
-    ("board workers 1\n2\n", Some((2, Reason::Count))),
-    ("board workers 1\n2 give 3\n", Some((2, Reason::Word(2)))),
-    ("board workers 1\n2 take 3\n", Some((2, Reason::Count))),
-    ("board workers 1\n2 put\n", Some((2, Reason::Count))),
-    (
-        "board workers 1\n2 take\n",
-        Some((
-            2,
-            Reason::Number {
-                place: 1,
-                low: 1,
-                high: 1,
-            },
-        )),
-    ),
-    (
-        "board workers 3\n4 put x\n",
-        Some((
-            2,
-            Reason::Number {
-                place: 1,
-                low: 1,
-                high: 3,
-            },
-        )),
-    ),
-    (
-        "board workers 1\n1 take\n1 put x\n",
-        Some((
-            3,
-            Reason::Number {
-                place: 3,
-                low: 0,
-                high: 18446744073709551615,
-            },
-        )),
-    ),
-];
-
-/// Work scripts of banks, with the number of the refused line and the reason.
-static BANKS: [(&str, Option<(u64, Reason)>); 19] = [
-    ("board workers 1\n", Some((1, Reason::Word(1)))),
-    ("bank workers 1\n", Some((1, Reason::Count))),
-    ("bank worker 1 line 1\n", Some((1, Reason::Word(2)))),
-    ("bank workers 1 line 1\n", Some((1, Reason::Word(4)))),
-    (
-        "bank workers 0 lines 9\n",
-        Some((
-            1,
-            Reason::Number {
-                place: 3,
-                low: 1,
-                high: 200,
-            },
-        )),
-    ),
-    (
-        "bank workers 1 lines 9\n",
-        Some((
-            1,
-            Reason::Number {
-                place: 5,
-                low: 1,
-                high: 8,
-            },
-        )),
-    ),
-    ("bank workers 1 lines 2\n1\n", Some((2, Reason::Count))),
-    (
-        "bank workers 1 lines 2\n1 put 2\n",
-        Some((2, Reason::Word(2))),
-    ),
-    ("bank workers 1 lines 2\n1 in 2\n", Some((2, Reason::Count))),
-    (
-        "bank workers 1 lines 2\n2 in 16 x\n",
-        Some((
-            2,
-            Reason::Number {
-                place: 1,
-                low: 1,
-                high: 1,
-            },
-        )),
-    ),
-    (
-        "bank workers 1 lines 2\n1 in 16 x\n",
-        Some((
-            2,
-            Reason::Number {
-                place: 3,
-                low: 0,
-                high: 15,
-            },
-        )),
-    ),
-    (
-        "bank workers 1 lines 2\n1 out 15 x\n",
-        Some((
-            2,
-            Reason::Number {
-                place: 4,
-                low: 0,
-                high: 18446744073709551615,
-            },
-        )),
-    ),
-    (
-        "bank workers 1 lines 2\n1 move 1 2\n",
-        Some((2, Reason::Count)),
-    ),
-    (
-        "bank workers 1 lines 2\n2 move 16 16 x\n",
-        Some((
-            2,
-            Reason::Number {
-                place: 1,
-                low: 1,
-                high: 1,
-            },
-        )),
-    ),
-    (
-        "bank workers 1 lines 2\n1 move 16 16 x\n",
-        Some((
-            2,
-            Reason::Number {
-                place: 3,
-                low: 0,
-                high: 15,
-            },
-        )),
-    ),
-    (
-        "bank workers 1 lines 2\n1 move 15 16 x\n",
-        Some((
-            2,
-            Reason::Number {
-                place: 4,
-                low: 0,
-                high: 15,
-            },
-        )),
-    ),
-    (
-        "bank workers 1 lines 2\n1 move 15 15 x\n",
-        Some((
-            2,
-            Reason::Number {
-                place: 5,
-                low: 0,
-                high: 18446744073709551615,
-            },
-        )),
-    ),
-    (
-        "bank workers 1 lines 2\n1 in 0 5\t\n",
-        Some((2, Reason::Byte)),
-    ),
-    ("bank workers 1 lines 2\n1 move 0 15 5\n", None),
 ];
 
 /// The number and the reason of a complaint.
-fn told(it: Option<Complaint<'_>>) -> Option<(u64, Reason)> {
+pub(crate) fn told(it: Option<Complaint<'_>>) -> Option<(u64, Reason)> {
     it.map(|it| (it.number, it.reason))
 }
 
@@ -442,14 +384,6 @@ fn tells_what_is_wrong(rt: HostRuntime) {
     }
     for (text, wanted) in &STEPS {
         expect(&rt, *text, told(explain_steps(text.as_bytes())), *wanted);
-    }
-    for (text, wanted) in &BOARDS {
-        let found = explain_work(text.as_bytes(), WorkKind::Board);
-        expect(&rt, *text, told(found), *wanted);
-    }
-    for (text, wanted) in &BANKS {
-        let found = explain_work(text.as_bytes(), WorkKind::Bank);
-        expect(&rt, *text, told(found), *wanted);
     }
 }
 

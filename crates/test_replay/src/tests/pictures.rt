@@ -14,12 +14,15 @@ fn drawn(alloc: Global, script: &str, form: Form) -> Result<String, Fail> {
 }
 
 const LETTERS: &str =
-    ". idle   w waits   t its turn has come   H holds   > hands over to <\nx withdrawn   c told that the line is closed   - closed\n";
+    ". idle   w waits   t its turn has come   H holds   > hands over to <\nx withdrawn   c told that the line is closed   - closed   ! misuse\n";
 
 const HAND_OVER: &str = "nodes 2 lines 1\nenq 1 0\nenq 2 0\npoll 2 0\ndeq 1 0\npoll 2 0\n";
 
+const MISUSED: &str =
+    "nodes 2 lines 1\npoll 1 0\nenq 1 0\nenq 1 0\nenq 2 0\ndeq 2 0\ndeq 1 0\nshow 2 0\npoll 2 0\n";
+
 /// Scripts and their pictures, without the legend.
-static PICTURES: [(&str, &str); 8] = [
+static PICTURES: [(&str, &str); 9] = [
     // no command
     ("nodes 1 lines 1\n", "line 0\n\n"),
     // a hand-over
@@ -52,10 +55,15 @@ static PICTURES: [(&str, &str); 8] = [
         "nodes 2 lines 1 lease 1\nenq 1 0\nenq 2 0\ndeq 1 0\npoll 2 0\nenq 1 0\n",
         "line 0\n\n         12345\nnode   1 HH>-c\nnode   2 .w<c-\n\n",
     ),
-    // commands on two lines; a command that is not allowed changes nothing
+    // commands that are misuse of a node that has no request, holds, waits, and is at its turn
+    (
+        MISUSED,
+        "line 0\n\n         12345678\nnode   1 !H!HH>..\nnode   2 ...w!<!H\n\n",
+    ),
+    // commands on two lines; a command that is misuse changes nothing
     (
         "nodes 12 lines 2\nenq 12 1\nenq 3 0\ndeq 3 1\ndeq 12 1\ndeq 3 0\n",
-        "line 0\n\n         25\nnode   3 H.\n\nline 1\n\n         134\nnode   3 ...\nnode  12 HH.\n\n",
+        "line 0\n\n         25\nnode   3 H.\n\nline 1\n\n         134\nnode   3 .!.\nnode  12 HH.\n\n",
     ),
 ];
 
@@ -167,7 +175,7 @@ fn draws_as_many_marks_as_there_may_be(rt: HostRuntime) -> Result<(), Fail> {
 
 /// How many bytes are behind the bar of the last node: its name above each twentieth command, and then the shapes of 100,000 commands. To look
 /// for the bar from the front would take long.
-const BEHIND_THE_LAST_BAR: usize = 14_086_112;
+const BEHIND_THE_LAST_BAR: usize = 19_151_203;
 
 #[test]
 fn draws_as_many_marks_as_an_svg(rt: HostRuntime) -> Result<(), Fail> {
@@ -197,7 +205,8 @@ fn draws_as_many_marks_as_an_svg(rt: HostRuntime) -> Result<(), Fail> {
         to_last.ends_with(last.as_bytes()),
         true,
     );
-    let end = "<title>100000: poll 200 7: waiting</title></use>\n</g>\n</svg>\n";
+    let end =
+        "<title>100000: poll 200 7: waiting</title></use>\n<text class='small' x='3200064' y='47'>poll</text>\n</g>\n</svg>\n";
     expect(&rt, "the end", svg.ends_with(end.as_bytes()), true);
     Ok(())
 }
@@ -249,11 +258,14 @@ fn draws_a_timeline(rt: HostRuntime) -> Result<(), Fail> {
 <text class='name' x='8' y='112'>node 2</text>
 <text class='small' x='96' y='36'>1</text>
 <use href='#call' x='96' y='68'><title>1: enq 1 0: granted</title></use>
+<text class='small' x='96' y='47'>enq</text>
 <text class='small' x='128' y='36'>2</text>
 <use href='#call' x='128' y='108'><title>2: enq 2 0: queued</title></use>
+<text class='small' x='128' y='47'>enq</text>
 <text class='small' x='160' y='36'>3</text>
 <path class='arrow' d='M160 68V108'><title>3: node 1 hands over to node 2</title></path>
 <use href='#call' x='160' y='68'><title>3: deq 1 0: released</title></use>
+<text class='small' x='160' y='47'>deq</text>
 </g>
 </svg>
 ";
@@ -262,7 +274,7 @@ fn draws_a_timeline(rt: HostRuntime) -> Result<(), Fail> {
 }
 
 /// Scripts, each with a part of its timeline.
-static SHAPES: [(&str, &str); 11] = [
+static SHAPES: [(&str, &str); 13] = [
     // two bytes up to place 63, as they were written, and the first two of three
     (
         "nodes 1 lines 1\nenq 1 0\nwrite 1 0 62 0aF0\n",
@@ -281,6 +293,15 @@ static SHAPES: [(&str, &str); 11] = [
     (
         "nodes 1 lines 1\nwrite 1 0 0 01\n",
         "<text class='small' x='96' y='36'>1</text>\n<use href='#misuse' x='96' y='68'><title>1: write 1 0 0 01: misuse</title></use>\n",
+    ),
+    // a bar goes on through a misuse
+    (
+        MISUSED,
+        "<rect class='waits' x='192' y='100' width='64' height='16'><title>node 2 waits</title></rect>\n",
+    ),
+    (
+        MISUSED,
+        "<rect class='turn' x='256' y='100' width='64' height='16'><title>node 2 may take its turn</title></rect>\n",
     ),
     // a withdrawn node has its bar until it is passed
     (

@@ -1,9 +1,11 @@
 //! Replays of scripts by lines of each kind.
 use crate::tests::rows::{expect, expect_at};
-use line_kinds::{ALL, TicketLine};
+use line_kinds::{ALL, Lock, TicketLine};
 use linked_list_allocator::LocalHeap;
 use qolb_model::{Free, OpenLine};
-use qolb_run::{KINDS, Kind, ReplayError, read_all, run_schedule, run_schedule_over};
+use qolb_run::{
+    AnyKind, KINDS, Kind, ReplayError, read_all, run_schedule, run_schedule_over, run_schedule_with,
+};
 use qolb_script::{ScriptError, Watched};
 use std::alloc::Global;
 use std::io;
@@ -13,26 +15,26 @@ use std::test::Fail;
 #[test]
 fn kinds_are_the_plain_one_and_each_lock(rt: HostRuntime) -> Result<(), Fail> {
     expect(&rt, "kinds", KINDS.len(), ALL.len() + 1);
-    expect(&rt, "the first", KINDS[0], Kind::Plain);
-    for (lines, kind) in ALL.iter().zip(KINDS.iter().skip(1)) {
-        expect(&rt, "a lock's kind", *kind, Kind::of(*lines));
+    expect(&rt, "the first", KINDS[0], AnyKind::Plain);
+    for (lock, kind) in ALL.iter().zip(KINDS.iter().skip(1)) {
+        expect(&rt, "a lock's kind", *kind, AnyKind::Shared(*lock));
     }
     Ok(())
 }
 
 /// The reply to the script.
-fn reply_to(alloc: Global, script: &str, kind: Kind) -> Result<String, Fail> {
+fn reply_to(alloc: Global, script: &str, kind: AnyKind) -> Result<String, Fail> {
     let mut reader = Watched::new(script.as_bytes());
     let mut text: Vec<u8> = Vec::new(alloc);
-    run_schedule(alloc, &mut reader, &mut Watched::new(&mut text), kind)?;
+    run_schedule_with(alloc, &mut reader, &mut Watched::new(&mut text), kind)?;
     Ok(String::from_utf8(text)?)
 }
 
 /// The error of a replay of the script, and the number of bytes that were written.
-fn refused(alloc: Global, script: &str, kind: Kind) -> (Option<ReplayError>, usize) {
+fn refused(alloc: Global, script: &str, kind: AnyKind) -> (Option<ReplayError>, usize) {
     let mut reader = Watched::new(script.as_bytes());
     let mut text: Vec<u8> = Vec::new(alloc);
-    let done = run_schedule(alloc, &mut reader, &mut Watched::new(&mut text), kind);
+    let done = run_schedule_with(alloc, &mut reader, &mut Watched::new(&mut text), kind);
     (done.err(), text.len())
 }
 
@@ -45,7 +47,7 @@ fn the_longest_reply_is_whole(rt: HostRuntime) -> Result<(), Fail> {
     for _ in 1..100_000 {
         script.push_str("show 1 0\n")?;
     }
-    let reply = reply_to(rt.alloc(), script.as_str(), Kind::Plain)?;
+    let reply = reply_to(rt.alloc(), script.as_str(), AnyKind::Plain)?;
     let ends = "line 0 served 0 withdrawn 0 told 0 left 1\n";
     expect(&rt, "the begin", reply.starts_with("granted\n0000"), true);
     expect(&rt, "the end", reply.ends_with(ends), true);
@@ -81,7 +83,7 @@ fn the_longest_script_is_replayed_by_shared_lines(rt: HostRuntime) -> Result<(),
     let script = repeated(alloc, "nodes 1 lines 1\n", 50_000, turn, "")?;
     let summary = "line 0 served 50000 withdrawn 0 told 0 left 0\n";
     let wanted = repeated(alloc, "", 50_000, "granted\nreleased\n", summary)?;
-    let reply = reply_to(alloc, script.as_str(), Kind::Ring)?;
+    let reply = reply_to(alloc, script.as_str(), AnyKind::Shared(Lock::Ring))?;
     expect(&rt, "the reply", reply == wanted, true);
     Ok(())
 }

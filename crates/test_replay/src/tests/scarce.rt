@@ -1,8 +1,8 @@
 //! Replays in a room of memory, which show that a replay opens lines of its kind or type.
 use crate::tests::rows::{expect, expect_at};
-use line_kinds::TicketLine;
+use line_kinds::{Lock, TicketLine};
 use qolb_model::Free;
-use qolb_run::{KINDS, Kind, ReplayError, run_schedule, run_schedule_over};
+use qolb_run::{AnyKind, KINDS, ReplayError, run_schedule_over, run_schedule_with};
 use qolb_script::Watched;
 use std::alloc::Global;
 use std::process::Abort;
@@ -14,7 +14,12 @@ const MANY_NODES: &str = "nodes 200 lines 8\n";
 
 /// The kinds of lines, by the memory that they take. With 200 nodes a plain line takes 3.3 KB, a list 26 KB of words, a ring 33 KB of
 /// words, a ticket line as much and 33 KB of slots; the last three also take 25 KB of ports each.
-static BY_SIZE: [Kind; 4] = [Kind::Plain, Kind::Link, Kind::Ring, Kind::Ticket];
+static BY_SIZE: [AnyKind; 4] = [
+    AnyKind::Plain,
+    AnyKind::Shared(Lock::Link),
+    AnyKind::Shared(Lock::Ring),
+    AnyKind::Shared(Lock::Ticket),
+];
 
 /// Rooms in KB, each of which holds eight lines of one kind more.
 static ROOMS: [usize; 4] = [300, 450, 650, 1_200];
@@ -34,12 +39,12 @@ fn replayed(
     limit: &MemoryLimit,
     script: &str,
     room: usize,
-    kind: Kind,
+    kind: AnyKind,
 ) -> Result<Option<ReplayError>, Fail> {
     let mut reader = Watched::new(script.as_bytes());
     let mut text: Vec<u8> = Vec::with_capacity(alloc, 1 << 10)?;
     let rest = limit.leave(alloc, room << 10)?;
-    let done = run_schedule(alloc, &mut reader, &mut Watched::new(&mut text), kind);
+    let done = run_schedule_with(alloc, &mut reader, &mut Watched::new(&mut text), kind);
     drop(rest);
     Ok(done.err())
 }
@@ -62,7 +67,7 @@ fn a_replay_takes_lines_of_its_kind(rt: HostRuntime) -> Result<(), Fail> {
 }
 
 /// The least room, in KB, in which a replay of one line of this kind for 200 nodes ends.
-fn least_room(alloc: Global, limit: &MemoryLimit, kind: Kind) -> Result<usize, Fail> {
+fn least_room(alloc: Global, limit: &MemoryLimit, kind: AnyKind) -> Result<usize, Fail> {
     for room in 1..1_000usize {
         if replayed(alloc, limit, "nodes 200 lines 1\n", room, kind)?.is_none() {
             return Ok(room);
@@ -95,12 +100,12 @@ fn short_in(
     alloc: Global,
     limit: &MemoryLimit,
     bytes: usize,
-    kind: Kind,
+    kind: AnyKind,
 ) -> Result<(Option<ReplayError>, Vec<u8>), Fail> {
     let mut reader = Watched::new(SHORT.as_bytes());
     let mut text: Vec<u8> = Vec::with_capacity(alloc, 1 << 10)?;
     let rest = limit.leave(alloc, bytes)?;
-    let done = run_schedule(alloc, &mut reader, &mut Watched::new(&mut text), kind);
+    let done = run_schedule_with(alloc, &mut reader, &mut Watched::new(&mut text), kind);
     drop(rest);
     Ok((done.err(), text))
 }
@@ -111,7 +116,7 @@ fn refusals_of<R: Abort>(
     rt: &R,
     alloc: Global,
     limit: &MemoryLimit,
-    kind: Kind,
+    kind: AnyKind,
 ) -> Result<usize, Fail> {
     for grains in 2..8_000usize {
         let (error, text) = short_in(alloc, limit, GRAIN * grains, kind)?;

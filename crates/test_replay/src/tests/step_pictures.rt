@@ -38,64 +38,64 @@ static PICTURES: [(&str, &str); 7] = [
         "nodes 11\nreset 10\n",
         "         11
 12345678901
-.........r.  1: reset 10: went; the line lies at home
+.........r.      1: reset 10: went; the line lies at home
 ",
     ),
     (
         "nodes 1\nlink 1\n",
-        "1\n.  1: link 1: refused; the line lies at home\n",
+        "1\n.      1: link 1: refused; the line lies at home\n",
     ),
     (
         "nodes 1\nreset 1\nprepend 1\nwrite 1 62 0aF0\nclose 1\n",
         "1
-r  1: reset 1: went; the line lies at home
-H  2: prepend 1: granted; the line lies in the hand of node 1
-H  3: write 1 62 0af0: went; the line lies in the hand of node 1
-h  4: close 1: went; the line lies in the hand of node 1
+r      1: reset 1: went; the line lies at home
+H      2: prepend 1: granted; the line lies in the hand of node 1
+H      3: write 1 62 0af0: went; the line lies in the hand of node 1
+h      4: close 1: went; the line lies in the hand of node 1
 ",
     ),
     (
         LATE_LINK,
         "12
-r.  1: reset 1: went; the line lies at home
-H.  2: prepend 1: granted; the line lies in the hand of node 1
-Hr  3: reset 2: went; the line lies in the hand of node 1
-Hl  4: prepend 2: went; the line lies in the hand of node 1
-ml  5: home 1: went; the line lies in the hand of node 1
-Ll  6: done 1: released; the line lies in the mailbox of node 1
-Ll  7: load 1: busy; the line lies in the mailbox of node 1
-LH  8: link 2: granted; the line lies in the hand of node 2
-.H  9: load 1: free; the line lies in the hand of node 2
+r.      1: reset 1: went; the line lies at home
+H.      2: prepend 1: granted; the line lies in the hand of node 1
+Hr      3: reset 2: went; the line lies in the hand of node 1
+Hl      4: prepend 2: went; the line lies in the hand of node 1
+ml      5: home 1: went; the line lies in the hand of node 1
+Ll      6: done 1: released; the line lies in the mailbox of node 1
+Ll      7: load 1: busy; the line lies in the mailbox of node 1
+LH      8: link 2: granted; the line lies in the hand of node 2
+.H      9: load 1: free; the line lies in the hand of node 2
 ",
     ),
     (
         PASSED,
         "12
-r.  1: reset 1: went; the line lies at home
-H.  2: prepend 1: granted; the line lies in the hand of node 1
-Hr  3: reset 2: went; the line lies in the hand of node 1
-Hl  4: prepend 2: went; the line lies in the hand of node 1
-Hw  5: link 2: queued; the line lies in the hand of node 1
-mw  6: home 1: went; the line lies in the hand of node 1
-gw  7: done 1: went; the line lies in the hand of node 1
-gx  8: roll 2: withdrawn; the line lies in the hand of node 1
-hx  9: grant 1: went; the line lies in the hand of node 1
-fx  10: home 1: went; the line lies at home
-fx  11: load 2: busy; the line lies at home
-.x  12: freed 1: released; the line lies at home
-..  13: load 2: free; the line lies at home
+r.      1: reset 1: went; the line lies at home
+H.      2: prepend 1: granted; the line lies in the hand of node 1
+Hr      3: reset 2: went; the line lies in the hand of node 1
+Hl      4: prepend 2: went; the line lies in the hand of node 1
+Hw      5: link 2: queued; the line lies in the hand of node 1
+mw      6: home 1: went; the line lies in the hand of node 1
+gw      7: done 1: went; the line lies in the hand of node 1
+gx      8: roll 2: withdrawn; the line lies in the hand of node 1
+hx      9: grant 1: went; the line lies in the hand of node 1
+fx     10: home 1: went; the line lies at home
+fx     11: load 2: busy; the line lies at home
+.x     12: freed 1: released; the line lies at home
+..     13: load 2: free; the line lies at home
 ",
     ),
     (
         CLOSED,
         "1
-r  1: reset 1: went; the line lies at home
-H  2: prepend 1: granted; the line lies in the hand of node 1
-h  3: close 1: went; the line lies in the hand of node 1
--  4: home 1: shut; the line lies at home
-r  5: reset 1: went; the line lies at home
-h  6: prepend 1: went; the line lies in the hand of node 1
--  7: home 1: closed; the line lies at home
+r      1: reset 1: went; the line lies at home
+H      2: prepend 1: granted; the line lies in the hand of node 1
+h      3: close 1: went; the line lies in the hand of node 1
+-      4: home 1: shut; the line lies at home
+r      5: reset 1: went; the line lies at home
+h      6: prepend 1: went; the line lies in the hand of node 1
+-      7: home 1: closed; the line lies at home
 ",
     ),
 ];
@@ -133,18 +133,21 @@ fn draws_one_turn(rt: HostRuntime) -> Result<(), Fail> {
 <text class='at' x='104' y='119'>Ready</text>
 <rect class='home' x='96' y='78' width='72' height='5'><title>the line lies at home</title></rect>
 <use href='#call' x='96' y='116'><title>1: reset 1: went</title></use>
+<text class='small' x='96' y='47'>reset</text>
 <text class='small' x='168' y='36'>2</text>
 <rect class='holds' x='168' y='108' width='72' height='16'><title>node 1: Holding</title></rect>
 <text class='at' x='176' y='119'>Holding</text>
 <rect class='hand' x='168' y='126' width='72' height='5'><title>the line lies in the hand of node 1</title></rect>
 <text class='small' x='168' y='57'><title>the home word is 1</title>1</text>
 <use href='#call' x='168' y='116'><title>2: prepend 1: granted</title></use>
+<text class='small' x='168' y='47'>prepend</text>
 <text class='small' x='240' y='36'>3</text>
 <rect class='rests' x='240' y='108' width='72' height='16'><title>node 1: Idle</title></rect>
 <text class='at' x='248' y='119'>Idle</text>
 <rect class='home' x='240' y='78' width='72' height='5'><title>the line lies at home</title></rect>
 <text class='small' x='240' y='57'><title>the home word is 0</title>0</text>
 <use href='#call' x='240' y='116'><title>3: home 1: released</title></use>
+<text class='small' x='240' y='47'>home</text>
 </g>
 </svg>
 ";
@@ -165,7 +168,7 @@ static SHAPES: [(&str, &str); 20] = [
     ),
     (
         LATE_LINK,
-        "<rect class='turn' x='384' y='108' width='72' height='16'><title>node 1: Marking 1</title></rect>\n",
+        "<rect class='releases' x='384' y='108' width='72' height='16'><title>node 1: Marking 1</title></rect>\n",
     ),
     // after a node has left the line to a late linker, or ended its call by closing the line, it is in no call
     (
@@ -218,7 +221,7 @@ static SHAPES: [(&str, &str); 20] = [
     ),
     (
         PASSED,
-        "<rect class='turn' x='744' y='108' width='144' height='16'><title>node 1: Freeing</title></rect>\n<text class='at' x='752' y='119'>Freeing</text>\n",
+        "<rect class='releases' x='744' y='108' width='144' height='16'><title>node 1: Freeing</title></rect>\n<text class='at' x='752' y='119'>Freeing</text>\n",
     ),
     (PASSED, "<title>node 1: Granting 2</title>"),
     (PASSED, "<title>node 1: Leaving 2</title>"),
@@ -277,9 +280,9 @@ fn largest_script(alloc: Global) -> Result<String, Fail> {
     repeated(alloc, "nodes 200\nreset 200\n", 99_999, "load 200\n", "")
 }
 
-/// The size of its picture, without the legend of letters: three lines of the digits of 200 nodes; and for each event 200 letters, its number,
-/// for which 488,895 digits are needed, and 45 bytes, of which the first event has two fewer.
-const LARGEST: usize = 3 * 201 + 100_000 * (200 + 45) + 488_895 - 2;
+/// The size of its picture, without the legend of letters: three lines of the digits of 200 nodes; and for each event 200 letters, six places
+/// for its number, and 44 bytes, of which the first event has two fewer.
+const LARGEST: usize = 3 * 201 + 100_000 * (200 + 6 + 44) - 2;
 
 /// The first line of digits.
 const HUNDREDS: &str =
@@ -298,7 +301,7 @@ fn draws_as_many_letters_as_there_may_be(rt: HostRuntime) -> Result<(), Fail> {
     );
     let first = text.starts_with(HUNDREDS.as_bytes());
     expect(&rt, "the first line", first, true);
-    let event = "r  100000: load 200: refused; the line lies at home\n";
+    let event = "r 100000: load 200: refused; the line lies at home\n";
     let end = repeated(alloc, "\n", 199, ".", event)?;
     let end = format!(in alloc; "{end}{LETTERS}")?;
     expect(&rt, "the last line", text.ends_with(end.as_bytes()), true);
@@ -312,7 +315,8 @@ fn draws_as_many_events_of_as_many_nodes_as_an_svg(rt: HostRuntime) -> Result<()
     // 200 rows below the home word
     let head = "<svg xmlns='http://www.w3.org/2000/svg' width='7200128' height='9768' ";
     expect(&rt, "the size", svg.starts_with(head.as_bytes()), true);
-    let end = "<title>100000: load 200: refused</title></use>\n</g>\n</svg>\n";
+    let end =
+        "<title>100000: load 200: refused</title></use>\n<text class='small' x='7200024' y='47'>load</text>\n</g>\n</svg>\n";
     expect(&rt, "the end", svg.ends_with(end.as_bytes()), true);
     Ok(())
 }
@@ -343,7 +347,7 @@ const LEGEND: &str =
     "<rect class='rests' x='8' y='8' width='32' height='16'/><text x='46' y='20'>in no call</text>
 <rect class='waits' x='132' y='8' width='32' height='16'/><text x='170' y='20'>asks or waits</text>
 <rect class='holds' x='280' y='8' width='32' height='16'/><text x='318' y='20'>holds the line</text>
-<rect class='turn' x='436' y='8' width='32' height='16'/><text x='474' y='20'>releases</text>
+<rect class='releases' x='436' y='8' width='32' height='16'/><text x='474' y='20'>releases</text>
 <rect class='withdrawn' x='548' y='8' width='32' height='16'/><text x='586' y='20'>has withdrawn</text>
 <rect class='hand' x='8' y='39' width='32' height='5'/><text x='46' y='46'>line in a hand</text>
 <rect class='mailbox' x='160' y='39' width='32' height='5'/><text x='198' y='46'>in a mailbox</text>

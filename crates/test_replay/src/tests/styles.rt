@@ -129,8 +129,9 @@ static SEEN: [(&str, &str, u64); 10] = [
 const BARS: [&str; 3] = [".waits", ".turn", ".holds"];
 
 /// What a picture of a step script shows besides.
-static SEEN_IN_STEPS: [(&str, &str, u64); 4] = [
+static SEEN_IN_STEPS: [(&str, &str, u64); 5] = [
     (".rests", "stroke", 12),
+    (".releases", "fill", 14),
     (".hand", "fill", 25),
     (".mailbox", "stroke", 25),
     (".home", "fill", 25),
@@ -196,6 +197,13 @@ pub fn steps_are_seen<R: Abort>(rt: &R, sheet: Sheet, of_steps: Sheet) {
                 .zip(page)
                 .map(|(a, b)| contrast(a, b));
             expect_at(rt, &(*what, is_dark), seen >= Some(*least), true);
+        }
+        for bar in &BARS {
+            let far = sheet
+                .colour(is_dark, bar, "fill")
+                .zip(of_steps.colour(is_dark, ".releases", "fill"))
+                .map(|(a, b)| distance(a, b));
+            expect_at(rt, &(*bar, is_dark), far >= Some(100), true);
         }
     }
     expect(rt, "hollow", is_hollow(of_steps, ".rests"), true);

@@ -42,7 +42,7 @@ static LINES: [(&str, &[&str]); 5] = [
     (
         "replay",
         &[
-            "      --explain      Says under `bad line N` what is wrong with that line",
+            "      --explain      Explains a refused line, and each answer of misuse or refused",
             "  nodes N lines L             its first line: 1 to 200 nodes and 1 to 8 lines",
             "  nodes N lines L lease C     the same; each line closes at its C-th served turn",
             "  COMMAND n l                 a call of node n on line l: enq, poll, deq, show,",
@@ -170,7 +170,7 @@ node   1 HH>.
 node   2 .w<H
 
 . idle   w waits   t its turn has come   H holds   > hands over to <
-x withdrawn   c told that the line is closed   - closed
+x withdrawn   c told that the line is closed   - closed   ! misuse
 ";
 
 #[test]

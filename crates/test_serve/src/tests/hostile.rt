@@ -24,12 +24,12 @@ const BANK: &str = "bank workers 1 lines 2\n1 in 0 10\n1 move 0 9 4\n1 out 9 9\n
 const BANK_REPORT: &str = "in 10\nout 1\ntotal 9\n";
 
 const HANDED_OVER_DRAWN: &str =
-    "line 0\n\n         12345678\nnode   1 HHHH>...\nnode   2 ..ww<HH.\n\n. idle   w waits   t its turn has come   H holds   > hands over to <\nx withdrawn   c told that the line is closed   - closed\n";
+    "line 0\n\n         12345678\nnode   1 HHHH>...\nnode   2 ..ww<HH.\n\n. idle   w waits   t its turn has come   H holds   > hands over to <\nx withdrawn   c told that the line is closed   - closed   ! misuse\n";
 
 const EARLY: &str = "nodes 1\nlink 1\n";
 
 const EARLY_DRAWN: &str =
-    "1\n.  1: link 1: refused; the line lies at home\n\n. Idle   r Ready   l Linking   w Queued   H Holding   h Leaving   m Marking\ng Granting   f Freeing   L Left   x Rolled   - Shut\n";
+    "1\n.      1: link 1: refused; the line lies at home\n\n. Idle   r Ready   l Linking   w Queued   H Holding   h Leaving   m Marking\ng Granting   f Freeing   L Left   x Rolled   - Shut\n";
 
 /// The words of each subcommand, a script, and the output.
 pub static RUNS: [(&[&str], &str, &str); 14] = [

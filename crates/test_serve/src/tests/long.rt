@@ -26,12 +26,15 @@ const SHOWN: Long = [
     "line 0 served 0 withdrawn 0 told 0 left 1\n",
 ];
 
-/// Words, a long script, and its answer. The answers of replays have 1.5 MB.
-static ANSWERED: [(&[&str], Long, Long); 9] = [
-    (&["replay", "--kind", "plain"], HELD, SHOWN),
-    (&["replay", "--kind", "ring"], HELD, SHOWN),
-    (&["replay", "--kind", "link"], HELD, SHOWN),
-    (&["replay", "--kind", "ticket"], HELD, SHOWN),
+/// The number of the first event that is refused, and the note on each of those that are repeated.
+type Note = (u32, &'static str);
+
+/// Words, a long script, its answer, and the notes on refusals. The answers of replays have 1.5 MB.
+static ANSWERED: [(&[&str], Long, Long, Option<Note>); 9] = [
+    (&["replay", "--kind", "plain"], HELD, SHOWN, None),
+    (&["replay", "--kind", "ring"], HELD, SHOWN, None),
+    (&["replay", "--kind", "link"], HELD, SHOWN, None),
+    (&["replay", "--kind", "ticket"], HELD, SHOWN, None),
     (
         &["steps"],
         ["nodes 1\n", "link 1\n", ""],
@@ -40,6 +43,7 @@ static ANSWERED: [(&[&str], Long, Long); 9] = [
             "refused\n",
             "line 0 served 0 withdrawn 0 told 0 left 0\n",
         ],
+        Some((1, "link 1: node 1 is at Idle, which allows reset")),
     ),
     (
         &["steps", "--rank"],
@@ -49,21 +53,28 @@ static ANSWERED: [(&[&str], Long, Long); 9] = [
             "refused 1\n",
             "released 0\nline 0 served 1 withdrawn 0 told 0 left 0\n",
         ],
+        Some((
+            3,
+            "link 1: node 1 is at Holding, which allows write, close, home",
+        )),
     ),
     (
         &["board"],
         ["board workers 1\n", "1 take\n", ""],
         ["stored 0\nfull 0\ntaken 0\nempty 12000\nleft 0\n", "", ""],
+        None,
     ),
     (
         &["bank", "--kind", "ring"],
         ["bank workers 1 lines 1\n", "1 in 0 1\n", "1 out 0 7\n"],
         ["in 12000\nout 7\ntotal 11993\n", "", ""],
+        None,
     ),
     (
         &["bank", "--sleep"],
         ["bank workers 1 lines 1\n", "1 in 0 1\n", "1 out 0 7\n"],
         ["in 12000\nout 7\ntotal 11993\n", "", ""],
+        None,
     ),
 ];
 
@@ -80,6 +91,18 @@ fn repeated(alloc: Global, long: &Long, times: u32) -> Result<String, Fail> {
         text.push_str(middle)?;
     }
     text.push_str(last)?;
+    Ok(text)
+}
+
+/// Returns an answer, and behind it a note on each of the repeated events, if there are any.
+fn with_notes(alloc: Global, answer: &str, note: Option<Note>) -> Result<String, Fail> {
+    let mut text = answer.to_string(alloc)?;
+    if let Some((first, note)) = note {
+        for before in 0..TIMES {
+            let number = before.saturating_add(first);
+            text.push_str(format!(in alloc; "event {number}, {note}\n")?.as_str())?;
+        }
+    }
     Ok(text)
 }
 
@@ -135,11 +158,18 @@ fn expect_both<T: Threads + Wait + Clock + Eprint + Abort + Sync>(
 #[test]
 fn a_long_script_is_answered_whole(rt: HostRuntime) -> Result<(), Fail> {
     let alloc = rt.alloc();
-    for (words, script, answer) in &ANSWERED {
+    for (words, script, answer, note) in &ANSWERED {
         let script = whole(alloc, script)?;
         let answer = whole(alloc, answer)?;
-        let want = (0, answer.as_bytes(), "");
-        expect_both(&rt, alloc, *words, script.as_str(), want, want)?;
+        let noted = with_notes(alloc, answer.as_str(), *note)?;
+        expect_both(
+            &rt,
+            alloc,
+            *words,
+            script.as_str(),
+            (0, answer.as_bytes(), ""),
+            (0, noted.as_bytes(), ""),
+        )?;
     }
     Ok(())
 }
@@ -168,7 +198,11 @@ static BEHIND_EMPTY_LINES: [(&[&str], &str, (u8, &str, &str)); 2] = [
     (
         &["replay", "--kind", "plain", "--explain"],
         "nodes 1 lines 1\nask 1 0\n",
-        (1, "", "bad line 1499978\n    ask 1 0\nword 1 is unknown\n"),
+        (
+            1,
+            "",
+            "bad line 1499978\n    ask 1 0\nword 1 is none of enq, poll, write, show, deq, out, shut; for ask take enq\n",
+        ),
     ),
 ];
 
@@ -192,32 +226,32 @@ static REFUSED: [(&[&str], Long, &str); 6] = [
     (
         &["replay", "--kind", "link"],
         ["nodes 1 lines 1\n", "show 1 0\n", "ask 1 0\n"],
-        "    ask 1 0\nword 1 is unknown\n",
+        "    ask 1 0\nword 1 is none of enq, poll, write, show, deq, out, shut; for ask take enq\n",
     ),
     (
         &["draw", "--svg"],
         ["nodes 1 lines 1\n", "show 1 0\n", "ask 1 0\n"],
-        "    ask 1 0\nword 1 is unknown\n",
+        "    ask 1 0\nword 1 is none of enq, poll, write, show, deq, out, shut; for ask take enq\n",
     ),
     (
         &["steps"],
         ["nodes 1\n", "link 1\n", "ask 1\n"],
-        "    ask 1\nword 1 is unknown\n",
+        "    ask 1\nword 1 is none of reset, prepend, link, load, home, done, grant, roll, freed, write, close; for ask take reset, prepend and link\n",
     ),
     (
         &["draw", "--steps"],
         ["nodes 1\n", "link 1\n", "ask 1\n"],
-        "    ask 1\nword 1 is unknown\n",
+        "    ask 1\nword 1 is none of reset, prepend, link, load, home, done, grant, roll, freed, write, close; for ask take reset, prepend and link\n",
     ),
     (
         &["board"],
         ["board workers 1\n", "1 take\n", "1 ask\n"],
-        "    1 ask\nword 2 is unknown\n",
+        "    1 ask\nword 2 is neither put nor take\n",
     ),
     (
         &["bank"],
         ["bank workers 1 lines 1\n", "1 in 0 1\n", "1 ask\n"],
-        "    1 ask\nword 2 is unknown\n",
+        "    1 ask\nword 2 is none of in, out, move\n",
     ),
 ];
 
@@ -275,19 +309,19 @@ fn a_beginning_of_a_long_answer_is_written(rt: HostRuntime) -> Result<(), Fail> 
 
 /// Words of drawings, a long script, and the beginning and the end of its picture.
 static DRAWN: [(&[&str], Long, &str, &str); 4] = [
-    (&["draw"], HELD, "line 0\n\n", "- closed\n"),
+    (&["draw"], HELD, "line 0\n\n", "! misuse\n"),
     (&["draw", "--svg"], HELD, "<svg ", "</g>\n</svg>\n"),
     (
         &["draw", "--steps"],
         ["nodes 1\n", "link 1\n", ""],
-        "1\n.  1: link 1: refused; the line lies at home\n",
+        "1\n.      1: link 1: refused; the line lies at home\n",
         "- Shut\n",
     ),
     (
         &["draw", "--steps", "--svg"],
         ["nodes 1\n", "link 1\n", ""],
         "<svg ",
-        "<title>12000: link 1: refused</title></use>\n</g>\n</svg>\n",
+        "<title>12000: link 1: refused</title></use>\n<text class='small' x='864024' y='47'>link</text>\n</g>\n</svg>\n",
     ),
 ];
 

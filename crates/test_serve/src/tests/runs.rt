@@ -1,6 +1,6 @@
 //! Runs of the program: words and script, with the status and the output.
-use line_kinds::{ALL, LOCKS, Lines, lock_names};
-use qolb_run::{ReplayError, Task, TaskError};
+use line_kinds::{ALL, LOCKS, Lock, lock_names};
+use qolb_run::{Task, TaskError};
 use qolb_serve::{Subcommand, fail, parse_args, refuse_words, serve};
 use std::alloc::Global;
 use std::io::{self, Read, Write};
@@ -109,7 +109,7 @@ static EXPLAINED: [(&[&str], &str, &str); 16] = [
     (
         &["replay", "--kind", "plain"],
         "",
-        "bad line 1\nno line has a word, and a script begins with a header\n",
+        "bad line 1\nno line has a word, and a script begins with `nodes N lines L`\n",
     ),
     (
         &["replay", "--kind", "ring"],
@@ -119,12 +119,12 @@ static EXPLAINED: [(&[&str], &str, &str); 16] = [
     (
         &["replay", "--kind", "link"],
         "nodes 2 lines 1\nenq 1 0\nask 1 0",
-        "bad line 3\n    ask 1 0\nword 1 is unknown\n",
+        "bad line 3\n    ask 1 0\nword 1 is none of enq, poll, write, show, deq, out, shut; for ask take enq\n",
     ),
     (
         &["replay", "--kind", "ticket"],
         "nodes 2 lines 1\nenq 1\n",
-        "bad line 2\n    enq 1\nwrong number of words\n",
+        "bad line 2\n    enq 1\nwrong number of words, the form is `enq NODE LINE`\n",
     ),
     (
         &["replay", "--kind", "plain"],
@@ -144,12 +144,12 @@ static EXPLAINED: [(&[&str], &str, &str); 16] = [
     (
         &["steps"],
         "nodes 2\nenq 1\n",
-        "bad line 2\n    enq 1\nword 1 is unknown\n",
+        "bad line 2\n    enq 1\nword 1 is none of reset, prepend, link, load, home, done, grant, roll, freed, write, close; for enq take reset, prepend and link\n",
     ),
     (
         &["draw", "--steps"],
         "nodes 2\nload\n",
-        "bad line 2\n    load\nwrong number of words\n",
+        "bad line 2\n    load\nwrong number of words, the form is `load NODE`\n",
     ),
     (
         &["draw", "--steps", "--svg"],
@@ -164,12 +164,12 @@ static EXPLAINED: [(&[&str], &str, &str); 16] = [
     (
         &["board"],
         "board workers 3\n1 give 2\n",
-        "bad line 2\n    1 give 2\nword 2 is unknown\n",
+        "bad line 2\n    1 give 2\nword 2 is neither put nor take; for give take put\n",
     ),
     (
         &["board", "--sleep"],
         "bank workers 3 lines 1\n",
-        "bad line 1\n    bank workers 3 lines 1\nword 1 is unknown\n",
+        "bad line 1\n    bank workers 3 lines 1\nthis is a bank script, for `qolb bank`\n",
     ),
     (
         &["bank"],
@@ -179,12 +179,12 @@ static EXPLAINED: [(&[&str], &str, &str); 16] = [
     (
         &["bank", "--kind", "ring"],
         "board workers 3\n",
-        "bad line 1\n    board workers 3\nword 1 is unknown\n",
+        "bad line 1\n    board workers 3\nthis is a board script, for `qolb board`\n",
     ),
     (
         &["bank"],
         "bank workers 1 lines 1 lines 1\n",
-        "bad line 1\n    bank workers 1 lines 1 lines 1\nwrong number of words\n",
+        "bad line 1\n    bank workers 1 lines 1 lines 1\nwrong number of words, the form is `bank workers W lines L`\n",
     ),
 ];
 
@@ -301,8 +301,8 @@ fn tells_its_version(rt: HostRuntime) -> Result<(), Fail> {
     Ok(())
 }
 
-/// Returns the lines of work with this `--kind`.
-fn lines_of_kind(alloc: Global, name: &str) -> Result<Lines, Fail> {
+/// Returns the lock of work with this `--kind`.
+fn lock_of_kind(alloc: Global, name: &str) -> Result<Lock, Fail> {
     let words = vec![in alloc;
         "qolb".to_string(alloc)?,
         "board".to_string(alloc)?,
@@ -314,7 +314,7 @@ fn lines_of_kind(alloc: Global, name: &str) -> Result<Lines, Fail> {
         .ok_or("a request")?
         .subcommand
     {
-        Subcommand::Answer(Task::Work(_, lines, _)) => Ok(lines),
+        Subcommand::Answer(Task::Work(_, lock, _)) => Ok(lock),
         _ => Err(Fail::from("no work")),
     }
 }
@@ -325,11 +325,11 @@ fn the_version_names_each_lock(rt: HostRuntime) -> Result<(), Fail> {
     let (_, names) = version
         .split_once("kinds of lines: plain, ")
         .ok_or("the kinds")?;
-    let mut lines = Vec::new(rt.alloc());
+    let mut locks = Vec::new(rt.alloc());
     for name in names.trim_end().split(", ") {
-        lines.push(lines_of_kind(rt.alloc(), name)?)?;
+        locks.push(lock_of_kind(rt.alloc(), name)?)?;
     }
-    assert_eq!(rt; lines.as_slice(), ALL.as_slice());
+    assert_eq!(rt; locks.as_slice(), ALL.as_slice());
     Ok(())
 }
 
@@ -514,7 +514,7 @@ fn tells_who_stalled(rt: HostRuntime) -> Result<(), Fail> {
     assert_eq!(rt; fail(&mut err, TaskError::Stalled(17)), 3);
     assert_eq!(rt; err.as_slice(), b"stalled 17\n".as_slice());
     let mut err: Vec<u8> = Vec::new(rt.alloc());
-    assert_eq!(rt; fail(&mut err, TaskError::Replay(ReplayError::Memory)), 3);
+    assert_eq!(rt; fail(&mut err, TaskError::Memory), 3);
     assert_eq!(rt; err.as_slice(), b"out of memory\n".as_slice());
     Ok(())
 }
@@ -576,7 +576,7 @@ const STEPPED: &str = "nodes 1\nreset 1\nprepend 1\nhome 1\n";
 fn draws_step_scripts(rt: HostRuntime) -> Result<(), Fail> {
     let (status, out, err) = told(&rt, rt.alloc(), &["draw", "--steps"], STEPPED)?;
     assert_eq!(rt; (status, err.as_str()), (0, ""));
-    assert!(rt; out.starts_with("1\nr  1: reset 1: went; the line lies at home\n"));
+    assert!(rt; out.starts_with("1\nr      1: reset 1: went; the line lies at home\n"));
     let words = ["draw", "--svg", "--steps"];
     let (status, out, err) = told(&rt, rt.alloc(), words.as_slice(), STEPPED)?;
     assert_eq!(rt; (status, err.as_str()), (0, ""));
@@ -585,7 +585,7 @@ fn draws_step_scripts(rt: HostRuntime) -> Result<(), Fail> {
     Ok(())
 }
 
-/// Scripts that neither a drawing nor the core of reversed links takes, as their second line is bad or has a number out of range.
+/// Scripts that neither a drawing nor the link line's core takes, as their second line is bad or has a number out of range.
 static FAULTY: [(&[&str], &str); 6] = [
     (&["draw"], "nodes 2 lines 1\nenq 3 0"),
     (&["draw"], "nodes 2 lines 1\nenq 1"),

@@ -3,7 +3,7 @@ use Rattle.qolb_model.specs.OneOwner.{opened}
 use Rattle.qolb_model.specs.Plain.{PlainView, Agrees}
 use Rattle.qolb_script.specs.Reply.{replay_start}
 use Rattle.qolb_replay.specs.Tallies.{AreLinesOf}
-use Rattle.qolb_replay.specs.declared.counts.CountingLine.{CountingLine}
+use Rattle.qolb_replay.specs.declared.line.CountingLine.{CountingLine}
 use Rattle.qolb_replay.proofs.Replayed.{IsNew, none_opened, one_more_opened}
 use Rattle.qolb_replay.proofs.replay.open_lines.Goals as goal
 

@@ -5,7 +5,7 @@ use Rattle.qolb_model.specs.Opening.{MayOpen}
 use Rattle.qolb_model.specs.Whole.{ViewAndTurn, AreSynced}
 use Rattle.qolb_script.specs.Reply.{replay_start}
 use Rattle.qolb_replay.specs.Tallies.{AreLinesOf}
-use Rattle.qolb_replay.specs.declared.counts.CountingLine.{CountingLine}
+use Rattle.qolb_replay.specs.declared.line.CountingLine.{CountingLine}
 use Rattle.qolb_replay.proofs.Replayed.{IsNew, one_more_opened}
 use Rattle.qolb_replay.proofs.replay.open_ported.Goals as goal
 

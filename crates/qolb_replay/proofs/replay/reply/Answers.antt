@@ -2,7 +2,7 @@ use Rattle.std.proofs.Common.{rules, ◌≡◌, ◌≤◌, ◌<◌, ℕ, List, l
 use Rattle.qolb_script.specs.declared.command.Command.TheVariants.{Enq}
 use Rattle.qolb_script.specs.declared.command.Command.{Command}
 use Rattle.qolb_script.specs.Reply.{Replay, summary_of}
-use Rattle.qolb_replay.specs.declared.counts.CountingLine.{CountingLine}
+use Rattle.qolb_replay.specs.declared.line.CountingLine.{CountingLine}
 use Rattle.qolb_replay.specs.Tallies.{IsLineOf}
 use Rattle.qolb_replay.proofs.Replayed.{command_done, summary_done}
 use Rattle.qolb_replay.proofs.replay.reply.Goals as goal

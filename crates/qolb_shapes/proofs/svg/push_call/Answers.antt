@@ -1,6 +1,6 @@
 use Rattle.std.specs.Prelude.{codes}
 use Rattle.qolb_script.specs.Said.{said_words}
-use Rattle.qolb_shapes.specs.Svg.{command_words, field, sign_of, x_of, y_of}
+use Rattle.qolb_shapes.specs.Svg.{command_words, field, sign_of, verb_of, verb_text, x_of, y_of}
 use Rattle.qolb_shapes.proofs.Texts.{begins, piece, ◌▸◌}
 use Rattle.qolb_shapes.proofs.svg.push_call.Goals as goal
 
@@ -15,4 +15,5 @@ returns g c =
     ▸ piece (command_words c.args.event.now.command) c.in_ok-push_command.ensures
     ▸ piece (codes ": ") c.in_ok-extend_from_slice-4.ensures.items
     ▸ piece (said_words c.args.event.now.change.said) c.in_ok-push_answer.ensures
-    ▸ piece (codes "</title></use>\n") c.in_ok-extend_from_slice-5.ensures.items).is
+    ▸ piece (codes "</title></use>\n") c.in_ok-extend_from_slice-5.ensures.items
+    ▸ piece (verb_text (x_of c.args.column) (verb_of c.args.event.now.command)) (rw c.x_of-2.ensures at (rw c.verb.ensures at c.in_ok-push_verb.ensures))).is

@@ -1,7 +1,7 @@
 use Rattle.std.proofs.Common.{◌≡◌, ◌<◌, ◌-◌}
 use Rattle.qolb_model.specs.OneOwner.{OwnerState}
 use Rattle.qolb_script.specs.Reply.{nodes_left}
-use Rattle.qolb_replay.proofs.counts.nodes_left_at.Given as goal
+use Rattle.qolb_replay.proofs.line.nodes_left_at.Given as goal
 
 abbrev pub invariant-loop-node : goal.invariant-loop-node
 invariant-loop-node g l = record {

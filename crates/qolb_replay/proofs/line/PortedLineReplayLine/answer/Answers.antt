@@ -4,7 +4,7 @@ use Rattle.qolb_model.specs.Whole.{AreSynced}
 use Rattle.qolb_script.specs.Reply.{after_command}
 use Rattle.line_blocking.specs.ViewAndTurn.{view_and_turn}
 use Rattle.qolb_replay.proofs.Forcing.{answers_forced}
-use Rattle.qolb_replay.proofs.ported_line.PortedLineReplayLine.answer.Goals as goal
+use Rattle.qolb_replay.proofs.line.PortedLineReplayLine.answer.Goals as goal
 
 pub returns-clause-said : goal.returns-clause-said
 returns-clause-said g c = λ s whole.

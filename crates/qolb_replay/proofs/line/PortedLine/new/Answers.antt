@@ -2,7 +2,7 @@ use Rattle.std.proofs.Common.{◌∙◌, sym}
 use Rattle.std.proofs.lemmas.List.{length-map}
 use Rattle.line_blocking.specs.ViewAndTurn.{view_and_turn}
 use Rattle.qolb_replay.proofs.Forcing.{new_whole}
-use Rattle.qolb_replay.proofs.ported_line.PortedLine.new.Goals as goal
+use Rattle.qolb_replay.proofs.line.PortedLine.new.Goals as goal
 
 pub returns-clause-nodes : goal.returns-clause-nodes
 returns-clause-nodes g c = length-map c.args.ports.items (view_and_turn g.L.LineSync.view g.L.LineSync.turn) ∙ (sym (length-map c.args.ports.items g.L.LineSync.view) ∙ c.requires.new.count)

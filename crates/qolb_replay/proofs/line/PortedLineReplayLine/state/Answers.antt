@@ -3,7 +3,7 @@ use Rattle.std.proofs.lemmas.List.{length-map}
 use Rattle.line_blocking.specs.ViewAndTurn.{view_and_turn}
 use Rattle.qolb_model.specs.Whole.{seen}
 use Rattle.qolb_replay.proofs.Forcing.{state_seen}
-use Rattle.qolb_replay.proofs.ported_line.PortedLineReplayLine.state.Goals as goal
+use Rattle.qolb_replay.proofs.line.PortedLineReplayLine.state.Goals as goal
 
 pub returns : goal.returns
 returns g c = λ s whole.

@@ -3,8 +3,8 @@ use Rattle.qolb_model.specs.OneOwner.{state_of}
 use Rattle.qolb_model.specs.Whole.{seen}
 use Rattle.qolb_script.specs.Reply.{nodes_left}
 use Rattle.qolb_replay.proofs.Tallying.{nodes_left_more, left_seen}
-use Rattle.qolb_replay.proofs.counts.nodes_left_at.Goals as goal
-use Rattle.qolb_replay.proofs.counts.nodes_left_at.Goals.{then-is_left, else-is_left}
+use Rattle.qolb_replay.proofs.line.nodes_left_at.Goals as goal
+use Rattle.qolb_replay.proofs.line.nodes_left_at.Goals.{then-is_left, else-is_left}
 
 pub loop-node-preserved : goal.loop-node-preserved
 loop-node-preserved g c = record {

@@ -3,8 +3,8 @@ use Rattle.std.specs.Str.{bytes_eq}
 use Rattle.std.proofs.lemmas.Iterator.{YieldsList-from_slice}
 use Rattle.std.proofs.lemmas.Iterator.Search.{find_from_yields_List}
 use Rattle.qolb_script.specs.Made.{word_of}
-use Rattle.qolb_script.specs.declared.command.TheConstants.{VERBS}
-use Rattle.qolb_script.proofs.command.Verb.named.Goals as goal
+use Rattle.qolb_script.specs.declared.command_reader.TheConstants.{VERBS}
+use Rattle.qolb_script.proofs.command_reader.Verb.named.Goals as goal
 
 pub returns : goal.returns
 returns c =

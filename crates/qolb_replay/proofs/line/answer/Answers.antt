@@ -1,7 +1,7 @@
 use Rattle.std.proofs.Common.{rules, arith, ◌≡◌, ◌+◌, ◌-◌, ◌<◌, length}
 use Rattle.qolb_script.specs.Commands.{node_of}
 use Rattle.qolb_replay.proofs.Forcing.{answers_by}
-use Rattle.qolb_replay.proofs.ported_line.answer.Goals as goal
+use Rattle.qolb_replay.proofs.line.answer.Goals as goal
 
 pub returns-clause-answers : goal.returns-clause-answers
 returns-clause-answers g c =

@@ -3,7 +3,7 @@ use Rattle.qolb_script.specs.Commands.{read_line}
 use Rattle.qolb_script.specs.Script.{items_of}
 use Rattle.qolb_script.specs.Reading.{lines_left}
 use Rattle.qolb_script.proofs.ScriptLemmas.{all_read, item_read, longer}
-use Rattle.qolb_script.proofs.items.read_items.Goals as goal
+use Rattle.qolb_script.proofs.text.NumberedLines.read_items.Goals as goal
 
 pub loop-number-preserved : goal.loop-number-preserved
 loop-number-preserved g c =
@@ -11,7 +11,7 @@ loop-number-preserved g c =
     let found : read_line (g.R.ReadItem.item_of c.args.reader.now) c.in-Some.line.now ≡ Ok c.in_ok-item.item = search rules in
     let fits : g.R.ReadItem.in_range c.args.reader.now c.in_ok-item.item = search rules in
     record {
-      read = item_read (g.R.ReadItem.item_of c.args.reader.now) (items_of (g.R.ReadItem.item_of c.args.reader.now) 0 (lines_left c.args.rest)) c.loop-number.items.items c.push.new.self.items (lines_left c.loop-number.number-iterator) (lines_left c.next.new.self) c.in-Some.number c.in-Some.line.now c.in_ok-item.item c.loop-number.invariant.read few c.in-Some.ensures.steps found c.in-Ok.ensures.items;
+      read = item_read (g.R.ReadItem.item_of c.args.reader.now) (items_of (g.R.ReadItem.item_of c.args.reader.now) 0 (lines_left c.args.self)) c.loop-number.items.items c.push.new.self.items (lines_left c.loop-number.number-iterator) (lines_left c.next.new.self) c.in-Some.number c.in-Some.line.now c.in_ok-item.item c.loop-number.invariant.read few c.in-Some.ensures.steps found c.in-Ok.ensures.items;
       most = (let one_more : length c.push.new.self.items ≡ length c.loop-number.items.items + 1 = longer c.loop-number.items.items c.push.new.self.items c.in_ok-item.item c.in-Ok.ensures.items in omega arith);
       range = all_read (g.R.ReadItem.in_range c.args.reader.now) c.loop-number.items.items c.push.new.self.items c.in_ok-item.item c.loop-number.invariant.range fits c.in-Ok.ensures.items;
     }

@@ -1,0 +1,196 @@
+//! What is said of each fault: what may stand there, and the form of the line.
+use crate::tests::rows::expect;
+use qolb_explain::{Allowed, Complaint, Form, Reason, ScriptKind};
+use std::test::Fail;
+
+/// Lines, their faults, and what is said of them.
+static TEXTS: [(&str, Reason, &str); 30] = [
+    (
+        "",
+        Reason::Empty(ScriptKind::Schedule),
+        "no line has a word, and a script begins with `nodes N lines L`",
+    ),
+    (
+        "enq 1 0",
+        Reason::Begin(ScriptKind::Schedule),
+        "    enq 1 0\na script begins with `nodes N lines L`",
+    ),
+    (
+        "reset 1",
+        Reason::Begin(ScriptKind::Steps),
+        "    reset 1\na script begins with `nodes N`",
+    ),
+    (
+        "1 take",
+        Reason::Begin(ScriptKind::Board),
+        "    1 take\na script begins with `board workers W`",
+    ),
+    (
+        "1 in 0 1",
+        Reason::Begin(ScriptKind::Bank),
+        "    1 in 0 1\na script begins with `bank workers W lines L`",
+    ),
+    (
+        "nodes 2 lines 1",
+        Reason::Other(ScriptKind::Schedule),
+        "    nodes 2 lines 1\nthis is a schedule, for `qolb replay` and `qolb draw`",
+    ),
+    (
+        "nodes 2",
+        Reason::Other(ScriptKind::Steps),
+        "    nodes 2\nthis is a step script, for `qolb steps` and `qolb draw --steps`",
+    ),
+    (
+        "board workers 2",
+        Reason::Other(ScriptKind::Board),
+        "    board workers 2\nthis is a board script, for `qolb board`",
+    ),
+    (
+        "bank workers 2 lines 1",
+        Reason::Other(ScriptKind::Bank),
+        "    bank workers 2 lines 1\nthis is a bank script, for `qolb bank`",
+    ),
+    (
+        "withdraw 1 0",
+        Reason::Word {
+            place: 1,
+            allowed: Allowed::Commands,
+        },
+        "    withdraw 1 0\nword 1 is none of enq, poll, write, show, deq, out, shut; for withdraw take out",
+    ),
+    (
+        "withdraws 1 0",
+        Reason::Word {
+            place: 1,
+            allowed: Allowed::Commands,
+        },
+        "    withdraws 1 0\nword 1 is none of enq, poll, write, show, deq, out, shut",
+    ),
+    (
+        "poll 1",
+        Reason::Word {
+            place: 1,
+            allowed: Allowed::Events,
+        },
+        "    poll 1\nword 1 is none of reset, prepend, link, load, home, done, grant, roll, freed, write, close; for poll take load",
+    ),
+    (
+        "1 push 5",
+        Reason::Word {
+            place: 2,
+            allowed: Allowed::BoardJobs,
+        },
+        "    1 push 5\nword 2 is neither put nor take; for push take put",
+    ),
+    (
+        "1 withdraw 0 5",
+        Reason::Word {
+            place: 2,
+            allowed: Allowed::BankJobs,
+        },
+        "    1 withdraw 0 5\nword 2 is none of in, out, move; for withdraw take out",
+    ),
+    (
+        "nodes 2 line 1",
+        Reason::Word {
+            place: 3,
+            allowed: Allowed::Lines,
+        },
+        "    nodes 2 line 1\nword 3 is not `lines`",
+    ),
+    (
+        "nodes 2 leases 1",
+        Reason::Word {
+            place: 3,
+            allowed: Allowed::Lease,
+        },
+        "    nodes 2 leases 1\nword 3 is not `lease`",
+    ),
+    (
+        "board worker 1",
+        Reason::Word {
+            place: 2,
+            allowed: Allowed::Workers,
+        },
+        "    board worker 1\nword 2 is not `workers`",
+    ),
+    (
+        "nodes 2 lines",
+        Reason::Count(Form::Header(ScriptKind::Schedule)),
+        "    nodes 2 lines\nwrong number of words, the form is `nodes N lines L` or `nodes N lines L lease C`",
+    ),
+    (
+        "nodes",
+        Reason::Count(Form::Header(ScriptKind::Steps)),
+        "    nodes\nwrong number of words, the form is `nodes N` or `nodes N lease C`",
+    ),
+    (
+        "bank workers",
+        Reason::Count(Form::Header(ScriptKind::Bank)),
+        "    bank workers\nwrong number of words, the form is `bank workers W lines L`",
+    ),
+    (
+        "shut 1",
+        Reason::Count(Form::Call),
+        "    shut 1\nwrong number of words, the form is `shut NODE LINE`",
+    ),
+    (
+        "write 1",
+        Reason::Count(Form::Write),
+        "    write 1\nwrong number of words, the form is `write NODE LINE OFFSET HEX`",
+    ),
+    (
+        " roll ",
+        Reason::Count(Form::Event),
+        "     roll \nwrong number of words, the form is `roll NODE`",
+    ),
+    (
+        "write 1",
+        Reason::Count(Form::StepWrite),
+        "    write 1\nwrong number of words, the form is `write NODE OFFSET HEX`",
+    ),
+    (
+        "1",
+        Reason::Count(Form::Job(ScriptKind::Board)),
+        "    1\nwrong number of words, the form is `WORKER put TASK` or `WORKER take`",
+    ),
+    (
+        "1",
+        Reason::Count(Form::Job(ScriptKind::Bank)),
+        "    1\nwrong number of words, the form is `WORKER in ACCOUNT AMOUNT`, or with `out` or `move`",
+    ),
+    (
+        "1 put",
+        Reason::Count(Form::Put),
+        "    1 put\nwrong number of words, the form is `WORKER put TASK`",
+    ),
+    (
+        "1 take 5",
+        Reason::Count(Form::Take),
+        "    1 take 5\nwrong number of words, the form is `WORKER take`",
+    ),
+    (
+        "1 out 5",
+        Reason::Count(Form::Payment),
+        "    1 out 5\nwrong number of words, the form is `WORKER out ACCOUNT AMOUNT`",
+    ),
+    (
+        "1 move 5",
+        Reason::Count(Form::Move),
+        "    1 move 5\nwrong number of words, the form is `WORKER move FROM TO AMOUNT`",
+    ),
+];
+
+#[test]
+fn says_what_may_stand_there(rt: HostRuntime) -> Result<(), Fail> {
+    for (line, reason, wanted) in &TEXTS {
+        let complaint = Complaint {
+            number: 1,
+            line: line.as_bytes(),
+            reason: *reason,
+        };
+        let text = format!(in rt.alloc(); "{complaint}")?;
+        expect(&rt, *line, text.as_str(), *wanted);
+    }
+    Ok(())
+}

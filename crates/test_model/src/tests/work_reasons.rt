@@ -1,0 +1,274 @@
+//! The reasons for refusing a work script.
+use crate::tests::reasons::told;
+use crate::tests::rows::expect;
+use qolb_explain::{Allowed, Form, Reason, ScriptKind, explain_work};
+use qolb_script::WorkKind;
+
+/// Work scripts of boards, with the number of the refused line and the reason.
+static BOARDS: [(&str, Option<(u64, Reason)>); 14] = [
+    ("", Some((1, Reason::Empty(ScriptKind::Board)))),
+    (
+        "bank workers 1 lines 1\n",
+        Some((1, Reason::Other(ScriptKind::Bank))),
+    ),
+    (
+        "board workers\n",
+        Some((1, Reason::Count(Form::Header(ScriptKind::Board)))),
+    ),
+    (
+        "board worker 0\n",
+        Some((
+            1,
+            Reason::Word {
+                place: 2,
+                allowed: Allowed::Workers,
+            },
+        )),
+    ),
+    (
+        "board workers 0\n",
+        Some((
+            1,
+            Reason::Number {
+                place: 3,
+                low: 1,
+                high: 200,
+            },
+        )),
+    ),
+    (
+        "board workers 1\n2\n",
+        Some((2, Reason::Count(Form::Job(ScriptKind::Board)))),
+    ),
+    (
+        "board workers 1\n2 give 3\n",
+        Some((
+            2,
+            Reason::Word {
+                place: 2,
+                allowed: Allowed::BoardJobs,
+            },
+        )),
+    ),
+    (
+        "board workers 1\n2 take 3\n",
+        Some((2, Reason::Count(Form::Take))),
+    ),
+    (
+        "board workers 1\n2 put\n",
+        Some((2, Reason::Count(Form::Put))),
+    ),
+    (
+        "board workers 1\n2 take\n",
+        Some((
+            2,
+            Reason::Number {
+                place: 1,
+                low: 1,
+                high: 1,
+            },
+        )),
+    ),
+    (
+        "board workers 3\n4 put x\n",
+        Some((
+            2,
+            Reason::Number {
+                place: 1,
+                low: 1,
+                high: 3,
+            },
+        )),
+    ),
+    (
+        "board workers 1\n1 take\n1 put x\n",
+        Some((
+            3,
+            Reason::Number {
+                place: 3,
+                low: 0,
+                high: 18446744073709551615,
+            },
+        )),
+    ),
+    (
+        "bank workers 1\n",
+        Some((1, Reason::Begin(ScriptKind::Board))),
+    ),
+    (
+        "nodes 1 lines 1\n",
+        Some((1, Reason::Other(ScriptKind::Schedule))),
+    ),
+];
+
+/// Work scripts of banks, with the number of the refused line and the reason.
+static BANKS: [(&str, Option<(u64, Reason)>); 21] = [
+    (
+        "board workers 1\n",
+        Some((1, Reason::Other(ScriptKind::Board))),
+    ),
+    (
+        "bank workers 1\n",
+        Some((1, Reason::Count(Form::Header(ScriptKind::Bank)))),
+    ),
+    (
+        "bank worker 1 line 1\n",
+        Some((
+            1,
+            Reason::Word {
+                place: 2,
+                allowed: Allowed::Workers,
+            },
+        )),
+    ),
+    (
+        "bank workers 1 line 1\n",
+        Some((
+            1,
+            Reason::Word {
+                place: 4,
+                allowed: Allowed::Lines,
+            },
+        )),
+    ),
+    (
+        "bank workers 0 lines 9\n",
+        Some((
+            1,
+            Reason::Number {
+                place: 3,
+                low: 1,
+                high: 200,
+            },
+        )),
+    ),
+    (
+        "bank workers 1 lines 9\n",
+        Some((
+            1,
+            Reason::Number {
+                place: 5,
+                low: 1,
+                high: 8,
+            },
+        )),
+    ),
+    (
+        "bank workers 1 lines 2\n1\n",
+        Some((2, Reason::Count(Form::Job(ScriptKind::Bank)))),
+    ),
+    (
+        "bank workers 1 lines 2\n1 put 2\n",
+        Some((
+            2,
+            Reason::Word {
+                place: 2,
+                allowed: Allowed::BankJobs,
+            },
+        )),
+    ),
+    (
+        "bank workers 1 lines 2\n1 in 2\n",
+        Some((2, Reason::Count(Form::Payment))),
+    ),
+    (
+        "bank workers 1 lines 2\n2 in 16 x\n",
+        Some((
+            2,
+            Reason::Number {
+                place: 1,
+                low: 1,
+                high: 1,
+            },
+        )),
+    ),
+    (
+        "bank workers 1 lines 2\n1 in 16 x\n",
+        Some((
+            2,
+            Reason::Number {
+                place: 3,
+                low: 0,
+                high: 15,
+            },
+        )),
+    ),
+    (
+        "bank workers 1 lines 2\n1 out 15 x\n",
+        Some((
+            2,
+            Reason::Number {
+                place: 4,
+                low: 0,
+                high: 18446744073709551615,
+            },
+        )),
+    ),
+    (
+        "bank workers 1 lines 2\n1 move 1 2\n",
+        Some((2, Reason::Count(Form::Move))),
+    ),
+    (
+        "bank workers 1 lines 2\n2 move 16 16 x\n",
+        Some((
+            2,
+            Reason::Number {
+                place: 1,
+                low: 1,
+                high: 1,
+            },
+        )),
+    ),
+    (
+        "bank workers 1 lines 2\n1 move 16 16 x\n",
+        Some((
+            2,
+            Reason::Number {
+                place: 3,
+                low: 0,
+                high: 15,
+            },
+        )),
+    ),
+    (
+        "bank workers 1 lines 2\n1 move 15 16 x\n",
+        Some((
+            2,
+            Reason::Number {
+                place: 4,
+                low: 0,
+                high: 15,
+            },
+        )),
+    ),
+    (
+        "bank workers 1 lines 2\n1 move 15 15 x\n",
+        Some((
+            2,
+            Reason::Number {
+                place: 5,
+                low: 0,
+                high: 18446744073709551615,
+            },
+        )),
+    ),
+    (
+        "bank workers 1 lines 2\n1 in 0 5\t\n",
+        Some((2, Reason::Byte)),
+    ),
+    ("bank workers 1 lines 2\n1 move 0 15 5\n", None),
+    ("", Some((1, Reason::Empty(ScriptKind::Bank)))),
+    ("nodes 4\n", Some((1, Reason::Other(ScriptKind::Steps)))),
+];
+
+#[test]
+fn tells_what_is_wrong_with_work(rt: HostRuntime) {
+    for (text, wanted) in &BOARDS {
+        let found = explain_work(text.as_bytes(), WorkKind::Board);
+        expect(&rt, *text, told(found), *wanted);
+    }
+    for (text, wanted) in &BANKS {
+        let found = explain_work(text.as_bytes(), WorkKind::Bank);
+        expect(&rt, *text, told(found), *wanted);
+    }
+}
