@@ -3,7 +3,7 @@
  * shut; who sleeps by the announced address and value is woken. And by one thread: each call that a ticket's state does
  * not allow is misuse and changes nothing; a lock lies in the room that it is opened in.
  *
- *   build/core_c [ROUNDS [THREADS]]       4,000 rounds by each thread, up to 64 threads */
+ *   build/core_c [ROUNDS [THREADS]]       400 rounds by two threads, as many in all by more, up to 64 threads */
 #define _GNU_SOURCE
 #include "../src/core.h"
 #include "../src/gaps.h"
@@ -31,7 +31,7 @@ void __tsan_release(void *at);
 #define __tsan_release(at) ((void)(at))
 #endif
 
-enum { MOST_THREADS = 64, MOST_LOCKS = 256, NEAR = 15 };
+enum { MOST_THREADS = 64, MOST_LOCKS = 256, NEAR = 15, FEW_LOOKS = 4 };
 
 static uint64_t labels; /* each lock has one of its own */
 
@@ -149,9 +149,9 @@ static void strict_turn(struct caller *caller) {
 static void head_turn(struct caller *caller) {
     uint32_t got;
     for (int looks = 0; (got = qolb_core_take_outer_proved_(&scene.core, &caller->ticket)) == QOLB_WAITING; looks++) {
-        if (looks == 4)
+        if (looks == FEW_LOOKS)
             while (qolb_core_request_handoff_proved_(&scene.core, &caller->ticket) == QOLB_BUSY) continue;
-        if (looks <= 4 || !(scene.does & SLEEPS)) sched_yield();
+        if (looks <= FEW_LOOKS) sched_yield();
         else if (qolb_core_announce_head_sleep_proved_(&scene.core, &caller->ticket) == QOLB_ASLEEP_) {
             scene.head_slept++;
             sleep_at(qolb_core_outer_(&scene.core), (uint32_t)caller->ticket.outer);
@@ -168,11 +168,11 @@ static void head_turn(struct caller *caller) {
 static int waits(struct caller *caller) {
     struct qolb_ticket *ticket = &caller->ticket;
     uint32_t got = QOLB_WAITING;
-    while (got == QOLB_WAITING) {
+    for (int looks = 0; got == QOLB_WAITING; looks++) {
         if (does(caller, WITHDRAWS) && ticket->rounds <= NEAR) {
             got = qolb_core_withdraw_proved_(&scene.core, ticket);
             CHECK(got == QOLB_WITHDRAWN || got == QOLB_GRANTED);
-        } else if (does(caller, SLEEPS)) {
+        } else if (looks >= FEW_LOOKS || does(caller, SLEEPS)) {
             got = qolb_core_announce_sleep_proved_(&scene.core, ticket);
             if (got == QOLB_ASLEEP_) {
                 scene.slept++;
@@ -226,11 +226,11 @@ static void *calls(void *of) {
     return NULL;
 }
 
-/* Of all scenes. The last one is of luck, and the most in a row stands behind them. */
-static const char *const counted[] = {
-    "turns", "by the outer word", "withdrawn",       "slept", "slept at the outer word", "tried", "far", "shut",
-    "told",  "reopened",          "drawn by another"};
-enum { COUNTS = sizeof counted / sizeof counted[0] };
+/* Of all scenes: what is in each run, what is of luck, and the most in a row. */
+static const char *const counted[] = {"turns",           "by the outer word",       "tried", "shut", "withdrawn",
+                                      "slept",           "slept at the outer word", "far",   "told", "reopened",
+                                      "drawn by another"};
+enum { COUNTS = sizeof counted / sizeof counted[0], CERTAIN = 4 };
 static long sums[COUNTS + 1];
 
 static void plays(int threads, uint64_t burst, int does_what, long rounds) {
@@ -252,8 +252,9 @@ static void plays(int threads, uint64_t burst, int does_what, long rounds) {
     __tsan_acquire(&scene);
     CHECK(scene.shared == scene.turns);
     CHECK(scene.reopened + scene.is_shut == scene.shut);
-    long counts[] = {scene.turns, scene.by_outer, scene.withdrawn, scene.slept,    scene.head_slept,      scene.tried,
-                     scene.far,   scene.shut,     scene.told_shut, scene.reopened, scene.drawn_by_another};
+    long counts[] = {scene.turns,     scene.by_outer, scene.tried,           scene.shut,
+                     scene.withdrawn, scene.slept,    scene.head_slept,      scene.far,
+                     scene.told_shut, scene.reopened, scene.drawn_by_another};
     for (int k = 0; k < COUNTS; k++) sums[k] += counts[k];
     if (scene.most_newcomers > sums[COUNTS]) sums[COUNTS] = scene.most_newcomers;
 }
@@ -384,7 +385,7 @@ static void opens(void) {
 }
 
 int main(int argc, char **argv) {
-    long rounds = argc > 1 ? atol(argv[1]) : 4000;
+    long rounds = argc > 1 ? atol(argv[1]) : 400;
     int most = argc > 2 ? atoi(argv[2]) : MOST_THREADS;
     alarm(600);
     opens();
@@ -397,10 +398,10 @@ int main(int argc, char **argv) {
     for (int threads = 2; threads <= most; threads *= threads < 4 ? 2 : 4)
         for (unsigned b = 0; b < sizeof bounds / sizeof bounds[0]; b++)
             for (unsigned m = 0; m < sizeof mixes / sizeof mixes[0]; m++)
-                plays(threads, bounds[b], mixes[m], rounds / (threads / 2));
+                plays(threads, bounds[b], mixes[m], 2 * rounds / threads);
     for (int k = 0; k < COUNTS; k++) {
         printf("%ld %s, ", sums[k], counted[k]);
-        CHECK(sums[k] > 0 || k == COUNTS - 1);
+        CHECK(sums[k] > 0 || k >= CERTAIN);
     }
     printf("at most %ld newcomers in a row\n", sums[COUNTS]);
     return 0;
