@@ -1,13 +1,13 @@
 //! A lock is opened, and callers come.
 ghost use Rattle.std.specs.Prelude.{◌≡◌, ◌≢◌, ◌<◌, ◌≤◌, IfOk, IfErr};
-ghost use Rattle.lock_core.specs.Layout.{IsLockTable};
+ghost use Rattle.lock_core.specs.Layout.{HasLockWords, IsLockTable};
 ghost use Rattle.lock_core.specs.Views.{view_of, IsSeatOf, IsIdle};
 ghost use Rattle.lock_core.specs.Answers.{max_burst_of, IsOpenErrorOf};
 ghost use Rattle.lock_core.specs.declared.opening.LockKind.TheVariants.{Bursts};
 
 use crate::layout::UNWRITTEN;
 use crate::plays::Come;
-use crate::rule::{SharedTable, TicketSeat, TicketTable};
+use crate::rule::{SharedValue, TicketTable, ValueSeat};
 use std::alloc::Global;
 use thiserror::Error;
 
@@ -91,8 +91,8 @@ pub fn open(alloc: Global, kind: LockKind) -> Result<TicketTable, OpenError>
 
 /// A seat for a new caller: one load, of a word that is never written.
 #[inline(always)]
-pub fn new_seat(table: &SharedTable) -> TicketSeat
-    requires table { IsLockTable table.now.table_id }
+pub fn new_seat<T>(table: &SharedValue<T>) -> ValueSeat<T>
+    requires table { HasLockWords table.now.table_id }
     ensures seat { IsSeatOf table.now.table_id table.now.key result }
     ensures idle { IsIdle (view_of result) }
 {
