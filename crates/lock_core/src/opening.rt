@@ -1,13 +1,14 @@
 //! A lock is opened, and callers come.
-ghost use Rattle.std.specs.Prelude.{◌≡◌, ◌≢◌, ◌<◌, ◌≤◌, IfOk, IfErr};
-ghost use Rattle.lock_core.specs.Layout.{HasLockWords, IsLockTable};
+ghost use Rattle.std.specs.Prelude.{◌≡◌, ◌≢◌, ◌<◌, ◌≤◌, IfOk, IfErr, length};
+ghost use Rattle.lock_core.specs.Layout.{HasLockWords, IsLockTable, IsValueTable};
 ghost use Rattle.lock_core.specs.Views.{view_of, IsSeatOf, IsIdle};
 ghost use Rattle.lock_core.specs.Answers.{max_burst_of, IsOpenErrorOf};
 ghost use Rattle.lock_core.specs.declared.opening.LockKind.TheVariants.{Bursts};
 
 use crate::layout::UNWRITTEN;
 use crate::plays::Come;
-use crate::rule::{SharedValue, TicketTable, ValueSeat};
+use crate::rule::{SharedValue, TicketTable, ValueSeat, ValueTable};
+use atomic_table::Refused;
 use std::alloc::Global;
 use thiserror::Error;
 
@@ -86,6 +87,42 @@ pub fn open(alloc: Global, kind: LockKind) -> Result<TicketTable, OpenError>
     match TicketTable::of_words(alloc, &FIRST_WORDS, &kind.max_burst()) {
         Ok((table, _)) => Ok(table),
         Err(_) => Err(OpenError::Memory),
+    }
+}
+
+/// Why a lock was not opened, with the values.
+#[derive(Drop)]
+pub struct OpenValueError<T> {
+    pub error: OpenError,
+    pub values: Vec<T>,
+}
+
+/// Opens a lock with the one value in `values`: two blocks for the words and the value. Refused by name: bursts of fewer
+/// than two turns, and where memory is short. The value comes back then, and nothing is kept.
+pub fn open_value<T>(
+    alloc: Global,
+    kind: LockKind,
+    values: Vec<T>,
+) -> Result<ValueTable<T>, OpenValueError<T>>
+    requires one { length values.items ≡ 1 }
+    ensures table { IfOk result (λ lock. IsValueTable lock.shared.table_id) }
+    ensures kind { IfOk result (λ lock. lock.shared.key ≡ max_burst_of kind) }
+    ensures long { IfOk result (λ lock. (kind ≢ Bursts 0) × (kind ≢ Bursts 1)) }
+    ensures err { IfErr result (λ e. IsOpenErrorOf kind e.error) }
+    ensures values { IfErr result (λ e. e.values.items ≡ values.items) }
+{
+    if let LockKind::Bursts(turns) = kind {
+        if turns < 2 {
+            let error = OpenError::ShortBurst(turns);
+            return Err(OpenValueError { error, values });
+        }
+    }
+    match ValueTable::new(alloc, &FIRST_WORDS, values, &kind.max_burst()) {
+        Ok((table, _)) => Ok(table),
+        Err(Refused { slots }) => Err(OpenValueError {
+            error: OpenError::Memory,
+            values: slots,
+        }),
     }
 }
 
