@@ -1,7 +1,7 @@
 //! A lock of a value: how it is made, and taken apart.
-ghost use Rattle.std.specs.Prelude.{◌≡◌, ◌≢◌, ◌≤◌, IfOk, IfErr};
+ghost use Rattle.std.specs.Prelude.{◌≡◌, ◌≤◌, IfOk, IfErr};
 ghost use Rattle.lock_core.specs.Layout.{IsValueTable};
-ghost use Rattle.lock_core.specs.Answers.{max_burst_of, IsOpenErrorOf};
+ghost use Rattle.lock_core.specs.Answers.{max_burst_of, HasLongBursts, IsOpenErrorOf};
 
 use crate::wake::WakeWords;
 use lock_core::{LockKind, OpenError, OpenValueError, ValueTable, open_value};
@@ -52,7 +52,7 @@ impl<T> FairLock<T> {
 
     fn of_kind(alloc: Global, kind: LockKind, value: T) -> Result<FairLock<T>, NewError<T>>
         ensures burst { IfOk result (λ lock. lock.burst ≡ max_burst_of kind) }
-        ensures long { IfOk result (λ lock. (kind ≢ LockKind.Bursts 0) × (kind ≢ LockKind.Bursts 1)) }
+        ensures long { IfOk result (λ _. HasLongBursts kind) }
         ensures err { IfErr result (λ e. (e.value ≡ value) × IsOpenErrorOf kind e.error) }
     {
         let Ok(wakes) = WakeWords::new(alloc) else {

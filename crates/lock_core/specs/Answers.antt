@@ -1,5 +1,5 @@
 -- What the answers of calls say, by their cases.
-use Rattle.std.specs.Prelude.{◌≡◌, ℕ, Bool, ◌<◌}
+use Rattle.std.specs.Prelude.{◌≡◌, ℕ, Bool, ◌<◌, ◌≤◌}
 use Rattle.lock_core.specs.declared.opening.LockKind.{LockKind}
 use Rattle.lock_core.specs.declared.opening.LockKind.TheVariants as kind
 use Rattle.lock_core.specs.declared.opening.OpenError.{OpenError}
@@ -23,6 +23,11 @@ use Rattle.lock_core.specs.declared.outer.HeadSleepResult.TheVariants as head
 abbrev pub max_burst_of : LockKind → ℕ
 max_burst_of kind.Strict = 1
 max_burst_of (kind.Bursts turns) = turns
+
+-- a burst has at least two turns
+abbrev pub HasLongBursts : LockKind → Type 0
+HasLongBursts kind.Strict = Unit {0}
+HasLongBursts (kind.Bursts turns) = 2 ≤ turns
 
 -- the error fits the kind that was asked for
 abbrev pub IsOpenErrorOf : LockKind → OpenError → Type 0

@@ -4,7 +4,7 @@ use Rattle.atomic_table.specs.Table.{Step}
 use Rattle.atomic_table.specs.declared.shared.Seat.{Seat}
 use Rattle.lock_core.specs.declared.view.View.{View}
 use Rattle.lock_core.specs.declared.view.Looks.{Looks}
-use Rattle.lock_core.specs.Layout.{cell_at, tail_at, outer_at, to_go, state_of, shut_of, handoff_of, came_of}
+use Rattle.lock_core.specs.Layout.{cell_at, tail_at, outer_at, to_go, state_of, shut_of, asleep_of, handoff_of, came_of}
 use Rattle.lock_core.specs.Views.{Timely, view_of}
 
 -- after a step that found `found` in its word, and left `left` there
@@ -62,6 +62,10 @@ FoundNoEntry expected old new = (LooksNoMore old new × IsNoEntry expected) ⊎ 
 -- the outer word is no entry, or has changed
 abbrev pub FoundNotFree : {T : Type 0} → Seat T View → Seat T View → Type 0
 FoundNotFree old new = (StepsLater 1 old new × Found outer_at IsNoEntry new) ⊎ (StepsLater 2 old new × FoundChanged outer_at new)
+
+-- the outer word as the queue head takes it: held, with no newcomer since and nothing requested
+abbrev pub IsHeldAnew : ℕ → Type 0
+IsHeldAnew outer = (state_of outer ≡ 1) × (came_of outer ≡ 0) × (handoff_of outer ≡ 0) × (asleep_of outer ≡ 0)
 
 -- the outer word as it is left: reserved where a handoff is requested and after the last turn of a burst, else free
 abbrev pub IsLeftAs : ℕ → ℕ → ℕ → Type 0

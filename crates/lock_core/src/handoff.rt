@@ -1,8 +1,8 @@
 //! The one at its turn grants the next ticket, and passes withdrawn requests.
 ghost use Rattle.std.specs.Prelude.{◌≡◌, ◌+◌, ◌%◌, ◌^◌, ◌≤◌, true, false};
-ghost use Rattle.lock_core.specs.Layout.{HasLockWords};
+ghost use Rattle.lock_core.specs.Layout.{HasLockWords, cell_at, count_of};
 ghost use Rattle.lock_core.specs.Views.{view_of, InTime, InTimeFrom, LoadGrows, IsSeatOf, IsIdle, IsAtTurn, IsPassing, HasTurnOf, HasGrantedNext, GrantedAfter, GrantedToNobodyAsleep, SameTurn};
-ghost use Rattle.lock_core.specs.Looks.{StepsLater, StepsAtMost};
+ghost use Rattle.lock_core.specs.Looks.{StepsLater, StepsAtMost, Found};
 ghost use Rattle.lock_core.specs.Answers.{IfGranted, IfUnfinished};
 
 use crate::layout::{MAX_PASSED, ROUND, bit, cell_word, is_withdrawn, sleepers};
@@ -33,6 +33,7 @@ fn grant<T>(table: &SharedValue<T>, seat: &mut ValueSeat<T>, ticket: u64) -> (bo
     ensures granted { result.0 ≡ false → InTime seat.new (GrantedAfter ticket) }
     ensures nobody { result.0 ≡ false → result.1 ≡ 0 → InTime seat.new GrantedToNobodyAsleep }
     ensures passes { result.0 ≡ true → InTime seat.new (IsPassing ((ticket + 1) % 2 ^ 64)) }
+    ensures sleepers { Found (cell_at (ticket + 1)) (λ n. count_of n ≡ result.1) seat.new }
 {
     let next = ticket.wrapping_add(1);
     let cell = table.fetch_add::<Grant>(seat, cell_word(next), ROUND);
@@ -74,6 +75,8 @@ pub fn release<T>(
     ensures granted { IfGranted result (λ _. InTime seat.new (GrantedAfter ticket.new)) }
     ensures nobody { IfGranted result (λ sleepers. sleepers ≡ 0
         → InTime seat.new GrantedToNobodyAsleep) }
+    ensures sleepers { IfGranted result (λ sleepers.
+        Found (cell_at (ticket.new + 1)) (λ n. count_of n ≡ sleepers) seat.new) }
     ensures has { IfUnfinished result (InTime seat.new (HasTurnOf ticket.new)) }
     ensures passed { IfUnfinished result (StepsLater 128 seat.old seat.new
         × (ticket.new ≡ (ticket.old + 64) % 2 ^ 64)) }

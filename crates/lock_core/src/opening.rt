@@ -1,9 +1,8 @@
 //! A lock is opened, and callers come.
-ghost use Rattle.std.specs.Prelude.{◌≡◌, ◌≢◌, ◌<◌, ◌≤◌, IfOk, IfErr, length};
+ghost use Rattle.std.specs.Prelude.{◌≡◌, ◌≤◌, IfOk, IfErr, length};
 ghost use Rattle.lock_core.specs.Layout.{HasLockWords, IsLockTable, IsValueTable};
 ghost use Rattle.lock_core.specs.Views.{view_of, IsSeatOf, IsIdle};
-ghost use Rattle.lock_core.specs.Answers.{max_burst_of, IsOpenErrorOf};
-ghost use Rattle.lock_core.specs.declared.opening.LockKind.TheVariants.{Bursts};
+ghost use Rattle.lock_core.specs.Answers.{max_burst_of, HasLongBursts, IsOpenErrorOf};
 
 use crate::layout::UNWRITTEN;
 use crate::plays::Come;
@@ -76,7 +75,7 @@ const FIRST_WORDS: [u64; 21] = [
 pub fn open(alloc: Global, kind: LockKind) -> Result<TicketTable, OpenError>
     ensures table { IfOk result (λ lock. IsLockTable lock.shared.table_id) }
     ensures kind { IfOk result (λ lock. lock.shared.key ≡ max_burst_of kind) }
-    ensures long { IfOk result (λ lock. (kind ≢ Bursts 0) × (kind ≢ Bursts 1)) }
+    ensures long { IfOk result (λ _. HasLongBursts kind) }
     ensures err { IfErr result (IsOpenErrorOf kind) }
 {
     if let LockKind::Bursts(turns) = kind {
@@ -107,7 +106,7 @@ pub fn open_value<T>(
     requires one { length values.items ≡ 1 }
     ensures table { IfOk result (λ lock. IsValueTable lock.shared.table_id) }
     ensures kind { IfOk result (λ lock. lock.shared.key ≡ max_burst_of kind) }
-    ensures long { IfOk result (λ lock. (kind ≢ Bursts 0) × (kind ≢ Bursts 1)) }
+    ensures long { IfOk result (λ _. HasLongBursts kind) }
     ensures err { IfErr result (λ e. IsOpenErrorOf kind e.error) }
     ensures values { IfErr result (λ e. e.values.items ≡ values.items) }
 {

@@ -2,7 +2,7 @@
 ghost use Rattle.std.specs.Prelude.{◌≡◌, ◌≢◌, ◌+◌, ◌/◌, ◌<◌, ◌≤◌, ◌⊎◌, true, false};
 ghost use Rattle.lock_core.specs.Layout.{HasLockWords, outer_at, state_of, handoff_of, asleep_of};
 ghost use Rattle.lock_core.specs.Views.{view_of, InTime, InTimeFrom, LoadGrows, IsSeatOf, IsIdle, IsAtTurn, IsOvertakenInBounds, IsInside, IsOutside, IsHeadInside, IsNewcomersTurn, GoesInAfter, TakesOuter, LeftQuietly, SleepsAtOuter, ServedOpen, ServedShut, KnowsShut, Kept, SameRequest, SameNewcomerTurn, SameKnown, SameSleepAtOuter, IsLaterEpoch, LeavesSameTake, SleepsInTake, SameDoor, OnlyLooks};
-ghost use Rattle.lock_core.specs.Looks.{StepsLater, LooksOnce, Found, FoundChanged, FoundNoEntry, FoundNotFree, Leaves, LeavesAsFound, IsLeftAs};
+ghost use Rattle.lock_core.specs.Looks.{StepsLater, LooksOnce, Found, FoundChanged, FoundNoEntry, FoundNotFree, Leaves, LeavesAsFound, IsHeldAnew, IsLeftAs};
 ghost use Rattle.lock_core.specs.Answers.{IfTakenOpen, IfTakenShut, IfTaken, IfNotTaken, IfHeld, IfTakeChanged, IfLeft, IfNotLeft, IfHeadAsleep, IfNotHeld, IfHeadChanged};
 
 use crate::layout::{HANDOFF, HEAD_ASLEEP, HELD, NEWCOMER, OUTER, RESERVED, SHUT, is_shut, state};
@@ -105,6 +105,7 @@ pub fn take_outer<T>(table: &SharedValue<T>, seat: &mut ValueSeat<T>, ticket: u6
     ensures order { IfTaken result (InTimeFrom seat.old seat.new TakesOuter) }
     ensures epoch { IfTaken result (InTimeFrom seat.old seat.new IsLaterEpoch) }
     ensures steps { IfTaken result (StepsLater 2 seat.old seat.new) }
+    ensures held_anew { IfTaken result (Leaves outer_at IsHeldAnew seat.new) }
     ensures open { IfTakenOpen result (InTime seat.new ServedOpen) }
     ensures shut { IfTakenShut result (InTime seat.new ServedShut) }
     ensures knows { IfTakenShut result (InTime seat.new KnowsShut) }
@@ -200,6 +201,7 @@ pub fn leave_if<T>(
     ensures take { LeavesSameTake seat.old seat.new }
     ensures outside { IfLeft result (λ _. InTime seat.new IsOutside) }
     ensures quiet { IfLeft result (λ asleep. asleep ≡ false → InTime seat.new LeftQuietly) }
+    ensures asleep { IfLeft result (λ asleep. asleep ≡ true → asleep_of expected ≡ 1) }
     ensures left { IfLeft result (λ _. Leaves outer_at (IsLeftAs burst expected) seat.new) }
     ensures found { IfLeft result (λ _. Found outer_at (λ n. n ≡ expected) seat.new) }
     ensures inside { IfNotLeft result (InTime seat.new IsInside) }
@@ -236,6 +238,8 @@ pub fn leave<T>(table: &SharedValue<T>, seat: &mut ValueSeat<T>, burst: u64) -> 
     ensures take { LeavesSameTake seat.old seat.new }
     ensures outside { IfLeft result (λ _. InTime seat.new IsOutside) }
     ensures quiet { IfLeft result (λ asleep. asleep ≡ false → InTime seat.new LeftQuietly) }
+    ensures asleep { IfLeft result (λ asleep. asleep ≡ true
+        → Found outer_at (λ n. asleep_of n ≡ 1) seat.new) }
     ensures left { IfLeft result (λ _. LeavesAsFound burst seat.new) }
     ensures inside { IfNotLeft result (InTime seat.new IsInside) }
     ensures door { IfNotLeft result (InTimeFrom seat.old seat.new SameDoor) }

@@ -1,0 +1,7 @@
+//! The tests.
+
+mod answers;
+mod memory;
+mod opening;
+mod outer;
+mod threads;
