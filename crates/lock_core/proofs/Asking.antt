@@ -1,5 +1,5 @@
 -- A caller takes a ticket, or tries for one that is at its turn.
-use Rattle.std.proofs.Common.{◌≡◌, ◌/◌, ◌≢◌, ℕ, ◌+◌, ◌*◌, ◌%◌, ◌<◌, ◌≤◌, max, set, slice_index, sym, refl, ap, ◌∙◌, subst, arith, length-set, get_or-set_same, get_or-set_other, eqb, eq-eqb, ne_eqb, ◌-◌, ⊎_elim}
+use Rattle.std.proofs.Common.{◌≡◌, ◌/◌, ◌≢◌, ℕ, ◌+◌, ◌*◌, ◌%◌, ◌<◌, ◌≤◌, max, length, set, slice_index, sym, refl, ap, ◌∙◌, subst, arith, length-set, get_or-set_same, get_or-set_other, eqb, eq-eqb, ne_eqb, ◌-◌, ⊎_elim}
 use mathlib.Core.Logic.{dite}
 use mathlib.Core.Option.{none, some}
 use native.Mathlib.Decide.{ℕ_discrete, dec_le}
@@ -19,9 +19,9 @@ module _ {fl : ℕ} (s : State ℕ View) (r : Tickets fl s) (id : ℕ) (v : View
   abbrev stamp : ℕ → ℕ
   stamp = put r.g.asked_open r.asked (1 - shut_of r.g.outer)
 
-  ticket_taken : x ≡ (slice_index s.words 16 + 1) % 18446744073709551616 → r.most_open ≤ most → w.most_open ≡ most → w.newcomers_seen ≤ r.g.newcomers → (most ≤ limit → r.asked + 1 ≤ r.g.turn + most) → (most ≤ limit → IsIdle v) → w.counted ≡ 0
+  ticket_taken : (length s.homes ≡ 1 → (most ≤ limit) × (r.asked + 1 ≤ 9223372036854775808)) → x ≡ (slice_index s.words 16 + 1) % 18446744073709551616 → r.most_open ≤ most → w.most_open ≡ most → w.newcomers_seen ≤ r.g.newcomers → (most ≤ limit → r.asked + 1 ≤ r.g.turn + most) → (most ≤ limit → IsIdle v) → w.counted ≡ 0
       → (most ≤ limit → Fits fl (r.asked + 1) (put r.owner r.asked id) r.who (record r.g { asked_open = stamp }) id w) → Tickets fl record { words = set s.words 16 x; homes = s.homes; views = set s.views id w }
-  ticket_taken x_is more is_most begun few idle none_counted fit = record {
+  ticket_taken safe x_is more is_most begun few idle none_counted fit = record {
     asked = r.asked + 1;
     most_open = most;
     owner = put r.owner r.asked id;
@@ -30,6 +30,7 @@ module _ {fl : ℕ} (s : State ℕ View) (r : Tickets fl s) (id : ℕ) (v : View
     tail = get_or-set_same s.words 16 x 0 (let k = r.wide in omega arith) ∙ (let k = r.tail in omega arith);
     outer = get_or-set_other s.words 16 0 x 0 (λ e. omega arith) ∙ r.outer;
     wide = length-set s.words 16 x ∙ r.wide;
+    guard = safe;
     seen = each_after (λ j b. b.most_open ≤ most) s.views id w (omega arith) (λ j b ne there. let k = r.seen j b there in omega arith);
     heard = each_after (λ j b. b.newcomers_seen ≤ r.g.newcomers) s.views id w begun (λ j b ne there. r.heard j b there);
     granted = λ le.
@@ -62,12 +63,12 @@ module _ {fl : ℕ} (s : State ℕ View) (r : Tickets fl s) (id : ℕ) (v : View
         };
   }
 
-pub ask_allowed : {fl : ℕ} (id slots : ℕ) (me : Me ℕ View) → (Timely me.0 → IsIdle me.0) → Allows (Tickets fl) slots id me 16 (λ n. (n + 1) % 18446744073709551616) (draws (step slots 16 1 0 none) me)
-ask_allowed {fl} id slots me fresh s r sized at low = (
+pub ask_allowed : {fl : ℕ} (id slots : ℕ) (me : Me ℕ View) → slots ≡ 0 → (Timely me.0 → IsIdle me.0) → Allows (Tickets fl) slots id me 16 (λ n. (n + 1) % 18446744073709551616) (draws (step slots 16 1 0 none) me)
+ask_allowed {fl} id slots me no_slot fresh s r sized at low = (
   w,
   keeps,
   tt,
-  ticket_taken s r id v at x new_load w refl more.0 refl (omega arith) (λ le. let m = more.0 in let f = more.1 in let k = (r.granted (omega arith)).few in omega arith) idle refl (λ le.
+  ticket_taken s r id v at x new_load w (λ one. absurd (omega arith)) refl more.0 refl (omega arith) (λ le. let m = more.0 in let f = more.1 in let k = (r.granted (omega arith)).few in omega arith) idle refl (λ le.
       let m = more.0 in
       let o = r.granted (omega arith) in
       let f = o.each id v at in record {
@@ -210,8 +211,8 @@ read_cell_allowed {fl} id slots i ticket me is has s r sized at low = dite (ℕ_
       (((refl, refl, known s r id v at, (omega arith)), ((refl, refl, refl), refl, (refl, refl), (refl, refl), (refl, refl), (λ _. refl))), (λ timely. ((refl, refl), refl, tells, tells_not, refl, reach timely, refl))),
     )
 
-pub try_ask_allowed : {fl : ℕ} (id slots old new : ℕ) (me : Me ℕ View) → new ≡ (old + 1) % 18446744073709551616 → (Timely me.0 → IsIdle me.0 × (old ≡ me.0.tail_seen % 18446744073709551616) × (me.0.next_is_at_turn ≡ 1)) → Allows (Tickets fl) slots id me 16 (λ n. either (eqb n old) new n) (draws_granted (step slots 16 old new none) me)
-try_ask_allowed {fl} id slots old new me new_is has s r sized at low = dite (ℕ_discrete tail old) (λ is. dite (ℕ_discrete r.asked v.tail_seen) (wins is) (wraps is)) stays
+pub try_ask_allowed : {fl : ℕ} (id slots old new : ℕ) (me : Me ℕ View) → slots ≡ 0 → new ≡ (old + 1) % 18446744073709551616 → (Timely me.0 → IsIdle me.0 × (old ≡ me.0.tail_seen % 18446744073709551616) × (me.0.next_is_at_turn ≡ 1)) → Allows (Tickets fl) slots id me 16 (λ n. either (eqb n old) new n) (draws_granted (step slots 16 old new none) me)
+try_ask_allowed {fl} id slots old new me no_slot new_is has s r sized at low = dite (ℕ_discrete tail old) (λ is. dite (ℕ_discrete r.asked v.tail_seen) (wins is) (wraps is)) stays
   where
     v : View
     v = me.0
@@ -239,7 +240,7 @@ try_ask_allowed {fl} id slots old new me new_is has s r sized at low = dite (ℕ
           w,
           keeps,
           tt,
-          ticket_taken s r id v at x most w (x_is is) (omega arith) refl (omega arith) (λ le. let t = (fits s r id v at (omega arith)).tail_seen.next_is_at_turn (had (omega arith)).2 same_ in omega arith) (λ le. (had (omega arith)).0) refl (λ le.
+          ticket_taken s r id v at x most w (λ one. absurd (omega arith)) (x_is is) (omega arith) refl (omega arith) (λ le. let t = (fits s r id v at (omega arith)).tail_seen.next_is_at_turn (had (omega arith)).2 same_ in omega arith) (λ le. (had (omega arith)).0) refl (λ le.
               let o = r.granted (omega arith) in
               let f = o.each id v at in
               let t = f.tail_seen.next_is_at_turn (had (omega arith)).2 same_ in
@@ -265,7 +266,7 @@ try_ask_allowed {fl} id slots old new me new_is has s r sized at low = dite (ℕ
           w,
           keeps,
           tt,
-          ticket_taken s r id v at x most w (x_is is) (omega arith) refl (let k = heard s r id v at in omega arith) (λ le. absurd (omega arith)) (λ le. absurd (omega arith)) refl (λ le. absurd (omega arith)),
+          ticket_taken s r id v at x most w (λ one. absurd (omega arith)) (x_is is) (omega arith) refl (let k = heard s r id v at in omega arith) (λ le. absurd (omega arith)) (λ le. absurd (omega arith)) refl (λ le. absurd (omega arith)),
           (((refl, refl, (let k = known s r id v at in omega arith), (omega arith)), ((refl, refl, refl), refl, (refl, refl), (refl, refl), (refl, refl), (λ _. refl))), (λ timely. absurd (omega arith))),
         )
 
@@ -278,9 +279,13 @@ try_ask_allowed {fl} id slots old new me new_is has s r sized at low = dite (ℕ
       (((refl, refl, known s r id v at, (omega arith)), ((refl, refl, refl), refl, (refl, refl), (refl, refl), (refl, refl), (λ _. refl))), (λ timely. ((λ is. absurd (ne is)), (λ _. ((refl, refl), refl))))),
     )
 
+-- the ticket that it is to draw, and the requests that are open before it, are few
+abbrev pub IsFew : ℕ → View → Type 0
+IsFew old v = (old < 9223372036854775808) × (v.ticket / 4 + 1 ≤ v.rounds_seen + 134217728)
+
 -- the next ticket is taken if it is the one that was read; it waits, or is at its turn
-pub ask_near_allowed : {fl : ℕ} (id slots old new : ℕ) (me : Me ℕ View) → new ≡ (old + 1) % 18446744073709551616 → (Timely me.0 → IsIdle me.0 × (old ≡ me.0.tail_seen % 18446744073709551616) × (me.0.ticket ≡ me.0.tail_seen)) → Allows (Tickets fl) slots id me 16 (λ n. either (eqb n old) new n) (draws_near (step slots 16 old new none) me)
-ask_near_allowed {fl} id slots old new me new_is has s r sized at low = dite (ℕ_discrete tail old) (λ is. dite (ℕ_discrete r.asked v.tail_seen) (λ same_. dite (ℕ_discrete v.next_is_at_turn 1) (wins is same_) (queues is same_)) (wraps is)) stays
+pub ask_near_allowed : {fl : ℕ} (id slots old new : ℕ) (me : Me ℕ View) → (slots ≡ 1 → IsFew old me.0) → new ≡ (old + 1) % 18446744073709551616 → (Timely me.0 → IsIdle me.0 × (old ≡ me.0.tail_seen % 18446744073709551616) × (me.0.ticket ≡ me.0.tail_seen)) → Allows (Tickets fl) slots id me 16 (λ n. either (eqb n old) new n) (draws_near (step slots 16 old new none) me)
+ask_near_allowed {fl} id slots old new me few_ new_is has s r sized at low = dite (ℕ_discrete tail old) (λ is. dite (ℕ_discrete r.asked v.tail_seen) (λ same_. dite (ℕ_discrete v.next_is_at_turn 1) (wins is same_) (queues is same_)) (wraps is)) stays
   where
     v : View
     v = me.0
@@ -300,6 +305,29 @@ ask_near_allowed {fl} id slots old new me new_is has s r sized at low = dite (�
     lowest_ : r.asked ≡ v.tail_seen → (le : r.most_open ≤ limit) → v.rounds_seen ≤ rounds r.g.turn r.asked
     lowest_ same_ le = subst (λ z. v.rounds_seen ≤ rounds r.g.turn z) ((had le).2 ∙ sym same_) (fits s r id v at le).lowest
 
+    -- at a table with a slot the tail has not come round
+    old_is : length s.homes ≡ 1 → tail ≡ old → r.asked + 1 ≤ 9223372036854775808
+    old_is one is = let k = (r.guard one).1 in let f = (few_ (sym sized ∙ one)).0 in let t = r.tail in omega arith
+
+    never_wraps : length s.homes ≡ 1 → tail ≡ old → r.asked ≢ v.tail_seen → ⊥
+    never_wraps one is other =
+        let g = r.guard one in
+        let le : r.most_open ≤ limit = g.0 in
+        let k = g.1 in
+        let e = (had le).1 in
+        let p = (fits s r id v at le).tail_seen.probed in
+        let t = r.tail in
+        other (omega arith)
+
+    -- so few requests are open that one more is within the limit
+    few_open : length s.homes ≡ 1 → tail ≡ old → r.asked ≡ v.tail_seen → r.asked ≤ r.g.turn + 536870912
+    few_open one is same_ =
+        let le : r.most_open ≤ limit = (r.guard one).0 in
+        let low_ = lowest_ same_ le in
+        let n = (had le).2 in
+        let f = (few_ (sym sized ∙ one)).1 in
+        omega arith
+
     Goal : Type 0
     Goal = (w : View) × (a : Act ℕ) × Valid s.homes me.1 a × Tickets fl (stepped s 16 x id me.1 w a) × draws_near (step slots 16 old new none) me tail (w, carried_after me.1 a)
 
@@ -311,7 +339,7 @@ ask_near_allowed {fl} id slots old new me new_is has s r sized at low = dite (�
           w,
           keeps,
           tt,
-          ticket_taken s r id v at x most w (x_is is) (omega arith) refl (omega arith) (λ le. let t = (fits s r id v at (omega arith)).tail_seen.next_is_at_turn ripe same_ in omega arith) (λ le. (had (omega arith)).0) refl (λ le.
+          ticket_taken s r id v at x most w (λ one. let k = r.guard one in ((let m = k.0 in omega arith), old_is one is)) (x_is is) (omega arith) refl (omega arith) (λ le. let t = (fits s r id v at (omega arith)).tail_seen.next_is_at_turn ripe same_ in omega arith) (λ le. (had (omega arith)).0) refl (λ le.
               let o = r.granted (omega arith) in
               let f = o.each id v at in
               let t = f.tail_seen.next_is_at_turn ripe same_ in
@@ -338,14 +366,14 @@ ask_near_allowed {fl} id slots old new me new_is has s r sized at low = dite (�
     -- it waits
     queues : tail ≡ old → r.asked ≡ v.tail_seen → v.next_is_at_turn ≢ 1 → Goal
     queues is same_ unripe =
-        let new_most : (m : ℕ) × ((r.most_open ≤ m) × (r.asked ≤ r.g.turn + r.most_open → r.asked + 1 ≤ r.g.turn + m)) = dite (dec_le (r.asked + 1) (r.g.turn + r.most_open)) (λ le. (r.most_open, (omega arith, λ _. le))) (λ gt. (r.most_open + 1, (omega arith, λ h. omega arith))) in
+        let new_most : (m : ℕ) × ((r.most_open ≤ m) × (r.asked ≤ r.g.turn + r.most_open → r.asked + 1 ≤ r.g.turn + m) × (r.most_open ≤ limit → r.asked ≤ r.g.turn + 536870912 → m ≤ limit)) = dite (dec_le (r.asked + 1) (r.g.turn + r.most_open)) (λ le. (r.most_open, (omega arith, (λ _. le), (λ timely few. timely)))) (λ gt. (r.most_open + 1, (omega arith, (λ h. omega arith), (λ timely few. omega arith)))) in
         let most : ℕ = new_most.0 in
-        let more : (r.most_open ≤ most) × (r.asked ≤ r.g.turn + r.most_open → r.asked + 1 ≤ r.g.turn + most) = new_most.1 in
+        let more : (r.most_open ≤ most) × (r.asked ≤ r.g.turn + r.most_open → r.asked + 1 ≤ r.g.turn + most) = (new_most.1.0, new_most.1.1) in
         let w : View = record v { most_open = most; ticket = r.asked; phase = Queued; counted = 0; newcomers_at_ask = r.g.newcomers; first_pending = r.g.turn + r.g.head_inside; newcomers_seen = r.g.newcomers; asked_open = 1 - shut_of r.g.outer; asked_in_epoch = r.g.epoch; nobody_behind = 0 } in (
           w,
           keeps,
           tt,
-          ticket_taken s r id v at x most w (x_is is) more.0 refl (omega arith) (λ le. let m = more.0 in let f = more.1 in let k = (r.granted (omega arith)).few in omega arith) (λ le. (had (let m = more.0 in omega arith)).0) refl (λ le.
+          ticket_taken s r id v at x most w (λ one. (new_most.1.2 (r.guard one).0 (few_open one is same_), old_is one is)) (x_is is) more.0 refl (omega arith) (λ le. let m = more.0 in let f = more.1 in let k = (r.granted (omega arith)).few in omega arith) (λ le. (had (let m = more.0 in omega arith)).0) refl (λ le.
               let m = more.0 in
               let o = r.granted (omega arith) in
               let f = o.each id v at in record {
@@ -384,7 +412,7 @@ ask_near_allowed {fl} id slots old new me new_is has s r sized at low = dite (�
           w,
           keeps,
           tt,
-          ticket_taken s r id v at x most w (x_is is) (omega arith) refl (let k = heard s r id v at in omega arith) (λ le. absurd (omega arith)) (λ le. absurd (omega arith)) refl (λ le. absurd (omega arith)),
+          ticket_taken s r id v at x most w (λ one. absurd (never_wraps one is other)) (x_is is) (omega arith) refl (let k = heard s r id v at in omega arith) (λ le. absurd (omega arith)) (λ le. absurd (omega arith)) refl (λ le. absurd (omega arith)),
           (((refl, refl, (let k = known s r id v at in omega arith), (omega arith)), ((refl, refl, refl), refl, (refl, refl), (refl, refl), (refl, refl), (λ _. refl))), (λ timely. absurd (omega arith))),
         )
 

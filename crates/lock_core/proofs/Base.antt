@@ -177,6 +177,7 @@ module _ {fl : ℕ} (s : State ℕ View) (r : Tickets fl s) (id : ℕ) (v : View
     tail = old 16 ∙ r.tail;
     outer = old 0 ∙ r.outer;
     wide = length-set s.words i x ∙ r.wide;
+    guard = r.guard;
     seen = each_after (λ j b. b.most_open ≤ r.most_open) s.views id w (omega arith) (λ j b ne there. r.seen j b there);
     heard = each_after (λ j b. b.newcomers_seen ≤ r.g.newcomers) s.views id w begun (λ j b ne there. r.heard j b there);
     granted = λ le.

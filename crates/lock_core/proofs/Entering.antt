@@ -28,6 +28,7 @@ come_enters {fl} slots s r sized low = (
     tail = r.tail;
     outer = r.outer;
     wide = r.wide;
+    guard = r.guard;
     seen = λ j b at. ⊎_elim (λ t. r.seen j b t) (λ t. subst (λ (x : View). x.most_open ≤ r.most_open) t (omega arith)) (at_snoc s.views (initial_view fl) b j at);
     heard = λ j b at. ⊎_elim (λ t. r.heard j b t) (λ t. subst (λ (x : View). x.newcomers_seen ≤ r.g.newcomers) t (omega arith)) (at_snoc s.views (initial_view fl) b j at);
     granted = λ le.

@@ -1,10 +1,9 @@
 -- The first words keep the rule.
 use Rattle.std.proofs.Common.{◌≡◌, ℕ, zero, suc, ◌+◌, ◌-◌, ◌/◌, ◌%◌, ◌<◌, ◌≤◌, List, [], ◌∷◌, slice_index, sym, refl, ◌∙◌, subst, arith, ⊎_elim}
 use Rattle.std.specs.Int.{bit_at}
-use mathlib.Core.Option.{some, some-ne-none}
+use mathlib.Core.Option.{Option, some, some-ne-none}
 use lib.ListN.{get_elem?}
 use Rattle.std.proofs.lemmas.Nat.Bits.{bit_at-zero}
-use Rattle.atomic_table.specs.Table.{opening}
 use Rattle.atomic_table.proofs.Lists.{at_snoc}
 use Rattle.lock_core.specs.declared.view.View.{View}
 use Rattle.lock_core.specs.Layout.{cell_at, bit_of, count_of}
@@ -33,8 +32,8 @@ first_ghost = record { turn = 0; head_inside = 0; heads = 0; since_head = 0; new
 none_first : (fl c : ℕ) → tally c ((initial_view fl) ∷ []) ≡ 0
 none_first fl c = let z = none_of c (initial_view fl) refl in omega arith
 
-pub first_state : (fl : ℕ) → fl < 1073741824 → Tickets fl (opening first_words [] (initial_view fl))
-first_state fl small = record {
+pub first_state : (fl : ℕ) (homes : List (Option ℕ)) → fl < 1073741824 → Tickets fl record { words = first_words; homes = homes; views = initial_view fl ∷ [] }
+first_state fl homes small = record {
   asked = 0;
   most_open = 0;
   owner = λ _. 0;
@@ -43,6 +42,7 @@ first_state fl small = record {
   tail = refl;
   outer = refl;
   wide = refl;
+  guard = λ _. (omega arith, omega arith);
   seen = λ j b at. only (λ j b. b.most_open ≤ 0) (λ j. omega arith) j b at;
   heard = λ j b at. only (λ j b. b.newcomers_seen ≤ 0) (λ j. omega arith) j b at;
   granted = λ _. record {

@@ -10,3 +10,4 @@ mod NextGrant
 mod OuterWord
 mod Meeting
 mod Noting
+mod Slots

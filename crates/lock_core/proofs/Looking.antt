@@ -17,7 +17,7 @@ use Rattle.lock_core.proofs.Base.{each_after, cells_after, Recounted, recount, t
 use Rattle.lock_core.proofs.Tally.{share_here, tally_has}
 
 -- The seat's view and the count in its cell change, and nothing else.
-module _ {fl : ℕ} (s : State ℕ View) (r : Tickets fl s) (id : ℕ) (v : View) (at : get_elem? s.views id ≡ some v) (i x ticket most c d : ℕ) (is : i ≡ cell_at ticket) (more : r.most_open ≤ most) where
+module _ {fl : ℕ} (s : State ℕ View) (r : Tickets fl s) (id : ℕ) (v : View) (at : get_elem? s.views id ≡ some v) (i x ticket most c d : ℕ) (is : i ≡ cell_at ticket) (more : r.most_open ≡ most) where
   abbrev was : ℕ
   was = slice_index s.words i
 
@@ -38,6 +38,7 @@ module _ {fl : ℕ} (s : State ℕ View) (r : Tickets fl s) (id : ℕ) (v : View
     tail = get_or-set_other s.words i 16 x 0 (λ e. omega arith) ∙ r.tail;
     outer = get_or-set_other s.words i 0 x 0 (λ e. omega arith) ∙ r.outer;
     wide = length-set s.words i x ∙ r.wide;
+    guard = λ one. let k = r.guard one in ((let m = k.0 in omega arith), k.1);
     seen = each_after (λ j b. b.most_open ≤ most) s.views id w (omega arith) (λ j b ne there. let k = r.seen j b there in omega arith);
     heard = each_after (λ j b. b.newcomers_seen ≤ r.g.newcomers) s.views id w begun (λ j b ne there. r.heard j b there);
     granted = λ le.
@@ -64,7 +65,7 @@ module _ {fl : ℕ} (s : State ℕ View) (r : Tickets fl s) (id : ℕ) (v : View
   }
 
 -- A waiter looks, and its count becomes d.
-module _ {fl : ℕ} (s : State ℕ View) (r : Tickets fl s) (id slots i x ticket most c d : ℕ) (p : Phase) (me : Me ℕ View) (same_newcomers : me.0.max_newcomers ≡ fl) (at : get_elem? s.views id ≡ some me.0) (is : i ≡ cell_at ticket) (more : r.most_open ≤ most) where
+module _ {fl : ℕ} (s : State ℕ View) (r : Tickets fl s) (id slots i x ticket most c d : ℕ) (p : Phase) (me : Me ℕ View) (same_newcomers : me.0.max_newcomers ≡ fl) (at : get_elem? s.views id ≡ some me.0) (is : i ≡ cell_at ticket) (more : r.most_open ≡ most) where
   abbrev v : View
   v = me.0
 

@@ -62,6 +62,7 @@ module _ {fl : ℕ} (s : State ℕ View) (r : Tickets fl s) (id : ℕ) (v : View
     tail = get_or-set_other s.words i 16 new 0 (λ e. omega arith) ∙ r.tail;
     outer = get_or-set_other s.words i 0 new 0 (λ e. omega arith) ∙ r.outer;
     wide = length-set s.words i new ∙ r.wide;
+    guard = r.guard;
     seen = each_after (λ j b. b.most_open ≤ r.most_open) s.views id w (omega arith) (λ j b ne there. r.seen j b there);
     heard = each_after (λ j b. b.newcomers_seen ≤ r.g.newcomers) s.views id w begun (λ j b ne there. r.heard j b there);
     granted = λ le.

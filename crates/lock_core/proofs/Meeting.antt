@@ -27,6 +27,7 @@ meet_joins {fl} id other v w never s r at apart at_other =
       tail = r.tail;
       outer = r.outer;
       wide = r.wide;
+      guard = r.guard;
       seen = each_after (λ j b. b.most_open ≤ r.most_open) (set s.views id (meet v w)) other (initial_view 0) (omega arith) (λ j b ne old. each_after (λ j b. b.most_open ≤ r.most_open) s.views id (meet v w) (r.seen id v at) (λ k c ne' old'. r.seen k c old') j b old);
       heard = each_after (λ j b. b.newcomers_seen ≤ r.g.newcomers) (set s.views id (meet v w)) other (initial_view 0) (omega arith) (λ j b ne old. each_after (λ j b. b.newcomers_seen ≤ r.g.newcomers) s.views id (meet v w) (omega arith) (λ k c ne' old'. r.heard k c old') j b old);
       granted = λ le. absurd (never s r le at there apart);
@@ -41,7 +42,7 @@ meet_tells id slots me met zero_ s r sized at low =
       keeps,
       tt,
       unchanged s r id v at 0 (slice_index s.words 0) (omega arith) refl w refl (omega arith) (λ le. zero_) (λ _. refl) (λ le. absurd (no le)),
-      no,
+      (refl, no),
     )
 
 two_heads : {fl : ℕ} (s : State ℕ View) (r : Tickets fl s) (id other : ℕ) (v w : View) → r.most_open ≤ limit → get_elem? s.views id ≡ some v → get_elem? s.views other ≡ some w → other ≢ id → HasTurn v → HasTurn w → ⊥
@@ -145,6 +146,7 @@ module _ {fl : ℕ} (s : State ℕ View) (r : Tickets fl s) (id : ℕ) (v : View
     tail = r.tail;
     outer = r.outer;
     wide = r.wide;
+    guard = r.guard;
     seen = each_after (λ j b. b.most_open ≤ r.most_open) s.views id w most (λ j b ne there. r.seen j b there);
     heard = each_after (λ j b. b.newcomers_seen ≤ r.g.newcomers) s.views id w begun (λ j b ne there. r.heard j b there);
     granted = λ le.
@@ -172,6 +174,7 @@ tell_splits {fl} id v s r at = subst (λ (l : List View). Tickets fl record { wo
   tail = r.tail;
   outer = r.outer;
   wide = r.wide;
+  guard = r.guard;
   seen = λ j b there. ⊎_elim (λ t. r.seen j b t) (λ t. subst (λ (x : View). x.most_open ≤ r.most_open) t (r.seen id v at)) (at_snoc s.views (told_of v) b j there);
   heard = λ j b there. ⊎_elim (λ t. r.heard j b t) (λ t. subst (λ (x : View). x.newcomers_seen ≤ r.g.newcomers) t (r.heard id v at)) (at_snoc s.views (told_of v) b j there);
   granted = λ le.

@@ -124,6 +124,7 @@ module _ {fl : ℕ} (s : State ℕ View) (r : Tickets fl s) (id slots i x ticket
         tail = get_or-set_other s.words i 16 x 0 (λ e. omega arith) ∙ r.tail;
         outer = get_or-set_other s.words i 0 x 0 (λ e. omega arith) ∙ r.outer;
         wide = length-set s.words i x ∙ r.wide;
+        guard = r.guard;
         seen = each_after (λ j b. b.most_open ≤ r.most_open) s.views id w (omega arith) (λ j b ne there. r.seen j b there);
         heard = each_after (λ j b. b.newcomers_seen ≤ r.g.newcomers) s.views id w begun (λ j b ne there. r.heard j b there);
         granted = λ le.

@@ -16,13 +16,13 @@ use Rattle.lock_core.specs.Invariant.{tally, Ghost, Place, Fits, Cell, Tickets}
 use Rattle.lock_core.specs.Steps.{noting, kept_word, added_word, subtracted_word, exchanged_word, reads_outer, draws, reads, reads_cell, draws_granted, draws_near, looks, announces_sleep, sets_withdrawn, grants, clears_withdrawn, goes_in, takes_outer, leaves, checks_open, shuts, reopens, announces_head_sleep, requests_handoff}
 use Rattle.lock_core.proofs.Base.{each_after}
 use Rattle.lock_core.proofs.Tally.{tally_set}
-use Rattle.lock_core.proofs.Asking.{ask_allowed, read_tail_allowed, read_cell_allowed, try_ask_allowed, ask_near_allowed}
+use Rattle.lock_core.proofs.Asking.{IsFew, ask_allowed, read_tail_allowed, read_cell_allowed, try_ask_allowed, ask_near_allowed}
 use Rattle.lock_core.proofs.Looking.{look_allowed, announce_sleep_allowed, retract_sleep_allowed}
 use Rattle.lock_core.proofs.Marks.{withdraw_allowed, clear_allowed}
 use Rattle.lock_core.proofs.NextGrant.{grant_allowed}
 use Rattle.lock_core.proofs.OuterWord.{request_handoff_allowed, go_in_allowed, take_outer_allowed, leave_allowed, shut_allowed, reopen_allowed, check_open_allowed, announce_head_sleep_allowed}
 
-set_there : {A : Type 0} (l : List A) (i : ℕ) (v w : A) → get_elem? l i ≡ some v → get_elem? (set l i w) i ≡ some w
+pub set_there : {A : Type 0} (l : List A) (i : ℕ) (v w : A) → get_elem? l i ≡ some v → get_elem? (set l i w) i ≡ some w
 set_there [] i v w at = absurd (some-ne-none v (sym at))
 set_there (x ∷ xs) zero v w at = refl
 set_there (x ∷ xs) (suc i) v w at = set_there xs i v w at
@@ -56,6 +56,7 @@ module _ {fl : ℕ} (s : State ℕ View) (r : Tickets fl s) (id : ℕ) (v : View
     tail = r.tail;
     outer = r.outer;
     wide = r.wide;
+    guard = r.guard;
     seen = each_after (λ j b. b.most_open ≤ r.most_open) s.views id noted_view (r.seen id v at) (λ j b ne there. r.seen j b there);
     heard = each_after (λ j b. b.newcomers_seen ≤ r.g.newcomers) s.views id noted_view (r.heard id v at) (λ j b ne there. r.heard j b there);
     granted = λ le.
@@ -116,8 +117,8 @@ read_outer_allowed {fl} id slots me = notes id 0 me (λ n. n) (step slots 0 0 0 
     same_word (x ∷ xs) = refl
 
 -- each step, noted
-pub ask_noted : {fl : ℕ} (id slots : ℕ) (me : Me ℕ View) → (Timely me.0 → IsIdle me.0) → Allows (Tickets fl) slots id me 16 (λ n. (n + 1) % 18446744073709551616) (noting added_word draws (step slots 16 1 0 none) me)
-ask_noted {fl} id slots me fresh = notes id 16 me (λ n. (n + 1) % 18446744073709551616) (step slots 16 1 0 none) added_word draws (λ n w c l told. told) (ask_allowed id slots me fresh)
+pub ask_noted : {fl : ℕ} (id slots : ℕ) (me : Me ℕ View) → slots ≡ 0 → (Timely me.0 → IsIdle me.0) → Allows (Tickets fl) slots id me 16 (λ n. (n + 1) % 18446744073709551616) (noting added_word draws (step slots 16 1 0 none) me)
+ask_noted {fl} id slots me no_slot fresh = notes id 16 me (λ n. (n + 1) % 18446744073709551616) (step slots 16 1 0 none) added_word draws (λ n w c l told. told) (ask_allowed id slots me no_slot fresh)
 
 pub read_tail_noted : {fl : ℕ} (id slots : ℕ) (me : Me ℕ View) → (Timely me.0 → me.0.counted ≡ 0) → Allows (Tickets fl) slots id me 16 (λ n. n) (noting kept_word reads (step slots 16 0 0 none) me)
 read_tail_noted {fl} id slots me none_counted = notes id 16 me (λ n. n) (step slots 16 0 0 none) kept_word reads (λ n w c l told. told) (read_tail_allowed id slots me none_counted)
@@ -125,11 +126,11 @@ read_tail_noted {fl} id slots me none_counted = notes id 16 me (λ n. n) (step s
 pub read_cell_noted : {fl : ℕ} (id slots i ticket : ℕ) (me : Me ℕ View) → i ≡ cell_at ticket → (Timely me.0 → IsIdle me.0 × (ticket ≡ me.0.tail_seen % 18446744073709551616)) → Allows (Tickets fl) slots id me i (λ n. n) (noting kept_word reads_cell (step slots i 0 0 none) me)
 read_cell_noted {fl} id slots i ticket me is has = notes id i me (λ n. n) (step slots i 0 0 none) kept_word reads_cell (λ n w c l told. told) (read_cell_allowed id slots i ticket me is has)
 
-pub try_ask_noted : {fl : ℕ} (id slots old new : ℕ) (me : Me ℕ View) → new ≡ (old + 1) % 18446744073709551616 → (Timely me.0 → IsIdle me.0 × (old ≡ me.0.tail_seen % 18446744073709551616) × (me.0.next_is_at_turn ≡ 1)) → Allows (Tickets fl) slots id me 16 (λ n. either (eqb n old) new n) (noting exchanged_word draws_granted (step slots 16 old new none) me)
-try_ask_noted {fl} id slots old new me new_is has = notes id 16 me (λ n. either (eqb n old) new n) (step slots 16 old new none) exchanged_word draws_granted (λ n w c l told. told) (try_ask_allowed id slots old new me new_is has)
+pub try_ask_noted : {fl : ℕ} (id slots old new : ℕ) (me : Me ℕ View) → slots ≡ 0 → new ≡ (old + 1) % 18446744073709551616 → (Timely me.0 → IsIdle me.0 × (old ≡ me.0.tail_seen % 18446744073709551616) × (me.0.next_is_at_turn ≡ 1)) → Allows (Tickets fl) slots id me 16 (λ n. either (eqb n old) new n) (noting exchanged_word draws_granted (step slots 16 old new none) me)
+try_ask_noted {fl} id slots old new me no_slot new_is has = notes id 16 me (λ n. either (eqb n old) new n) (step slots 16 old new none) exchanged_word draws_granted (λ n w c l told. told) (try_ask_allowed id slots old new me no_slot new_is has)
 
-pub ask_near_noted : {fl : ℕ} (id slots old new : ℕ) (me : Me ℕ View) → new ≡ (old + 1) % 18446744073709551616 → (Timely me.0 → IsIdle me.0 × (old ≡ me.0.tail_seen % 18446744073709551616) × (me.0.ticket ≡ me.0.tail_seen)) → Allows (Tickets fl) slots id me 16 (λ n. either (eqb n old) new n) (noting exchanged_word draws_near (step slots 16 old new none) me)
-ask_near_noted {fl} id slots old new me new_is has = notes id 16 me (λ n. either (eqb n old) new n) (step slots 16 old new none) exchanged_word draws_near (λ n w c l told. told) (ask_near_allowed id slots old new me new_is has)
+pub ask_near_noted : {fl : ℕ} (id slots old new : ℕ) (me : Me ℕ View) → (slots ≡ 1 → IsFew old me.0) → new ≡ (old + 1) % 18446744073709551616 → (Timely me.0 → IsIdle me.0 × (old ≡ me.0.tail_seen % 18446744073709551616) × (me.0.ticket ≡ me.0.tail_seen)) → Allows (Tickets fl) slots id me 16 (λ n. either (eqb n old) new n) (noting exchanged_word draws_near (step slots 16 old new none) me)
+ask_near_noted {fl} id slots old new me few_ new_is has = notes id 16 me (λ n. either (eqb n old) new n) (step slots 16 old new none) exchanged_word draws_near (λ n w c l told. told) (ask_near_allowed id slots old new me few_ new_is has)
 
 pub look_noted : {fl : ℕ} (id slots i ticket : ℕ) (me : Me ℕ View) → me.0.max_newcomers ≡ fl → i ≡ cell_at ticket → (Timely me.0 → IsQueued ticket me.0) → Allows (Tickets fl) slots id me i (λ n. n) (noting subtracted_word looks (step slots i 0 0 none) me)
 look_noted {fl} id slots i ticket me same_newcomers is waits = notes id i me (λ n. n) (step slots i 0 0 none) subtracted_word looks (λ n w c l told. told) (look_allowed id slots i ticket me same_newcomers is waits)

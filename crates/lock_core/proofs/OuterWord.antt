@@ -75,6 +75,7 @@ module _ {fl : ℕ} (s : State ℕ View) (r : Tickets fl s) (id : ℕ) (h : Ghos
     tail = get_or-set_other s.words 0 16 h.outer 0 (λ e. omega arith) ∙ r.tail;
     outer = get_or-set_same s.words 0 h.outer 0 (let l = r.wide in omega arith);
     wide = length-set s.words 0 h.outer ∙ r.wide;
+    guard = r.guard;
     seen = each_after (λ j b. b.most_open ≤ r.most_open) s.views id w most (λ j b ne there. r.seen j b there);
     heard = each_after (λ j b. b.newcomers_seen ≤ h.newcomers) s.views id w begun (λ j b ne there. let k = r.heard j b there in omega arith);
     granted = λ le.

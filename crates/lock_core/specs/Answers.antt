@@ -6,6 +6,8 @@ use Rattle.lock_core.specs.declared.opening.OpenError.{OpenError}
 use Rattle.lock_core.specs.declared.opening.OpenError.TheVariants as error
 use Rattle.lock_core.specs.declared.tickets.AskNearResult.{AskNearResult}
 use Rattle.lock_core.specs.declared.tickets.AskNearResult.TheVariants as near
+use Rattle.lock_core.specs.declared.guarded.AskWithinResult.{AskWithinResult}
+use Rattle.lock_core.specs.declared.guarded.AskWithinResult.TheVariants as within
 use Rattle.lock_core.specs.declared.wait.SleepResult.{SleepResult}
 use Rattle.lock_core.specs.declared.wait.SleepResult.TheVariants as sleep
 use Rattle.lock_core.specs.declared.handoff.ReleaseResult.{ReleaseResult}
@@ -68,6 +70,56 @@ IfNearChanged (near.AtTurn ticket) P = Unit {0}
 IfNearChanged (near.Queued ticket rounds) P = Unit {0}
 IfNearChanged (near.Far rounds) P = Unit {0}
 IfNearChanged near.Changed P = P
+
+-- `ask_within` drew a ticket, or none
+abbrev pub IfWithinDrawn : AskWithinResult → Type 0 → Type 0
+IfWithinDrawn (within.AtTurn ticket) P = P
+IfWithinDrawn (within.Queued ticket rounds) P = P
+IfWithinDrawn (within.Far rounds) P = Unit {0}
+IfWithinDrawn within.Changed P = Unit {0}
+IfWithinDrawn within.Spent P = Unit {0}
+
+abbrev pub IfWithinNotDrawn : AskWithinResult → Type 0 → Type 0
+IfWithinNotDrawn (within.AtTurn ticket) P = Unit {0}
+IfWithinNotDrawn (within.Queued ticket rounds) P = Unit {0}
+IfWithinNotDrawn (within.Far rounds) P = P
+IfWithinNotDrawn within.Changed P = P
+IfWithinNotDrawn within.Spent P = P
+
+abbrev pub IfWithinAtTurn : AskWithinResult → (ℕ → Type 0) → Type 0
+IfWithinAtTurn (within.AtTurn ticket) P = P ticket
+IfWithinAtTurn (within.Queued ticket rounds) P = Unit {0}
+IfWithinAtTurn (within.Far rounds) P = Unit {0}
+IfWithinAtTurn within.Changed P = Unit {0}
+IfWithinAtTurn within.Spent P = Unit {0}
+
+abbrev pub IfWithinQueued : AskWithinResult → (ℕ → ℕ → Type 0) → Type 0
+IfWithinQueued (within.AtTurn ticket) P = Unit {0}
+IfWithinQueued (within.Queued ticket rounds) P = P ticket rounds
+IfWithinQueued (within.Far rounds) P = Unit {0}
+IfWithinQueued within.Changed P = Unit {0}
+IfWithinQueued within.Spent P = Unit {0}
+
+abbrev pub IfWithinFar : AskWithinResult → (ℕ → Type 0) → Type 0
+IfWithinFar (within.AtTurn ticket) P = Unit {0}
+IfWithinFar (within.Queued ticket rounds) P = Unit {0}
+IfWithinFar (within.Far rounds) P = P rounds
+IfWithinFar within.Changed P = Unit {0}
+IfWithinFar within.Spent P = Unit {0}
+
+abbrev pub IfWithinChanged : AskWithinResult → Type 0 → Type 0
+IfWithinChanged (within.AtTurn ticket) P = Unit {0}
+IfWithinChanged (within.Queued ticket rounds) P = Unit {0}
+IfWithinChanged (within.Far rounds) P = Unit {0}
+IfWithinChanged within.Changed P = P
+IfWithinChanged within.Spent P = Unit {0}
+
+abbrev pub IfWithinSpent : AskWithinResult → Type 0 → Type 0
+IfWithinSpent (within.AtTurn ticket) P = Unit {0}
+IfWithinSpent (within.Queued ticket rounds) P = Unit {0}
+IfWithinSpent (within.Far rounds) P = Unit {0}
+IfWithinSpent within.Changed P = Unit {0}
+IfWithinSpent within.Spent P = P
 
 -- `announce_sleep` found the waiter at its turn, counted it, or neither
 abbrev pub IfSleepAtTurn : SleepResult → Type 0 → Type 0

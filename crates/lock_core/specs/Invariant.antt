@@ -165,7 +165,7 @@ pub record Granted (c asked most : ℕ) (owner who : ℕ → ℕ) (g : Ghost) (w
   pub each : (id : ℕ) (v : View) → get_elem? views id ≡ some v → Fits c asked owner who g id v
 
 -- The rule of a lock with at most c newcomers between two queue heads: the tickets drawn, the most requests open at a time, who has each ticket and
--- each newcomer's turn, and what the words and the views say.
+-- each newcomer's turn, and what the words and the views say. Where the table has a slot, no more requests are ever open than the limit.
 pub record Tickets (c : ℕ) (s : State ℕ View) : Type 0 where
   pub asked : ℕ
   pub most_open : ℕ
@@ -178,3 +178,4 @@ pub record Tickets (c : ℕ) (s : State ℕ View) : Type 0 where
   pub seen : (id : ℕ) (v : View) → get_elem? s.views id ≡ some v → v.most_open ≤ most_open
   pub heard : (id : ℕ) (v : View) → get_elem? s.views id ≡ some v → v.newcomers_seen ≤ g.newcomers
   pub granted : most_open ≤ limit → Granted c asked most_open owner who g s.words s.views
+  pub guard : length s.homes ≡ 1 → (most_open ≤ limit) × (asked ≤ 9223372036854775808)

@@ -2,9 +2,16 @@
 use Rattle.std.specs.Prelude.{◌≡◌, ℕ, ◌+◌, ◌-◌, ◌/◌, ◌%◌}
 use Rattle.atomic_table.specs.Seated.{TableId}
 
--- the table of a lock: the outer word, fifteen words that are never written, the tail, four cells
+-- the words of a lock's table: the outer word, fifteen words that are never written, the tail, four cells
+abbrev pub HasLockWords : TableId → Type 0
+HasLockWords table = table.words ≡ 21
+
+-- the table of a lock alone; of one with a value, in the table's slot
 abbrev pub IsLockTable : TableId → Type 0
-IsLockTable table = table.words ≡ 21
+IsLockTable table = HasLockWords table × (table.slots ≡ 0)
+
+abbrev pub IsValueTable : TableId → Type 0
+IsValueTable table = HasLockWords table × (table.slots ≡ 1)
 
 abbrev pub outer_at : ℕ
 outer_at = 0

@@ -2,6 +2,7 @@ pub mod Layout
 pub mod Views
 pub mod Looks
 pub mod Invariant
+pub mod Slots
 pub mod Steps
 pub mod Answers
 pub mod Meets

@@ -41,7 +41,7 @@ abbrev pub meet : View → View → View
 meet v w = record (initial_view 0) { most_open = v.most_open; phase = Impossible }
 
 abbrev pub tells_of_two : Step ℕ → Me ℕ View → ℕ → Me ℕ View → Type 0
-tells_of_two st m n m' = Timely m'.0 → ⊥
+tells_of_two st m n m' = (m'.1 ≡ m.1) × (Timely m'.0 → ⊥)
 
 -- what a caller tells another: the load, the ended requests, the turns and the closing that it knows of
 abbrev pub told_of : View → View

@@ -1,5 +1,6 @@
 -- What a caller knows, in the words of the clauses.
-use Rattle.std.specs.Prelude.{◌≡◌, ℕ, ◌+◌, ◌-◌, ◌*◌, ◌/◌, ◌%◌, ◌<◌, ◌≤◌, ◌⊎◌, []}
+use Rattle.std.specs.Prelude.{◌≡◌, ℕ, ◌+◌, ◌-◌, ◌*◌, ◌/◌, ◌%◌, ◌<◌, ◌≤◌, ◌≢◌, ◌⊎◌, [], ◌∷◌}
+use Rattle.atomic_table.specs.Table.{Me}
 use Rattle.atomic_table.specs.Seated.{TableId}
 use Rattle.atomic_table.specs.declared.shared.Seat.{Seat}
 use Rattle.lock_core.specs.declared.view.View.{View}
@@ -14,32 +15,46 @@ limit = 1073741823
 abbrev pub Timely : View → Type 0
 Timely v = v.most_open ≤ limit
 
-abbrev pub view_of : Seat ℕ View → View
+abbrev pub view_of : {T : Type 0} → Seat T View → View
 view_of seat = seat.me.0
 
 -- what holds of a caller at a lock that is timely
-abbrev pub InTime : Seat ℕ View → (View → Type 0) → Type 0
+abbrev pub InTime : {T : Type 0} → Seat T View → (View → Type 0) → Type 0
 InTime seat P = Timely (view_of seat) → P (view_of seat)
 
 -- it cannot be at a lock that is timely
-abbrev pub NeverInTime : Seat ℕ View → Type 0
+abbrev pub NeverInTime : {T : Type 0} → Seat T View → Type 0
 NeverInTime seat = Timely (view_of seat) → ⊥
 
 -- what holds of a caller before and after a call, at a lock that is timely yet
-abbrev pub InTimeFrom : Seat ℕ View → Seat ℕ View → (View → View → Type 0) → Type 0
+abbrev pub InTimeFrom : {T : Type 0} → Seat T View → Seat T View → (View → View → Type 0) → Type 0
 InTimeFrom old new R = Timely (view_of new) → R (view_of old) (view_of new)
 
 -- it has seen at least the load of before
-abbrev pub LoadGrows : Seat ℕ View → Seat ℕ View → Type 0
+abbrev pub LoadGrows : {T : Type 0} → Seat T View → Seat T View → Type 0
 LoadGrows old new = (view_of old).most_open ≤ (view_of new).most_open
 
 -- Of the most turns from one queue head's to the next all but the head's are newcomers'. In a strict lock there are none.
 abbrev pub max_newcomers_of : ℕ → ℕ
 max_newcomers_of burst = burst - 1
 
+-- The value in a table's slot, of a table that has one: a caller has it while it is served, told at the door that the lock is open or shut. No more
+-- requests are open at such a lock than the limit.
+abbrev pub Carries : {T : Type 0} → ℕ → Me T View → Type 0
+Carries {T} slots me = record {
+  nothing : slots ≡ 0 → me.1 ≡ [];
+  at_home : slots ≡ 1 → me.0.door ≡ 0 → me.1 ≡ [];
+  carries : slots ≡ 1 → me.0.door ≢ 0 → (y : T) × (me.1 ≡ (0, y) ∷ []);
+  timely : slots ≡ 1 → Timely me.0;
+}
+
+-- it has the same value as before
+abbrev pub KeepsValue : {T : Type 0} → Seat T View → Seat T View → Type 0
+KeepsValue old new = (view_of old).door ≢ 0 → (view_of new).door ≢ 0 → new.me.1 ≡ old.me.1
+
 -- a caller of this lock
-abbrev pub IsSeatOf : TableId → ℕ → Seat ℕ View → Type 0
-IsSeatOf table burst seat = (seat.table_id ≡ table) × (seat.me.1 ≡ []) × (seat.me.0.max_newcomers ≡ max_newcomers_of burst)
+abbrev pub IsSeatOf : {T : Type 0} → TableId → ℕ → Seat T View → Type 0
+IsSeatOf table burst seat = (seat.table_id ≡ table) × Carries table.slots seat.me × (seat.me.0.max_newcomers ≡ max_newcomers_of burst)
 
 -- a caller that knows nothing
 abbrev pub initial_view : ℕ → View
@@ -134,7 +149,7 @@ abbrev pub SameTake : View → View → Type 0
 SameTake v w = (w.last_take ≡ v.last_take) × (w.left_quietly ≡ v.left_quietly)
 
 -- the take that it leaves is its last one, and the last that it knew of
-abbrev pub LeavesSameTake : Seat ℕ View → Seat ℕ View → Type 0
+abbrev pub LeavesSameTake : {T : Type 0} → Seat T View → Seat T View → Type 0
 LeavesSameTake old new = ((view_of new).last_take ≡ (view_of old).last_take) × InTimeFrom old new (λ v w. v.takes_seen ≤ w.last_take)
 
 -- as it left it was told that no queue head sleeps at the outer word

@@ -1,13 +1,13 @@
 //! The one at its turn grants the next ticket, and passes withdrawn requests.
 ghost use Rattle.std.specs.Prelude.{◌≡◌, ◌+◌, ◌%◌, ◌^◌, ◌≤◌, true, false};
-ghost use Rattle.lock_core.specs.Layout.{IsLockTable, cell_at, count_of};
+ghost use Rattle.lock_core.specs.Layout.{HasLockWords, cell_at, count_of};
 ghost use Rattle.lock_core.specs.Views.{view_of, InTime, InTimeFrom, LoadGrows, IsSeatOf, IsIdle, IsAtTurn, IsPassing, HasTurnOf, HasGrantedNext, HasNextTicket, HasEnded, SameRequest, SameNewcomersSeen, GrantedAfter, GrantedToNobodyAsleep, SameTurn};
 ghost use Rattle.lock_core.specs.Looks.{StepsLater, StepsAtMost, Found};
 ghost use Rattle.lock_core.specs.Answers.{IfGranted, IfUnfinished};
 
 use crate::layout::{MAX_PASSED, ROUND, bit, cell_word, is_withdrawn, sleepers};
 use crate::plays::{ClearWithdrawn, Grant};
-use crate::rule::{SharedTable, TicketSeat};
+use crate::rule::{SharedValue, ValueSeat};
 
 /// What `release` did.
 #[derive(Clone, Copy, Debug, PartialEq, Eq)]
@@ -21,8 +21,8 @@ pub enum ReleaseResult {
 /// Ends the turn, and grants the next ticket. `true`: that request is withdrawn, so the caller has its turn, and is to
 /// clear its bit. The second answer is how many sleepers its cell counted.
 #[inline(always)]
-fn grant(table: &SharedTable, seat: &mut TicketSeat, ticket: u64) -> (bool, u64)
-    requires table { IsLockTable table.now.table_id }
+fn grant<T>(table: &SharedValue<T>, seat: &mut ValueSeat<T>, ticket: u64) -> (bool, u64)
+    requires table { HasLockWords table.now.table_id }
     requires seat { IsSeatOf table.now.table_id table.now.key seat.old }
     requires has { InTime seat.old (HasTurnOf ticket) }
     ensures seat { IsSeatOf table.now.table_id table.now.key seat.new }
@@ -43,8 +43,8 @@ fn grant(table: &SharedTable, seat: &mut TicketSeat, ticket: u64) -> (bool, u64)
 
 /// Clears the bit of a withdrawn request whose turn the caller has.
 #[inline(always)]
-pub(crate) fn clear_withdrawn(table: &SharedTable, seat: &mut TicketSeat, ticket: u64)
-    requires table { IsLockTable table.now.table_id }
+pub(crate) fn clear_withdrawn<T>(table: &SharedValue<T>, seat: &mut ValueSeat<T>, ticket: u64)
+    requires table { HasLockWords table.now.table_id }
     requires seat { IsSeatOf table.now.table_id table.now.key seat.old }
     requires passes { InTime seat.old (IsPassing ticket) }
     ensures seat { IsSeatOf table.now.table_id table.now.key seat.new }
@@ -62,8 +62,12 @@ pub(crate) fn clear_withdrawn(table: &SharedTable, seat: &mut TicketSeat, ticket
 /// steps for each that it passes, at most 64, and one for the grant. That is the last access to the lock's memory.
 /// Afterwards `ticket` is the last whose turn has ended, or, if unfinished, the one whose turn the caller has. A queue
 /// head that is inside stays inside.
-pub fn release(table: &SharedTable, seat: &mut TicketSeat, ticket: &mut u64) -> ReleaseResult
-    requires table { IsLockTable table.now.table_id }
+pub fn release<T>(
+    table: &SharedValue<T>,
+    seat: &mut ValueSeat<T>,
+    ticket: &mut u64,
+) -> ReleaseResult
+    requires table { HasLockWords table.now.table_id }
     requires seat { IsSeatOf table.now.table_id table.now.key seat.old }
     requires has { InTime seat.old (HasTurnOf ticket.old) }
     ensures seat { IsSeatOf table.now.table_id table.now.key seat.new }

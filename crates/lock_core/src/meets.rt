@@ -4,7 +4,7 @@
 //! cannot meet. None of these is to be called: a caller's proof may.
 ghost use Rattle.std.specs.Prelude.{◌≡◌, ◌<◌, ◌≤◌};
 ghost use Rattle.lock_core.specs.Layout.{IsLockTable};
-ghost use Rattle.lock_core.specs.Views.{view_of, InTime, NeverInTime, IsSeatOf, IsIdle, HasTurn, KnowsShut, LeftQuietly, ServedOpen, SleepsAtOuter};
+ghost use Rattle.lock_core.specs.Views.{view_of, InTime, NeverInTime, IsSeatOf, IsIdle, IsOutside, HasTurn, KnowsShut, LeftQuietly, ServedOpen, SleepsAtOuter};
 ghost use Rattle.lock_core.specs.Meets.{Served, IsWaiting, IsWaitingOpen, IsWaitingShut, IsStillAsleep, GrantedToNobodyAsleepAt, HadNewcomersTurn, HasHeard, told_of};
 
 use crate::plays::{Learn, Meet, Tell};
@@ -151,8 +151,8 @@ pub fn learn(table: &SharedTable, seat: &mut TicketSeat, other: TicketSeat)
     requires table { IsLockTable table.now.table_id }
     requires seat { IsSeatOf table.now.table_id table.now.key seat.old }
     requires other { IsSeatOf table.now.table_id table.now.key other }
-    requires idle { InTime seat.old IsIdle }
-    requires tells { InTime other IsIdle }
+    requires outside { InTime seat.old IsOutside }
+    requires tells { InTime other IsOutside }
     ensures seat { IsSeatOf table.now.table_id table.now.key seat.new }
     ensures idle { IsIdle (view_of seat.new) }
     ensures own { HasHeard (view_of seat.old) (view_of seat.new) }

@@ -1,12 +1,13 @@
 //! A lock is opened, and callers come.
-ghost use Rattle.std.specs.Prelude.{◌≡◌, ◌≤◌, IfOk, IfErr};
-ghost use Rattle.lock_core.specs.Layout.{IsLockTable};
+ghost use Rattle.std.specs.Prelude.{◌≡◌, ◌≤◌, IfOk, IfErr, length};
+ghost use Rattle.lock_core.specs.Layout.{HasLockWords, IsLockTable, IsValueTable};
 ghost use Rattle.lock_core.specs.Views.{view_of, IsSeatOf, IsIdle};
 ghost use Rattle.lock_core.specs.Answers.{max_burst_of, HasLongBursts, IsOpenErrorOf};
 
 use crate::layout::UNWRITTEN;
 use crate::plays::Come;
-use crate::rule::{SharedTable, TicketSeat, TicketTable};
+use crate::rule::{SharedValue, TicketTable, ValueSeat, ValueTable};
+use atomic_table::Refused;
 use std::alloc::Global;
 use thiserror::Error;
 
@@ -88,10 +89,46 @@ pub fn open(alloc: Global, kind: LockKind) -> Result<TicketTable, OpenError>
     }
 }
 
+/// Why a lock was not opened, with the values.
+#[derive(Drop)]
+pub struct OpenValueError<T> {
+    pub error: OpenError,
+    pub values: Vec<T>,
+}
+
+/// Opens a lock with the one value in `values`: two blocks for the words and the value. Refused by name: bursts of fewer
+/// than two turns, and where memory is short. The value comes back then, and nothing is kept.
+pub fn open_value<T>(
+    alloc: Global,
+    kind: LockKind,
+    values: Vec<T>,
+) -> Result<ValueTable<T>, OpenValueError<T>>
+    requires one { length values.items ≡ 1 }
+    ensures table { IfOk result (λ lock. IsValueTable lock.shared.table_id) }
+    ensures kind { IfOk result (λ lock. lock.shared.key ≡ max_burst_of kind) }
+    ensures long { IfOk result (λ _. HasLongBursts kind) }
+    ensures err { IfErr result (λ e. IsOpenErrorOf kind e.error) }
+    ensures values { IfErr result (λ e. e.values.items ≡ values.items) }
+{
+    if let LockKind::Bursts(turns) = kind {
+        if turns < 2 {
+            let error = OpenError::ShortBurst(turns);
+            return Err(OpenValueError { error, values });
+        }
+    }
+    match ValueTable::new(alloc, &FIRST_WORDS, values, &kind.max_burst()) {
+        Ok((table, _)) => Ok(table),
+        Err(Refused { slots }) => Err(OpenValueError {
+            error: OpenError::Memory,
+            values: slots,
+        }),
+    }
+}
+
 /// A seat for a new caller: one load, of a word that is never written.
 #[inline(always)]
-pub fn new_seat(table: &SharedTable) -> TicketSeat
-    requires table { IsLockTable table.now.table_id }
+pub fn new_seat<T>(table: &SharedValue<T>) -> ValueSeat<T>
+    requires table { HasLockWords table.now.table_id }
     ensures seat { IsSeatOf table.now.table_id table.now.key result }
     ensures idle { IsIdle (view_of result) }
 {

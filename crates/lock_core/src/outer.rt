@@ -1,13 +1,13 @@
 //! Bursts: newcomers and the queue head go in and out by the outer word.
 ghost use Rattle.std.specs.Prelude.{◌≡◌, ◌≢◌, ◌+◌, ◌/◌, ◌<◌, ◌≤◌, ◌⊎◌, true, false};
-ghost use Rattle.lock_core.specs.Layout.{IsLockTable, outer_at, state_of, handoff_of, asleep_of};
+ghost use Rattle.lock_core.specs.Layout.{HasLockWords, outer_at, state_of, handoff_of, asleep_of};
 ghost use Rattle.lock_core.specs.Views.{view_of, InTime, InTimeFrom, LoadGrows, IsSeatOf, IsIdle, IsAtTurn, IsOvertakenInBounds, IsInside, IsOutside, IsHeadInside, IsNewcomersTurn, GoesInAfter, TakesOuter, LeftQuietly, SleepsAtOuter, ServedOpen, ServedShut, KnowsShut, Kept, SameRequest, SameNewcomerTurn, SameKnown, SameSleepAtOuter, IsLaterEpoch, LeavesSameTake, SleepsInTake, SameDoor, OnlyLooks};
 ghost use Rattle.lock_core.specs.Looks.{StepsLater, LooksOnce, Found, Changes, IsHeldByNewcomer, IsLeftClean, IsRequested, IsNotedAsleep, FoundChanged, FoundNoEntry, FoundNotFree, Leaves, LeavesAsFound, IsHeldAnew, IsLeftAs};
 ghost use Rattle.lock_core.specs.Answers.{IfTakenOpen, IfTakenShut, IfTaken, IfNotTaken, IfHeld, IfTakeChanged, IfLeft, IfNotLeft, IfHeadAsleep, IfNotHeld, IfHeadChanged};
 
 use crate::layout::{HANDOFF, HEAD_ASLEEP, HELD, NEWCOMER, OUTER, RESERVED, SHUT, is_shut, state};
 use crate::plays::{AnnounceHeadSleep, GoIn, Leave, ReadOuter, RequestHandoff, TakeOuter};
-use crate::rule::{SharedTable, TicketSeat};
+use crate::rule::{SharedValue, ValueSeat};
 
 /// What `take_outer` did.
 #[derive(Clone, Copy, Debug, PartialEq, Eq)]
@@ -45,8 +45,8 @@ pub enum HeadSleepResult {
 /// A newcomer takes the outer word, if that is `expected` and free for newcomers, and the lock open: one word step, or
 /// none where `expected` says that it is not.
 #[inline(always)]
-pub fn go_in_if(table: &SharedTable, seat: &mut TicketSeat, expected: u64) -> bool
-    requires table { IsLockTable table.now.table_id }
+pub fn go_in_if<T>(table: &SharedValue<T>, seat: &mut ValueSeat<T>, expected: u64) -> bool
+    requires table { HasLockWords table.now.table_id }
     requires bursts { 2 ≤ table.now.key }
     requires seat { IsSeatOf table.now.table_id table.now.key seat.old }
     requires idle { InTime seat.old IsIdle }
@@ -71,8 +71,8 @@ pub fn go_in_if(table: &SharedTable, seat: &mut TicketSeat, expected: u64) -> bo
 
 /// A newcomer takes the outer word, if that is free for newcomers and the lock open: at most two word steps.
 #[inline(always)]
-pub fn go_in(table: &SharedTable, seat: &mut TicketSeat) -> bool
-    requires table { IsLockTable table.now.table_id }
+pub fn go_in<T>(table: &SharedValue<T>, seat: &mut ValueSeat<T>) -> bool
+    requires table { HasLockWords table.now.table_id }
     requires bursts { 2 ≤ table.now.key }
     requires seat { IsSeatOf table.now.table_id table.now.key seat.old }
     requires idle { InTime seat.old IsIdle }
@@ -94,8 +94,8 @@ pub fn go_in(table: &SharedTable, seat: &mut TicketSeat) -> bool
 /// The queue head takes the outer word, free or reserved, and the count of newcomers starts anew: at most two word
 /// steps. Inside, it passes its turn of the queue on by `release`.
 #[inline(always)]
-pub fn take_outer(table: &SharedTable, seat: &mut TicketSeat, ticket: u64) -> TakeResult
-    requires table { IsLockTable table.now.table_id }
+pub fn take_outer<T>(table: &SharedValue<T>, seat: &mut ValueSeat<T>, ticket: u64) -> TakeResult
+    requires table { HasLockWords table.now.table_id }
     requires bursts { 2 ≤ table.now.key }
     requires seat { IsSeatOf table.now.table_id table.now.key seat.old }
     requires at_turn { InTime seat.old (IsAtTurn ticket) }
@@ -136,8 +136,8 @@ pub fn take_outer(table: &SharedTable, seat: &mut TicketSeat, ticket: u64) -> Ta
 
 /// Leaves the outer word free for newcomers, if it is `expected`.
 #[inline(always)]
-fn leave_free(table: &SharedTable, seat: &mut TicketSeat, expected: u64) -> bool
-    requires table { IsLockTable table.now.table_id }
+fn leave_free<T>(table: &SharedValue<T>, seat: &mut ValueSeat<T>, expected: u64) -> bool
+    requires table { HasLockWords table.now.table_id }
     requires seat { IsSeatOf table.now.table_id table.now.key seat.old }
     requires room { expected / 32 + 2 ≤ table.now.key }
     requires inside { InTime seat.old IsInside }
@@ -162,8 +162,8 @@ fn leave_free(table: &SharedTable, seat: &mut TicketSeat, expected: u64) -> bool
 
 /// Leaves the outer word reserved for the queue head, if it is `expected`.
 #[inline(always)]
-fn leave_reserved(table: &SharedTable, seat: &mut TicketSeat, expected: u64) -> bool
-    requires table { IsLockTable table.now.table_id }
+fn leave_reserved<T>(table: &SharedValue<T>, seat: &mut ValueSeat<T>, expected: u64) -> bool
+    requires table { HasLockWords table.now.table_id }
     requires seat { IsSeatOf table.now.table_id table.now.key seat.old }
     requires inside { InTime seat.old IsInside }
     ensures seat { IsSeatOf table.now.table_id table.now.key seat.new }
@@ -188,13 +188,13 @@ fn leave_reserved(table: &SharedTable, seat: &mut TicketSeat, expected: u64) -> 
 /// Leaves the outer word, if it is `expected`: reserved for the queue head where a handoff is requested, or this was
 /// the last turn of a burst of at most `burst`; else free. One word step, the last access to the lock's memory.
 #[inline(always)]
-pub fn leave_if(
-    table: &SharedTable,
-    seat: &mut TicketSeat,
+pub fn leave_if<T>(
+    table: &SharedValue<T>,
+    seat: &mut ValueSeat<T>,
     burst: u64,
     expected: u64,
 ) -> LeaveResult
-    requires table { IsLockTable table.now.table_id }
+    requires table { HasLockWords table.now.table_id }
     requires burst { burst ≤ table.now.key }
     requires seat { IsSeatOf table.now.table_id table.now.key seat.old }
     requires inside { InTime seat.old IsInside }
@@ -231,8 +231,8 @@ pub fn leave_if(
 
 /// Leaves the outer word, as `leave_if`, whatever it is: two word steps.
 #[inline(always)]
-pub fn leave(table: &SharedTable, seat: &mut TicketSeat, burst: u64) -> LeaveResult
-    requires table { IsLockTable table.now.table_id }
+pub fn leave<T>(table: &SharedValue<T>, seat: &mut ValueSeat<T>, burst: u64) -> LeaveResult
+    requires table { HasLockWords table.now.table_id }
     requires burst { burst ≤ table.now.key }
     requires seat { IsSeatOf table.now.table_id table.now.key seat.old }
     requires inside { InTime seat.old IsInside }
@@ -259,8 +259,8 @@ pub fn leave(table: &SharedTable, seat: &mut TicketSeat, burst: u64) -> LeaveRes
 /// The queue head asks whoever is inside to leave the outer word reserved for it: at most two word steps. `false`: the
 /// outer word changed at that moment, and is to be looked at again.
 #[inline(always)]
-pub fn request_handoff(table: &SharedTable, seat: &mut TicketSeat) -> bool
-    requires table { IsLockTable table.now.table_id }
+pub fn request_handoff<T>(table: &SharedValue<T>, seat: &mut ValueSeat<T>) -> bool
+    requires table { HasLockWords table.now.table_id }
     requires seat { IsSeatOf table.now.table_id table.now.key seat.old }
     ensures seat { IsSeatOf table.now.table_id table.now.key seat.new }
     ensures same { OnlyLooks (view_of seat.old) (view_of seat.new) }
@@ -281,8 +281,8 @@ pub fn request_handoff(table: &SharedTable, seat: &mut TicketSeat) -> bool
 /// The queue head notes at the outer word that it sleeps, while that is held: at most two word steps. Then who leaves
 /// it is told of that.
 #[inline(always)]
-pub fn announce_head_sleep(table: &SharedTable, seat: &mut TicketSeat) -> HeadSleepResult
-    requires table { IsLockTable table.now.table_id }
+pub fn announce_head_sleep<T>(table: &SharedValue<T>, seat: &mut ValueSeat<T>) -> HeadSleepResult
+    requires table { HasLockWords table.now.table_id }
     requires seat { IsSeatOf table.now.table_id table.now.key seat.old }
     ensures seat { IsSeatOf table.now.table_id table.now.key seat.new }
     ensures load { LoadGrows seat.old seat.new }

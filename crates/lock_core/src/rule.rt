@@ -1,6 +1,6 @@
 //! A lock's table, and the rule that it keeps.
 ghost use Rattle.lock_core.specs.Views.{max_newcomers_of, initial_view};
-ghost use Rattle.lock_core.specs.Invariant.{Tickets};
+ghost use Rattle.lock_core.specs.Slots.{Slotted};
 
 use crate::view::View;
 use atomic_table::{Seat, Shared, Table, TableRule};
@@ -9,8 +9,8 @@ use std::alloc::Global;
 /// The rule. The table's key is the most turns from one queue head's to the next: 1 in a strict lock.
 pub struct LockRule;
 
-impl TableRule<u64, View, u64> for LockRule {
-    ghost holds = { λ burst s. Tickets (max_newcomers_of burst) s };
+impl<T> TableRule<T, View, u64> for LockRule {
+    ghost holds = { λ burst s. Slotted (max_newcomers_of burst) s };
 
     ghost first = { λ burst. initial_view (max_newcomers_of burst) };
 }
@@ -23,3 +23,12 @@ pub type TicketTable = Table<u64, View, u64, LockRule, Global>;
 
 /// A caller of a lock.
 pub type TicketSeat = Seat<u64, View>;
+
+/// A lock, maybe with a value in the table's slot, as its callers share it.
+pub type SharedValue<T> = Shared<T, View, u64, LockRule>;
+
+/// A lock with a value, as its owner has it.
+pub type ValueTable<T> = Table<T, View, u64, LockRule, Global>;
+
+/// A caller of a lock, which has the value while it is served.
+pub type ValueSeat<T> = Seat<T, View>;

@@ -1,6 +1,6 @@
 //! A waiter polls, announces and retracts its sleep, and withdraws.
 ghost use Rattle.std.specs.Prelude.{◌≡◌, ◌<◌, ◌≤◌, ◌⊎◌, true, false};
-ghost use Rattle.lock_core.specs.Layout.{IsLockTable, cell_at, count_of, to_go};
+ghost use Rattle.lock_core.specs.Layout.{HasLockWords, cell_at, count_of, to_go};
 ghost use Rattle.lock_core.specs.Views.{view_of, InTime, InTimeFrom, LoadGrows, IsSeatOf, IsIdle, IsQueued, IsQueuedWithin, IsAsleep, IsAtTurn, IsOvertakenInBounds, SameRequest, SameTurn};
 ghost use Rattle.lock_core.specs.Looks.{StepsLater, Found, FoundChanged, Leaves};
 ghost use Rattle.lock_core.specs.Answers.{IfSleepAtTurn, IfSleepAnnounced, IfSleepFull, IfSleepChanged, IfSleepRefused};
@@ -8,7 +8,7 @@ ghost use Rattle.lock_core.specs.Answers.{IfSleepAtTurn, IfSleepAnnounced, IfSle
 use crate::handoff::clear_withdrawn;
 use crate::layout::{MAX_SLEEPERS, SLEEPER, bit, cell_word, is_round_of, rounds_to_go, sleepers};
 use crate::plays::{AnnounceSleep, Look, SetWithdrawn};
-use crate::rule::{SharedTable, TicketSeat};
+use crate::rule::{SharedValue, ValueSeat};
 
 /// What `announce_sleep` did.
 #[derive(Clone, Copy, Debug, PartialEq, Eq)]
@@ -25,8 +25,8 @@ pub enum SleepResult {
 
 /// Returns how many rounds are to be granted until the ticket's own is, 0 at its turn: one word step.
 #[inline(always)]
-pub fn poll(table: &SharedTable, seat: &mut TicketSeat, ticket: u64) -> u64
-    requires table { IsLockTable table.now.table_id }
+pub fn poll<T>(table: &SharedValue<T>, seat: &mut ValueSeat<T>, ticket: u64) -> u64
+    requires table { HasLockWords table.now.table_id }
     requires seat { IsSeatOf table.now.table_id table.now.key seat.old }
     requires queued { InTime seat.old (IsQueued ticket) }
     ensures seat { IsSeatOf table.now.table_id table.now.key seat.new }
@@ -46,8 +46,12 @@ pub fn poll(table: &SharedTable, seat: &mut TicketSeat, ticket: u64) -> u64
 /// Counts the waiter as a sleeper of its cell, unless it is at its turn: at most two word steps. Then whoever grants
 /// its ticket is told of it.
 #[inline(always)]
-pub fn announce_sleep(table: &SharedTable, seat: &mut TicketSeat, ticket: u64) -> SleepResult
-    requires table { IsLockTable table.now.table_id }
+pub fn announce_sleep<T>(
+    table: &SharedValue<T>,
+    seat: &mut ValueSeat<T>,
+    ticket: u64,
+) -> SleepResult
+    requires table { HasLockWords table.now.table_id }
     requires seat { IsSeatOf table.now.table_id table.now.key seat.old }
     requires queued { InTime seat.old (IsQueued ticket) }
     ensures seat { IsSeatOf table.now.table_id table.now.key seat.new }
@@ -95,8 +99,8 @@ pub fn announce_sleep(table: &SharedTable, seat: &mut TicketSeat, ticket: u64) -
 
 /// Takes the waiter's count back, after a sleep: one word step. Answers as `poll`.
 #[inline(always)]
-pub fn retract_sleep(table: &SharedTable, seat: &mut TicketSeat, ticket: u64) -> u64
-    requires table { IsLockTable table.now.table_id }
+pub fn retract_sleep<T>(table: &SharedValue<T>, seat: &mut ValueSeat<T>, ticket: u64) -> u64
+    requires table { HasLockWords table.now.table_id }
     requires seat { IsSeatOf table.now.table_id table.now.key seat.old }
     requires asleep { InTime seat.old (IsAsleep ticket) }
     ensures seat { IsSeatOf table.now.table_id table.now.key seat.new }
@@ -116,8 +120,13 @@ pub fn retract_sleep(table: &SharedTable, seat: &mut TicketSeat, ticket: u64) ->
 /// Withdraws a request that was found at most 15 rounds from its turn: one word step, the last access to the lock's memory.
 /// `false`: it was granted before, two word steps.
 #[inline(always)]
-pub fn withdraw(table: &SharedTable, seat: &mut TicketSeat, ticket: u64, rounds: u64) -> bool
-    requires table { IsLockTable table.now.table_id }
+pub fn withdraw<T>(
+    table: &SharedValue<T>,
+    seat: &mut ValueSeat<T>,
+    ticket: u64,
+    rounds: u64,
+) -> bool
+    requires table { HasLockWords table.now.table_id }
     requires seat { IsSeatOf table.now.table_id table.now.key seat.old }
     requires near { rounds ≤ 15 }
     requires queued { InTime seat.old (IsQueuedWithin rounds ticket) }

@@ -1,0 +1,157 @@
+//! A count of turns, whose total over all threads is proved.
+//!
+//! Each thread has tickets, one for each turn that it is to have. The value under the lock has the book of all tickets
+//! that are left: so the count and they make up the number of turns.
+ghost use Rattle.std.specs.Prelude.{◌≡◌, ℕ, ◌+◌, ◌*◌, ◌^◌, ◌<◌, IfSome};
+
+use fair_lock::FairLock;
+use std::alloc::Global;
+use std::marker::Brand;
+use std::sync::Wait;
+use std::sync::ledger::{Blank, Book, Ledger, Share};
+use std::thread;
+use std::thread::Threads;
+
+/// The turns that all threads are to have.
+pub trait Turns: Ledger {
+    ghost turns: { ℕ };
+}
+
+impl Turns for Brand {
+    ghost turns = { 0 };
+}
+
+/// The value under the lock.
+#[derive(Drop)]
+struct Count<N: Turns> {
+    so_far: u64,
+    left: Book<N>,
+    ghost makes_up: { so_far + left.total ≡ N.turns },
+    ghost fits: { N.turns < 2 ^ 64 },
+}
+
+/// The tickets of one thread before its turns, and after.
+#[derive(Drop)]
+struct Before<N: Turns> {
+    tickets: Share<N>,
+    each: u64,
+    ghost part: { tickets.parts ≡ 1 },
+    ghost all: { tickets.amount ≡ each },
+}
+
+#[derive(Drop)]
+struct After<N: Turns> {
+    tickets: Share<N>,
+    ghost part: { tickets.parts ≡ 1 },
+    ghost none: { tickets.amount ≡ 0 },
+}
+
+impl<N: Turns> Count<N> {
+    /// Counts a turn, for a ticket.
+    fn turn(&mut self, tickets: &mut Share<N>)
+        requires { 0 < tickets.old.amount }
+        ensures amount { tickets.new.amount + 1 ≡ tickets.old.amount }
+        ensures parts { tickets.new.parts ≡ tickets.old.parts }
+    {
+        let Count { so_far, left } = self;
+        left.sub(tickets, 1);
+        *so_far += 1;
+    }
+
+    /// The count, once no thread has a ticket left.
+    fn total(mut self, all: &mut Share<N>) -> u64
+        requires whole { all.old.parts ≡ N.parts }
+        requires spent { all.old.amount ≡ 0 }
+        ensures { result ≡ N.turns }
+    {
+        self.left.audit(all);
+        self.so_far
+    }
+}
+
+/// A thread has one turn. It enters, counts, and leaves.
+fn have_turn<N: Turns, R: Wait>(rt: &R, lock: &FairLock<Count<N>>, tickets: &mut Share<N>)
+    requires { 0 < tickets.old.amount }
+    ensures amount { tickets.new.amount + 1 ≡ tickets.old.amount }
+    ensures parts { tickets.new.parts ≡ tickets.old.parts }
+{
+    // Nobody shuts this lock, so the first call enters.
+    for _ in rt.forever() {
+        if let Ok(mut guard) = lock.enter(rt) {
+            guard.value_mut().turn(tickets);
+            guard.leave(rt);
+            return;
+        }
+    }
+    unreachable!()
+}
+
+/// A thread has its turns: it enters, counts, and leaves, for each ticket.
+fn have_turns<N: Turns, R: Wait>(
+    rt: &R,
+    lock: &FairLock<Count<N>>,
+    before: Before<N>,
+) -> After<N> {
+    let Before { mut tickets, each } = before;
+    for _ in 0..each {
+        have_turn(rt, lock, &mut tickets);
+    }
+    After { tickets }
+}
+
+/// Has so many threads count so many turns each. Returns the count at the end, or `None` without memory.
+fn run<N: Turns + Send + Sync, R: Threads + Wait + Sync>(
+    rt: &R,
+    alloc: Global,
+    burst: u16,
+    blank: Blank,
+    threads: u16,
+    each: u32,
+) -> Option<u64>
+    requires name { blank.name ≡ N.name }
+    requires parts { blank.parts ≡ N.parts }
+    requires one_more { blank.parts ≡ threads + 1 }
+    requires turns { threads * each ≡ N.turns }
+    ensures { IfSome result (λ n. n ≡ N.turns) }
+{
+    let (mut left, mut all) = blank.open::<N>();
+    left.add(&mut all, threads as u64 * each as u64);
+    let lock = make(alloc, burst, Count { so_far: 0, left })?;
+    let mut jobs = Vec::new(alloc);
+    for _i in 0..threads {
+        let tickets = all.split_off(1, each as u64);
+        let job = Before {
+            tickets,
+            each: each as u64,
+        };
+        jobs.push(job).ok()?;
+    }
+    let mut done = thread::map_vec(rt, jobs, &|before| have_turns(rt, &lock, before)).ok()?;
+    while let Some(After { tickets }) = done.pop() {
+        all.merge(tickets);
+    }
+    Some(lock.into_inner().total(&mut all))
+}
+
+/// A strict lock, or one with bursts of at least two turns.
+fn make<T: Drop>(alloc: Global, burst: u16, value: T) -> Option<FairLock<T>> {
+    if burst < 2 {
+        FairLock::new(alloc, value).ok()
+    } else {
+        FairLock::with_bursts(alloc, burst, value).ok()
+    }
+}
+
+/// Has so many threads count so many turns each. Returns the count at the end, or `None` without memory.
+pub fn count<R: Threads + Wait + Sync>(
+    rt: &R,
+    alloc: Global,
+    burst: u16,
+    threads: u16,
+    each: u32,
+) -> Option<u64>
+    ensures { IfSome result (λ n. n ≡ threads * each) }
+{
+    let blank = Blank::new(threads as u64 + 1);
+    run::<Brand, R>(rt, alloc, burst, blank, threads, each)
+}

@@ -1,0 +1,17 @@
+//! Threads come and go, and share a value under a fair lock: a count whose total is proved, and a pair whose sum is.
+#![tactic(auto)]
+
+mod count;
+mod pair;
+
+use anyhow::Context;
+
+fn main(rt: HostRuntime) -> anyhow::Result<()> {
+    let strict = count::count(&rt, rt.alloc(), 1, 8, 500).context("no memory")?;
+    println!(rt; "8 threads had 500 turns each, in the order of requests: {strict}")?;
+    let bursts = count::count(&rt, rt.alloc(), 32, 8, 500).context("no memory")?;
+    println!(rt; "8 threads had 500 turns each, in bursts of at most 32: {bursts}")?;
+    let sum = pair::sum_after(&rt, rt.alloc(), 8, 500).context("no memory")?;
+    println!(rt; "8 threads moved coins between two purses 500 times each: {sum} coins")?;
+    Ok(())
+}

@@ -1,0 +1,3 @@
+pub mod WakeSteps
+pub mod Wakes
+pub mod Turns

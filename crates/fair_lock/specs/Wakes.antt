@@ -1,0 +1,27 @@
+-- What an announcement of a sleep and a release say.
+use Rattle.std.specs.Prelude.{◌≡◌, ◌%◌, false}
+use Rattle.lock_core.specs.declared.view.View.{View}
+use Rattle.lock_core.specs.Views.{GrantedToNobodyAsleep}
+use Rattle.fair_lock.specs.declared.wake.ToWake.{ToWake}
+use Rattle.fair_lock.specs.declared.wake.Announced.{Announced}
+use Rattle.fair_lock.specs.declared.wake.Announced.TheVariants as announced
+
+-- the waiter is at its turn; it is counted; it is not
+abbrev pub IfAnnouncedAtTurn : Announced → Type 0 → Type 0
+IfAnnouncedAtTurn announced.AtTurn P = P
+IfAnnouncedAtTurn (announced.Counted c) P = Unit {0}
+IfAnnouncedAtTurn announced.Not P = Unit {0}
+
+abbrev pub IfAnnounced : Announced → Type 0 → Type 0
+IfAnnounced announced.AtTurn P = Unit {0}
+IfAnnounced (announced.Counted c) P = P
+IfAnnounced announced.Not P = Unit {0}
+
+abbrev pub IfNotAnnounced : Announced → Type 0 → Type 0
+IfNotAnnounced announced.AtTurn P = Unit {0}
+IfNotAnnounced (announced.Counted c) P = Unit {0}
+IfNotAnnounced announced.Not P = P
+
+-- Who granted a ticket is to wake the sleepers at that ticket's wake word. Where it is to wake nobody, nobody slept for the ticket.
+abbrev pub IsToldOf : ToWake → View → Type 0
+IsToldOf to_wake v = (to_wake.place ≡ v.granted % 4) × (to_wake.asleep ≡ false → GrantedToNobodyAsleep v)

@@ -1,0 +1,70 @@
+//! A turn at a lock, with the right to its value.
+ghost use Rattle.std.specs.Prelude.{◌≡◌, ◌∷◌, [], IsTrue};
+ghost use Rattle.std.specs.Borrow.{sem, Lends};
+ghost use Rattle.lock_core.specs.Views.{view_of, InTime, IsSeatOf, KnowsShut};
+ghost use Rattle.fair_lock.specs.Turns.{IsServed, IsGuard, IsOpen, LendsValue, SameValue};
+
+use crate::lock::FairLock;
+use crate::sleep::pass_on;
+use lock_core::ValueSeat;
+use std::sync::Wait;
+
+/// A turn at a lock. It lends the lock's value, and its thread has to leave: the type is not `Drop`.
+pub struct Guard<'a, T> {
+    pub(crate) lock: &'a FairLock<T>,
+    pub(crate) seat: ValueSeat<T>,
+    pub(crate) ticket: u64,
+}
+
+impl<T> FairLock<T> {
+    /// The guard of a thread that is served.
+    pub(crate) fn guard(&self, seat: ValueSeat<T>, ticket: u64) -> Guard<'_, T>
+        requires seat { IsSeatOf self.now.table.shared.table_id self.now.table.shared.key seat }
+        requires served { InTime seat (IsServed self.now.burst ticket) }
+        ensures guard { IsGuard result }
+        ensures seat { result.seat ≡ seat }
+    {
+        Guard {
+            lock: self,
+            seat,
+            ticket,
+        }
+    }
+}
+
+impl<T> Guard<'_, T> {
+    /// Lends the value.
+    pub fn value_mut(&mut self) -> &mut T
+        requires guard { IsGuard self.old }
+        ensures* writes_back { sem 𝓛 (LendsValue T.row self.entry result) }
+        ensures value { self.old.seat.me.1 ≡ (0, result.now) ∷ [] }
+    {
+        let lock = self.lock;
+        self.seat.slot_mut(&lock.table.shared, 0)
+    }
+
+    /// Shuts the lock: every later request is told so, and so are those that wait. One word step.
+    pub fn shut(&mut self)
+        requires guard { IsGuard self.old }
+        requires open { IsOpen self.old }
+        ensures guard { IsGuard self.new }
+        ensures value { SameValue self.old self.new }
+        ensures knows { KnowsShut (view_of self.new.seat) }
+    {
+        lock_core::shut(&self.lock.table.shared, &mut self.seat);
+    }
+
+    /// Ends the turn: grants the next one, and wakes its waiter if that sleeps.
+    pub fn leave<R: Wait>(self, rt: &R)
+        requires guard { IsGuard self }
+    {
+        let Guard { lock, seat, ticket } = self;
+        let mut seat = seat;
+        if lock.burst < 2 {
+            lock.wakes
+                .wake(pass_on(rt, &lock.table.shared, &mut seat, ticket));
+        } else {
+            lock.leave_outer(rt, &mut seat);
+        }
+    }
+}

@@ -1,0 +1,82 @@
+//! The outer word of a lock with bursts: the queue head waits for it, and whoever is inside leaves it.
+ghost use Rattle.std.specs.Prelude.{◌≡◌, ◌≤◌, true, false};
+ghost use Rattle.lock_core.specs.Views.{view_of, InTime, LoadGrows, IsSeatOf, IsAtTurn, IsHeadInside, IsInside, IsOvertakenInBounds, ServedOpen, ServedShut, Kept};
+
+use crate::lock::FairLock;
+use crate::queue::pause;
+use crate::wake::ToWake;
+use lock_core::{LeaveResult, TakeResult, ValueSeat, leave, request_handoff, take_outer};
+use std::sync::{Wait, WaitMethods};
+
+/// So often the queue head looks at the outer word before it asks for a handoff and sleeps.
+const LOOKS: u32 = 100;
+
+impl<T> FairLock<T> {
+    /// Waits as the queue head until it is inside. `false`: the lock is shut. Blocks.
+    pub(crate) fn go_in_as_head<R: Wait>(
+        &self,
+        rt: &R,
+        seat: &mut ValueSeat<T>,
+        ticket: u64,
+    ) -> bool
+        requires bursts { 2 ≤ self.now.burst }
+        requires seat { IsSeatOf self.now.table.shared.table_id self.now.table.shared.key seat.old }
+        requires at_turn { InTime seat.old (IsAtTurn ticket) }
+        ensures seat { IsSeatOf self.now.table.shared.table_id self.now.table.shared.key seat.new }
+        ensures inside { InTime seat.new (IsHeadInside ticket) }
+        ensures overtaken { InTime seat.new IsOvertakenInBounds }
+        ensures open { result ≡ true → InTime seat.new ServedOpen }
+        ensures shut { result ≡ false → InTime seat.new ServedShut }
+    {
+        let mut looks = 0;
+        for _ in rt.forever() {
+            match take_outer(&self.table.shared, seat, ticket) {
+                TakeResult::Open => return true,
+                TakeResult::Shut => return false,
+                TakeResult::Changed => {}
+                TakeResult::Held => {
+                    if looks < LOOKS {
+                        looks += 1;
+                        pause();
+                    } else {
+                        self.sleep_as_head(rt, seat, ticket);
+                    }
+                }
+            }
+        }
+        unreachable!()
+    }
+
+    /// Asks for a handoff, and sleeps until the outer word may be free. Blocks.
+    fn sleep_as_head<R: Wait>(&self, rt: &R, seat: &mut ValueSeat<T>, ticket: u64)
+        requires seat { IsSeatOf self.now.table.shared.table_id self.now.table.shared.key seat.old }
+        requires at_turn { InTime seat.old (IsAtTurn ticket) }
+        ensures seat { IsSeatOf self.now.table.shared.table_id self.now.table.shared.key seat.new }
+        ensures at_turn { InTime seat.new (IsAtTurn ticket) }
+    {
+        let table = &self.table.shared;
+        request_handoff(table, seat);
+        if let Some(counted) = self.wakes.see_head().announce_head(table, seat) {
+            self.wakes.park(rt, &counted);
+            counted.woken();
+        }
+    }
+
+    /// Leaves the outer word, and wakes the queue head if it sleeps there.
+    pub(crate) fn leave_outer<R: Wait>(&self, rt: &R, seat: &mut ValueSeat<T>)
+        requires seat { IsSeatOf self.now.table.shared.table_id self.now.table.shared.key seat.old }
+        requires inside { InTime seat.old IsInside }
+    {
+        for _ in rt.forever() {
+            if let LeaveResult::Outside { head_asleep } = leave(
+                &self.table.shared,
+                seat,
+                self.burst,
+            ) {
+                self.wakes.wake(ToWake::head(head_asleep));
+                return;
+            }
+        }
+        unreachable!()
+    }
+}

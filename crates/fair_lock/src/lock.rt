@@ -1,0 +1,101 @@
+//! A lock of a value: how it is made, and taken apart.
+ghost use Rattle.std.specs.Prelude.{◌≡◌, ◌≤◌, IfOk, IfErr};
+ghost use Rattle.lock_core.specs.Layout.{IsValueTable};
+ghost use Rattle.lock_core.specs.Answers.{max_burst_of, HasLongBursts, IsOpenErrorOf};
+
+use crate::wake::WakeWords;
+use lock_core::{LockKind, OpenError, OpenValueError, ValueTable, open_value};
+use std::alloc::{AllocFailed, Global};
+
+/// A lock of a value, for threads that come and go: in strict order, or with bursts.
+///
+/// It owns the value. A thread enters, and has a guard that lends the value until it leaves.
+#[derive(Drop)]
+pub struct FairLock<T> {
+    pub(crate) table: ValueTable<T>,
+    pub(crate) wakes: WakeWords,
+    /// The most turns from one queue head's to the next: 1 in a strict lock.
+    pub burst: u64,
+    ghost sized: { IsValueTable table.shared.table_id },
+    ghost bound: { table.shared.key ≡ burst },
+}
+
+/// Why a lock was not made, with the value.
+#[derive(Drop)]
+pub struct NewError<T> {
+    pub error: OpenError,
+    pub value: T,
+}
+
+impl<T> FairLock<T> {
+    /// Makes a strict lock: turns are in the order of requests. Allocates.
+    pub fn new(alloc: Global, value: T) -> Result<FairLock<T>, NewError<T>>
+        ensures strict { IfOk result (λ lock. lock.burst ≡ 1) }
+        ensures err { IfErr result (λ e. (e.value ≡ value) × (e.error ≡ OpenError.Memory)) }
+    {
+        FairLock::of_kind(alloc, LockKind::Strict, value)
+    }
+
+    /// Makes a lock with bursts of at most `turns` turns, from 2 to 65,535: who comes may overtake the queue, by at most
+    /// `turns` - 1 turns from one queue head's to the next. Allocates.
+    ///
+    /// # Errors
+    ///
+    /// `OpenError::ShortBurst` for fewer than two turns, `OpenError::Memory` where memory is short. The value comes back.
+    pub fn with_bursts(alloc: Global, turns: u16, value: T) -> Result<FairLock<T>, NewError<T>>
+        ensures bursts { IfOk result (λ lock. (lock.burst ≡ turns) × (2 ≤ turns)) }
+        ensures err { IfErr result (λ e. (e.value ≡ value)
+            × IsOpenErrorOf (LockKind.Bursts turns) e.error) }
+    {
+        FairLock::of_kind(alloc, LockKind::Bursts(turns), value)
+    }
+
+    fn of_kind(alloc: Global, kind: LockKind, value: T) -> Result<FairLock<T>, NewError<T>>
+        ensures burst { IfOk result (λ lock. lock.burst ≡ max_burst_of kind) }
+        ensures long { IfOk result (λ _. HasLongBursts kind) }
+        ensures err { IfErr result (λ e. (e.value ≡ value) × IsOpenErrorOf kind e.error) }
+    {
+        let Ok(wakes) = WakeWords::new(alloc) else {
+            return Err(NewError {
+                error: OpenError::Memory,
+                value,
+            });
+        };
+        let mut values = Vec::new(alloc);
+        if let Err(failed) = values.push(value) {
+            values.destroy_empty();
+            let AllocFailed { value } = failed;
+            return Err(NewError {
+                error: OpenError::Memory,
+                value,
+            });
+        }
+        match open_value(alloc, kind, values) {
+            Ok(table) => Ok(FairLock {
+                table,
+                wakes,
+                burst: kind.max_burst(),
+            }),
+            Err(OpenValueError { error, mut values }) => {
+                let Some(value) = values.pop() else {
+                    unreachable!()
+                };
+                values.destroy_empty();
+                Err(NewError { error, value })
+            }
+        }
+    }
+
+    /// Takes the lock apart, and returns the value.
+    pub fn into_inner(self) -> T {
+        let FairLock {
+            table,
+            wakes: _,
+            burst: _,
+        } = self;
+        let mut closed = table.close();
+        let value = closed.take(0);
+        closed.free();
+        value
+    }
+}

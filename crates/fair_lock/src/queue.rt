@@ -1,0 +1,111 @@
+//! A thread in the queue: it draws a ticket, and waits for its turn.
+ghost use Rattle.std.specs.Prelude.{◌≡◌, ◌≤◌, true, false};
+ghost use Rattle.lock_core.specs.Views.{view_of, InTime, LoadGrows, IsSeatOf, IsIdle, IsQueued, IsAtTurn, IsOvertakenInBounds};
+
+use crate::lock::FairLock;
+use crate::wake::Announced;
+use crossbeam_utils::Backoff;
+use lock_core::{AskWithinResult, ValueSeat, ask_within, poll};
+use std::hint::spin_loop;
+use std::sync::{Wait, WaitMethods};
+
+/// A request is made while at most so many rounds, of four tickets each, are before it.
+const WINDOW: u64 = 1 << 27;
+
+/// So often a waiter polls before it sleeps.
+const POLLS: u32 = 200;
+
+/// The pauses between two polls: some 90 ns.
+const PAUSES: u32 = 16;
+
+/// Pauses between two looks at a word.
+pub(crate) fn pause() {
+    for _ in 0..PAUSES {
+        spin_loop();
+    }
+}
+
+impl<T> FairLock<T> {
+    /// Draws a ticket, and waits until that is at its turn. Blocks.
+    ///
+    /// While 2^29 requests are open it draws none, and looks again now and then. Once 2^63 tickets are drawn it waits
+    /// forever.
+    pub(crate) fn come_to_turn<R: Wait>(&self, rt: &R, seat: &mut ValueSeat<T>) -> u64
+        requires seat { IsSeatOf self.now.table.shared.table_id self.now.table.shared.key seat.old }
+        requires idle { InTime seat.old IsIdle }
+        ensures seat { IsSeatOf self.now.table.shared.table_id self.now.table.shared.key seat.new }
+        ensures at_turn { InTime seat.new (IsAtTurn result) }
+        ensures overtaken { InTime seat.new IsOvertakenInBounds }
+    {
+        let backoff = Backoff::new();
+        for _ in rt.forever() {
+            match ask_within(&self.table.shared, seat, WINDOW) {
+                AskWithinResult::AtTurn { ticket } => return ticket,
+                AskWithinResult::Queued { ticket, rounds: _ } => {
+                    self.wait(rt, seat, ticket);
+                    return ticket;
+                }
+                AskWithinResult::Far { rounds: _ }
+                | AskWithinResult::Changed
+                | AskWithinResult::Spent => backoff.snooze(),
+            }
+        }
+        unreachable!()
+    }
+
+    /// Waits until the ticket is at its turn: polls, and then sleeps. Blocks.
+    fn wait<R: Wait>(&self, rt: &R, seat: &mut ValueSeat<T>, ticket: u64)
+        requires seat { IsSeatOf self.now.table.shared.table_id self.now.table.shared.key seat.old }
+        requires queued { InTime seat.old (IsQueued ticket) }
+        ensures seat { IsSeatOf self.now.table.shared.table_id self.now.table.shared.key seat.new }
+        ensures at_turn { InTime seat.new (IsAtTurn ticket) }
+        ensures overtaken { InTime seat.new IsOvertakenInBounds }
+    {
+        for _ in rt.forever() {
+            if self.spin(seat, ticket) || self.sleep(rt, seat, ticket) {
+                return;
+            }
+        }
+        unreachable!()
+    }
+
+    /// Polls for a while. `true`: the ticket is at its turn.
+    pub(crate) fn spin(&self, seat: &mut ValueSeat<T>, ticket: u64) -> bool
+        requires seat { IsSeatOf self.now.table.shared.table_id self.now.table.shared.key seat.old }
+        requires queued { InTime seat.old (IsQueued ticket) }
+        ensures seat { IsSeatOf self.now.table.shared.table_id self.now.table.shared.key seat.new }
+        ensures load { LoadGrows seat.old seat.new }
+        ensures at_turn { result ≡ true → InTime seat.new (IsAtTurn ticket) }
+        ensures overtaken { result ≡ true → InTime seat.new IsOvertakenInBounds }
+        ensures queued { result ≡ false → InTime seat.new (IsQueued ticket) }
+    {
+        for _ in 0..POLLS {
+            if poll(&self.table.shared, seat, ticket) == 0 {
+                return true;
+            }
+            pause();
+        }
+        false
+    }
+
+    /// Sleeps until the ticket may be at its turn. `true`: it is. Blocks.
+    fn sleep<R: Wait>(&self, rt: &R, seat: &mut ValueSeat<T>, ticket: u64) -> bool
+        requires seat { IsSeatOf self.now.table.shared.table_id self.now.table.shared.key seat.old }
+        requires queued { InTime seat.old (IsQueued ticket) }
+        ensures seat { IsSeatOf self.now.table.shared.table_id self.now.table.shared.key seat.new }
+        ensures load { LoadGrows seat.old seat.new }
+        ensures at_turn { result ≡ true → InTime seat.new (IsAtTurn ticket) }
+        ensures overtaken { result ≡ true → InTime seat.new IsOvertakenInBounds }
+        ensures queued { result ≡ false → InTime seat.new (IsQueued ticket) }
+    {
+        let table = &self.table.shared;
+        match self.wakes.see_cell(ticket).announce(table, seat, ticket) {
+            Announced::AtTurn => true,
+            Announced::Not => false,
+            Announced::Counted(counted) => {
+                self.wakes.park(rt, &counted);
+                counted.retract(table, seat, ticket) == 0
+            }
+        }
+    }
+}

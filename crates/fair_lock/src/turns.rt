@@ -1,0 +1,130 @@
+//! A thread enters, and leaves.
+ghost use Rattle.std.specs.Prelude.{◌≡◌, ◌≤◌, IfOk, true};
+ghost use Rattle.lock_core.specs.Views.{InTime, IsSeatOf, IsAtTurn, IsHeadInside, ServedOpen};
+ghost use Rattle.fair_lock.specs.Turns.{IsGuard, IsOpen};
+
+use crate::guard::Guard;
+use crate::lock::FairLock;
+use crate::sleep::pass_on;
+use lock_core::{
+    AskWithinResult, TakeResult, ValueSeat, ask_within, check_open, go_in, new_seat, take_outer,
+};
+use std::sync::Wait;
+
+/// The lock is shut: there are no more turns.
+#[derive(Clone, Copy, Debug, PartialEq, Eq)]
+pub struct Closed;
+
+/// Why `try_enter` gave no turn.
+#[derive(Clone, Copy, Debug, PartialEq, Eq)]
+pub enum TryEnterError {
+    /// Another thread is served, or waits.
+    Busy,
+    /// The lock is shut.
+    Closed,
+}
+
+impl<T> FairLock<T> {
+    /// Enters, and waits for that as long as it takes: polls for some 20 us, and then sleeps. Blocks.
+    ///
+    /// In a strict lock the turn comes in the order of requests. In one with bursts a newcomer may be served at once,
+    /// and who waits is overtaken by at most `turns` - 1 of them before each turn of the queue.
+    ///
+    /// # Errors
+    ///
+    /// If the lock is shut.
+    pub fn enter<R: Wait>(&self, rt: &R) -> Result<Guard<'_, T>, Closed>
+        ensures guard { IfOk result (λ guard. IsGuard guard × IsOpen guard) }
+    {
+        let mut seat = new_seat(&self.table.shared);
+        if self.burst < 2 {
+            let ticket = self.come_to_turn(rt, &mut seat);
+            return self.look_and_begin(rt, seat, ticket);
+        }
+        if go_in(&self.table.shared, &mut seat) {
+            return Ok(self.guard(seat, 0));
+        }
+        let ticket = self.come_to_turn(rt, &mut seat);
+        let open = self.go_in_as_head(rt, &mut seat, ticket);
+        self.pass_on_inside(rt, seat, ticket, open)
+    }
+
+    /// Enters if that can be done at once, and leaves nothing behind if not. Does not wait for another thread's turn.
+    ///
+    /// # Errors
+    ///
+    /// If the lock is shut, or another thread is served or waits.
+    pub fn try_enter<R: Wait>(&self, rt: &R) -> Result<Guard<'_, T>, TryEnterError>
+        ensures guard { IfOk result (λ guard. IsGuard guard × IsOpen guard) }
+    {
+        let mut seat = new_seat(&self.table.shared);
+        if self.burst >= 2 && go_in(&self.table.shared, &mut seat) {
+            return Ok(self.guard(seat, 0));
+        }
+        let AskWithinResult::AtTurn { ticket } = ask_within(&self.table.shared, &mut seat, 0) else {
+            return Err(TryEnterError::Busy);
+        };
+        if self.burst < 2 {
+            return match self.look_and_begin(rt, seat, ticket) {
+                Ok(guard) => Ok(guard),
+                Err(Closed) => Err(TryEnterError::Closed),
+            };
+        }
+        let open = match take_outer(&self.table.shared, &mut seat, ticket) {
+            TakeResult::Open => true,
+            TakeResult::Shut => false,
+            TakeResult::Held | TakeResult::Changed => {
+                self.wakes
+                    .wake(pass_on(rt, &self.table.shared, &mut seat, ticket));
+                return Err(TryEnterError::Busy);
+            }
+        };
+        match self.pass_on_inside(rt, seat, ticket, open) {
+            Ok(guard) => Ok(guard),
+            Err(Closed) => Err(TryEnterError::Closed),
+        }
+    }
+
+    /// At the turn of a strict lock: begins it, or passes it on where the lock is shut.
+    pub(crate) fn look_and_begin<R: Wait>(
+        &self,
+        rt: &R,
+        mut seat: ValueSeat<T>,
+        ticket: u64,
+    ) -> Result<Guard<'_, T>, Closed>
+        requires strict { self.now.burst ≤ 1 }
+        requires seat { IsSeatOf self.now.table.shared.table_id self.now.table.shared.key seat }
+        requires at_turn { InTime seat (IsAtTurn ticket) }
+        ensures guard { IfOk result (λ guard. IsGuard guard × IsOpen guard) }
+    {
+        if check_open(&self.table.shared, &mut seat, ticket) {
+            return Ok(self.guard(seat, ticket));
+        }
+        self.wakes
+            .wake(pass_on(rt, &self.table.shared, &mut seat, ticket));
+        Err(Closed)
+    }
+
+    /// The queue head is inside: passes its turn of the queue on, and leaves where the lock is shut.
+    pub(crate) fn pass_on_inside<R: Wait>(
+        &self,
+        rt: &R,
+        mut seat: ValueSeat<T>,
+        ticket: u64,
+        is_open: bool,
+    ) -> Result<Guard<'_, T>, Closed>
+        requires bursts { 2 ≤ self.now.burst }
+        requires seat { IsSeatOf self.now.table.shared.table_id self.now.table.shared.key seat }
+        requires inside { InTime seat (IsHeadInside ticket) }
+        requires open { is_open ≡ true → InTime seat ServedOpen }
+        ensures guard { IfOk result (λ guard. IsGuard guard × IsOpen guard) }
+    {
+        self.wakes
+            .wake(pass_on(rt, &self.table.shared, &mut seat, ticket));
+        if is_open {
+            return Ok(self.guard(seat, ticket));
+        }
+        self.leave_outer(rt, &mut seat);
+        Err(Closed)
+    }
+}

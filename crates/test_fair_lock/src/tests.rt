@@ -1,0 +1,63 @@
+//! The tests, and the threads that they run.
+mod answers;
+mod threads;
+
+use fair_lock::{EnterError, FairLock};
+use std::alloc::Global;
+use std::rt::Clock;
+use std::sync::Wait;
+use std::time::Duration;
+
+/// A strict lock of a number, or one with bursts of at least two turns.
+fn lock_of(alloc: Global, burst: u16, value: u64) -> Option<FairLock<u64>> {
+    if burst < 2 {
+        FairLock::new(alloc, value).ok()
+    } else {
+        FairLock::with_bursts(alloc, burst, value).ok()
+    }
+}
+
+/// Adds one so often, each in a turn of its own. Returns how many turns there were.
+fn add<R: Wait>(rt: &R, lock: &FairLock<u64>, times: u64) -> u64 {
+    let mut had = 0u64;
+    for _ in 0..times {
+        if let Ok(mut guard) = lock.enter(rt) {
+            let value = guard.value_mut();
+            *value = value.wrapping_add(1);
+            guard.leave(rt);
+            had = had.wrapping_add(1);
+        }
+    }
+    had
+}
+
+/// The same, but each turn has to begin within a limit. Returns how many did.
+fn add_within<R: Wait + Clock>(rt: &R, lock: &FairLock<u64>, times: u64, at_most: Duration) -> u64 {
+    let mut had = 0u64;
+    for _ in 0..times {
+        match lock.enter_within(rt, at_most) {
+            Ok(mut guard) => {
+                let value = guard.value_mut();
+                *value = value.wrapping_add(1);
+                guard.leave(rt);
+                had = had.wrapping_add(1);
+            }
+            Err(EnterError::Late) | Err(EnterError::Closed) => {}
+        }
+    }
+    had
+}
+
+/// Adds one so often if that can be done at once. Returns how often it could.
+fn try_add<R: Wait>(rt: &R, lock: &FairLock<u64>, times: u64) -> u64 {
+    let mut had = 0u64;
+    for _ in 0..times {
+        if let Ok(mut guard) = lock.try_enter(rt) {
+            let value = guard.value_mut();
+            *value = value.wrapping_add(1);
+            guard.leave(rt);
+            had = had.wrapping_add(1);
+        }
+    }
+    had
+}

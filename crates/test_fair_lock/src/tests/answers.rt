@@ -1,0 +1,95 @@
+//! Each answer, by one thread.
+use super::{add, lock_of};
+
+use fair_lock::{Closed, EnterError, FairLock, NewError, OpenError, TryEnterError};
+use std::time::Duration;
+
+#[test]
+fn bursts_of_one_turn_are_refused_and_the_value_comes_back(rt: HostRuntime) {
+    let refused = FairLock::with_bursts(rt.alloc(), 1, 7u64);
+    let Err(NewError { error, value }) = refused else {
+        panic!(&rt; "made with bursts of one turn")
+    };
+    assert_eq!(&rt; error, OpenError::ShortBurst(1));
+    assert_eq!(&rt; value, 7);
+}
+
+#[test]
+fn a_held_lock_is_busy_and_late(rt: HostRuntime) {
+    for burst in [1, 2, 8] {
+        let lock = lock_of(rt.alloc(), burst, 5).expect(&rt, "memory");
+        let mut guard = lock.enter(&rt).ok().expect(&rt, "open");
+        assert_eq!(&rt; *guard.value_mut(), 5);
+        *guard.value_mut() = 6;
+        let tried = lock.try_enter(&rt);
+        match tried {
+            Ok(second) => {
+                second.leave(&rt);
+                panic!(&rt; "two were served, at {burst}")
+            }
+            Err(error) => assert_eq!(&rt; error, TryEnterError::Busy),
+        }
+        match lock.enter_within(&rt, Duration::from_millis(3)) {
+            Ok(second) => {
+                second.leave(&rt);
+                panic!(&rt; "two were served, at {burst}")
+            }
+            Err(error) => assert_eq!(&rt; error, EnterError::Late),
+        }
+        guard.leave(&rt);
+        assert_eq!(&rt; add(&rt, &lock, 3), 3);
+        assert_eq!(&rt; lock.into_inner(), 9);
+    }
+}
+
+#[test]
+fn a_shut_lock_is_closed_to_all(rt: HostRuntime) {
+    for burst in [1, 2, 8] {
+        let lock = lock_of(rt.alloc(), burst, 1).expect(&rt, "memory");
+        let mut guard = lock.enter(&rt).ok().expect(&rt, "open");
+        guard.shut();
+        *guard.value_mut() = 2;
+        guard.leave(&rt);
+        match lock.enter(&rt) {
+            Ok(late) => {
+                late.leave(&rt);
+                panic!(&rt; "served after it was shut, at {burst}")
+            }
+            Err(error) => assert_eq!(&rt; error, Closed),
+        }
+        match lock.try_enter(&rt) {
+            Ok(late) => {
+                late.leave(&rt);
+                panic!(&rt; "served after it was shut, at {burst}")
+            }
+            Err(error) => assert_eq!(&rt; error, TryEnterError::Closed),
+        }
+        match lock.enter_within(&rt, Duration::from_millis(3)) {
+            Ok(late) => {
+                late.leave(&rt);
+                panic!(&rt; "served after it was shut, at {burst}")
+            }
+            Err(error) => assert_eq!(&rt; error, EnterError::Closed),
+        }
+        assert_eq!(&rt; lock.into_inner(), 2);
+    }
+}
+
+#[test]
+fn a_withdrawn_request_is_passed(rt: HostRuntime) {
+    for burst in [1, 2] {
+        let lock = lock_of(rt.alloc(), burst, 0).expect(&rt, "memory");
+        for _ in 0..40 {
+            let guard = lock.enter(&rt).ok().expect(&rt, "open");
+            for _ in 0..5 {
+                if let Ok(second) = lock.enter_within(&rt, Duration::from_micros(1)) {
+                    second.leave(&rt);
+                    panic!(&rt; "two were served, at {burst}")
+                }
+            }
+            guard.leave(&rt);
+        }
+        assert_eq!(&rt; add(&rt, &lock, 10), 10);
+        assert_eq!(&rt; lock.into_inner(), 10);
+    }
+}
