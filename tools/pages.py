@@ -22,18 +22,18 @@ LIMITS = {
     "docs/ARCHITECTURE.md": 1600,
     "docs/USING.md": 2500,
     "docs/LOCKS.md": 1200,
-    "docs/PROVED.md": 4100,
+    "docs/PROVED.md": 4250,
     "docs/CHANGING.md": 2000,
-    "docs/DECISIONS.md": 2800,
+    "docs/DECISIONS.md": 3150,
     "docs/SCRIPTS.md": 2000,
     "CHANGELOG.md": 1500,
 }
 # All pages but the CHANGELOG; the READMEs of crates, all and the lines of each; a call of qolb(3).
-ALL, CRATES, CRATE_LINES, CALL = 25000, 4700, 25, 110
+ALL, CRATES, CRATE_LINES, CALL = 25000, 4900, 25, 112
 # Three readers: who needs a lock, who wants the theorems, who carries it on.
 PATHS = {
     "lock user": (["README.md", "docs/USING.md#locks"], 2500),
-    "verifier": (["README.md", "docs/PROVED.md"], 5000),
+    "verifier": (["README.md", "docs/PROVED.md"], 5150),
     "carrier": (["README.md", "docs/ARCHITECTURE.md", "docs/CHANGING.md"], 4500),
 }
 # Names of other projects, of the system, and of what a reader makes.

@@ -161,21 +161,20 @@
  *
  * WAITING
  *
- * Of the calls on a node two wait for other threads: qolb_acquire and qolb_acquire_within. They poll about each 90 ns,
- * at most 50 us on a line of at most five nodes and 20 us on others, then sleep by a futex until the line is released,
- * and then poll anew. A thread whose polls were in vain polls for less the next time. They yield the processor never, so
- * a real-time thread may wait for an ordinary one. A process that may use one processor only sleeps at once.
+ * Of the calls on a node two wait for other threads: qolb_acquire and qolb_acquire_within. They poll each 90 ns, for at
+ * most 50 us on a line of five nodes or fewer and 20 us on others, then sleep by a futex until the line is released;
+ * then they poll anew. After polls without success a thread polls for less the next time. It never yields, so a
+ * real-time thread may wait for another. A process that may use one processor only sleeps at once.
  *
- * A thread that waits for a lock polls for some 1.5 us and yields the processor 16 times before it sleeps. At a strict
- * lock's door it yields 32 times, or, behind 12 others, never; meanwhile one with a seat, of at most 8, polls 16 times
- * and yields 128. At a condition it sleeps at once.
+ * A thread that waits for a lock polls for some 1.5 us and yields 16 times before it sleeps. At a strict lock's door it
+ * yields 32 times, or, behind 12 others, never; meanwhile one with a seat, of at most 8, polls 16 times and yields 128.
+ * At a condition it sleeps at once.
  *
  * A call that releases the line (qolb_deqolb, qolb_shut, and any that answers CLOSED) wakes at most two sleepers: the
  * next holder, and the waiter behind it ahead of its turn. Leaving a lock also wakes the first two threads at its door;
  * in a burst only the thread that watches.
  *
- * No call wakes, and no notification tells, the thread of a busy node: it asks again for as long as it would poll, and
- * then every 200 us.
+ * No call wakes, and no notification tells, the thread of a busy node: it asks again for 20 us, then every 200 us.
  *
  * A granted line is its node's, even before it polls: all behind wait until its thread has woken up and had its turn.
  *
