@@ -23,7 +23,7 @@ impl Turns for Brand {
 
 /// The value under the lock.
 #[derive(Drop)]
-struct Count<N: Turns> {
+struct Counter<N: Turns> {
     so_far: u64,
     left: Book<N>,
     ghost makes_up: { so_far + left.total ≡ N.turns },
@@ -46,14 +46,14 @@ struct After<N: Turns> {
     ghost none: { tickets.amount ≡ 0 },
 }
 
-impl<N: Turns> Count<N> {
+impl<N: Turns> Counter<N> {
     /// Counts a turn, for a ticket.
     fn turn(&mut self, tickets: &mut Share<N>)
         requires { 0 < tickets.old.amount }
         ensures amount { tickets.new.amount + 1 ≡ tickets.old.amount }
         ensures parts { tickets.new.parts ≡ tickets.old.parts }
     {
-        let Count { so_far, left } = self;
+        let Counter { so_far, left } = self;
         left.sub(tickets, 1);
         *so_far += 1;
     }
@@ -70,7 +70,7 @@ impl<N: Turns> Count<N> {
 }
 
 /// A thread has one turn. It enters, counts, and leaves.
-fn have_turn<N: Turns, R: Wait>(rt: &R, lock: &FairLock<Count<N>>, tickets: &mut Share<N>)
+fn have_turn<N: Turns, R: Wait>(rt: &R, lock: &FairLock<Counter<N>>, tickets: &mut Share<N>)
     requires { 0 < tickets.old.amount }
     ensures amount { tickets.new.amount + 1 ≡ tickets.old.amount }
     ensures parts { tickets.new.parts ≡ tickets.old.parts }
@@ -89,7 +89,7 @@ fn have_turn<N: Turns, R: Wait>(rt: &R, lock: &FairLock<Count<N>>, tickets: &mut
 /// A thread has its turns: it enters, counts, and leaves, for each ticket.
 fn have_turns<N: Turns, R: Wait>(
     rt: &R,
-    lock: &FairLock<Count<N>>,
+    lock: &FairLock<Counter<N>>,
     before: Before<N>,
 ) -> After<N> {
     let Before { mut tickets, each } = before;
@@ -116,7 +116,7 @@ fn run<N: Turns + Send + Sync, R: Threads + Wait + Sync>(
 {
     let (mut left, mut all) = blank.open::<N>();
     left.add(&mut all, threads as u64 * each as u64);
-    let lock = make(alloc, burst, Count { so_far: 0, left })?;
+    let lock = make(alloc, burst, Counter { so_far: 0, left })?;
     let mut jobs = Vec::new(alloc);
     for _i in 0..threads {
         let tickets = all.split_off(1, each as u64);

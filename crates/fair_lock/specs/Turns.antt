@@ -15,7 +15,7 @@ IsServed burst ticket v = (burst ≤ 1 → IsAtTurn ticket v) × (2 ≤ burst �
 
 module _ {T : Type 0} where
   -- a guard of its lock
-  abbrev pub IsGuard : Guard T → Type 0
+  unfoldable pub IsGuard : Guard T → Type 0
   IsGuard g = IsSeatOf g.lock.now.table.shared.table_id g.lock.now.table.shared.key g.seat × IsServed g.lock.now.burst g.ticket (view_of g.seat)
 
   -- it was told that the lock is open

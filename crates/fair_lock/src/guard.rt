@@ -2,7 +2,7 @@
 ghost use Rattle.std.specs.Prelude.{◌≡◌, ◌∷◌, [], IsTrue};
 ghost use Rattle.std.specs.Borrow.{sem, Lends};
 ghost use Rattle.lock_core.specs.Views.{view_of, InTime, IsSeatOf, KnowsShut};
-ghost use Rattle.fair_lock.specs.Turns.{IsServed, IsGuard, IsOpen, LendsValue, SameValue};
+ghost use Rattle.fair_lock.specs.Turns.{IsServed, IsGuard, IsOpen, LendsValue, SameValue, with_value};
 
 use crate::lock::FairLock;
 use crate::sleep::pass_on;
@@ -18,6 +18,7 @@ pub struct Guard<'a, T> {
 
 impl<T> FairLock<T> {
     /// The guard of a thread that is served.
+    #[tactic(auto, unfolding(crate::specs::Turns::IsGuard))]
     pub(crate) fn guard(&self, seat: ValueSeat<T>, ticket: u64) -> Guard<'_, T>
         requires seat { IsSeatOf self.now.table.shared.table_id self.now.table.shared.key seat }
         requires served { InTime seat (IsServed self.now.burst ticket) }
@@ -33,17 +34,19 @@ impl<T> FairLock<T> {
 }
 
 impl<T> Guard<'_, T> {
-    /// Lends the value.
+    /// Lends the value. The guard stays what it is, whatever is written.
     pub fn value_mut(&mut self) -> &mut T
         requires guard { IsGuard self.old }
         ensures* writes_back { sem 𝓛 (LendsValue T.row self.entry result) }
         ensures value { self.old.seat.me.1 ≡ (0, result.now) ∷ [] }
+        ensures kept { (w : T) → IsGuard (with_value self.old w) }
     {
         let lock = self.lock;
         self.seat.slot_mut(&lock.table.shared, 0)
     }
 
     /// Shuts the lock: every later request is told so, and so are those that wait. One word step.
+    #[tactic(auto, unfolding(crate::specs::Turns::IsGuard))]
     pub fn shut(&mut self)
         requires guard { IsGuard self.old }
         requires open { IsOpen self.old }
@@ -55,6 +58,7 @@ impl<T> Guard<'_, T> {
     }
 
     /// Ends the turn: grants the next one, and wakes its waiter if that sleeps.
+    #[tactic(auto, unfolding(crate::specs::Turns::IsGuard))]
     pub fn leave<R: Wait>(self, rt: &R)
         requires guard { IsGuard self }
     {

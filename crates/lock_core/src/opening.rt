@@ -1,5 +1,5 @@
 //! A lock is opened, and callers come.
-ghost use Rattle.std.specs.Prelude.{◌≡◌, ◌≤◌, IfOk, IfErr, length};
+ghost use Rattle.std.specs.Prelude.{◌≡◌, ◌≢◌, ◌≤◌, IfOk, IfErr, length};
 ghost use Rattle.lock_core.specs.Layout.{HasLockWords, IsLockTable, IsValueTable};
 ghost use Rattle.lock_core.specs.Views.{view_of, IsSeatOf, IsIdle};
 ghost use Rattle.lock_core.specs.Answers.{max_burst_of, HasLongBursts, IsOpenErrorOf};
@@ -70,6 +70,19 @@ const FIRST_WORDS: [u64; 21] = [
     0,
 ];
 
+/// Refuses bursts of fewer than two turns.
+fn check_kind(kind: LockKind) -> Result<(), OpenError>
+    ensures long { IfOk result (λ _. HasLongBursts kind) }
+    ensures err { IfErr result (λ e. (e ≢ OpenError.Memory) × IsOpenErrorOf kind e) }
+{
+    if let LockKind::Bursts(turns) = kind {
+        if turns < 2 {
+            return Err(OpenError::ShortBurst(turns));
+        }
+    }
+    Ok(())
+}
+
 /// Opens a lock: one block of 168 bytes, its words. Refused by name: bursts of fewer than two turns, and where memory is
 /// short. Nothing is kept then.
 pub fn open(alloc: Global, kind: LockKind) -> Result<TicketTable, OpenError>
@@ -78,11 +91,7 @@ pub fn open(alloc: Global, kind: LockKind) -> Result<TicketTable, OpenError>
     ensures long { IfOk result (λ _. HasLongBursts kind) }
     ensures err { IfErr result (IsOpenErrorOf kind) }
 {
-    if let LockKind::Bursts(turns) = kind {
-        if turns < 2 {
-            return Err(OpenError::ShortBurst(turns));
-        }
-    }
+    check_kind(kind)?;
     match TicketTable::of_words(alloc, &FIRST_WORDS, &kind.max_burst()) {
         Ok((table, _)) => Ok(table),
         Err(_) => Err(OpenError::Memory),
@@ -110,11 +119,8 @@ pub fn open_value<T>(
     ensures err { IfErr result (λ e. IsOpenErrorOf kind e.error) }
     ensures values { IfErr result (λ e. e.values.items ≡ values.items) }
 {
-    if let LockKind::Bursts(turns) = kind {
-        if turns < 2 {
-            let error = OpenError::ShortBurst(turns);
-            return Err(OpenValueError { error, values });
-        }
+    if let Err(error) = check_kind(kind) {
+        return Err(OpenValueError { error, values });
     }
     match ValueTable::new(alloc, &FIRST_WORDS, values, &kind.max_burst()) {
         Ok((table, _)) => Ok(table),
