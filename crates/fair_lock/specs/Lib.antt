@@ -1,3 +1,4 @@
 pub mod WakeSteps
 pub mod Wakes
 pub mod Turns
+pub mod Closing

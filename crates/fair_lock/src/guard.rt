@@ -2,8 +2,10 @@
 ghost use Rattle.std.specs.Prelude.{◌≡◌, ◌∷◌, [], IsTrue};
 ghost use Rattle.std.specs.Borrow.{sem, Lends};
 ghost use Rattle.lock_core.specs.Views.{view_of, InTime, IsSeatOf, KnowsShut};
+ghost use Rattle.fair_lock.specs.Closing.{HasLeft};
 ghost use Rattle.fair_lock.specs.Turns.{IsServed, IsGuard, IsOpen, LendsValue, SameValue, with_value};
 
+use crate::closed::Left;
 use crate::lock::FairLock;
 use crate::sleep::pass_on;
 use lock_core::ValueSeat;
@@ -59,8 +61,9 @@ impl<T> Guard<'_, T> {
 
     /// Ends the turn: grants the next one, and wakes its waiter if that sleeps.
     #[tactic(auto, unfolding(crate::specs::Turns::IsGuard))]
-    pub fn leave<R: Wait>(self, rt: &R)
+    pub fn leave<R: Wait>(self, rt: &R) -> Left<T>
         requires guard { IsGuard self }
+        ensures left { HasLeft self.entry.lock.now result }
     {
         let Guard { lock, seat, ticket } = self;
         let mut seat = seat;
@@ -70,5 +73,6 @@ impl<T> Guard<'_, T> {
         } else {
             lock.leave_outer(rt, &mut seat);
         }
+        Left { seat }
     }
 }

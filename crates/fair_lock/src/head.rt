@@ -1,6 +1,6 @@
 //! The outer word of a lock with bursts: the queue head waits for it, and whoever is inside leaves it.
 ghost use Rattle.std.specs.Prelude.{◌≡◌, ◌≤◌, true, false};
-ghost use Rattle.lock_core.specs.Views.{view_of, InTime, LoadGrows, IsSeatOf, IsAtTurn, IsHeadInside, IsInside, IsOvertakenInBounds, ServedOpen, ServedShut, Kept};
+ghost use Rattle.lock_core.specs.Views.{view_of, InTime, LoadGrows, IsSeatOf, IsAtTurn, IsHeadInside, IsInside, IsOutside, IsOvertakenInBounds, ServedOpen, ServedShut, KnowsShut, SameKnown};
 
 use crate::lock::FairLock;
 use crate::queue::pause;
@@ -27,6 +27,7 @@ impl<T> FairLock<T> {
         ensures overtaken { InTime seat.new IsOvertakenInBounds }
         ensures open { result ≡ true → InTime seat.new ServedOpen }
         ensures shut { result ≡ false → InTime seat.new ServedShut }
+        ensures knows { result ≡ false → InTime seat.new KnowsShut }
     {
         let mut looks = 0;
         for _ in rt.forever() {
@@ -66,6 +67,10 @@ impl<T> FairLock<T> {
     pub(crate) fn leave_outer<R: Wait>(&self, rt: &R, seat: &mut ValueSeat<T>)
         requires seat { IsSeatOf self.now.table.shared.table_id self.now.table.shared.key seat.old }
         requires inside { InTime seat.old IsInside }
+        ensures seat { IsSeatOf self.now.table.shared.table_id self.now.table.shared.key seat.new }
+        ensures outside { InTime seat.new IsOutside }
+        ensures known { SameKnown (view_of seat.old) (view_of seat.new) }
+        ensures load { LoadGrows seat.old seat.new }
     {
         for _ in rt.forever() {
             if let LeaveResult::Outside { head_asleep } = leave(

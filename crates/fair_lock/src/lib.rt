@@ -1,6 +1,7 @@
 //! A lock of a value for threads that come and go: in strict order, or with bursts.
 #![tactic(auto)]
 
+mod closed;
 mod guard;
 mod head;
 mod lock;
@@ -10,8 +11,7 @@ mod timed;
 mod turns;
 mod wake;
 
+pub use closed::{Closed, EnterError, Left, TryEnterError};
 pub use guard::Guard;
 pub use lock::{FairLock, NewError};
 pub use lock_core::{LockKind, OpenError};
-pub use timed::EnterError;
-pub use turns::{Closed, TryEnterError};

@@ -1,13 +1,14 @@
 //! A thread enters within a limit of time.
-ghost use Rattle.std.specs.Prelude.{◌≡◌, ◌≤◌, IfOk, IfSome, IfNone, true, false};
-ghost use Rattle.lock_core.specs.Views.{InTime, LoadGrows, IsSeatOf, IsQueued, IsAtTurn, IsIdle, IsHeadInside, ServedOpen};
+ghost use Rattle.std.specs.Prelude.{◌≡◌, ◌≤◌, IfOk, IfErr, IfSome, IfNone, true, false};
+ghost use Rattle.lock_core.specs.Views.{InTime, LoadGrows, IsSeatOf, IsQueued, IsAtTurn, IsIdle, IsHeadInside, ServedOpen, KnowsShut};
 ghost use Rattle.fair_lock.specs.Turns.{IsGuard, IsOpen};
+ghost use Rattle.fair_lock.specs.Closing.{IsToldShut, IfEnterClosed};
 
+use crate::closed::EnterError;
 use crate::guard::Guard;
 use crate::lock::FairLock;
 use crate::queue::pause;
 use crate::sleep::pass_on;
-use crate::turns::Closed;
 use crate::wake::Announced;
 use crossbeam_utils::Backoff;
 use lock_core::{
@@ -23,15 +24,6 @@ const NEAR: u64 = 15;
 
 /// So often the queue head looks at the outer word before it sleeps.
 const LOOKS: u32 = 100;
-
-/// Why `enter_within` gave no turn.
-#[derive(Clone, Copy, Debug, PartialEq, Eq)]
-pub enum EnterError {
-    /// The lock is shut.
-    Closed,
-    /// The time was over before the turn. A request that was made is withdrawn.
-    Late,
-}
 
 /// A span of time. It counts as over if the clock could not be read.
 #[derive(Drop)]
@@ -76,8 +68,9 @@ impl<T> FairLock<T> {
         &self,
         rt: &R,
         at_most: Duration,
-    ) -> Result<Guard<'_, T>, EnterError>
+    ) -> Result<Guard<'_, T>, EnterError<T>>
         ensures guard { IfOk result (λ guard. IsGuard guard × IsOpen guard) }
+        ensures closed { IfErr result (IfEnterClosed (IsToldShut self.now)) }
     {
         let span = Span::begin(rt, at_most);
         let mut seat = new_seat(&self.table.shared);
@@ -179,10 +172,11 @@ impl<T> FairLock<T> {
         mut seat: ValueSeat<T>,
         ticket: u64,
         span: &Span,
-    ) -> Result<Guard<'_, T>, EnterError>
+    ) -> Result<Guard<'_, T>, EnterError<T>>
         requires seat { IsSeatOf self.now.table.shared.table_id self.now.table.shared.key seat }
         requires at_turn { InTime seat (IsAtTurn ticket) }
         ensures guard { IfOk result (λ guard. IsGuard guard × IsOpen guard) }
+        ensures closed { IfErr result (IfEnterClosed (IsToldShut self.now)) }
     {
         let answer = if self.burst < 2 {
             self.look_and_begin(rt, seat, ticket)
@@ -196,7 +190,7 @@ impl<T> FairLock<T> {
         };
         match answer {
             Ok(guard) => Ok(guard),
-            Err(Closed) => Err(EnterError::Closed),
+            Err(closed) => Err(EnterError::Closed(closed)),
         }
     }
 
@@ -214,6 +208,7 @@ impl<T> FairLock<T> {
         ensures seat { IsSeatOf self.now.table.shared.table_id self.now.table.shared.key seat.new }
         ensures inside { IfSome result (λ _. InTime seat.new (IsHeadInside ticket)) }
         ensures open { IfSome result (λ is_open. is_open ≡ true → InTime seat.new ServedOpen) }
+        ensures shut { IfSome result (λ is_open. is_open ≡ false → InTime seat.new KnowsShut) }
         ensures at_turn { IfNone result (InTime seat.new (IsAtTurn ticket)) }
     {
         let mut looks = 0;

@@ -1,8 +1,10 @@
 //! A thread enters, and leaves.
-ghost use Rattle.std.specs.Prelude.{◌≡◌, ◌≤◌, IfOk, true};
-ghost use Rattle.lock_core.specs.Views.{InTime, IsSeatOf, IsAtTurn, IsHeadInside, ServedOpen};
+ghost use Rattle.std.specs.Prelude.{◌≡◌, ◌≤◌, IfOk, IfErr, true, false};
+ghost use Rattle.lock_core.specs.Views.{InTime, IsSeatOf, IsAtTurn, IsHeadInside, ServedOpen, KnowsShut};
 ghost use Rattle.fair_lock.specs.Turns.{IsGuard, IsOpen};
+ghost use Rattle.fair_lock.specs.Closing.{IsToldShut, IfTryClosed};
 
+use crate::closed::{Closed, TryEnterError};
 use crate::guard::Guard;
 use crate::lock::FairLock;
 use crate::sleep::pass_on;
@@ -10,19 +12,6 @@ use lock_core::{
     AskWithinResult, TakeResult, ValueSeat, ask_within, check_open, go_in, new_seat, take_outer,
 };
 use std::sync::Wait;
-
-/// The lock is shut: there are no more turns.
-#[derive(Clone, Copy, Debug, PartialEq, Eq)]
-pub struct Closed;
-
-/// Why `try_enter` gave no turn.
-#[derive(Clone, Copy, Debug, PartialEq, Eq)]
-pub enum TryEnterError {
-    /// Another thread is served, or waits.
-    Busy,
-    /// The lock is shut.
-    Closed,
-}
 
 impl<T> FairLock<T> {
     /// Enters, and waits for that as long as it takes: polls for some 20 us, and then sleeps. Blocks.
@@ -33,8 +22,9 @@ impl<T> FairLock<T> {
     /// # Errors
     ///
     /// If the lock is shut.
-    pub fn enter<R: Wait>(&self, rt: &R) -> Result<Guard<'_, T>, Closed>
+    pub fn enter<R: Wait>(&self, rt: &R) -> Result<Guard<'_, T>, Closed<T>>
         ensures guard { IfOk result (λ guard. IsGuard guard × IsOpen guard) }
+        ensures closed { IfErr result (IsToldShut self.now) }
     {
         let mut seat = new_seat(&self.table.shared);
         if self.burst < 2 {
@@ -54,8 +44,9 @@ impl<T> FairLock<T> {
     /// # Errors
     ///
     /// If the lock is shut, or another thread is served or waits.
-    pub fn try_enter<R: Wait>(&self, rt: &R) -> Result<Guard<'_, T>, TryEnterError>
+    pub fn try_enter<R: Wait>(&self, rt: &R) -> Result<Guard<'_, T>, TryEnterError<T>>
         ensures guard { IfOk result (λ guard. IsGuard guard × IsOpen guard) }
+        ensures closed { IfErr result (IfTryClosed (IsToldShut self.now)) }
     {
         let mut seat = new_seat(&self.table.shared);
         if self.burst >= 2 && go_in(&self.table.shared, &mut seat) {
@@ -67,7 +58,7 @@ impl<T> FairLock<T> {
         if self.burst < 2 {
             return match self.look_and_begin(rt, seat, ticket) {
                 Ok(guard) => Ok(guard),
-                Err(Closed) => Err(TryEnterError::Closed),
+                Err(closed) => Err(TryEnterError::Closed(closed)),
             };
         }
         let open = match take_outer(&self.table.shared, &mut seat, ticket) {
@@ -81,7 +72,7 @@ impl<T> FairLock<T> {
         };
         match self.pass_on_inside(rt, seat, ticket, open) {
             Ok(guard) => Ok(guard),
-            Err(Closed) => Err(TryEnterError::Closed),
+            Err(closed) => Err(TryEnterError::Closed(closed)),
         }
     }
 
@@ -91,18 +82,19 @@ impl<T> FairLock<T> {
         rt: &R,
         mut seat: ValueSeat<T>,
         ticket: u64,
-    ) -> Result<Guard<'_, T>, Closed>
+    ) -> Result<Guard<'_, T>, Closed<T>>
         requires strict { self.now.burst ≤ 1 }
         requires seat { IsSeatOf self.now.table.shared.table_id self.now.table.shared.key seat }
         requires at_turn { InTime seat (IsAtTurn ticket) }
         ensures guard { IfOk result (λ guard. IsGuard guard × IsOpen guard) }
+        ensures closed { IfErr result (IsToldShut self.now) }
     {
         if check_open(&self.table.shared, &mut seat, ticket) {
             return Ok(self.guard(seat, ticket));
         }
         self.wakes
             .wake(pass_on(rt, &self.table.shared, &mut seat, ticket));
-        Err(Closed)
+        Err(Closed { seat })
     }
 
     /// The queue head is inside: passes its turn of the queue on, and leaves where the lock is shut.
@@ -112,12 +104,14 @@ impl<T> FairLock<T> {
         mut seat: ValueSeat<T>,
         ticket: u64,
         is_open: bool,
-    ) -> Result<Guard<'_, T>, Closed>
+    ) -> Result<Guard<'_, T>, Closed<T>>
         requires bursts { 2 ≤ self.now.burst }
         requires seat { IsSeatOf self.now.table.shared.table_id self.now.table.shared.key seat }
         requires inside { InTime seat (IsHeadInside ticket) }
         requires open { is_open ≡ true → InTime seat ServedOpen }
+        requires shut { is_open ≡ false → InTime seat KnowsShut }
         ensures guard { IfOk result (λ guard. IsGuard guard × IsOpen guard) }
+        ensures closed { IfErr result (IsToldShut self.now) }
     {
         self.wakes
             .wake(pass_on(rt, &self.table.shared, &mut seat, ticket));
@@ -125,6 +119,6 @@ impl<T> FairLock<T> {
             return Ok(self.guard(seat, ticket));
         }
         self.leave_outer(rt, &mut seat);
-        Err(Closed)
+        Err(Closed { seat })
     }
 }

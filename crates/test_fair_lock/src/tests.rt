@@ -42,7 +42,7 @@ fn add_within<R: Wait + Clock>(rt: &R, lock: &FairLock<u64>, times: u64, at_most
                 guard.leave(rt);
                 had = had.wrapping_add(1);
             }
-            Err(EnterError::Late) | Err(EnterError::Closed) => {}
+            Err(EnterError::Late) | Err(EnterError::Closed(_)) => {}
         }
     }
     had
