@@ -8,6 +8,9 @@
 #include <stdlib.h>
 #include <string.h>
 
+/* The core's block has at least the address of its words, its bound and its label. */
+enum { LEAST_CORE_BLOCK = 24 };
+
 #define HIDDEN __attribute__((visibility("hidden")))
 
 HIDDEN void *qolb_malloc_(size_t size);
@@ -15,12 +18,25 @@ HIDDEN void *qolb_realloc_(void *block, size_t size);
 HIDDEN void qolb_free_(void *block);
 
 BY_THREAD struct room qolb_room_;
+BY_THREAD struct core_room qolb_core_room_;
+
+/* The place of a block of a lock's core, or NULL: each is given once. */
+static void *given_by_lock(size_t size) {
+    void **place = size == CORE_WORDS_BYTES                               ? &qolb_core_room_.words
+                   : size <= CORE_BLOCK_BYTES && size >= LEAST_CORE_BLOCK ? &qolb_core_room_.block
+                                                                          : NULL;
+    void *block = place ? *place : NULL;
+    if (place) *place = NULL;
+    return block;
+}
 
 static struct before *before(void *block) { return (struct before *)block - 1; }
 
 /* If nothing can be added to the size, the allocation fails. What malloc gives is a multiple of 16, so there is room
  * for a `struct before`. */
 void *qolb_malloc_(size_t size) {
+    void *of_lock = given_by_lock(size);
+    if (of_lock) return of_lock;
     struct room *room = &qolb_room_;
     if ((size == NODE_BYTES || size == LINE_BYTES) && (size_t)(room->end - room->at) >= ROOM_BYTES(size)) {
         void *block = room->at;

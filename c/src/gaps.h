@@ -33,6 +33,15 @@ struct room {
     char *at, *end;
 };
 
+/* The two blocks of a lock's core, which lie in the lock's own bytes (core_lock/opens.c): its words, and what refers to
+ * them. They have no `struct before`, and are never freed. */
+enum { CORE_WORDS_BYTES = 168, CORE_BLOCK_BYTES = 80 };
+
+/* Where they go, while the thread opens a core; else NULL. */
+struct core_room {
+    void *words, *block;
+};
+
 /* A library that is opened at run time has room for this few bytes of the GNU C library; others may have none. */
 #ifdef __GLIBC__
 #define BY_THREAD _Thread_local __attribute__((tls_model("initial-exec")))
@@ -41,6 +50,7 @@ struct room {
 #endif
 
 extern BY_THREAD __attribute__((visibility("hidden"))) struct room qolb_room_;
+extern BY_THREAD __attribute__((visibility("hidden"))) struct core_room qolb_core_room_;
 
 _Static_assert(SEAT_BYTES <= GAP_BYTES / 2 && NOTICE_BYTES <= GAP_BYTES / 2, "both are before the number");
 _Static_assert(NODE_BYTES % GAP_BYTES + GAP_BYTES / 2 + sizeof(uint32_t) + sizeof(struct before) <= GAP_BYTES,

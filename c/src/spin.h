@@ -1,0 +1,74 @@
+/* How long a waiter spins before it sleeps, and how long it pauses between two polls: the one policy of nodes and of
+ * locks (docs/DECISIONS.md says what was tried). One of the library's internal files.
+ *
+ * A waiter that finds that it is not at its turn calls qolb_spin_once_, which pauses for some 90 ns, and polls again;
+ * once the call answers 0 it sleeps, and spins anew after that. It spins 50 us if at most four are before it; 2 us if
+ * more are, as its turn is far; and 20 us if it can't tell. Sleeping and waking cost about as much, so a wait takes at
+ * most about twice the best (Karlin and others, SOSP 1991).
+ *
+ * No waiter yields its processor. A yield by a real-time thread gives way to no thread of a lower priority, and by
+ * others it makes handoffs slower. A process that may use one processor only does not spin. */
+#ifndef QOLB_SPIN_H
+#define QOLB_SPIN_H
+
+#include <stdatomic.h>
+#include <stdint.h>
+
+/* ---- The policy, in nanoseconds ---- */
+
+enum {
+    POLL_PAUSE = 90,     /* between two polls */
+    SPIN_NEAR = 50000,   /* before a sleep, with at most NEAR before the waiter, the holder among them */
+    SPIN_FAR = 2000,     /* with more */
+    SPIN_UNKNOWN = 20000 /* if it can't be told how many */
+};
+enum { NEAR_TURNS = 4 };
+
+/* The number of those before a waiter, if it can't be told. */
+#define UNKNOWN_TURNS UINT64_MAX
+
+/* ---- Pauses ---- */
+
+/* How many instructions `pause` take 1,024 ns, which is counted once: they take 10 to 140 cycles, by the processor. 0:
+ * not counted, or the process may use one processor only. */
+extern __attribute__((visibility("hidden"))) atomic_uint qolb_pauses_;
+
+/* Counts them, unless the process may use one processor only: then 0. */
+__attribute__((visibility("hidden"))) unsigned qolb_count_pauses_(void);
+
+static inline unsigned pauses_in_1024(void) {
+    unsigned counted = atomic_load_explicit(&qolb_pauses_, memory_order_relaxed);
+    return counted ? counted : qolb_count_pauses_();
+}
+
+/* Pauses for so many nanoseconds, at most 1,000,000; returns 0, at once, if the process may use one processor only. */
+static inline int qolb_pause_(unsigned nanoseconds) {
+    unsigned each = pauses_in_1024();
+    if (each == 0) return 0;
+    unsigned pauses = (each * nanoseconds + 512) / 1024;
+    do __builtin_ia32_pause();
+    while (pauses-- > 1);
+    return 1;
+}
+
+/* ---- Spinning ---- */
+
+/* What a waiter has spun since its wait began, or since it slept: {0} then. */
+struct spin {
+    unsigned polls;
+};
+
+static inline unsigned polls_before_sleep(uint64_t before) {
+    if (before == UNKNOWN_TURNS) return SPIN_UNKNOWN / POLL_PAUSE;
+    return (before <= NEAR_TURNS ? SPIN_NEAR : SPIN_FAR) / POLL_PAUSE;
+}
+
+/* Pauses between two polls of a waiter that has so many before it: 1. If it is time to sleep: 0, at once. How many there
+ * are may be told anew with each call. It reads no clock: a thread that loses its processor spins on afterwards. */
+static inline int qolb_spin_once_(struct spin *spin, uint64_t before) {
+    if (spin->polls >= polls_before_sleep(before)) return 0;
+    spin->polls++;
+    return qolb_pause_(POLL_PAUSE);
+}
+
+#endif
