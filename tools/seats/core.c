@@ -10,10 +10,25 @@
 #include <stdbool.h>
 #include <stddef.h>
 
+/* ../seats_core.py: told of each drawn ticket, and of each withdrawn one, by the same step; and what is otherwise the
+ * width of a cell's fields, by scenes. */
+#ifdef EXPLORED
+extern unsigned model_near, model_sleepers;
+void hook_draws(void);
+void hook_withdraws(void);
+#define MOST_NEAR model_near
+#define MOST_SLEEPERS model_sleepers
+enum { MOST_PASSED = 1 };
+#else
+#define hook_draws() ((void)0)
+#define hook_withdraws() ((void)0)
+enum { MOST_NEAR = 15, MOST_SLEEPERS = 65535, MOST_PASSED = 1000 };
+#endif
+
 void *qolb_malloc_(size_t size);
 void qolb_free_(void *block);
 
-enum { OUTER = 0, TAIL = 16, CELLS = 17, WORDS = 21, MOST_NEAR = 15, MOST_SLEEPERS = 65535, MOST_PASSED = 1000 };
+enum { OUTER = 0, TAIL = 16, CELLS = 17, WORDS = 21, IN_ROUND = 4 };
 enum { HANDOFF = 1, HEAD_SLEEPS = 2, HELD = 4, RESERVED = 8, STATE = 12, SHUT = 16, NEWCOMER = 32 };
 #define ROUND ((uint64_t)1 << 34)
 #define SLEEPER ((uint64_t)1 << 16)
@@ -27,9 +42,11 @@ struct lock {
 
 static const struct lock *of(const struct qolb_core *core) { return core->at; }
 static _Atomic uint64_t *outer_of(const struct lock *lock) { return &lock->words[OUTER]; }
-static _Atomic uint64_t *cell_of(const struct lock *lock, uint64_t number) { return &lock->words[CELLS + number % 4]; }
-static uint64_t bit_of(uint64_t number) { return (uint64_t)1 << (number / 4 % 16); }
-static uint64_t to_go(uint64_t cell, uint64_t number) { return (number / 4 + 1 - cell / ROUND) % (ROUND >> 4); }
+static _Atomic uint64_t *cell_of(const struct lock *lock, uint64_t number) {
+    return &lock->words[CELLS + number % IN_ROUND];
+}
+static uint64_t bit_of(uint64_t number) { return (uint64_t)1 << (number / IN_ROUND % 16); }
+static uint64_t to_go(uint64_t cell, uint64_t number) { return (number / IN_ROUND + 1 - cell / ROUND) % (ROUND >> 4); }
 static uint64_t sleepers_in(uint64_t cell) { return cell / SLEEPER % 65536; }
 
 /* Whether the ticket is of this lock and in one of these states, which are bits. */
@@ -66,6 +83,7 @@ static uint32_t looks(struct qolb_ticket *ticket, uint64_t cell) {
 }
 
 static void draws(const struct lock *lock, struct qolb_ticket *ticket, uint64_t number) {
+    hook_draws();
     ticket->number = number;
     ticket->label = lock->label;
 }
@@ -127,8 +145,10 @@ uint32_t qolb_core_withdraw_proved_(const struct qolb_core *core, struct qolb_ti
     if (!is(lock, ticket, BIT(WAITS))) return QOLB_MISUSE;
     if (ticket->rounds > MOST_NEAR) return QOLB_FAR_;
     _Atomic uint64_t *cell = cell_of(lock, ticket->number);
-    if (to_go(atomic_fetch_add(cell, bit_of(ticket->number)), ticket->number))
+    if (to_go(atomic_fetch_add(cell, bit_of(ticket->number)), ticket->number)) {
+        hook_withdraws();
         return in_state(ticket, QOLB_TICKET_NONE_, QOLB_WITHDRAWN);
+    }
     atomic_fetch_sub(cell, bit_of(ticket->number));
     return in_state(ticket, QOLB_TICKET_AT_TURN_, QOLB_GRANTED);
 }
