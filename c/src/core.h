@@ -11,6 +11,7 @@
 #define QOLB_CORE_H
 
 #include "qolb.h"
+#include <stdbool.h>
 
 enum qolb_core_answer {
     QOLB_FAR_ = 16,        /* so many rounds are before it (ticket.rounds) that it could not be withdrawn */
@@ -21,16 +22,17 @@ enum qolb_core_answer {
 
 /* What the ticket has, in `state`. */
 enum qolb_ticket_state {
-    QOLB_TICKET_NONE_ = 0,        /* no request; it may have been used before */
-    QOLB_TICKET_WAITS_ = 1,       /* it waits */
-    QOLB_TICKET_ASLEEP_ = 2,      /* it waits, and its sleep is announced */
-    QOLB_TICKET_AT_TURN_ = 3,     /* at its turn; with bursts: the queue head */
-    QOLB_TICKET_SERVED_ = 4,      /* at its turn in a strict lock, and told that this is open */
-    QOLB_TICKET_SHUT_ = 5,        /* the same, told that it is shut */
-    QOLB_TICKET_HEAD_IN_ = 6,     /* the queue head, in by the outer word: open. Its turn of the queue is to be released */
-    QOLB_TICKET_HEAD_IN_SHUT_ = 7,/* the same, of a lock that is shut */
-    QOLB_TICKET_IN_ = 8,          /* in by the outer word alone: open */
-    QOLB_TICKET_IN_SHUT_ = 9      /* the same, of a lock that is shut */
+    QOLB_TICKET_FREE_ = 0,           /* no request; it may have been used before */
+    QOLB_TICKET_WAITING_ = 1,        /* it waits */
+    QOLB_TICKET_ASLEEP_ = 2,         /* it waits, and its sleep is announced */
+    QOLB_TICKET_AT_TURN_ = 3,        /* at its turn; with bursts: the queue head */
+    QOLB_TICKET_SERVED_ = 4,         /* at its turn in a strict lock, and told that this is open */
+    QOLB_TICKET_SERVED_SHUT_ = 5,    /* the same, told that it is shut */
+    QOLB_TICKET_ENDING_ = 6,         /* a release that was UNFINISHED: only release goes on */
+    QOLB_TICKET_HEAD_INSIDE_ = 7,    /* the queue head, in by the outer word: open. Its turn of the queue is to be released */
+    QOLB_TICKET_HEAD_INSIDE_SHUT_ = 8, /* the same, of a lock that is shut */
+    QOLB_TICKET_INSIDE_ = 9,         /* in by the outer word alone: open */
+    QOLB_TICKET_INSIDE_SHUT_ = 10    /* the same, of a lock that is shut */
 };
 
 /* A reference to a lock. May be copied. */
@@ -39,7 +41,7 @@ struct qolb_core {
 };
 
 /* A ticket, all zeros at first. Not to be copied; one call at a time. The caller may write `outer`, and no other field.
- * A ticket without a request (state NONE) may go to another lock, or be set to zeros. */
+ * A FREE ticket may go to another lock, or be set to zeros. */
 struct qolb_ticket {
     uint64_t number;     /* from ask on: the ticket's number. After a release: the last number whose turn ended, so that
                             number + 1 is the ticket that was granted */
@@ -49,9 +51,10 @@ struct qolb_ticket {
                             the word to sleep at. A wrong guess costs a call */
     uint64_t word;       /* after an ASLEEP of announce_sleep: the cell's word to sleep at */
     uint64_t sleepers;   /* after a release: so many had announced their sleep at the granted ticket's cell */
-    uint32_t state;      /* enum qolb_ticket_state */
-    uint32_t head_sleeps;/* after a leave: 1 if the queue head sleeps at the outer word, and is to be woken */
     uint64_t label;      /* the label of its lock, 0 if none: by this it is known whether a ticket is of the lock */
+    uint32_t state;      /* enum qolb_ticket_state */
+    bool head_sleeps;    /* after a leave: the queue head sleeps at the outer word, and is to be woken */
+    uint8_t claim;       /* stands for what the proof says of the ticket */
 };
 
 /* Opens a lock in a block of the heap, or in the calling thread's room (gaps.h). `burst`: at most so many turns from one
@@ -67,35 +70,35 @@ uint32_t qolb_core_ask_near_proved_(const struct qolb_core *, struct qolb_ticket
 /* The same if it would be at its turn: GRANTED, or BUSY: no ticket drawn. Says nothing of whether the lock is shut.
  * MISUSE as ask. */
 uint32_t qolb_core_try_ask_proved_(const struct qolb_core *, struct qolb_ticket *);
-/* Looks at the ticket's cell: GRANTED or WAITING. MISUSE unless it WAITS (state). */
+/* Looks at the ticket's cell: GRANTED or WAITING. MISUSE unless it is WAITING (state). */
 uint32_t qolb_core_poll_proved_(const struct qolb_core *, struct qolb_ticket *);
 
 /* Counts the waiter as a sleeper of its cell, unless it is at its turn: ASLEEP, then sleep while the upper 32 bits of the
  * cell are those of ticket.word, and call retract_sleep afterwards; GRANTED; WAITING (the cell changed at that moment, not
- * counted); FULL (not counted). MISUSE unless it WAITS. */
+ * counted); FULL (not counted). MISUSE unless it is WAITING. */
 uint32_t qolb_core_announce_sleep_proved_(const struct qolb_core *, struct qolb_ticket *);
 /* Takes the count back: GRANTED or WAITING. MISUSE unless it is ASLEEP (state). */
 uint32_t qolb_core_retract_sleep_proved_(const struct qolb_core *, struct qolb_ticket *);
 /* WITHDRAWN: the ticket has no request any more, and the lock may be gone. GRANTED: it is at its turn. FAR: ticket.rounds
- * is above 15, nothing changed. MISUSE unless it WAITS: a sleep is retracted first. */
+ * is above 15, nothing changed. MISUSE unless it is WAITING: a sleep is retracted first. */
 uint32_t qolb_core_withdraw_proved_(const struct qolb_core *, struct qolb_ticket *);
 /* Ends the turn of the queue, passes withdrawn requests, and grants the next ticket: DONE (ticket.number + 1 is granted,
- * ticket.sleepers; a head that is in stays IN, else the ticket has NONE and the lock may be gone). UNFINISHED: it passed
- * 1,000. MISUSE unless it is AT_TURN, SERVED, SHUT, HEAD_IN or HEAD_IN_SHUT. */
+ * ticket.sleepers; a head that is in is INSIDE then, else the ticket is FREE and the lock may be gone). UNFINISHED: it passed
+ * 1,000. MISUSE unless it is AT_TURN, SERVED, SERVED_SHUT, ENDING, HEAD_INSIDE or HEAD_INSIDE_SHUT. */
 uint32_t qolb_core_release_proved_(const struct qolb_core *, struct qolb_ticket *);
 
-/* At the turn of a strict lock: GRANTED (open: SERVED) or CLOSED (SHUT: pass the turn on by release, or reopen). MISUSE
- * unless it is AT_TURN, SERVED or SHUT in a strict lock. */
+/* At the turn of a strict lock: GRANTED (open: SERVED) or CLOSED (SERVED_SHUT: pass the turn on by release, or reopen). MISUSE
+ * unless it is AT_TURN, SERVED or SERVED_SHUT in a strict lock. */
 uint32_t qolb_core_check_open_proved_(const struct qolb_core *, struct qolb_ticket *);
-/* A newcomer takes the outer word, if that is ticket.outer, free for anyone, and open: GRANTED (IN); BUSY: ticket.outer
+/* A newcomer takes the outer word, if that is ticket.outer, free for anyone, and open: GRANTED (INSIDE); BUSY: ticket.outer
  * has the word that was found. MISUSE: the ticket has a request or is in, or the lock is strict. */
 uint32_t qolb_core_go_in_proved_(const struct qolb_core *, struct qolb_ticket *);
-/* The queue head takes the outer word, if it is free: GRANTED (HEAD_IN) or CLOSED (HEAD_IN_SHUT): in; release the turn of
+/* The queue head takes the outer word, if it is free: GRANTED (HEAD_INSIDE) or CLOSED (HEAD_INSIDE_SHUT): in; release the turn of
  * the queue next. WAITING: it is held, or changed at that moment; ticket.outer has the word. MISUSE unless it is AT_TURN
  * in a lock with bursts. */
 uint32_t qolb_core_take_outer_proved_(const struct qolb_core *, struct qolb_ticket *);
-/* Leaves the outer word, if that is ticket.outer: DONE (NONE; ticket.head_sleeps; the lock may be gone). BUSY: the word
- * was another, which ticket.outer has now: call again. MISUSE unless it is IN or IN_SHUT. */
+/* Leaves the outer word, if that is ticket.outer: DONE (FREE; ticket.head_sleeps; the lock may be gone). BUSY: the word
+ * was another, which ticket.outer has now: call again. MISUSE unless it is INSIDE or INSIDE_SHUT. */
 uint32_t qolb_core_leave_proved_(const struct qolb_core *, struct qolb_ticket *);
 /* The queue head asks whoever is in to leave the outer word for the head alone: DONE, or BUSY (it changed at that
  * moment). MISUSE unless it is AT_TURN. */
@@ -104,11 +107,11 @@ uint32_t qolb_core_request_handoff_proved_(const struct qolb_core *, struct qolb
  * those of ticket.outer. WAITING: the word is not held, or changed at that moment. MISUSE unless it is AT_TURN. */
 uint32_t qolb_core_announce_head_sleep_proved_(const struct qolb_core *, struct qolb_ticket *);
 
-/* Who is served shuts the lock: DONE (SERVED becomes SHUT, HEAD_IN becomes HEAD_IN_SHUT, IN becomes IN_SHUT). From then
- * on nobody goes in by go_in, and who comes to a turn is told CLOSED. MISUSE unless it is SERVED, HEAD_IN or IN. */
+/* Who is served shuts the lock: DONE (SERVED becomes SERVED_SHUT, and so on). From then
+ * on nobody goes in by go_in, and who comes to a turn is told CLOSED. MISUSE unless it is SERVED, HEAD_INSIDE or INSIDE. */
 uint32_t qolb_core_shut_proved_(const struct qolb_core *, struct qolb_ticket *);
-/* Who was told CLOSED at a turn opens the lock again, if nobody asked after it: GRANTED (SHUT becomes SERVED, HEAD_IN_SHUT
- * becomes HEAD_IN), or BUSY. MISUSE unless it is SHUT or HEAD_IN_SHUT. */
+/* Who was told CLOSED at a turn opens the lock again, if nobody asked after it: GRANTED (SERVED_SHUT becomes
+ * SERVED, HEAD_INSIDE_SHUT becomes HEAD_INSIDE), or BUSY. MISUSE unless it is SERVED_SHUT or HEAD_INSIDE_SHUT. */
 uint32_t qolb_core_reopen_proved_(const struct qolb_core *, struct qolb_ticket *);
 
 /* Where to sleep and wake. The words of an open lock; they never move. Word 0 is the outer word: bit 0 handoff requested,

@@ -1,16 +1,21 @@
 /* How long a waiter spins before it sleeps, and how long it pauses between two polls: the one policy of nodes and of
  * locks (docs/DECISIONS.md says what was tried). One of the library's internal files.
  *
- * A waiter that finds that it is not at its turn calls qolb_spin_once_, which pauses for some 90 ns, and polls again;
- * once the call answers 0 it sleeps, and spins anew after that. It spins 50 us if at most four are before it; 2 us if
- * more are, as its turn is far; and 20 us if it can't tell. Sleeping and waking cost about as much, so a wait takes at
- * most about twice the best (Karlin and others, SOSP 1991).
+ * A waiter that finds that it is not at its turn calls qolb_spin_once_, which pauses for some 90 ns, and polls again.
+ * Once the call answers 0 the waiter sleeps, and calls it anew when it is woken. At most it spins 50 us if four or fewer
+ * are before it; 2 us if more are, as its turn is far; and 20 us if it can't tell. Sleeping and waking cost about as
+ * much, so a wait takes at most about twice the best (Karlin and others, SOSP 1991).
+ *
+ * Each thread learns how long spinning pays. A spin that ends with a sleep halves the length of its next one, down to
+ * 2 us, and each spin begins with an eighth more: on a machine whose processors have other work, who spins keeps the
+ * holder from going on. A spin after a sleep has a length of its own, as who is woken ahead is next.
  *
  * No waiter yields its processor. A yield by a real-time thread gives way to no thread of a lower priority, and by
  * others it makes handoffs slower. A process that may use one processor only does not spin. */
 #ifndef QOLB_SPIN_H
 #define QOLB_SPIN_H
 
+#include "gaps.h"
 #include <stdatomic.h>
 #include <stdint.h>
 
@@ -19,10 +24,10 @@
 enum {
     POLL_PAUSE = 90,     /* between two polls */
     SPIN_NEAR = 50000,   /* before a sleep, with at most NEAR before the waiter, the holder among them */
-    SPIN_FAR = 2000,     /* with more */
+    SPIN_FAR = 2000,     /* with more; and the least */
     SPIN_UNKNOWN = 20000 /* if it can't be told how many */
 };
-enum { NEAR_TURNS = 4 };
+enum { NEAR_TURNS = 4, GROWS_BY = 8, SHRINKS_BY = 2 };
 
 /* The number of those before a waiter, if it can't be told. */
 #define UNKNOWN_TURNS UINT64_MAX
@@ -53,22 +58,42 @@ static inline int qolb_pause_(unsigned nanoseconds) {
 
 /* ---- Spinning ---- */
 
-/* What a waiter has spun since its wait began, or since it slept: {0} then. */
+/* What a waiter has spun since it last slept in this wait. {0} when the wait begins. */
 struct spin {
     unsigned polls;
+    int slept; /* it has slept in this wait, or was told to */
 };
+
+/* The most polls of this thread's next spins, without a sleep in the same wait and after one. 0: as many as may be. */
+extern __attribute__((visibility("hidden"))) BY_THREAD unsigned qolb_patience_[2];
 
 static inline unsigned polls_before_sleep(uint64_t before) {
     if (before == UNKNOWN_TURNS) return SPIN_UNKNOWN / POLL_PAUSE;
     return (before <= NEAR_TURNS ? SPIN_NEAR : SPIN_FAR) / POLL_PAUSE;
 }
 
-/* Pauses between two polls of a waiter that has so many before it: 1. If it is time to sleep: 0, at once. How many there
- * are may be told anew with each call. It reads no clock: a thread that loses its processor spins on afterwards. */
+static inline unsigned begin_spin(unsigned *patience) {
+    unsigned grown = *patience + *patience / GROWS_BY;
+    return *patience = *patience && grown < SPIN_NEAR / POLL_PAUSE ? grown : SPIN_NEAR / POLL_PAUSE;
+}
+
+/* One that ends because the turn is far says nothing of the next one. */
+static inline void end_spin(struct spin *spin, unsigned *patience) {
+    unsigned less = spin->polls / SHRINKS_BY, least = SPIN_FAR / POLL_PAUSE;
+    if (spin->polls > least) *patience = less > least ? less : least;
+    spin->polls = 0;
+    spin->slept = 1;
+}
+
+/* Pauses between two polls of a waiter that has so many before it: 1. If it is time to sleep: 0, at once; the next call
+ * begins a new spin. How many there are may be told anew with each call. It reads no clock: a thread that loses its
+ * processor spins on afterwards. */
 static inline int qolb_spin_once_(struct spin *spin, uint64_t before) {
-    if (spin->polls >= polls_before_sleep(before)) return 0;
-    spin->polls++;
-    return qolb_pause_(POLL_PAUSE);
+    unsigned *patience = &qolb_patience_[spin->slept], most = polls_before_sleep(before);
+    unsigned patient = spin->polls ? *patience : begin_spin(patience);
+    if (spin->polls < (patient < most ? patient : most) && qolb_pause_(POLL_PAUSE)) return spin->polls++, 1;
+    end_spin(spin, patience);
+    return 0;
 }
 
 #endif

@@ -51,7 +51,7 @@ static uint64_t sleepers_in(uint64_t cell) { return cell / SLEEPER % 65536; }
 
 /* Whether the ticket is of this lock and in one of these states, which are bits. */
 static bool is(const struct lock *lock, const struct qolb_ticket *ticket, unsigned states) {
-    return (states >> ticket->state & 1) && (ticket->state == QOLB_TICKET_NONE_ || ticket->label == lock->label);
+    return (states >> ticket->state & 1) && (ticket->state == QOLB_TICKET_FREE_ || ticket->label == lock->label);
 }
 static uint32_t in_state(struct qolb_ticket *ticket, uint32_t state, uint32_t answer) {
     ticket->state = state;
@@ -78,7 +78,7 @@ uint32_t qolb_core_open_proved_(uint64_t burst, uint64_t label, struct qolb_core
 /* What the ticket is told by its cell's word. */
 static uint32_t looks(struct qolb_ticket *ticket, uint64_t cell) {
     ticket->rounds = to_go(cell, ticket->number);
-    return ticket->rounds ? in_state(ticket, QOLB_TICKET_WAITS_, QOLB_WAITING)
+    return ticket->rounds ? in_state(ticket, QOLB_TICKET_WAITING_, QOLB_WAITING)
                           : in_state(ticket, QOLB_TICKET_AT_TURN_, QOLB_GRANTED);
 }
 
@@ -90,14 +90,14 @@ static void draws(const struct lock *lock, struct qolb_ticket *ticket, uint64_t 
 
 uint32_t qolb_core_ask_proved_(const struct qolb_core *core, struct qolb_ticket *ticket) {
     const struct lock *lock = of(core);
-    if (!is(lock, ticket, BIT(NONE))) return QOLB_MISUSE;
+    if (!is(lock, ticket, BIT(FREE))) return QOLB_MISUSE;
     draws(lock, ticket, atomic_fetch_add(&lock->words[TAIL], 1));
     return looks(ticket, atomic_load(cell_of(lock, ticket->number)));
 }
 
 uint32_t qolb_core_ask_near_proved_(const struct qolb_core *core, struct qolb_ticket *ticket) {
     const struct lock *lock = of(core);
-    if (!is(lock, ticket, BIT(NONE))) return QOLB_MISUSE;
+    if (!is(lock, ticket, BIT(FREE))) return QOLB_MISUSE;
     uint64_t number = atomic_load(&lock->words[TAIL]), cell = atomic_load(cell_of(lock, number));
     ticket->rounds = to_go(cell, number);
     if (ticket->rounds > MOST_NEAR) return QOLB_FAR_;
@@ -109,7 +109,7 @@ uint32_t qolb_core_ask_near_proved_(const struct qolb_core *core, struct qolb_ti
 
 uint32_t qolb_core_try_ask_proved_(const struct qolb_core *core, struct qolb_ticket *ticket) {
     const struct lock *lock = of(core);
-    if (!is(lock, ticket, BIT(NONE))) return QOLB_MISUSE;
+    if (!is(lock, ticket, BIT(FREE))) return QOLB_MISUSE;
     uint64_t number = atomic_load(&lock->words[TAIL]), cell = atomic_load(cell_of(lock, number)), tail = number;
     if (to_go(cell, number) || !atomic_compare_exchange_strong(&lock->words[TAIL], &tail, number + 1)) return QOLB_BUSY;
     draws(lock, ticket, number);
@@ -118,13 +118,13 @@ uint32_t qolb_core_try_ask_proved_(const struct qolb_core *core, struct qolb_tic
 
 uint32_t qolb_core_poll_proved_(const struct qolb_core *core, struct qolb_ticket *ticket) {
     const struct lock *lock = of(core);
-    if (!is(lock, ticket, BIT(WAITS))) return QOLB_MISUSE;
+    if (!is(lock, ticket, BIT(WAITING))) return QOLB_MISUSE;
     return looks(ticket, atomic_load(cell_of(lock, ticket->number)));
 }
 
 uint32_t qolb_core_announce_sleep_proved_(const struct qolb_core *core, struct qolb_ticket *ticket) {
     const struct lock *lock = of(core);
-    if (!is(lock, ticket, BIT(WAITS))) return QOLB_MISUSE;
+    if (!is(lock, ticket, BIT(WAITING))) return QOLB_MISUSE;
     _Atomic uint64_t *cell = cell_of(lock, ticket->number);
     uint64_t found = atomic_load(cell), word = found;
     if (looks(ticket, found) == QOLB_GRANTED) return QOLB_GRANTED;
@@ -142,44 +142,49 @@ uint32_t qolb_core_retract_sleep_proved_(const struct qolb_core *core, struct qo
 
 uint32_t qolb_core_withdraw_proved_(const struct qolb_core *core, struct qolb_ticket *ticket) {
     const struct lock *lock = of(core);
-    if (!is(lock, ticket, BIT(WAITS))) return QOLB_MISUSE;
+    if (!is(lock, ticket, BIT(WAITING))) return QOLB_MISUSE;
     if (ticket->rounds > MOST_NEAR) return QOLB_FAR_;
     _Atomic uint64_t *cell = cell_of(lock, ticket->number);
     if (to_go(atomic_fetch_add(cell, bit_of(ticket->number)), ticket->number)) {
         hook_withdraws();
-        return in_state(ticket, QOLB_TICKET_NONE_, QOLB_WITHDRAWN);
+        return in_state(ticket, QOLB_TICKET_FREE_, QOLB_WITHDRAWN);
     }
     atomic_fetch_sub(cell, bit_of(ticket->number));
     return in_state(ticket, QOLB_TICKET_AT_TURN_, QOLB_GRANTED);
 }
 
+/* The state of a ticket whose turn of the queue was passed on. */
+static uint32_t passed(uint32_t state) {
+    return state == QOLB_TICKET_HEAD_INSIDE_        ? QOLB_TICKET_INSIDE_
+           : state == QOLB_TICKET_HEAD_INSIDE_SHUT_ ? QOLB_TICKET_INSIDE_SHUT_
+                                                    : QOLB_TICKET_FREE_;
+}
+
 uint32_t qolb_core_release_proved_(const struct qolb_core *core, struct qolb_ticket *ticket) {
     const struct lock *lock = of(core);
-    if (!is(lock, ticket, BIT(AT_TURN) | BIT(SERVED) | BIT(SHUT) | BIT(HEAD_IN) | BIT(HEAD_IN_SHUT)))
+    if (!is(lock, ticket,
+            BIT(AT_TURN) | BIT(SERVED) | BIT(SERVED_SHUT) | BIT(ENDING) | BIT(HEAD_INSIDE) | BIT(HEAD_INSIDE_SHUT)))
         return QOLB_MISUSE;
+    if (is(lock, ticket, BIT(AT_TURN))) hook_withdraws(); /* it is passed on without being served */
     for (int k = 0; k < MOST_PASSED; k++) {
         uint64_t next = ticket->number + 1, found = atomic_fetch_add(cell_of(lock, next), ROUND);
         if (!(found & bit_of(next))) {
             ticket->sleepers = sleepers_in(found);
-            uint32_t was = ticket->state;
-            return in_state(ticket,
-                            was == QOLB_TICKET_HEAD_IN_        ? QOLB_TICKET_IN_
-                            : was == QOLB_TICKET_HEAD_IN_SHUT_ ? QOLB_TICKET_IN_SHUT_
-                                                               : QOLB_TICKET_NONE_,
-                            QOLB_DONE);
+            return in_state(ticket, passed(ticket->state), QOLB_DONE);
         }
         ticket->number = next;
         atomic_fetch_sub(cell_of(lock, next), bit_of(next));
     }
-    return QOLB_UNFINISHED_;
+    int is_in = is(lock, ticket, BIT(HEAD_INSIDE) | BIT(HEAD_INSIDE_SHUT));
+    return in_state(ticket, is_in ? ticket->state : QOLB_TICKET_ENDING_, QOLB_UNFINISHED_);
 }
 
 /* ---- The outer word ---- */
 
 uint32_t qolb_core_check_open_proved_(const struct qolb_core *core, struct qolb_ticket *ticket) {
     const struct lock *lock = of(core);
-    if (lock->burst > 1 || !is(lock, ticket, BIT(AT_TURN) | BIT(SERVED) | BIT(SHUT))) return QOLB_MISUSE;
-    return atomic_load(outer_of(lock)) & SHUT ? in_state(ticket, QOLB_TICKET_SHUT_, QOLB_CLOSED)
+    if (lock->burst > 1 || !is(lock, ticket, BIT(AT_TURN) | BIT(SERVED) | BIT(SERVED_SHUT))) return QOLB_MISUSE;
+    return atomic_load(outer_of(lock)) & SHUT ? in_state(ticket, QOLB_TICKET_SERVED_SHUT_, QOLB_CLOSED)
                                               : in_state(ticket, QOLB_TICKET_SERVED_, QOLB_GRANTED);
 }
 
@@ -191,13 +196,13 @@ static uint32_t found(const struct lock *lock, struct qolb_ticket *ticket, uint3
 
 uint32_t qolb_core_go_in_proved_(const struct qolb_core *core, struct qolb_ticket *ticket) {
     const struct lock *lock = of(core);
-    if (lock->burst <= 1 || !is(lock, ticket, BIT(NONE))) return QOLB_MISUSE;
+    if (lock->burst <= 1 || !is(lock, ticket, BIT(FREE))) return QOLB_MISUSE;
     uint64_t guess = ticket->outer, in = guess + NEWCOMER + HELD;
     if (guess & (STATE | SHUT) || !atomic_compare_exchange_strong(outer_of(lock), &guess, in))
         return found(lock, ticket, QOLB_BUSY);
     ticket->outer = in;
     ticket->label = lock->label;
-    return in_state(ticket, QOLB_TICKET_IN_, QOLB_GRANTED);
+    return in_state(ticket, QOLB_TICKET_INSIDE_, QOLB_GRANTED);
 }
 
 uint32_t qolb_core_take_outer_proved_(const struct qolb_core *core, struct qolb_ticket *ticket) {
@@ -208,20 +213,20 @@ uint32_t qolb_core_take_outer_proved_(const struct qolb_core *core, struct qolb_
     if ((was & STATE) == HELD) return QOLB_WAITING;
     if (!atomic_compare_exchange_strong(outer_of(lock), &was, in)) return found(lock, ticket, QOLB_WAITING);
     ticket->outer = in;
-    return in & SHUT ? in_state(ticket, QOLB_TICKET_HEAD_IN_SHUT_, QOLB_CLOSED)
-                     : in_state(ticket, QOLB_TICKET_HEAD_IN_, QOLB_GRANTED);
+    return in & SHUT ? in_state(ticket, QOLB_TICKET_HEAD_INSIDE_SHUT_, QOLB_CLOSED)
+                     : in_state(ticket, QOLB_TICKET_HEAD_INSIDE_, QOLB_GRANTED);
 }
 
 uint32_t qolb_core_leave_proved_(const struct qolb_core *core, struct qolb_ticket *ticket) {
     const struct lock *lock = of(core);
-    if (!is(lock, ticket, BIT(IN) | BIT(IN_SHUT))) return QOLB_MISUSE;
+    if (!is(lock, ticket, BIT(INSIDE) | BIT(INSIDE_SHUT))) return QOLB_MISUSE;
     uint64_t guess = ticket->outer, was = guess, to = guess / SHUT * SHUT;
     int reserves = guess & HANDOFF || guess / NEWCOMER + 1 >= lock->burst;
     if (!atomic_compare_exchange_strong(outer_of(lock), &was, reserves ? to + RESERVED : to))
         return found(lock, ticket, QOLB_BUSY);
     ticket->head_sleeps = (guess & HEAD_SLEEPS) != 0;
     ticket->outer = to;
-    return in_state(ticket, QOLB_TICKET_NONE_, QOLB_DONE);
+    return in_state(ticket, QOLB_TICKET_FREE_, QOLB_DONE);
 }
 
 uint32_t qolb_core_request_handoff_proved_(const struct qolb_core *core, struct qolb_ticket *ticket) {
@@ -234,15 +239,16 @@ uint32_t qolb_core_request_handoff_proved_(const struct qolb_core *core, struct 
 uint32_t qolb_core_announce_head_sleep_proved_(const struct qolb_core *core, struct qolb_ticket *ticket) {
     const struct lock *lock = of(core);
     if (!is(lock, ticket, BIT(AT_TURN))) return QOLB_MISUSE;
-    uint64_t was = atomic_load(outer_of(lock)), asleep = was | HEAD_SLEEPS;
-    if ((was & STATE) != HELD || !atomic_compare_exchange_strong(outer_of(lock), &was, asleep)) return QOLB_WAITING;
-    ticket->outer = asleep;
-    return QOLB_ASLEEP_;
+    uint64_t was = ticket->outer = atomic_load(outer_of(lock)), asleep = was | HEAD_SLEEPS;
+    if ((was & STATE) != HELD) return QOLB_WAITING;
+    int announced = atomic_compare_exchange_strong(outer_of(lock), &was, asleep);
+    found(lock, ticket, QOLB_WAITING);
+    return announced && (ticket->outer & (STATE | HEAD_SLEEPS)) == (HELD | HEAD_SLEEPS) ? QOLB_ASLEEP_ : QOLB_WAITING;
 }
 
 uint32_t qolb_core_shut_proved_(const struct qolb_core *core, struct qolb_ticket *ticket) {
     const struct lock *lock = of(core);
-    if (!is(lock, ticket, BIT(SERVED) | BIT(HEAD_IN) | BIT(IN))) return QOLB_MISUSE;
+    if (!is(lock, ticket, BIT(SERVED) | BIT(HEAD_INSIDE) | BIT(INSIDE))) return QOLB_MISUSE;
     atomic_fetch_add(outer_of(lock), SHUT);
     ticket->outer += SHUT;
     return in_state(ticket, ticket->state + 1, QOLB_DONE);
@@ -250,7 +256,7 @@ uint32_t qolb_core_shut_proved_(const struct qolb_core *core, struct qolb_ticket
 
 uint32_t qolb_core_reopen_proved_(const struct qolb_core *core, struct qolb_ticket *ticket) {
     const struct lock *lock = of(core);
-    if (!is(lock, ticket, BIT(SHUT) | BIT(HEAD_IN_SHUT))) return QOLB_MISUSE;
+    if (!is(lock, ticket, BIT(SERVED_SHUT) | BIT(HEAD_INSIDE_SHUT))) return QOLB_MISUSE;
     if (atomic_load(&lock->words[TAIL]) != ticket->number + 1) return QOLB_BUSY;
     atomic_fetch_sub(outer_of(lock), SHUT);
     ticket->outer -= SHUT;

@@ -29,8 +29,8 @@ FAULTS = {
     "who passes on reads the lock afterwards": (1, "the last frees", (WAITS, "qolb_pass_on_", "qolb_unpark_(cell_half(words, next)", "qolb_unpark_(cell_half(qolb_core_words_(&lock->core), next)")),
     "who passes on looks afterwards whether one sleeps ahead": (2, "the last frees, and each yields", (WAITS, "qolb_pass_on_", "    uint64_t next", "    at->slept = 1, wakes_ahead = sleeps_ahead(lock, at), at->slept = 0;\n    uint64_t next")),
     "a waiter sleeps at the value that it finds": (1, "", (WAITS, "sleep_for_turn", "(uint32_t)(ticket->word >> 32)", "__atomic_load_n(cell_half(words_of(my->lock), ticket->number), __ATOMIC_SEQ_CST)")),
-    "a waiter announces no sleep": (1, "", (WAITS, "sleep_for_turn", "uint32_t got = qolb_core_announce_sleep_proved_(core_of(my), ticket);", "uint32_t got = qolb_core_poll_proved_(core_of(my), ticket);\n    if (got == QOLB_WAITING) ticket->word = words_of(my->lock)[FIRST_CELL + ticket->number % TICKETS_IN_ROUND], got = QOLB_ASLEEP_, ticket->state = QOLB_TICKET_WAITS_;"), (WAITS, "sleep_for_turn", "qolb_core_retract_sleep_proved_", "qolb_core_poll_proved_")),
-    "a waiter does not retract its sleep": (1, "", (WAITS, "sleep_for_turn", "qolb_core_retract_sleep_proved_(core_of(my), ticket)", "(ticket->state = QOLB_TICKET_WAITS_, qolb_core_poll_proved_(core_of(my), ticket))")),
+    "a waiter announces no sleep": (1, "", (WAITS, "sleep_for_turn", "uint32_t got = qolb_core_announce_sleep_proved_(core_of(my), ticket);", "uint32_t got = qolb_core_poll_proved_(core_of(my), ticket);\n    if (got == QOLB_WAITING) ticket->word = words_of(my->lock)[FIRST_CELL + ticket->number % TICKETS_IN_ROUND], got = QOLB_ASLEEP_, ticket->state = QOLB_TICKET_WAITING_;"), (WAITS, "sleep_for_turn", "qolb_core_retract_sleep_proved_", "qolb_core_poll_proved_")),
+    "a waiter does not retract its sleep": (1, "", (WAITS, "sleep_for_turn", "qolb_core_retract_sleep_proved_(core_of(my), ticket)", "(ticket->state = QOLB_TICKET_WAITING_, qolb_core_poll_proved_(core_of(my), ticket))")),
     "where a cell is full a waiter sleeps until it is woken": (1, "no room", (WAITS, "sleep_for_turn", "qolb_nap_(my->until)", "qolb_park_(cell_half(words_of(my->lock), ticket->number), (uint32_t)(words_of(my->lock)[FIRST_CELL + ticket->number % TICKETS_IN_ROUND] >> 32), UINT32_MAX, FOR_EVER)")),
     "who gives up does not withdraw": (1, "", (WAITS, "give_up", "qolb_core_withdraw_proved_(core_of(my), ticket_of(my))", "QOLB_WITHDRAWN")),
     "who gives up keeps a turn that came first": (1, "", (WAITS, "give_up", "got == QOLB_WITHDRAWN ? told : got", "told")),
@@ -43,7 +43,7 @@ FAULTS = {
     "the queue head sleeps at the value that it finds": (1, "bursts", (WAITS, "sleep_as_head", "(uint32_t)ticket_of(my)->outer", "(uint32_t)outer_word(my->lock)")),
     "the queue head sleeps where it could not announce it": (1, "bursts", (WAITS, "sleep_as_head", " != QOLB_ASLEEP_) return;", " == QOLB_MISUSE) return;\n    ticket_of(my)->outer = outer_word(my->lock);")),
     "the queue head does not pass on once it is in": (1, "bursts", (LOCK, "enter_at_turn", "if (bursts || got != QOLB_GRANTED)", "if (got != QOLB_GRANTED)")),
-    "the queue head keeps the outer word of a shut lock": (1, "bursts", (LOCK, "enter_at_turn", "    if (bursts && got == QOLB_CLOSED && my->at->ticket.state == QOLB_TICKET_IN_SHUT_) qolb_leave_outer_(lock, my->at);\n", "")),
+    "the queue head keeps the outer word of a shut lock": (1, "bursts", (LOCK, "enter_at_turn", "    if (bursts && got == QOLB_CLOSED && my->at->ticket.state == QOLB_TICKET_INSIDE_SHUT_) qolb_leave_outer_(lock, my->at);\n", "")),
     "the queue head that is late keeps its turn": (1, "bursts", (LOCK, "enter_at_turn", "if (bursts || got != QOLB_GRANTED)", "if (bursts && got != QOLB_LATE)")),
     "the queue head takes no word that is reserved": (1, "bursts", (WAITS, "may_take", "    return outer & (OUTER_RESERVED | OUTER_SHUT) || had == watch->had;\n", "    return (outer & OUTER_SHUT) || (!(outer & OUTER_RESERVED) && had == watch->had);\n"), (WAITS, "qolb_await_outer_", "            qolb_pause_(WATCH_PAUSE);\n", "            qolb_park_(outer_half(words_of(my->lock)), (uint32_t)outer, 1, FOR_EVER);\n")),
     # Entering.
@@ -69,7 +69,7 @@ FAULTS = {
     "a lock is closed while it has guests": (2, "one closes beside", (LOCK, "is_alone", "atomic_load(&lock->guests) || ", "")),
     "a shut lock is closed while one waits behind": (2, "one shuts and closes", (LOCK, "is_alone", "got == QOLB_GRANTED || qolb_core_reopen_proved_(&lock->core, &at->ticket) == QOLB_GRANTED", "1")),
     "who does not close the lock keeps its turn": (1, "", (LOCK, "qolb_lock_close", "    qolb_pass_on_(lock, at);\n", "    if (alone) qolb_pass_on_(lock, at);\n")),
-    "who closes a lock with bursts stays in": (2, "bursts", (LOCK, "qolb_lock_close", "    if (at->ticket.state != QOLB_TICKET_NONE_) qolb_leave_outer_(lock, at);\n", "    if (alone && at->ticket.state != QOLB_TICKET_NONE_) qolb_leave_outer_(lock, at);\n")),
+    "who closes a lock with bursts stays in": (2, "bursts", (LOCK, "qolb_lock_close", "    if (at->ticket.state != QOLB_TICKET_FREE_) qolb_leave_outer_(lock, at);\n", "    if (alone && at->ticket.state != QOLB_TICKET_FREE_) qolb_leave_outer_(lock, at);\n")),
     # Opening.
     "two open the lock": (1, "each enters", (OPENS, "claims", "    return __atomic_compare_exchange_n", "    if (!from) return __atomic_store_n((uintptr_t *)&lock->core.at, to, __ATOMIC_SEQ_CST), 1;\n    return __atomic_compare_exchange_n")),
     "who has opened wakes nobody": (2, "each enters", (OPENS, "open_core", "    if (was == AWAITED) qolb_unpark_((uint32_t *)&lock->core.at, 1);\n", "    (void)was;\n")),

@@ -251,6 +251,8 @@ static uint64_t change(volatile void *where, unsigned size, enum change how, uin
     void __tsan_write##bytes(void *p) { touch(p, bytes, PLAIN_WRITE); }
 OF_SIZE(32, 4)
 OF_SIZE(64, 8)
+void __tsan_read1(void *p) { touch(p, 1, PLAIN_READ); }
+void __tsan_write1(void *p) { touch(p, 1, PLAIN_WRITE); }
 void __tsan_read16(void *p) { touch(p, 16, PLAIN_READ); }
 void __tsan_write16(void *p) { touch(p, 16, PLAIN_WRITE); }
 void __tsan_write_range(void *p, size_t size) { touch(p, (unsigned)size, PLAIN_WRITE); }

@@ -80,7 +80,8 @@ static uint32_t enter_at_turn(struct request *my) {
     int bursts = has_bursts(lock);
     uint32_t got = bursts ? qolb_await_outer_(my) : qolb_core_check_open_proved_(&lock->core, &my->at->ticket);
     if (bursts || got != QOLB_GRANTED) qolb_pass_on_(lock, my->at);
-    if (bursts && got == QOLB_CLOSED && my->at->ticket.state == QOLB_TICKET_IN_SHUT_) qolb_leave_outer_(lock, my->at);
+    if (bursts && got == QOLB_CLOSED && my->at->ticket.state == QOLB_TICKET_INSIDE_SHUT_)
+        qolb_leave_outer_(lock, my->at);
     return got;
 }
 
@@ -162,7 +163,7 @@ static uint32_t try_outer(struct lock *lock, struct turn *at) {
     uint32_t got = qolb_core_take_outer_proved_(&lock->core, &at->ticket);
     if (got == QOLB_WAITING) got = busy_or_closed(lock);
     qolb_pass_on_(lock, at);
-    if (at->ticket.state == QOLB_TICKET_IN_SHUT_) qolb_leave_outer_(lock, at);
+    if (at->ticket.state == QOLB_TICKET_INSIDE_SHUT_) qolb_leave_outer_(lock, at);
     return got;
 }
 
@@ -190,7 +191,7 @@ uint32_t qolb_lock_try(qolb_lock *of) {
 /* ---- Leaving ---- */
 
 static int is_strict_turn(const struct turn *at) {
-    return at->ticket.state == QOLB_TICKET_SERVED_ || at->ticket.state == QOLB_TICKET_SHUT_;
+    return at->ticket.state == QOLB_TICKET_SERVED_ || at->ticket.state == QOLB_TICKET_SERVED_SHUT_;
 }
 
 void qolb_leave_at_(struct lock *lock, struct turn *at) {
@@ -243,7 +244,7 @@ uint32_t qolb_lock_close(qolb_lock *of) {
                                     : qolb_core_check_open_proved_(&lock->core, &at->ticket);
     int alone = is_alone(lock, at, got);
     qolb_pass_on_(lock, at);
-    if (at->ticket.state != QOLB_TICKET_NONE_) qolb_leave_outer_(lock, at);
+    if (at->ticket.state != QOLB_TICKET_FREE_) qolb_leave_outer_(lock, at);
     if (!alone) return QOLB_MISUSE;
     __atomic_store_n(&lock->core.at, NULL, __ATOMIC_SEQ_CST);
     return QOLB_DONE;

@@ -13,7 +13,7 @@
 #include <pthread.h>
 #endif
 
-enum { NAP_NANOSECONDS = 1000000, IN_SECOND = 1000000000 };
+enum { NAP = 1000000, IN_SECOND = 1000000000 };
 
 #ifdef __linux__
 
@@ -45,7 +45,7 @@ void qolb_unpark_(uint32_t *half, uint32_t classes) { (void)half, (void)classes;
 #endif
 
 void qolb_nap_(uint64_t until) {
-    uint32_t nobody_wakes = 0;
-    uint64_t end = end_of(NAP_NANOSECONDS);
-    qolb_park_(&nobody_wakes, 0, 1, until < end ? until : end);
+    atomic_uint nobody_wakes = 1;
+    uint64_t now = until == FOR_EVER ? 0 : qolb_now_(), time = until <= now ? 0 : until - now;
+    if (time) qolb_sleep_at_(&nobody_wakes, 1, time < NAP ? time : NAP);
 }

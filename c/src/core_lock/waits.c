@@ -56,7 +56,6 @@ uint32_t qolb_await_turn_(struct request *my) {
             got = qolb_core_poll_proved_(core_of(my), ticket_of(my));
         } else {
             got = sleep_for_turn(my);
-            spin = (struct spin){0};
         }
     }
     return got;
