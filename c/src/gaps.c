@@ -8,9 +8,6 @@
 #include <stdlib.h>
 #include <string.h>
 
-/* The core's block has at least the address of its words, its bound and its label. */
-enum { LEAST_CORE_BLOCK = 24 };
-
 #define HIDDEN __attribute__((visibility("hidden")))
 
 HIDDEN void *qolb_malloc_(size_t size);
@@ -22,9 +19,11 @@ BY_THREAD struct core_room qolb_core_room_;
 
 /* The place of a block of a lock's core, or NULL: each is given once. */
 static void *given_by_lock(size_t size) {
-    void **place = size == CORE_WORDS_BYTES                               ? &qolb_core_room_.words
-                   : size <= CORE_BLOCK_BYTES && size >= LEAST_CORE_BLOCK ? &qolb_core_room_.block
-                                                                          : NULL;
+    struct core_room *room = &qolb_core_room_;
+    void **place = size == CORE_WORDS_BYTES   ? &room->words
+                   : size == CORE_SLOTS_BYTES ? &room->slots
+                   : size == CORE_BLOCK_BYTES ? &room->block
+                                              : NULL;
     void *block = place ? *place : NULL;
     if (place) *place = NULL;
     return block;

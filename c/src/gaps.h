@@ -33,13 +33,13 @@ struct room {
     char *at, *end;
 };
 
-/* The two blocks of a lock's core, which lie in the lock's own bytes (core_lock/opens.c): its words, and what refers to
- * them. They have no `struct before`, and are never freed. */
-enum { CORE_WORDS_BYTES = 168, CORE_BLOCK_BYTES = 80 };
+/* The blocks of a lock's core, which lie in the lock's own bytes (core_lock/opens.c): its words, its slots, of which it
+ * has none, and what refers to both. They have no `struct before`, and are never freed. */
+enum { CORE_WORDS_BYTES = 168, CORE_SLOTS_BYTES = 8, CORE_BLOCK_BYTES = 80 };
 
 /* Where they go, while the thread opens a core; else NULL. */
 struct core_room {
-    void *words, *block;
+    void *words, *slots, *block;
 };
 
 /* A library that is opened at run time has room for this few bytes of the GNU C library; others may have none. */

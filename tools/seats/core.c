@@ -36,7 +36,8 @@ enum { HANDOFF = 1, HEAD_SLEEPS = 2, HELD = 4, RESERVED = 8, STATE = 12, SHUT = 
 
 struct lock {
     _Atomic uint64_t *words;
-    uint64_t more[7]; /* of the proved table: the block has the same size */
+    void *slots;      /* none: as of the proved table */
+    uint64_t more[6]; /* of that, too: the block has the same size */
     uint64_t burst, label;
 };
 
@@ -65,10 +66,11 @@ uint32_t qolb_core_open_proved_(uint64_t burst, uint64_t label, struct qolb_core
     if (burst > MOST_BURST) return QOLB_BAD_NODES;
     if (label == 0) return QOLB_MISUSE;
     _Atomic uint64_t *words = qolb_malloc_(WORDS * sizeof *words);
-    struct lock *lock = words ? qolb_malloc_(sizeof *lock) : NULL;
-    if (!lock) return qolb_free_(words), QOLB_NO_MEMORY;
+    void *slots = words ? qolb_malloc_(sizeof(uint64_t)) : NULL;
+    struct lock *lock = slots ? qolb_malloc_(sizeof *lock) : NULL;
+    if (!lock) return qolb_free_(words), qolb_free_(slots), QOLB_NO_MEMORY;
     for (int k = 0; k < WORDS; k++) atomic_init(&words[k], k == CELLS ? ROUND : 0);
-    *lock = (struct lock){.words = words, .burst = burst, .label = label};
+    *lock = (struct lock){.words = words, .slots = slots, .burst = burst, .label = label};
     out->at = lock;
     return QOLB_DONE;
 }

@@ -29,11 +29,11 @@ FAULTS = {
     "who passes on reads the lock afterwards": (1, "the last frees", (WAITS, "qolb_pass_on_", "qolb_unpark_(cell_half(words, next)", "qolb_unpark_(cell_half(qolb_core_words_(&lock->core), next)")),
     "who passes on looks afterwards whether one sleeps ahead": (2, "the last frees, and each yields", (WAITS, "qolb_pass_on_", "    uint64_t next", "    at->slept = 1, wakes_ahead = sleeps_ahead(lock, at), at->slept = 0;\n    uint64_t next")),
     "a waiter sleeps at the value that it finds": (1, "", (WAITS, "sleep_for_turn", "(uint32_t)(ticket->word >> 32)", "__atomic_load_n(cell_half(words_of(my->lock), ticket->number), __ATOMIC_SEQ_CST)")),
-    "a waiter announces no sleep": (1, "", (WAITS, "sleep_for_turn", "uint32_t got = qolb_core_announce_sleep_proved_(core_of(my), ticket);", "uint32_t got = qolb_core_poll_proved_(core_of(my), ticket);\n    if (got == QOLB_WAITING) ticket->word = words_of(my->lock)[FIRST_CELL + ticket->number % TICKETS_IN_ROUND], got = QOLB_ASLEEP_, ticket->state = QOLB_TICKET_WAITING_;"), (WAITS, "sleep_for_turn", "qolb_core_retract_sleep_proved_", "qolb_core_poll_proved_")),
+    "a waiter announces no sleep": (1, "", (WAITS, "sleep_for_turn", "uint32_t got = qolb_core_announce_sleep_proved_(core_of(my), ticket);", "uint32_t got = qolb_core_poll_proved_(core_of(my), ticket);\n    if (got == QOLB_WAITING) ticket->word = __atomic_load_n(words_of(my->lock) + FIRST_CELL + ticket->number % TICKETS_IN_ROUND, __ATOMIC_SEQ_CST), got = QOLB_ASLEEP_, ticket->state = QOLB_TICKET_WAITING_;"), (WAITS, "sleep_for_turn", "qolb_core_retract_sleep_proved_", "qolb_core_poll_proved_")),
     "a waiter does not retract its sleep": (1, "", (WAITS, "sleep_for_turn", "qolb_core_retract_sleep_proved_(core_of(my), ticket)", "(ticket->state = QOLB_TICKET_WAITING_, qolb_core_poll_proved_(core_of(my), ticket))")),
-    "where a cell is full a waiter sleeps until it is woken": (1, "no room", (WAITS, "sleep_for_turn", "qolb_nap_(my->until)", "qolb_park_(cell_half(words_of(my->lock), ticket->number), (uint32_t)(words_of(my->lock)[FIRST_CELL + ticket->number % TICKETS_IN_ROUND] >> 32), UINT32_MAX, FOR_EVER)")),
+    "where a cell is full a waiter sleeps until it is woken": (1, "no room", (WAITS, "sleep_for_turn", "qolb_nap_(my->until)", "qolb_park_(cell_half(words_of(my->lock), ticket->number), __atomic_load_n(cell_half(words_of(my->lock), ticket->number), __ATOMIC_SEQ_CST), UINT32_MAX, FOR_EVER)")),
     "who gives up does not withdraw": (1, "", (WAITS, "give_up", "qolb_core_withdraw_proved_(core_of(my), ticket_of(my))", "QOLB_WITHDRAWN")),
-    "who gives up keeps a turn that came first": (1, "", (WAITS, "give_up", "got == QOLB_WITHDRAWN ? told : got", "told")),
+    "who gives up keeps a turn that came first": (2, "", (WAITS, "give_up", "got == QOLB_WITHDRAWN ? told : got", "told")),
     "who gives up looks whether the lock is shut after it has withdrawn": (2, "the last frees beside", (WAITS, "give_up", "uint32_t told = late_or_closed(my->lock), got = qolb_core_withdraw_proved_(core_of(my), ticket_of(my));", "uint32_t got = qolb_core_withdraw_proved_(core_of(my), ticket_of(my)), told = late_or_closed(my->lock);")),
     "who gives up after a shut is told that it is late": (1, "", (WAITS, "late_or_closed", "outer_word(lock) & OUTER_SHUT ? QOLB_CLOSED : QOLB_LATE", "QOLB_LATE"), (LOCK, "ask_later", "outer_word(my->lock) & OUTER_SHUT ? QOLB_CLOSED : QOLB_LATE", "QOLB_LATE")),
     # The queue head, and the outer word.
@@ -57,7 +57,7 @@ FAULTS = {
     "a try of a shut lock keeps its turn": (1, "", (LOCK, "qolb_try_at_", "    if (got != QOLB_GRANTED) qolb_pass_on_(lock, at);\n", "")),
     "a try does not look whether the lock is shut": (1, "", (LOCK, "busy_or_closed", "outer_word(lock) & OUTER_SHUT ? QOLB_CLOSED : QOLB_BUSY", "QOLB_BUSY")),
     "who could not be withdrawn is no guest": (2, "far: ", (LOCK, "ask_later", "        be_guest(my);\n", "")),
-    "who could not be withdrawn stays a guest": (1, "far: ", (LOCK, "ask_later", "    be_no_guest(my);\n", "")),
+    "who could not be withdrawn stays a guest": (1, "far: ", (LOCK, "await", "    be_no_guest(my);\n", "")),
     "a guest counts itself out once it is served": (2, "", (LOCK, "await", "    be_no_guest(my);\n    if (got == QOLB_WAITING)", "    if (got == QOLB_WAITING)"), (LOCK, "await", "    return got;\n", "    be_no_guest(my);\n    return got;\n")),
     "who could not be withdrawn waits for ever": (1, "far: ", (LOCK, "ask_later", "got == QOLB_FAR_ && !is_over(my->until)", "got == QOLB_FAR_ && my->until")),
     # Leaving, shutting and closing.
@@ -67,7 +67,6 @@ FAULTS = {
     "a lock is closed while it is held": (1, "", (LOCK, "qolb_lock_close", "    if (qolb_core_try_ask_proved_(&lock->core, &at->ticket) != QOLB_GRANTED) return QOLB_MISUSE;\n", "    if (qolb_core_ask_proved_(&lock->core, &at->ticket) != QOLB_GRANTED) return __atomic_store_n(&lock->core.at, NULL, __ATOMIC_SEQ_CST), QOLB_DONE;\n")),
     "a lock with bursts is closed while one is in": (1, "bursts", (LOCK, "is_alone", " || got == QOLB_WAITING) return 0;", ") return 0;\n    if (got == QOLB_WAITING) return 1;")),
     "a lock is closed while it has guests": (2, "one closes beside", (LOCK, "is_alone", "atomic_load(&lock->guests) || ", "")),
-    "a shut lock is closed while one waits behind": (2, "one shuts and closes", (LOCK, "is_alone", "got == QOLB_GRANTED || qolb_core_reopen_proved_(&lock->core, &at->ticket) == QOLB_GRANTED", "1")),
     "who does not close the lock keeps its turn": (1, "", (LOCK, "qolb_lock_close", "    qolb_pass_on_(lock, at);\n", "    if (alone) qolb_pass_on_(lock, at);\n")),
     "who closes a lock with bursts stays in": (2, "bursts", (LOCK, "qolb_lock_close", "    if (at->ticket.state != QOLB_TICKET_FREE_) qolb_leave_outer_(lock, at);\n", "    if (alone && at->ticket.state != QOLB_TICKET_FREE_) qolb_leave_outer_(lock, at);\n")),
     # Opening.
@@ -84,7 +83,7 @@ FAULTS = {
     "a turn beyond the table keeps its holder": (1, "holds three", (TURNS, "qolb_take_turn_", "    atomic_store_explicit(&lock->beyond_by, 0, memory_order_relaxed);\n", "")),
     "a turn beyond the table forgets its ticket": (1, "holds three", (TURNS, "qolb_keep_turn_", "{at->ticket.number, at->ticket.state}", "{0, at->ticket.state}")),
     "a turn beyond the table forgets its lock": (1, "holds three", (TURNS, "qolb_take_turn_", ", .label = lock->label", "")),
-    "a turn beyond the table lies in the core's words": (1, "holds three", (HEADER, "beyond_of", "return before ? (struct beyond *)lock->words", "return 1 ? (struct beyond *)words_of(lock)")),
+    "a turn beyond the table lies in the core's words": (1, "holds three", (HEADER, "beyond_of", "return before ? (struct beyond *)lock->words", "return 1 ? (struct beyond *)(words_of(lock) + 16)")),
     "who waits at a condition keeps no turn beyond the table": (1, "waits beyond", (CONDITIONS, "qolb_cond_wait_within", "    if (got == QOLB_GRANTED || got == QOLB_LATE) qolb_keep_turn_(lock, at, &beyond);\n", "")),
     # Conditions.
     "who waits stands in the list after it has left": (1, "", (CONDITIONS, "qolb_cond_wait_at_", "    stand(cond, lock, &me);\n", ""), (CONDITIONS, "qolb_cond_wait_at_", "    qolb_leave_at_(lock, at);\n", "    qolb_leave_at_(lock, at);\n    stand(cond, lock, &me);\n")),
@@ -92,7 +91,7 @@ FAULTS = {
     "who is told of a shut stays a guest": (1, "", (CONDITIONS, "qolb_cond_wait_at_", "        atomic_fetch_sub(&lock->guests, 1); /* its last access to the lock */\n", "")),
     "who is signalled stays a guest": (1, "", (CONDITIONS, "qolb_cond_wait_at_", "qolb_enter_at_(lock, at, FOR_EVER, 1)", "qolb_enter_at_(lock, at, FOR_EVER, 0)")),
     "who is told is not woken": (1, "", (CONDITIONS, "tell", "    qolb_wake_at_(word, 1); /* the waiter may be gone */\n", "")),
-    "a condition's list has no guard": (1, "", (CONDITIONS, "guard_of", "    take_guard(&guard->word);\n", "")),
+    "a condition's list has no guard": (2, "", (CONDITIONS, "guard_of", "    take_guard(&guard->word);\n", "")),
     "who is late stays in the condition's list": (1, "", (CONDITIONS, "qolb_cond_wait_at_", "told != SIGNALLED && stand_no_more(cond, &me)", "0")),
     "who was told stays in the lock's list": (1, "", (CONDITIONS, "qolb_cond_wait_at_", "    stand_no_more_in(&me);\n", "")),
     "a shut reads behind one that it told": (2, "two wait at a condition until", (CONDITIONS, "qolb_tell_shut_", "        beside = it->beside;\n        tell(it, SHUT);\n", "        tell(it, SHUT);\n        beside = it->beside;\n")),
@@ -100,6 +99,8 @@ FAULTS = {
 
 # Changes after which no run may fail.
 HARMLESS = {
+    # Nobody may be about to call, and who waits was found before. It is a help to who does not keep that.
+    "a shut lock is closed without a look at who asked after": ((LOCK, "is_alone", "got == QOLB_GRANTED || qolb_core_reopen_proved_(&lock->core, &at->ticket) == QOLB_GRANTED", "1"),),
     # The lock's bound is the core's count of newcomers.
     "the queue head requests no handoff": ((WAITS, "watch_held", "!requested && is_long(my, watch, outer)", "!requested && !my && is_long(my, watch, outer)"),),
     "the queue head takes any free word at once": ((WAITS, "may_take", "had == watch->had", "1"),),

@@ -26,9 +26,11 @@ void *qolb_malloc_(size_t size);
 void qolb_free_(void *block);
 #define UNSEEN __attribute__((no_sanitize("thread")))
 UNSEEN void *qolb_malloc_(size_t size) {
-    void **place = size == CORE_WORDS_BYTES ? &qolb_core_room_.words : &qolb_core_room_.block, *block = *place;
+    struct core_room *room = &qolb_core_room_;
+    void **place = size == CORE_WORDS_BYTES ? &room->words : size == CORE_SLOTS_BYTES ? &room->slots : &room->block;
+    void *block = *place;
     *place = NULL;
-    MUST(block && (size == CORE_WORDS_BYTES || size == CORE_BLOCK_BYTES));
+    MUST(block && (place != &room->block || size == CORE_BLOCK_BYTES));
     return block;
 }
 void qolb_free_(void *block) { (void)block; }
@@ -196,6 +198,7 @@ static void shuts_and_asks(int self) {
     if (!enters_to_shut(self) || self) return;
     MUST(qolb_lock_try(it.lock) == QOLB_CLOSED);
     MUST(qolb_lock_enter_within(it.lock, 0) == QOLB_CLOSED);
+    for (int k = 0; k < 2; k++) MUST(qolb_lock_enter(it.lock) == QOLB_CLOSED);
 }
 
 /* The lock is closed only once no thread is about to call: so the other waits, without a ticket or with one, or is in a
@@ -285,7 +288,27 @@ static void one_closes(int self) {
     if (atomic_fetch_add(&it.over, 0)) MUST(qolb_lock_close(it.lock) == QOLB_DONE);
 }
 
+/* One is in, and another closes. */
+static void one_closes_beside_a_holder(int self) {
+    if (self) {
+        MUST(qolb_lock_enter(it.lock) == QOLB_GRANTED);
+        atomic_store(&it.over, 1);
+        while (atomic_fetch_add(&it.over, 0) == 1) sched_yield();
+        leave();
+        return;
+    }
+    while (!atomic_fetch_add(&it.over, 0)) sched_yield();
+    MUST(qolb_lock_close(it.lock) == QOLB_MISUSE);
+    atomic_store(&it.over, 2);
+}
+
 /* ---- Conditions ---- */
+
+/* Writes where the frames of its caller's last calls were. */
+__attribute__((noinline)) static void use_stack(void) {
+    volatile uint64_t bytes[128];
+    for (int k = 0; k < 128; k++) bytes[k] = 1;
+}
 
 static void waits(int self) {
     MUST(qolb_lock_enter(it.lock) == QOLB_GRANTED);
@@ -331,6 +354,7 @@ static void waits_until_shut(int self) {
         do got = self == 1 ? qolb_cond_wait(&it.cond, it.lock) : qolb_cond_wait_within(&it.cond, it.lock, MS);
         while (got == QOLB_GRANTED || got == QOLB_LATE);
         MUST(got == QOLB_CLOSED && it.shut);
+        use_stack();
     }
     if (atomic_fetch_add(&it.over, 1) + 1 < it.users) return;
     MUST(qolb_lock_close(it.lock) == QOLB_DONE);
@@ -417,6 +441,7 @@ const struct scene scenes[] = {
     {"far: the last frees beside one that is late", last_frees_beside_one_that_is_late, 3, 0, 0, 0, 65535},
     {"one closes", one_closes, 2, 0, 0, ROOMY},
     {"far: one closes", one_closes, 2, 0, 0, 0, 65535},
+    {"one closes beside a holder", one_closes_beside_a_holder, 2, 0, 0, ROOMY},
     {"two wait at a condition, one not for ever", waits, 3, 0, 0, ROOMY},
     {"one waits at a condition while one stays", waits_while_one_stays, 2, 0, 0, ROOMY},
     {"two wait at a condition until one shuts", waits_until_shut, 3, 0, 0, ROOMY},
@@ -445,6 +470,7 @@ const struct scene scenes[] = {
     {"bursts: the last frees, and each yields", last_frees_and_yields, 3, 2, 0, ROOMY},
     {"bursts: the last frees beside one that is late", last_frees_beside_one_that_is_late, 3, 2, 0, ROOMY},
     {"bursts: one closes", one_closes, 2, 2, 0, ROOMY},
+    {"bursts: one closes beside a holder", one_closes_beside_a_holder, 2, 2, 0, ROOMY},
     {"bursts: two wait at a condition, one not for ever", waits, 3, 2, 0, ROOMY},
     {"bursts: two wait at a condition until one shuts", waits_until_shut, 3, 2, 0, ROOMY},
     {"bursts: one closes beside a waiter", one_closes_beside_a_waiter, 2, 2, 0, ROOMY},
@@ -475,6 +501,12 @@ void set_up(const struct scene *scene) {
     it.lock = it.locks[0];
 }
 
+/* Nobody is counted or withdrawn at any cell, waits, is a guest, or holds. */
+UNSEEN static void check_lock(struct lock *lock) {
+    for (int k = 0; k < TICKETS_IN_ROUND; k++) MUST((uint32_t)words_of(lock)[FIRST_CELL + k] == 0);
+    MUST(!lock->waits && *(unsigned *)&lock->guests == 0 && *(uint64_t *)&lock->beyond_by == 0);
+}
+
 /* All threads have ended. */
 void check_end(const struct scene *scene) {
     static const struct {
@@ -488,7 +520,7 @@ void check_end(const struct scene *scene) {
     for (int k = 0; k < LOCKS; k++) {
         qolb_lock *lock = k ? it.locks[k] : it.lock;
         if (!lock) continue;
-        MUST(!lock->own || (atomic_load(&lock_of(lock)->guests) == 0 && atomic_load(&lock_of(lock)->beyond_by) == 0));
+        if (lock->own) check_lock(lock_of(lock));
         MUST(qolb_lock_close(lock) == QOLB_DONE && lock->own == NULL);
     }
 }

@@ -60,7 +60,7 @@ static uint32_t ask(struct request *my) {
     return my->until == FOR_EVER ? qolb_core_ask_proved_(&my->lock->core, &my->at->ticket) : ask_near(my);
 }
 
-/* For a request that could not be withdrawn yet. LATE and CLOSED: it has no ticket, and the lock may be gone. */
+/* For a request that could not be withdrawn yet. LATE and CLOSED: it has no ticket. */
 static uint32_t ask_later(struct request *my) {
     uint32_t got = QOLB_FAR_;
     while (got == QOLB_FAR_ && !is_over(my->until)) {
@@ -69,9 +69,7 @@ static uint32_t ask_later(struct request *my) {
         got = ask(my);
     }
     if (got != QOLB_FAR_) return got;
-    got = outer_word(my->lock) & OUTER_SHUT ? QOLB_CLOSED : QOLB_LATE;
-    be_no_guest(my);
-    return got;
+    return outer_word(my->lock) & OUTER_SHUT ? QOLB_CLOSED : QOLB_LATE;
 }
 
 /* Who is at its turn of the queue enters: GRANTED, CLOSED, or LATE at the outer word. */

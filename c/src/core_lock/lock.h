@@ -37,7 +37,7 @@ struct __attribute__((may_alias)) lock {
     struct waiter *waits;         /* by the holder: those that wait at a condition */
     /* By the holder: its number, if its thread's table has no room for this turn (`struct beyond`); else 0. */
     _Atomic uint64_t beyond_by;
-    char words[CORE_WORDS_BYTES + WORDS_SLACK]; /* the core's, and a `struct beyond` */
+    char words[CORE_WORDS_BYTES + WORDS_SLACK]; /* the core's, a `struct beyond`, and the core's slots */
     /* The number of threads in a call that have no ticket yet or any more: they wait at a condition, or until a request
      * could be withdrawn. By each of them. A lock is not closed meanwhile. */
     atomic_uint guests;
@@ -61,11 +61,19 @@ static inline uint64_t *words_of(const struct lock *lock) {
     return (uint64_t *)(at % LINE <= WORDS_SLACK ? at : (at + LINE - 1) / LINE * LINE);
 }
 
-/* Before the words, where they leave room, or behind them. */
+/* The rest of `words`: 24 bytes before the core's, 8 before and 16 behind them, or 24 behind. So there is one place for
+ * 16 bytes, and one for 8. */
+static inline size_t bytes_before_words(const struct lock *lock) {
+    return (size_t)((char *)words_of(lock) - lock->words);
+}
+
 static inline struct beyond *beyond_of(struct lock *lock) {
-    uint64_t *words = words_of(lock);
-    int before = (char *)words - lock->words >= (ptrdiff_t)sizeof(struct beyond);
-    return before ? (struct beyond *)lock->words : (struct beyond *)(words + CORE_WORDS_BYTES / sizeof *words);
+    int before = bytes_before_words(lock) >= sizeof(struct beyond);
+    return (struct beyond *)(before ? lock->words : (char *)words_of(lock) + CORE_WORDS_BYTES);
+}
+
+static inline void *slots_of(struct lock *lock) {
+    return bytes_before_words(lock) == CORE_SLOTS_BYTES ? (void *)lock->words : beyond_of(lock) + 1;
 }
 
 /* ---- Looks at the words: hints for waiting, and CLOSED for who gives up ---- */

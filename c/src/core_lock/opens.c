@@ -5,7 +5,7 @@
  * writes AWAITED and sleeps at that value; who has opened wakes if it found that. So the lock is opened once, and nobody
  * waits for it without a sleep.
  *
- * The core's two blocks, its words and what refers to them, are bytes of the lock: the proved part asks for memory by
+ * The core's blocks, its words, its slots and what refers to them, are bytes of the lock: the proved part asks for memory by
  * gaps.c, and gets these (qolb_core_room_). So opening can't fail, and nothing has to be freed. */
 #include "lock.h"
 
@@ -28,9 +28,9 @@ static void open_core(struct lock *lock) {
     lock->waits = NULL;
     atomic_init(&lock->beyond_by, 0);
     atomic_init(&lock->guests, 0);
-    qolb_core_room_ = (struct core_room){words_of(lock), lock->block};
+    qolb_core_room_ = (struct core_room){words_of(lock), slots_of(lock), lock->block};
     if (qolb_core_open_proved_(burst_of(lock), lock->label, &core) != QOLB_DONE) __builtin_trap();
-    qolb_core_room_ = (struct core_room){NULL, NULL};
+    qolb_core_room_ = (struct core_room){NULL, NULL, NULL};
     uintptr_t was = (uintptr_t)__atomic_exchange_n(&lock->core.at, core.at, __ATOMIC_SEQ_CST);
     if (was == AWAITED) qolb_unpark_((uint32_t *)&lock->core.at, 1);
 }
