@@ -43,7 +43,7 @@ FAULTS = {
     "the queue head sleeps at the value that it finds": (1, "bursts", (WAITS, "sleep_as_head", "(uint32_t)ticket_of(my)->outer", "(uint32_t)outer_word(my->lock)")),
     "the queue head sleeps where it could not announce it": (1, "bursts", (WAITS, "sleep_as_head", " != QOLB_ASLEEP_) return;", " == QOLB_MISUSE) return;\n    ticket_of(my)->outer = outer_word(my->lock);")),
     "the queue head does not pass on once it is in": (1, "bursts", (LOCK, "enter_at_turn", "if (bursts || got != QOLB_GRANTED)", "if (got != QOLB_GRANTED)")),
-    "the queue head keeps the outer word of a shut lock": (1, "bursts", (LOCK, "enter_at_turn", "    if (bursts && got == QOLB_CLOSED && my->at->ticket.state == QOLB_TICKET_INSIDE_SHUT_) qolb_leave_outer_(lock, my->at);\n", "")),
+    "the queue head keeps the outer word of a shut lock": (1, "bursts", (LOCK, "enter_at_turn", "    if (my->at->ticket.state == QOLB_TICKET_INSIDE_SHUT_) qolb_leave_outer_(lock, my->at);\n", "")),
     "the queue head that is late keeps its turn": (1, "bursts", (LOCK, "enter_at_turn", "if (bursts || got != QOLB_GRANTED)", "if (bursts && got != QOLB_LATE)")),
     "the queue head takes no word that is reserved": (1, "bursts", (WAITS, "may_take", "    return outer & (OUTER_RESERVED | OUTER_SHUT) || had == watch->had;\n", "    return (outer & OUTER_SHUT) || (!(outer & OUTER_RESERVED) && had == watch->had);\n"), (WAITS, "qolb_await_outer_", "            qolb_pause_(WATCH_PAUSE);\n", "            qolb_park_(outer_half(words_of(my->lock)), (uint32_t)outer, 1, FOR_EVER);\n")),
     # Entering.

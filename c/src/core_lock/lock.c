@@ -78,8 +78,7 @@ static uint32_t enter_at_turn(struct request *my) {
     int bursts = has_bursts(lock);
     uint32_t got = bursts ? qolb_await_outer_(my) : qolb_core_check_open_proved_(&lock->core, &my->at->ticket);
     if (bursts || got != QOLB_GRANTED) qolb_pass_on_(lock, my->at);
-    if (bursts && got == QOLB_CLOSED && my->at->ticket.state == QOLB_TICKET_INSIDE_SHUT_)
-        qolb_leave_outer_(lock, my->at);
+    if (my->at->ticket.state == QOLB_TICKET_INSIDE_SHUT_) qolb_leave_outer_(lock, my->at);
     return got;
 }
 
