@@ -6,7 +6,7 @@ LOCK, WAITS, TURNS, OPENS, CONDITIONS, HEADER = (f"core_lock/{name}" for name in
 HOOKED = [
     (HEADER, "", "MOST_HELD = 8", "MOST_HELD = 1"),
     (HEADER, "", "CLASSES_OF_SLEEPERS = 32", "CLASSES_OF_SLEEPERS = 2"),
-    (TURNS, "qolb_draw_number_", "    know_table(own());\n", ""),
+    (TURNS, "qolb_place_for_", "own_number(), know_table(this_thread());", "own_number();"),
     (LOCK, "", "TRIES = 4", "TRIES = 2"),
     (WAITS, "", "WATCH_PAUSE = 300", "WATCH_PAUSE = 90"),
     (WAITS, "", "REQUEST_PART = 16", "REQUEST_PART = 2"),
@@ -34,7 +34,7 @@ FAULTS = {
     "where a cell is full a waiter sleeps until it is woken": (1, "no room", (WAITS, "sleep_for_turn", "qolb_nap_(my->until)", "qolb_park_(cell_half(words_of(my->lock), ticket->number), __atomic_load_n(cell_half(words_of(my->lock), ticket->number), __ATOMIC_SEQ_CST), UINT32_MAX, FOR_EVER)")),
     "who gives up does not withdraw": (1, "", (WAITS, "give_up", "qolb_core_withdraw_proved_(core_of(my), ticket_of(my))", "QOLB_WITHDRAWN")),
     "who gives up keeps a turn that came first": (2, "", (WAITS, "give_up", "got == QOLB_WITHDRAWN ? told : got", "told")),
-    "who gives up looks whether the lock is shut after it has withdrawn": (2, "the last frees beside", (WAITS, "give_up", "uint32_t told = late_or_closed(my->lock), got = qolb_core_withdraw_proved_(core_of(my), ticket_of(my));", "uint32_t got = qolb_core_withdraw_proved_(core_of(my), ticket_of(my)), told = late_or_closed(my->lock);")),
+    "who gives up looks whether the lock is shut after it has withdrawn": (2, "one frees", (WAITS, "give_up", "uint32_t told = late_or_closed(my->lock), got = qolb_core_withdraw_proved_(core_of(my), ticket_of(my));", "uint32_t got = qolb_core_withdraw_proved_(core_of(my), ticket_of(my)), told = late_or_closed(my->lock);")),
     "who gives up after a shut is told that it is late": (1, "", (WAITS, "late_or_closed", "outer_word(lock) & OUTER_SHUT ? QOLB_CLOSED : QOLB_LATE", "QOLB_LATE"), (LOCK, "ask_later", "outer_word(my->lock) & OUTER_SHUT ? QOLB_CLOSED : QOLB_LATE", "QOLB_LATE")),
     # The queue head, and the outer word.
     "who leaves the outer word wakes nobody": (1, "bursts", (WAITS, "qolb_leave_outer_", "    if (at->ticket.head_sleeps) qolb_unpark_(outer_half(words), UINT32_MAX);\n", "    (void)words;\n")),
@@ -78,7 +78,7 @@ FAULTS = {
     "two openings have one label": (1, "holds three", (OPENS, "open_core", "atomic_fetch_add(&labels, 1) + 1", "atomic_load(&labels) + 1"), (TURNS, "is_free", "!(lock_at(at) & HELD) || holds_by(at, lock)", "1")),
     # The thread's table.
     "a turn goes to a place that is taken": (1, "", (TURNS, "is_free", "!(lock_at(at) & HELD) || holds_by(at, lock)", "1")),
-    "a turn beyond the table is not counted": (1, "holds three", (TURNS, "qolb_keep_turn_", "    own()->beyond++;\n", "")),
+    "a turn beyond the table is not counted": (1, "holds three", (TURNS, "qolb_keep_turn_", "    this_thread()->beyond++;\n", "")),
     "a turn beyond the table has no holder": (1, "holds three", (TURNS, "qolb_keep_turn_", "    atomic_store_explicit(&lock->beyond_by, own_number(), memory_order_relaxed);\n", "")),
     "a turn beyond the table keeps its holder": (1, "holds three", (TURNS, "qolb_take_turn_", "    atomic_store_explicit(&lock->beyond_by, 0, memory_order_relaxed);\n", "")),
     "a turn beyond the table forgets its ticket": (1, "holds three", (TURNS, "qolb_keep_turn_", "{at->ticket.number, at->ticket.state}", "{0, at->ticket.state}")),

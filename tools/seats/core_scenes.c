@@ -288,6 +288,21 @@ static void one_closes(int self) {
     if (atomic_fetch_add(&it.over, 0)) MUST(qolb_lock_close(it.lock) == QOLB_DONE);
 }
 
+/* One frees the lock as soon as it may, while another waits, is late, or leaves, and then makes no call any more. */
+static void one_frees(int self) {
+    if (self) {
+        is_late(self);
+        atomic_store(&it.over, 1);
+        return;
+    }
+    MUST(qolb_lock_enter(it.lock) == QOLB_GRANTED);
+    await_other(1);
+    leave();
+    while (qolb_lock_close(it.lock) != QOLB_DONE) sched_yield();
+    model_free(it.block);
+    it.lock = NULL;
+}
+
 /* One is in, and another closes. */
 static void one_closes_beside_a_holder(int self) {
     if (self) {
@@ -441,6 +456,8 @@ const struct scene scenes[] = {
     {"far: the last frees beside one that is late", last_frees_beside_one_that_is_late, 3, 0, 0, 0, 65535},
     {"one closes", one_closes, 2, 0, 0, ROOMY},
     {"far: one closes", one_closes, 2, 0, 0, 0, 65535},
+    {"one frees", one_frees, 2, 0, 0, ROOMY},
+    {"far: one frees", one_frees, 2, 0, 0, 0, 65535},
     {"one closes beside a holder", one_closes_beside_a_holder, 2, 0, 0, ROOMY},
     {"two wait at a condition, one not for ever", waits, 3, 0, 0, ROOMY},
     {"one waits at a condition while one stays", waits_while_one_stays, 2, 0, 0, ROOMY},
@@ -470,6 +487,8 @@ const struct scene scenes[] = {
     {"bursts: the last frees, and each yields", last_frees_and_yields, 3, 2, 0, ROOMY},
     {"bursts: the last frees beside one that is late", last_frees_beside_one_that_is_late, 3, 2, 0, ROOMY},
     {"bursts: one closes", one_closes, 2, 2, 0, ROOMY},
+    {"bursts: one frees", one_frees, 2, 2, 0, ROOMY},
+    {"bursts: far: one frees", one_frees, 2, 2, 0, 0, 65535},
     {"bursts: one closes beside a holder", one_closes_beside_a_holder, 2, 2, 0, ROOMY},
     {"bursts: two wait at a condition, one not for ever", waits, 3, 2, 0, ROOMY},
     {"bursts: two wait at a condition until one shuts", waits_until_shut, 3, 2, 0, ROOMY},

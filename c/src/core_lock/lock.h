@@ -149,17 +149,18 @@ enum { SYSTEM_BITS = 22 };
 
 struct own {
     struct turn table[MOST_HELD];
-    uint64_t number; /* 0 until it is drawn, and the table known to qolb_lock_holder */
-    unsigned beyond; /* the number of locks that it holds, for which the table has no room */
-    struct own *next, **before;
+    uint64_t number;                          /* 0 until it is drawn */
+    unsigned beyond;                          /* the number of locks that it holds, for which the table has no room */
+    enum { UNKNOWN, KNOWN, FORGOTTEN } known; /* to qolb_lock_holder: from the first use to the thread's end */
+    struct own *next, **before;               /* of those that are */
 };
 
 extern HIDDEN BY_THREAD struct own qolb_own_;
 
-static inline struct own *own(void) { return &qolb_own_; }
+static inline struct own *this_thread(void) { return &qolb_own_; }
 
 static inline struct turn *home_of(const struct lock *lock) {
-    return &own()->table[(uintptr_t)lock / LINE % MOST_HELD];
+    return &this_thread()->table[(uintptr_t)lock / LINE % MOST_HELD];
 }
 
 static inline uintptr_t lock_at(const struct turn *at) { return atomic_load_explicit(&at->lock, memory_order_relaxed); }
@@ -174,7 +175,7 @@ static inline int holds_by(const struct turn *at, const struct lock *lock) {
 }
 
 HIDDEN uint64_t qolb_draw_number_(void);
-static inline uint64_t own_number(void) { return own()->number ? own()->number : qolb_draw_number_(); }
+static inline uint64_t own_number(void) { return this_thread()->number ? this_thread()->number : qolb_draw_number_(); }
 
 HIDDEN int qolb_holds_(const struct lock *lock);
 

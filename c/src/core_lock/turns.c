@@ -40,6 +40,7 @@ static void forget_table(void *table) {
     take_guard(&tables.guard);
     *it->before = it->next;
     if (it->next) it->next->before = it->before;
+    it->known = FORGOTTEN;
     for (int k = 0; k < MOST_HELD; k++) {
         uintptr_t lock = lock_at(&it->table[k]);
         struct never_left *left = lock & HELD ? malloc(sizeof *left) : NULL;
@@ -52,9 +53,9 @@ static void forget_table(void *table) {
 
 /* The child of a fork has no other thread. */
 static void know_this_table_alone(void) {
-    struct own *it = own();
+    struct own *it = this_thread();
     atomic_store(&tables.guard, 0);
-    tables.first = it->number ? it : NULL;
+    tables.first = it->known == KNOWN ? it : NULL;
     it->next = NULL;
     it->before = &tables.first;
 }
@@ -73,6 +74,7 @@ static void know_table(struct own *it) {
     it->before = &tables.first;
     if (it->next) it->next->before = &it->next;
     tables.first = it;
+    it->known = KNOWN;
     return_guard(&tables.guard);
 }
 
@@ -82,9 +84,7 @@ uint64_t qolb_draw_number_(void) {
 #ifdef __linux__
     system = (uint64_t)syscall(SYS_gettid);
 #endif
-    own()->number = count % most * most + system % most;
-    know_table(own());
-    return own()->number;
+    return this_thread()->number = count % most * most + system % most;
 }
 
 /* ---- A thread's turns ---- */
@@ -96,12 +96,13 @@ static int holds_at(const struct turn *at, const struct lock *lock) {
 
 static struct turn *find(const struct lock *lock) {
     for (int k = 0; k < MOST_HELD; k++)
-        if (holds_at(&own()->table[k], lock)) return &own()->table[k];
+        if (holds_at(&this_thread()->table[k], lock)) return &this_thread()->table[k];
     return NULL;
 }
 
 static int holds_beyond(const struct lock *lock) {
-    return own()->beyond && atomic_load_explicit(&lock->beyond_by, memory_order_relaxed) == own()->number;
+    return this_thread()->beyond &&
+           atomic_load_explicit(&lock->beyond_by, memory_order_relaxed) == this_thread()->number;
 }
 
 int qolb_holds_(const struct lock *lock) { return is_open(lock) && (find(lock) || holds_beyond(lock)); }
@@ -113,7 +114,7 @@ struct turn *qolb_take_turn_(struct lock *lock, struct turn *beyond) {
     const struct beyond *kept = beyond_of(lock);
     *beyond = (struct turn){.ticket = {.number = kept->number, .state = (uint32_t)kept->state, .label = lock->label}};
     atomic_store_explicit(&lock->beyond_by, 0, memory_order_relaxed);
-    own()->beyond--;
+    this_thread()->beyond--;
     return beyond;
 }
 
@@ -124,8 +125,8 @@ static int is_free(const struct turn *at, const struct lock *lock) {
 
 struct turn *qolb_place_for_(const struct lock *lock, struct turn *beyond) {
     struct turn *at = home_of(lock);
-    own_number();
-    for (int k = 0; k < MOST_HELD && !is_free(at, lock); k++) at = &own()->table[k];
+    if (this_thread()->known == UNKNOWN) own_number(), know_table(this_thread());
+    for (int k = 0; k < MOST_HELD && !is_free(at, lock); k++) at = &this_thread()->table[k];
     if (!is_free(at, lock)) return *beyond = (struct turn){0}, beyond;
     if (lock_at(at) & HELD) at->ticket = (struct qolb_ticket){0};
     return set_lock(at, (uintptr_t)lock), at;
@@ -138,7 +139,7 @@ void qolb_keep_turn_(struct lock *lock, struct turn *at, const struct turn *beyo
     }
     *beyond_of(lock) = (struct beyond){at->ticket.number, at->ticket.state};
     atomic_store_explicit(&lock->beyond_by, own_number(), memory_order_relaxed);
-    own()->beyond++;
+    this_thread()->beyond++;
 }
 
 /* ---- Who holds a lock ---- */
