@@ -58,7 +58,6 @@ FAULTS = {
     "a try does not look whether the lock is shut": (1, "", (LOCK, "busy_or_closed", "outer_word(lock) & OUTER_SHUT ? QOLB_CLOSED : QOLB_BUSY", "QOLB_BUSY")),
     "who could not be withdrawn is no guest": (2, "far: ", (LOCK, "ask_later", "        be_guest(my);\n", "")),
     "who could not be withdrawn stays a guest": (1, "far: ", (LOCK, "await", "    be_no_guest(my);\n", "")),
-    "a guest counts itself out once it is served": (2, "", (LOCK, "await", "    be_no_guest(my);\n    if (got == QOLB_WAITING)", "    if (got == QOLB_WAITING)"), (LOCK, "await", "    return got;\n", "    be_no_guest(my);\n    return got;\n")),
     "who could not be withdrawn waits for ever": (1, "far: ", (LOCK, "ask_later", "got == QOLB_FAR_ && !is_over(my->until)", "got == QOLB_FAR_ && my->until")),
     # Leaving, shutting and closing.
     "a shut is told to nobody by the core": (1, "", (LOCK, "qolb_lock_shut", "    qolb_core_shut_proved_(&lock->core, &at->ticket);\n", "")),
@@ -83,7 +82,7 @@ FAULTS = {
     "a turn beyond the table keeps its holder": (1, "holds three", (TURNS, "qolb_take_turn_", "    atomic_store_explicit(&lock->beyond_by, 0, memory_order_relaxed);\n", "")),
     "a turn beyond the table forgets its ticket": (1, "holds three", (TURNS, "qolb_keep_turn_", "{at->ticket.number, at->ticket.state}", "{0, at->ticket.state}")),
     "a turn beyond the table forgets its lock": (1, "holds three", (TURNS, "qolb_take_turn_", ", .label = lock->label", "")),
-    "a turn beyond the table lies in the core's words": (1, "holds three", (HEADER, "beyond_of", "return before ? (struct beyond *)lock->words", "return 1 ? (struct beyond *)(words_of(lock) + 16)")),
+    "a turn beyond the table lies in the core's words": (1, "holds three", (HEADER, "beyond_of", "before ? lock->words : (char *)words_of(lock) + CORE_WORDS_BYTES", "before ? (char *)(words_of(lock) + 16) : (char *)(words_of(lock) + 16)")),
     "who waits at a condition keeps no turn beyond the table": (1, "waits beyond", (CONDITIONS, "qolb_cond_wait_within", "    if (got == QOLB_GRANTED || got == QOLB_LATE) qolb_keep_turn_(lock, at, &beyond);\n", "")),
     # Conditions.
     "who waits stands in the list after it has left": (1, "", (CONDITIONS, "qolb_cond_wait_at_", "    stand(cond, lock, &me);\n", ""), (CONDITIONS, "qolb_cond_wait_at_", "    qolb_leave_at_(lock, at);\n", "    qolb_leave_at_(lock, at);\n    stand(cond, lock, &me);\n")),
@@ -99,6 +98,8 @@ FAULTS = {
 
 # Changes after which no run may fail.
 HARMLESS = {
+    # The lock is not closed while it is counted, and that is its last access.
+    "a guest counts itself out once it is served": ((LOCK, "await", "    be_no_guest(my);\n    if (got == QOLB_WAITING)", "    if (got == QOLB_WAITING)"), (LOCK, "await", "    return got;\n", "    be_no_guest(my);\n    return got;\n")),
     # Nobody may be about to call, and who waits was found before. It is a help to who does not keep that.
     "a shut lock is closed without a look at who asked after": ((LOCK, "is_alone", "got == QOLB_GRANTED || qolb_core_reopen_proved_(&lock->core, &at->ticket) == QOLB_GRANTED", "1"),),
     # The lock's bound is the core's count of newcomers.

@@ -377,6 +377,28 @@ static void waits_until_shut(int self) {
     it.lock = NULL;
 }
 
+/* One waits at the condition, and is signalled, or told of a shut, by one that frees the lock as soon as it may. */
+static void shuts_and_frees(int self) {
+    uint32_t got = QOLB_GRANTED;
+    if (self) {
+        MUST(qolb_lock_enter(it.lock) == QOLB_GRANTED);
+        it.has = 1;
+        while (got == QOLB_GRANTED) got = qolb_cond_wait(&it.cond, it.lock);
+        MUST(got == QOLB_CLOSED);
+        return;
+    }
+    for (int waits = 0; !waits;) {
+        MUST(qolb_lock_enter(it.lock) == QOLB_GRANTED);
+        waits = it.has;
+        if (waits) MUST(qolb_cond_signal(&it.cond) == QOLB_DONE);
+        MUST((waits ? qolb_lock_shut : qolb_lock_leave)(it.lock) == QOLB_DONE);
+        if (!waits) sched_yield();
+    }
+    while (qolb_lock_close(it.lock) != QOLB_DONE) sched_yield();
+    model_free(it.block);
+    it.lock = NULL;
+}
+
 /* One closes the lock while another waits at its condition. */
 static void one_closes_beside_a_waiter(int self) {
     int waits = 0;
@@ -462,6 +484,7 @@ const struct scene scenes[] = {
     {"two wait at a condition, one not for ever", waits, 3, 0, 0, ROOMY},
     {"one waits at a condition while one stays", waits_while_one_stays, 2, 0, 0, ROOMY},
     {"two wait at a condition until one shuts", waits_until_shut, 3, 0, 0, ROOMY},
+    {"one shuts and frees beside a waiter", shuts_and_frees, 2, 0, 0, ROOMY},
     {"one closes beside a waiter", one_closes_beside_a_waiter, 2, 0, 0, ROOMY},
     {"enters again", enters_again, 2, 0, 0, ROOMY},
     {"holds three", holds_three, 2, 0, 1, ROOMY},
@@ -492,6 +515,7 @@ const struct scene scenes[] = {
     {"bursts: one closes beside a holder", one_closes_beside_a_holder, 2, 2, 0, ROOMY},
     {"bursts: two wait at a condition, one not for ever", waits, 3, 2, 0, ROOMY},
     {"bursts: two wait at a condition until one shuts", waits_until_shut, 3, 2, 0, ROOMY},
+    {"bursts: one shuts and frees beside a waiter", shuts_and_frees, 2, 2, 0, ROOMY},
     {"bursts: one closes beside a waiter", one_closes_beside_a_waiter, 2, 2, 0, ROOMY},
     {"bursts: enters again", enters_again, 2, 2, 0, ROOMY},
     {"bursts: holds three", holds_three, 2, 2, 0, ROOMY},

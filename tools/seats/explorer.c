@@ -319,6 +319,9 @@ long model_syscall(long number, ...) {
         step(1); /* a sleep from which no thread wakes it */
     else if (what == WAITS || what == WAITS_IN_CLASSES) sleeps(word, value, time != NULL, classes);
     else wakes(word, (int)value, classes);
+#ifdef QOLB_LOCK_CORE
+    step(0); /* who is woken may be the next to go on */
+#endif
     va_end(rest);
     return 0;
 }
