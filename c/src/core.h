@@ -1,12 +1,21 @@
-/* For the library's internal files: the proved lock, as crates/qolb_c/src/core_calls.rt exports it. Many threads may call
- * with one lock at a time. No call waits or allocates but the opening; each takes a fixed number of atomic steps.
+/* For the library's internal files: the proved lock, as crates/qolb_c/src/core_calls.rt exports it. Many threads may
+ * call with one lock at a time. No call waits; each takes at most three atomic steps, a release two more for each withdrawn
+ * request that it passes, at most 64. Only opening allocates.
  *
- * A lock has a queue of tickets, and an *outer word*. A strict lock (a bound of bursts of at most 1): ask, wait for the
- * ticket's turn, check_open, be served, release. With bursts: a newcomer goes in by the outer word and leaves; who can't
- * asks for a ticket; at its turn it is the queue head, takes the outer word, releases its turn of the queue (it stays in),
- * is served, and leaves.
+ * A lock has a queue of tickets, and an *outer word*. A strict lock (a bound of bursts of at most 1): ask, wait for
+ * the ticket's turn, check_open, be served, release. With bursts: a newcomer goes in by the outer word and leaves;
+ * who can't asks for a ticket; at its turn it is the queue head, takes the outer word, releases its turn of the
+ * queue (it stays in), is served, and leaves.
  *
- * The answers are those of qolb.h where it has one, and these. MISUSE always means that nothing changed. */
+ * The answers are those of qolb.h where it has one, and these. MISUSE always means that nothing changed.
+ *
+ * What no call can see, and the caller owes (docs/PROVED.md):
+ *
+ * - a `qolb_core` that opening wrote, or a copy of it;
+ * - a ticket of zeros, or as its last call left it, in one call at a time, and not copied;
+ * - for each opening a label of its own;
+ * - nothing else in the lock's bytes while a call on it may come, and no call on it afterwards. A FREE ticket of such a
+ *   lock may be used for another. */
 #ifndef QOLB_CORE_H
 #define QOLB_CORE_H
 
@@ -14,25 +23,26 @@
 #include <stdbool.h>
 
 enum qolb_core_answer {
-    QOLB_FAR_ = 16,        /* so many rounds are before it (ticket.rounds) that it could not be withdrawn */
-    QOLB_ASLEEP_ = 17,     /* the sleep is announced: sleep now, at the address and value named below */
-    QOLB_FULL_ = 18,       /* 65,535 have announced a sleep at this cell: sleep by time */
-    QOLB_UNFINISHED_ = 19  /* the turn is still the ticket's: call again */
+    QOLB_FAR_ = 16,       /* so many rounds are before it (ticket.rounds) that it could not be withdrawn */
+    QOLB_ASLEEP_ = 17,    /* the sleep is announced: sleep now, at the address and value named below */
+    QOLB_FULL_ = 18,      /* 65,535 have announced a sleep at this cell: sleep by time */
+    QOLB_UNFINISHED_ = 19 /* the turn is still the ticket's: call again */
 };
 
 /* What the ticket has, in `state`. */
 enum qolb_ticket_state {
-    QOLB_TICKET_FREE_ = 0,           /* no request; it may have been used before */
-    QOLB_TICKET_WAITING_ = 1,        /* it waits */
-    QOLB_TICKET_ASLEEP_ = 2,         /* it waits, and its sleep is announced */
-    QOLB_TICKET_AT_TURN_ = 3,        /* at its turn; with bursts: the queue head */
-    QOLB_TICKET_SERVED_ = 4,         /* at its turn in a strict lock, and told that this is open */
-    QOLB_TICKET_SERVED_SHUT_ = 5,    /* the same, told that it is shut */
-    QOLB_TICKET_ENDING_ = 6,         /* a release that was UNFINISHED: only release goes on */
-    QOLB_TICKET_HEAD_INSIDE_ = 7,    /* the queue head, in by the outer word: open. Its turn of the queue is to be released */
+    QOLB_TICKET_FREE_ = 0,        /* no request; it may have been used before */
+    QOLB_TICKET_WAITING_ = 1,     /* it waits */
+    QOLB_TICKET_ASLEEP_ = 2,      /* it waits, and its sleep is announced */
+    QOLB_TICKET_AT_TURN_ = 3,     /* at its turn; with bursts: the queue head */
+    QOLB_TICKET_SERVED_ = 4,      /* at its turn in a strict lock, and told that this is open */
+    QOLB_TICKET_SERVED_SHUT_ = 5, /* the same, told that it is shut */
+    QOLB_TICKET_ENDING_ = 6,      /* a release that was UNFINISHED: only release goes on */
+    QOLB_TICKET_HEAD_INSIDE_ =
+        7, /* the queue head, in by the outer word: open. It has a turn of the queue to release */
     QOLB_TICKET_HEAD_INSIDE_SHUT_ = 8, /* the same, of a lock that is shut */
-    QOLB_TICKET_INSIDE_ = 9,         /* in by the outer word alone: open */
-    QOLB_TICKET_INSIDE_SHUT_ = 10    /* the same, of a lock that is shut */
+    QOLB_TICKET_INSIDE_ = 9,           /* in by the outer word alone: open */
+    QOLB_TICKET_INSIDE_SHUT_ = 10      /* the same, of a lock that is shut */
 };
 
 /* A reference to a lock. May be copied. */
@@ -40,32 +50,33 @@ struct qolb_core {
     const void *at;
 };
 
-/* A ticket, all zeros at first. Not to be copied; one call at a time. The caller may write `outer`, and no other field.
- * A FREE ticket may go to another lock, or be set to zeros. */
+/* A ticket, all zeros at first. Not to be copied; one call at a time. The caller may write `outer`, and no other
+ * field. A FREE ticket may go to another lock, or be set to zeros. */
 struct qolb_ticket {
-    uint64_t number;     /* from ask on: the ticket's number. After a release: the last number whose turn ended, so that
+    uint64_t number;   /* from ask on: the ticket's number. After a release: the last number whose turn ended, so that
                             number + 1 is the ticket that was granted */
-    uint64_t rounds;     /* while it waits: at most so many rounds were to be granted yet when it last looked (4 tickets
+    uint64_t rounds;   /* while it waits: at most so many rounds were to be granted yet when it last looked (4 tickets
                             a round; 1: at most four are before it); also after FAR */
-    uint64_t outer;      /* a guess of the outer word, for the next go_in or leave; after an ASLEEP of announce_head_sleep
+    uint64_t outer;    /* a guess of the outer word, for the next go_in or leave; after an ASLEEP of announce_head_sleep
                             the word to sleep at. A wrong guess costs a call */
-    uint64_t word;       /* after an ASLEEP of announce_sleep: the cell's word to sleep at */
-    uint64_t sleepers;   /* after a release: so many had announced their sleep at the granted ticket's cell */
-    uint64_t label;      /* the label of its lock, 0 if none: by this it is known whether a ticket is of the lock */
-    uint32_t state;      /* enum qolb_ticket_state */
-    bool head_sleeps;    /* after a leave: the queue head sleeps at the outer word, and is to be woken */
-    uint8_t claim;       /* stands for what the proof says of the ticket */
+    uint64_t word;     /* after an ASLEEP of announce_sleep: the cell's word to sleep at */
+    uint64_t sleepers; /* after a release: so many had announced their sleep at the granted ticket's cell */
+    uint64_t label;    /* the label of its lock, 0 if none: by this it is known whether a ticket is of the lock */
+    uint32_t state;    /* enum qolb_ticket_state */
+    bool head_sleeps;  /* after a leave: the queue head sleeps at the outer word, and is to be woken */
+    uint8_t claim;     /* stands for what the proof says of the ticket */
 };
 
-/* Opens a lock in a block of the heap, or in the calling thread's room (gaps.h). `burst`: at most so many turns from one
- * take of the outer word by a queue head until the next; 0 or 1 is a strict lock. `label`: not 0, and given to no other
- * lock of the process, ever. DONE; BAD_NODES (burst above 2^30), MISUSE (label 0), NO_MEMORY: nothing changed. */
+/* Opens a lock in a block of the heap, or in the calling thread's room (gaps.h). `burst`: at most so many turns from
+ * one take of the outer word by a queue head until the next; 0 or 1 is a strict lock. `label`: not 0, and given to
+ * no other lock of the process, ever. DONE; BAD_NODES (burst above 65,535), MISUSE (label 0), NO_MEMORY: nothing
+ * changed. */
 uint32_t qolb_core_open_proved_(uint64_t burst, uint64_t label, struct qolb_core *out);
 
 /* Draws the next ticket, and looks: GRANTED (at its turn) or WAITING. MISUSE: the ticket has a request, or is in. */
 uint32_t qolb_core_ask_proved_(const struct qolb_core *, struct qolb_ticket *);
-/* The same if the request could still be withdrawn: GRANTED, or WAITING (rounds at most 15); FAR; BUSY (another drew at
- * that moment): no ticket drawn. MISUSE as ask. */
+/* The same if the request could still be withdrawn: GRANTED, or WAITING (rounds at most 15); FAR; BUSY (another drew
+ * at that moment): no ticket drawn. MISUSE as ask. */
 uint32_t qolb_core_ask_near_proved_(const struct qolb_core *, struct qolb_ticket *);
 /* The same if it would be at its turn: GRANTED, or BUSY: no ticket drawn. Says nothing of whether the lock is shut.
  * MISUSE as ask. */
@@ -73,50 +84,53 @@ uint32_t qolb_core_try_ask_proved_(const struct qolb_core *, struct qolb_ticket 
 /* Looks at the ticket's cell: GRANTED or WAITING. MISUSE unless it is WAITING (state). */
 uint32_t qolb_core_poll_proved_(const struct qolb_core *, struct qolb_ticket *);
 
-/* Counts the waiter as a sleeper of its cell, unless it is at its turn: ASLEEP, then sleep while the upper 32 bits of the
- * cell are those of ticket.word, and call retract_sleep afterwards; GRANTED; WAITING (the cell changed at that moment, not
- * counted); FULL (not counted). MISUSE unless it is WAITING. */
+/* Counts the waiter as a sleeper of its cell, unless it is at its turn: ASLEEP, then sleep while the upper 32 bits
+ * of the cell are those of ticket.word, and call retract_sleep afterwards; GRANTED; WAITING (the cell changed at
+ * that moment, not counted); FULL (not counted). MISUSE unless it is WAITING. */
 uint32_t qolb_core_announce_sleep_proved_(const struct qolb_core *, struct qolb_ticket *);
 /* Takes the count back: GRANTED or WAITING. MISUSE unless it is ASLEEP (state). */
 uint32_t qolb_core_retract_sleep_proved_(const struct qolb_core *, struct qolb_ticket *);
-/* WITHDRAWN: the ticket has no request any more, and the lock may be gone. GRANTED: it is at its turn. FAR: ticket.rounds
- * is above 15, nothing changed. MISUSE unless it is WAITING: a sleep is retracted first. */
+/* WITHDRAWN: the ticket has no request any more, and the lock may be gone. GRANTED: it is at its turn. FAR:
+ * ticket.rounds is above 15, nothing changed. MISUSE unless it is WAITING: a sleep is retracted first. */
 uint32_t qolb_core_withdraw_proved_(const struct qolb_core *, struct qolb_ticket *);
-/* Ends the turn of the queue, passes withdrawn requests, and grants the next ticket: DONE (ticket.number + 1 is granted,
- * ticket.sleepers; a head that is in is INSIDE then, else the ticket is FREE and the lock may be gone). UNFINISHED: it passed
- * 1,000. MISUSE unless it is AT_TURN, SERVED, SERVED_SHUT, ENDING, HEAD_INSIDE or HEAD_INSIDE_SHUT. */
+/* Ends the turn of the queue, passes withdrawn requests, and grants the next ticket: DONE (ticket.number + 1 is
+ * granted, ticket.sleepers; a head that is in is INSIDE then, else the ticket is FREE and the lock may be gone).
+ * UNFINISHED: it passed 64. MISUSE unless it is AT_TURN, SERVED, SERVED_SHUT, ENDING, HEAD_INSIDE or
+ * HEAD_INSIDE_SHUT. */
 uint32_t qolb_core_release_proved_(const struct qolb_core *, struct qolb_ticket *);
 
-/* At the turn of a strict lock: GRANTED (open: SERVED) or CLOSED (SERVED_SHUT: pass the turn on by release, or reopen). MISUSE
- * unless it is AT_TURN, SERVED or SERVED_SHUT in a strict lock. */
+/* At the turn of a strict lock: GRANTED (open: SERVED) or CLOSED (SERVED_SHUT: pass the turn on by release, or
+ * reopen). MISUSE unless it is AT_TURN, SERVED or SERVED_SHUT in a strict lock. */
 uint32_t qolb_core_check_open_proved_(const struct qolb_core *, struct qolb_ticket *);
-/* A newcomer takes the outer word, if that is ticket.outer, free for anyone, and open: GRANTED (INSIDE); BUSY: ticket.outer
- * has the word that was found. MISUSE: the ticket has a request or is in, or the lock is strict. */
+/* A newcomer takes the outer word, if that is ticket.outer, free for anyone, and open: GRANTED (INSIDE); BUSY:
+ * ticket.outer has the word that was found. MISUSE: the ticket has a request or is in, or the lock is strict. */
 uint32_t qolb_core_go_in_proved_(const struct qolb_core *, struct qolb_ticket *);
-/* The queue head takes the outer word, if it is free: GRANTED (HEAD_INSIDE) or CLOSED (HEAD_INSIDE_SHUT): in; release the turn of
- * the queue next. WAITING: it is held, or changed at that moment; ticket.outer has the word. MISUSE unless it is AT_TURN
- * in a lock with bursts. */
+/* The queue head takes the outer word, if it is free: GRANTED (HEAD_INSIDE) or CLOSED (HEAD_INSIDE_SHUT): in;
+ * release the turn of the queue next. WAITING: it is held, or changed at that moment; ticket.outer has the word.
+ * MISUSE unless it is AT_TURN in a lock with bursts. */
 uint32_t qolb_core_take_outer_proved_(const struct qolb_core *, struct qolb_ticket *);
-/* Leaves the outer word, if that is ticket.outer: DONE (FREE; ticket.head_sleeps; the lock may be gone). BUSY: the word
- * was another, which ticket.outer has now: call again. MISUSE unless it is INSIDE or INSIDE_SHUT. */
+/* Leaves the outer word, if that is ticket.outer: DONE (FREE; ticket.head_sleeps; the lock may be gone). BUSY: the
+ * word was another, which ticket.outer has now: call again. MISUSE unless it is INSIDE or INSIDE_SHUT. */
 uint32_t qolb_core_leave_proved_(const struct qolb_core *, struct qolb_ticket *);
 /* The queue head asks whoever is in to leave the outer word for the head alone: DONE, or BUSY (it changed at that
  * moment). MISUSE unless it is AT_TURN. */
 uint32_t qolb_core_request_handoff_proved_(const struct qolb_core *, struct qolb_ticket *);
-/* The queue head notes at the outer word that it sleeps: ASLEEP, then sleep while the lower 32 bits of the outer word are
- * those of ticket.outer. WAITING: the word is not held, or changed at that moment. MISUSE unless it is AT_TURN. */
+/* The queue head notes at the outer word that it sleeps: ASLEEP, then sleep while the lower 32 bits of the outer
+ * word are those of ticket.outer. WAITING: the word is not held, or changed at that moment. MISUSE unless it is
+ * AT_TURN. */
 uint32_t qolb_core_announce_head_sleep_proved_(const struct qolb_core *, struct qolb_ticket *);
 
-/* Who is served shuts the lock: DONE (SERVED becomes SERVED_SHUT, and so on). From then
- * on nobody goes in by go_in, and who comes to a turn is told CLOSED. MISUSE unless it is SERVED, HEAD_INSIDE or INSIDE. */
+/* Who is served shuts the lock: DONE (SERVED becomes SERVED_SHUT, and so on). From then on nobody goes in by go_in,
+ * and who comes to a turn is told CLOSED. MISUSE unless it is SERVED, HEAD_INSIDE or INSIDE. */
 uint32_t qolb_core_shut_proved_(const struct qolb_core *, struct qolb_ticket *);
-/* Who was told CLOSED at a turn opens the lock again, if nobody asked after it: GRANTED (SERVED_SHUT becomes
- * SERVED, HEAD_INSIDE_SHUT becomes HEAD_INSIDE), or BUSY. MISUSE unless it is SERVED_SHUT or HEAD_INSIDE_SHUT. */
+/* Who was told CLOSED at a turn opens the lock again, if nobody asked after it: GRANTED (SERVED_SHUT becomes SERVED,
+ * HEAD_INSIDE_SHUT becomes HEAD_INSIDE), or BUSY. MISUSE unless it is SERVED_SHUT or HEAD_INSIDE_SHUT. */
 uint32_t qolb_core_reopen_proved_(const struct qolb_core *, struct qolb_ticket *);
 
-/* Where to sleep and wake. The words of an open lock; they never move. Word 0 is the outer word: bit 0 handoff requested,
- * bit 1 the head sleeps, bits 2 and 3 free (0), held (1) or reserved for the head (2), bit 4 shut, from bit 5 on the
- * newcomers since the last head. A thread may read it (and the address is used after the lock may be gone only to wake). */
+/* Where to sleep and wake. The words of an open lock; they never move. Word 0 is the outer word: bit 0 handoff
+ * requested, bit 1 the head sleeps, bits 2 and 3 free (0), held (1) or reserved for the head (2), bit 4 shut, from
+ * bit 5 on the newcomers since the last head. A thread may read it (and the address is used after the lock may be
+ * gone only to wake). */
 static inline uint64_t *qolb_core_words_(const struct qolb_core *core) { return *(uint64_t *const *)core->at; }
 /* The upper 32 bits of the cell of this ticket: sleep while they are (uint32_t)(ticket.word >> 32). */
 static inline uint32_t *qolb_core_cell_(const struct qolb_core *core, uint64_t number) {

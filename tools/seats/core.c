@@ -22,7 +22,7 @@ enum { MOST_PASSED = 1 };
 #else
 #define hook_draws() ((void)0)
 #define hook_withdraws() ((void)0)
-enum { MOST_NEAR = 15, MOST_SLEEPERS = 65535, MOST_PASSED = 1000 };
+enum { MOST_NEAR = 15, MOST_SLEEPERS = 65535, MOST_PASSED = 64 };
 #endif
 
 void *qolb_malloc_(size_t size);
@@ -32,7 +32,7 @@ enum { OUTER = 0, TAIL = 16, CELLS = 17, WORDS = 21, IN_ROUND = 4 };
 enum { HANDOFF = 1, HEAD_SLEEPS = 2, HELD = 4, RESERVED = 8, STATE = 12, SHUT = 16, NEWCOMER = 32 };
 #define ROUND ((uint64_t)1 << 34)
 #define SLEEPER ((uint64_t)1 << 16)
-#define MOST_BURST ((uint64_t)1 << 30)
+#define MOST_BURST ((uint64_t)65535)
 
 struct lock {
     _Atomic uint64_t *words;
@@ -241,11 +241,10 @@ uint32_t qolb_core_request_handoff_proved_(const struct qolb_core *core, struct 
 uint32_t qolb_core_announce_head_sleep_proved_(const struct qolb_core *core, struct qolb_ticket *ticket) {
     const struct lock *lock = of(core);
     if (!is(lock, ticket, BIT(AT_TURN))) return QOLB_MISUSE;
-    uint64_t was = ticket->outer = atomic_load(outer_of(lock)), asleep = was | HEAD_SLEEPS;
-    if ((was & STATE) != HELD) return QOLB_WAITING;
-    int announced = atomic_compare_exchange_strong(outer_of(lock), &was, asleep);
-    found(lock, ticket, QOLB_WAITING);
-    return announced && (ticket->outer & (STATE | HEAD_SLEEPS)) == (HELD | HEAD_SLEEPS) ? QOLB_ASLEEP_ : QOLB_WAITING;
+    uint64_t was = atomic_load(outer_of(lock)), asleep = was | HEAD_SLEEPS;
+    if ((was & STATE) != HELD || !atomic_compare_exchange_strong(outer_of(lock), &was, asleep)) return QOLB_WAITING;
+    ticket->outer = asleep;
+    return QOLB_ASLEEP_;
 }
 
 uint32_t qolb_core_shut_proved_(const struct qolb_core *core, struct qolb_ticket *ticket) {
