@@ -2,10 +2,10 @@
  *
  *   make -C c && LD_PRELOAD=c/build/preload.so PROGRAM        (glibc, Linux 4.14); installed as LIBDIR/qolb/preload.so
  *
- * Each ordinary mutex that the program locks gets its own qolb_lock, of 3 KB (with LOCK=core half a KB), and each condition variable by which it
- * waits with one a qolb_cond. Recursive, error-checking, robust, shared and priority mutexes stay the C library's, and
- * so does one for which there is no memory. Whether a mutex is a lock of ours is decided once, at its first use, until
- * it is destroyed or initialised again.
+ * Each ordinary mutex that the program locks gets its own qolb_lock, of 3 KB (with LOCK=core half a KB), and each
+ * condition variable by which it waits with one a qolb_cond. Recursive, error-checking, robust, shared and priority
+ * mutexes stay the C library's, and so does one for which there is no memory. Whether a mutex is a lock of ours is
+ * decided once, at its first use, until it is destroyed or initialised again.
  *
  * As with the C library, any thread may unlock such a mutex, unlocking a free one changes nothing, and a thread that
  * locks one that it holds waits until another unlocks it. A mutex that a thread held when it forked is held in the

@@ -1,5 +1,6 @@
-/* Entering and leaving a mutex's line, for preload.c. Any thread may leave, and one that holds it and enters waits until
- * another leaves: so where the lock is on the core (LOCK=core), the turn is kept beside it and not in a thread's table. */
+/* Entering and leaving a mutex's line, for preload.c. Any thread may leave, and one that holds it and enters waits
+ * until another leaves: so where the lock is on the core (LOCK=core), the turn is kept beside it and not in a
+ * thread's table. */
 #ifndef QOLB_PRELOAD_TURNS_H
 #define QOLB_PRELOAD_TURNS_H
 

@@ -1,6 +1,6 @@
-/* What a lock on the core has that another has not (docs/CORE_LOCK.md): it lies in its own bytes, at any multiple of 16,
- * and takes no heap; a thread holds any number of them; many threads open one at its first use; a call with a limit waits
- * behind any number of others, and a lock is not closed meanwhile. Prints only errors. */
+/* What a lock on the core has that another has not (docs/CORE_LOCK.md): it lies in its own bytes, at any multiple of
+ * 16, and takes no heap; a thread holds any number of them; many threads open one at its first use; a call with a
+ * limit waits behind any number of others, and a lock is not closed meanwhile. Prints only errors. */
 #define _GNU_SOURCE
 #include <malloc.h>
 #include <qolb.h>
@@ -261,8 +261,8 @@ static void *enters_once(void *argument) {
     return NULL;
 }
 
-/* Behind more waiters than a request may have that can be withdrawn: one call gives up at its limit, one at once, and one
- * waits until they have gone, or the lock is shut. While it waits the lock is not closed. */
+/* Behind more waiters than a request may have that can be withdrawn: one call gives up at its limit, one at once, and
+ * one waits until they have gone, or the lock is shut. While it waits the lock is not closed. */
 static int limits_behind_many(uint32_t burst, int shut) {
     enum { WAITERS = 80 };
     static struct user waiters[WAITERS];

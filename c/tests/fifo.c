@@ -5,9 +5,9 @@
  *   higher priority, which enters.
  * - A thread that was woken has its turn, leaves, and closes the lock, while the one that woke it is still in its call.
  *
- * No wait may take a tenth of a second of a processor. With the argument `mutex` the first is done with a mutex of the C
- * library, for the library that is preloaded. Where the system gives no such priorities nothing is tried. Prints only
- * errors. */
+ * No wait may take a tenth of a second of a processor. With the argument `mutex` the first is done with a mutex of
+ * the C library, for the library that is preloaded. Where the system gives no such priorities nothing is tried.
+ * Prints only errors. */
 #define _GNU_SOURCE
 #include <qolb.h>
 #include <semaphore.h>

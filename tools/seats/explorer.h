@@ -11,9 +11,9 @@ struct clock {
 };
 
 #ifdef QOLB_LOCK_CORE
-/* What these threads do at the same time, each by its number, over a lock on the core with these bursts, which is opened
- * before or at its first use. A request can be withdrawn with at most so many rounds to go, and so many threads may
- * announce a sleep at one cell. */
+/* What these threads do at the same time, each by its number, over a lock on the core with these bursts, which is
+ * opened before or at its first use. A request can be withdrawn with at most so many rounds to go, and so many
+ * threads may announce a sleep at one cell. */
 struct scene {
     const char *name;
     void (*does)(int self);

@@ -7,8 +7,8 @@
  * wait for its turn, take the outer word as the queue head, and release the turn of the queue. Leaving: leave the outer
  * word, which is the last access.
  *
- * A call with a limit draws a ticket only if that could still be withdrawn: until then it waits without one, as a guest,
- * and looks every millisecond.
+ * A call with a limit draws a ticket only if that could still be withdrawn: until then it waits without one, as a
+ * guest, and looks every millisecond.
  *
  * Who is told that the lock is shut passes its turn on. Closing is a try that finds nobody: no holder, no waiter, no
  * guest. */

@@ -125,8 +125,8 @@ static inline uintptr_t own_of(const struct lock *lock) {
 
 static inline int is_open(const struct lock *lock) { return own_of(lock) > AWAITED; }
 
-/* Opens the lock, unless it is open: DONE; BAD_KIND or BAD_NODES if its initialiser says so. A thread that meets another
- * which opens it sleeps until that has. */
+/* Opens the lock, unless it is open: DONE; BAD_KIND or BAD_NODES if its initialiser says so. A thread that meets
+ * another which opens it sleeps until that has. */
 HIDDEN uint32_t qolb_opened_(struct lock *lock);
 
 /* ---- turns.c ---- */
@@ -142,9 +142,9 @@ struct turn {
 
 enum { MOST_HELD = 8, HELD = 1 };
 
-/* The number of a thread: the system's, 22 bits of it, and above them 22 bits of a count of the threads of this process
- * that have drawn one. A thread keeps it over a fork. So a thread of the child that the system gives the parent's number
- * has another one here. */
+/* The number of a thread: the system's, 22 bits of it, and above them 22 bits of a count of the threads of this
+ * process that have drawn one. A thread keeps it over a fork. So a thread of the child that the system gives the
+ * parent's number has another one here. */
 enum { SYSTEM_BITS = 22 };
 
 struct own {
@@ -179,8 +179,8 @@ static inline uint64_t own_number(void) { return this_thread()->number ? this_th
 
 HIDDEN int qolb_holds_(const struct lock *lock);
 
-/* Takes the turn by which the calling thread holds the lock from it: one of its table, or `beyond`, to which it is moved
- * from the lock. NULL if it does not hold it. */
+/* Takes the turn by which the calling thread holds the lock from it: one of its table, or `beyond`, to which it is
+ * moved from the lock. NULL if it does not hold it. */
 HIDDEN struct turn *qolb_take_turn_(struct lock *lock, struct turn *beyond);
 
 /* Where the calling thread's turn at this lock goes: a place of its table, or `beyond`. It must not hold it. */
@@ -208,11 +208,12 @@ static inline struct probed of_request(const struct request *my) {
 /* Waits for the turn of a request that WAITS: GRANTED; LATE, or CLOSED of a lock that is shut: withdrawn. */
 HIDDEN uint32_t qolb_await_turn_(struct request *my);
 
-/* The queue head waits for the outer word: GRANTED or CLOSED, and it is in; LATE: it still has its turn of the queue. */
+/* The queue head waits for the outer word: GRANTED or CLOSED, and it is in; LATE: it still has its turn of the queue.
+ */
 HIDDEN uint32_t qolb_await_outer_(struct request *my);
 
-/* Ends a turn of the queue, and wakes the next, and one ahead after a sleep. The lock may be gone afterwards, unless the
- * ticket is in by the outer word. */
+/* Ends a turn of the queue, and wakes the next, and one ahead after a sleep. The lock may be gone afterwards, unless
+ * the ticket is in by the outer word. */
 HIDDEN void qolb_pass_on_(struct lock *lock, struct turn *at);
 
 /* Leaves the outer word, and wakes the queue head. The lock may be gone afterwards. */

@@ -2,11 +2,11 @@
  * call.
  *
  * The first that finds `core.at` NULL writes OPENING there, opens, and writes the core's address. Who finds OPENING
- * writes AWAITED and sleeps at that value; who has opened wakes if it found that. So the lock is opened once, and nobody
- * waits for it without a sleep.
+ * writes AWAITED and sleeps at that value; who has opened wakes if it found that. So the lock is opened once, and
+ * nobody waits for it without a sleep.
  *
- * The core's blocks, its words, its slots and what refers to them, are bytes of the lock: the proved part asks for memory by
- * gaps.c, and gets these (qolb_core_room_). So opening can't fail, and nothing has to be freed. */
+ * The core's blocks, its words, its slots and what refers to them, are bytes of the lock: the proved part asks for
+ * memory by gaps.c, and gets these (qolb_core_room_). So opening can't fail, and nothing has to be freed. */
 #include "lock.h"
 
 /* Whether there are such seats, and such bursts of them. They mean nothing here but this answer. */

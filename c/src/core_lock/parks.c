@@ -1,8 +1,8 @@
 /* Sleeping at 32 bits of a word, and waking: Linux's futex by classes. On other systems a sleeper looks again after
  * 200 us (lock.h). Tested, not proved.
  *
- * Who sleeps has announced it by a proved call, whose answer has the word's value. So the futex's own comparison of that
- * value is all that is needed: whoever changes the word afterwards was told of the sleeper. */
+ * Who sleeps has announced it by a proved call, whose answer has the word's value. So the futex's own comparison of
+ * that value is all that is needed: whoever changes the word afterwards was told of the sleeper. */
 #define _GNU_SOURCE
 #include "lock.h"
 #include <time.h>

@@ -4,9 +4,9 @@
  * at; it sleeps while the word has that, retracts, and looks again. Who grants is told by the same step how many sleep
  * there, and wakes them by address. There is no other handshake.
  *
- * The queue head waits at the outer word in the same way: it announces its sleep there, and who leaves is told. It takes
- * the word when that is reserved for it, or when it finds it free twice with no turn in between: so newcomers have their
- * burst. It requests the handoff after a sixteenth of the bound, or a millisecond.
+ * The queue head waits at the outer word in the same way: it announces its sleep there, and who leaves is told. It
+ * takes the word when that is reserved for it, or when it finds it free twice with no turn in between: so newcomers
+ * have their burst. It requests the handoff after a sixteenth of the bound, or a millisecond.
  *
  * Who slept for its turn wakes the waiter behind the one that it grants as well, while others sleep there: that one's
  * thread gets up during the turn before its own. */
