@@ -37,6 +37,27 @@ def medians():
     return {(row["name"], row["threads"]): float(row["median"]) for row in rows_of("rounds.tsv")}
 
 
+# Of each machine on which rounds were timed: its file, and its name in the table.
+MACHINES = (("rounds.tsv", ""), ("rounds_cascade_lake.tsv", ", older"))
+
+
+def fastest():
+    """Of the three lines that with the least median of a round, and those whose quartiles reach below its upper one; by machine, caller and number of threads."""
+    rows = []
+    for file, machine in MACHINES:
+        found = {(row["name"], row["threads"]): row for row in rows_of(file)}
+        threads = sorted({count for _, count in found}, key=int)
+        for caller, behind in (("Rattle", ""), ("C", " from C")):
+            cells = []
+            for count in threads:
+                of = {line.split()[0]: found[line + behind, count] for line in LINES}
+                least = min(of, key=lambda line: float(of[line]["median"]))
+                near = [line for line in sorted(of, key=lambda line: float(of[line]["median"])) if float(of[line]["low"]) <= float(of[least]["high"])]
+                cells.append("any" if len(near) == len(LINES) else ", ".join(near))
+            rows.append([caller + machine, *cells])
+    return table(["Threads", *threads], rows)
+
+
 # Those of the table of rounds, as the page has them.
 OTHERS = {"qolb_lock": "`qolb_lock`", "qolb_lock, bursts": "`qolb_lock`, bursts", "MCS": "MCS", "CLH": "CLH", "ticket lock": "ticket lock",
           "tbb::queuing_mutex": "`tbb::queuing_mutex`", "pthread_mutex": "`pthread_mutex`"}
@@ -61,7 +82,7 @@ def waits():
     def cell(*key):
         return f"{short(float(found[key]['turns_a_second']) / 1000)}; {short(float(found[key]['longest_us']) / 1000)}"
 
-    rows = [[turn, count, *(cell(turn, count, name) for name in WAITS)] for turn in ("0", "10", "1000") for count in ("4", "8", "32")]
+    rows = [[turn, count, *(cell(turn, count, name) for name in WAITS)] for turn, counts in (("0", "4 8 32"), ("10", "8 32"), ("1000", "8 32")) for count in counts.split()]
     return table(["Turn, us", "Threads", *WAITS.values()], rows)
 
 
@@ -94,16 +115,43 @@ def for_two():
 
 
 def of_mutex(count):
-    """How many times as many empty turns as a strict lock a mutex has with that many threads."""
-    rows = [row for row in rows_of("locks.tsv") if (row["measure"], row["library"], row["threads"], row["turn_us"]) == ("turns", "now", count, "0")]
-    found = {row["lock"]: float(row["figure"]) for row in rows}
-    return found["mutex"] / found["default"]
+    """How many times as many empty turns as a strict `qolb_lock` a mutex has with that many threads, in each file that has both."""
+    found = []
+    turns = {row["lock"]: float(row["figure"]) for row in rows_of("locks.tsv") if (row["measure"], row["library"], row["threads"], row["turn_us"]) == ("turns", "now", count, "0")}
+    found += [turns["mutex"] / turns["default"]] if turns else []
+    turns = {row["lock"]: float(row["turns_a_second"]) for row in rows_of("bursts.tsv") if (row["threads"], row["turn_us"]) == (count, "0")}
+    found += [turns["mutex"] / turns["default"]] if turns else []
+    rounds_of = {name: time for (name, threads), time in medians().items() if threads == count}
+    found += [rounds_of["qolb_lock"] / rounds_of["pthread_mutex"]] if rounds_of else []
+    turns = {row["name"]: float(row["turns_a_second"]) for row in rows_of("waits.tsv") if (row["threads"], row["turn_us"]) == (count, "0")}
+    found += [turns["mutex"] / turns["C, qolb_lock"]] if turns else []
+    return found
+
+
+def ratio(number):
+    """A ratio in a sentence: with one digit behind the point below 5."""
+    return f"{number:.1f}" if number < 5 else f"{number:.0f}"
 
 
 def times_of_mutex():
-    """The least and the most of these, with as many threads as processors and more."""
-    found = sorted(of_mutex(count) for count in ("4", "8", "32"))
-    return f"{found[0]:.0f}", f"{found[-1]:.0f}"
+    """The least and the most of these with 2, 4, 8 and 32 threads."""
+    return tuple(ratio(of(of_mutex(count))) for count in ("2", "4", "8", "32") for of in (min, max))
+
+
+CHOICE = {"default": "strict", "link:4+1024": "bursts", "mutex": "mutex"}
+
+
+def choice():
+    """Thousands of turns a second and the longest wait in milliseconds, of a strict lock, one with bursts and a mutex."""
+    found = {(row["threads"], row["turn_us"], row["lock"]): row for row in rows_of("bursts.tsv")}
+    turn_of = {"0": "empty", "10": "10 us", "1000": "1 ms, asleep"}
+
+    def cell(*key):
+        return f"{short(float(found[key]['turns_a_second']) / 1000)}; {short(float(found[key]['longest_wait_us']) / 1000)}"
+
+    kinds = ("2", "0"), ("8", "0"), ("32", "0"), ("32", "10"), ("8", "1000")
+    rows = [[f"{threads}, {turn_of[turn]}", *(cell(threads, turn, lock) for lock in CHOICE)] for threads, turn in kinds]
+    return table(["Threads, turn", *CHOICE.values()], rows)
 
 
 def alone():
@@ -114,9 +162,11 @@ def alone():
 
 
 def to_mcs():
-    """The time of a round by three threads as a ratio to that of MCS: ticket line, ring, link line."""
+    """The least and the most threads, and time of a round as a ratio to that of MCS: ticket line, ring, link line."""
     found = medians()
-    return tuple(f"{found[line, '3'] / found['MCS', '3']:.2f}" for line in ("ticket line", "ring", "link line"))
+    threads = sorted({count for _, count in found}, key=int)
+    ratios = [[found[line, count] / found["MCS", count] for count in threads] for line in ("ticket line", "ring", "link line")]
+    return threads[0], threads[-1], *(f"{of(each):.2f}" for each in ratios for of in (min, max))
 
 
 def long_turns():
@@ -140,15 +190,14 @@ def tests_with_a_proof():
     return (str(sum(len(takers_of_all(crate) & set(tests_of(crate))) for crate in read_crates().values())),)
 
 
-TABLES = {"rounds": rounds, "waits": waits, "memory": memory}
+TABLES = {"rounds": rounds, "fastest": fastest, "waits": waits, "memory": memory, "choice": choice}
 # Of each sentence with figures: its page, the sentence with `{}` for each, and the figures.
 RATIOS = [
-    ("README.md", "it makes {} to {} times the turns of a strict `qolb_lock`", times_of_mutex),
-    ("README.md", "with three threads the ticket line takes {} times as long as MCS, the ring {}, the link line {}", to_mcs),
+    ("README.md", "with {} to {} threads: the ticket line takes {} to {} times as long as MCS, the ring {} to {}, the link line {} to {}", to_mcs),
     ("README.md", "for two nodes {} and {} as a link line, {} and {} as a ticket line, {} and {} as a ring", for_two),
     ("README.md", "With one thread a turn takes {} to {} ns, from C {} to {}, MCS's {}", alone),
     ("README.md", "runs, without a proof, all tests but {},", tests_with_a_proof),
-    ("docs/LOCKS.md", "a mutex makes {} to {} times the turns of a strict `qolb_lock`", times_of_mutex),
+    ("docs/LOCKS.md", "a mutex makes {} to {} times the turns of a strict `qolb_lock` with 2 threads, {} to {} with 4, {} to {} with 8 and {} to {} with 32", times_of_mutex),
     ("docs/LOCKS.md", "{} % of a mutex's turns; its longest wait is {} ms, the mutex's {} ms", long_turns),
     ("docs/LOCKS.md", "{} to {} times a mutex's empty turns; with turns of 10 us its longest wait is at most one {}th of a mutex's", bursts),
 ]

@@ -30,7 +30,7 @@ import time
 
 ROOT = pathlib.Path(__file__).resolve().parent.parent
 BUILT = ("lock.c", "gate.c", "door.c", "conditions.c", "tasks.c", "calls.c", "notify.c", "bells.c")
-HEADERS = ("lock.h", "bells.h")
+HEADERS = ("lock.h", "bells.h", "spin.h")
 SOURCES = {name: (ROOT / "c/src" / name).read_text() for name in (*BUILT, *HEADERS)}
 # What a thread keeps while it makes calls of notifications: the model has several threads in one.
 OF_THREAD = "static BY_THREAD struct caller_of_notices *in_call;\n"
@@ -40,6 +40,17 @@ SOURCES["notify.c"] = SOURCES["notify.c"].replace(OF_THREAD, "void **model_in_ca
 COUNTED = "    unsigned looks = atomic_load_explicit(&counted, memory_order_relaxed);\n"
 assert COUNTED in SOURCES["bells.c"]
 SOURCES["bells.c"] = SOURCES["bells.c"].replace(COUNTED, "    unsigned looks = 1;\n")
+# Nor does what a thread has learned of its spins, as the model has several threads in one: each spin is one poll, without a pause.
+SPUN = {
+    "SPIN_NEAR = 50000": "SPIN_NEAR = 90",
+    "SPIN_UNKNOWN = 20000": "SPIN_UNKNOWN = 90",
+    "if (spin->polls < (patience < most ? patience : most) && qolb_pause_(POLL_PAUSE)) return": "if (spin->polls < most) return",
+    "unsigned *learned = &qolb_learned_[spin->slept], most": "unsigned none = 0, *learned = &none, most",
+    "unsigned patience = spin->polls ? *learned : begin_spin(learned);": "(void)begin_spin;",
+}
+for old, new in SPUN.items():
+    assert old in SOURCES["spin.h"]
+    SOURCES["spin.h"] = SOURCES["spin.h"].replace(old, new)
 RENAMED = [f"-D{name}=model_{short}" for name, short in (("malloc", "malloc"), ("free", "free"), ("syscall", "syscall"), ("sched_yield", "yield"), ("clock_gettime", "clock"))]
 # The files of tools/seats, with flags of their own: scenes are built as the library is.
 BY_MODEL = ["-w", "-O1", "-fsanitize=thread", "-U__SANITIZE_THREAD__", "-DQOLB_NO_PROBES", *RENAMED]

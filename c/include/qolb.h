@@ -1,8 +1,9 @@
 /* QOLB for C and C++: a queue lock that hands over 64 bytes with the lock.
  *
  * A line is 64 bytes that 1 to 200 nodes share. A node requests it, waits for its turn, reads and writes it, and
- * releases it: lock and bytes are handed to the oldest request. No request is overtaken. The library is proved;
- * docs/PROVED.md of its sources says how far.
+ * releases it: lock and bytes are handed to the oldest request. No request is overtaken; a thread may be (BUSY;
+ * bursts, in LOCKS). What calls do to a line is proved. Waits, wakes, locks, tasks, notifications and memory are C,
+ * tested, not proved.
  *
  * EXAMPLE
  *
@@ -61,8 +62,8 @@
  * word each. Threads that wait at a condition do not count.
  *
  * Such a lock is strict: each turn is handed to the thread that has waited longest. If threads enter again and again, a
- * mutex has many times as many turns, as it lets its last holder in again; but it bounds no wait. A lock with bursts is
- * between the two:
+ * mutex has more turns, as it lets its last holder in again; but it bounds no wait. A lock with bursts is between the
+ * two:
  *
  *     static qolb_lock lock = QOLB_LOCK_INIT_BURSTS(QOLB_LINK, 4, 1024);   // 4 seats, bursts of at most 1024 turns
  *
@@ -71,20 +72,21 @@
  *
  *     (p + 1) * (burst - 1)
  *
- * turns of calls that began later: to enter, to try, or the end of a wait at a condition. The hard limit, `burst`, is 2
- * to 65,535 turns. Usually fewer are made: a waiting thread watches, and while it runs ends the burst after a sixteenth
- * of the limit, after 1 ms, and once it finds the lock open and unused. A strict lock has a burst of 0. There must be 2
- * seats or more.
+ * turns of calls that began later: to enter, to try, or the end of a wait at a condition (tested, not proved). The hard
+ * limit, `burst`, is 2 to 65,535 turns. Usually fewer are made: a waiting thread watches, and while it runs ends the
+ * burst after a sixteenth of the limit, after 1 ms, and once it finds the lock open and unused. A strict lock has a
+ * burst of 0. There must be 2 seats or more.
  *
  * Only the thread that entered may leave. A thread that enters a lock which it holds is told MISUSE. A thread that ends
  * while it holds a lock releases nothing, and all others wait; qolb_lock_holder returns its number, on Linux gettid's.
  *
- * A static lock is opened at its first use. While there is no memory, each use is answered QOLB_NO_MEMORY.
+ * While there is no memory to open it, each use is answered QOLB_NO_MEMORY.
  *
  * The holder may use the line's 64 bytes too: qolb_lock_turn lends it the node, to read and to write the line. Every
  * other call on that node is misuse, and after the holder has left, all are.
  *
- * Seats and the sleeping of threads are tested and not proved; every step on a line is a proved call.
+ * A turn for which threads queue at a strict lock is one of its line, by proved calls. All else of a lock is C, tested,
+ * not proved.
  *
  * WORDS
  *
@@ -107,8 +109,7 @@
  * - QOLB_RING: a node takes a ticket and waits on a cell of its own. It takes at least 34 kilobytes, for any number of
  *   nodes.
  * - QOLB_LINK: a link line, whose queue is a linked list: a node links itself to its predecessor. Only this kind has
- *   requests in two calls, qolb_prepend and qolb_link, and a node that may be busy after its own release (BUSY, below).
- *   QOLB_LIST is its former name.
+ *   requests in two calls, qolb_prepend and qolb_link. QOLB_LIST is its former name.
  * - QOLB_TICKET: a ticket line, a ring whose cells are granted by a number and never cleared. A release that passes no
  *   withdrawn request takes one step on shared words, where a ring's takes two. Take this one, by the name
  *   QOLB_DEFAULT, unless memory is short or you want requests in two calls.
@@ -154,21 +155,27 @@
  * A line guards any data, as a mutex does. All that a thread wrote anywhere in memory before its node's release is seen
  * by the thread whose node is granted the line next, and by those whose requests are answered CLOSED.
  *
- * For the line's own 64 bytes this is proved. For other memory it follows: every step on a shared word is sequentially
- * consistent, and a release writes the next holder's word after all that its holder wrote.
+ * For the line's own 64 bytes this is proved. For other memory it is argued: a release takes a sequentially consistent
+ * step after all that its holder wrote, and the next holder one on the same word before it reads. Some steps on other
+ * words of a lock are weaker.
  *
  * WAITING
  *
- * Of the calls on a node two wait for other threads: qolb_acquire and qolb_acquire_within. They poll for some 1.5 us,
- * yield the processor 16 times, polling after each, then sleep by a futex until the line is released; then they poll
- * anew. So does a thread that waits for a lock. At a strict lock's door it yields 32 times, or, behind 12 others,
- * never; meanwhile one with a seat, of at most 8, polls 16 times and yields 128. At a condition it sleeps at once.
+ * Of the calls on a node two wait for other threads: qolb_acquire and qolb_acquire_within. They poll about each 90 ns,
+ * at most 50 us on a line of at most five nodes and 20 us on others, then sleep by a futex until the line is released,
+ * and then poll anew. A thread whose polls were in vain polls for less the next time. They yield the processor never, so
+ * a real-time thread may wait for an ordinary one. A process that may use one processor only sleeps at once.
+ *
+ * A thread that waits for a lock polls for some 1.5 us and yields the processor 16 times before it sleeps. At a strict
+ * lock's door it yields 32 times, or, behind 12 others, never; meanwhile one with a seat, of at most 8, polls 16 times
+ * and yields 128. At a condition it sleeps at once.
  *
  * A call that releases the line (qolb_deqolb, qolb_shut, and any that answers CLOSED) wakes at most two sleepers: the
  * next holder, and the waiter behind it ahead of its turn. Leaving a lock also wakes the first two threads at its door;
- * in a burst only the thread that watches. Lines may wake each other's waiters, without effect.
+ * in a burst only the thread that watches.
  *
- * No call wakes, and no notification tells, the thread of a busy node: it asks again 16 times, and then every 200 us.
+ * No call wakes, and no notification tells, the thread of a busy node: it asks again for as long as it would poll, and
+ * then every 200 us.
  *
  * A granted line is its node's, even before it polls: all behind wait until its thread has woken up and had its turn.
  *

@@ -246,7 +246,8 @@ pub fn version() -> u32 {
 /// A node of a line. If it is dropped, it withdraws its request, or releases the line that it holds.
 pub struct Node(UnsafeCell<Handle>);
 
-// SAFETY: the library's proof covers that a handle may go to another thread. No call takes a `&Node`, so nothing is shared.
+// SAFETY: a handle may go to another thread (qolb.h, WHAT YOU MUST KEEP). Of the proved part that is proved, as `send` of `Handle` in crates/qolb_nodes;
+// the C around it keeps what it has of a node in the node's block. No call takes a `&Node`, so nothing is shared.
 unsafe impl Send for Node {}
 
 /// Opens a line and returns its nodes in order.
@@ -630,7 +631,8 @@ impl RawQolb {
 
     /// A lock with bursts, for threads that enter again and again: of the kind of the default lock, with `seats` seats.
     ///
-    /// With `p` threads before it, a waiter is overtaken by at most `(p + 1) * (burst - 1)` turns of later calls. A burst of 0 is strict order.
+    /// With `p` threads before it, a waiter is overtaken by at most `(p + 1) * (burst - 1)` turns of later calls (tested, not proved). A burst of 0 is strict
+    /// order.
     ///
     /// # Panics
     ///

@@ -9,8 +9,8 @@
 #define _GNU_SOURCE
 #include "bells.h"
 #include "probes.h"
+#include "spin.h"
 #include <errno.h>
-#include <sched.h>
 #include <unistd.h>
 #ifdef __linux__
 #include <sys/syscall.h>
@@ -37,6 +37,7 @@ uint32_t qolb_open(uint32_t kind, uint64_t label, uint64_t nodes, uint64_t lease
     uint32_t bell = atomic_fetch_add(&drawn, NEXT_BELLS);
     for (uint64_t k = 0; k < nodes; k++) {
         *first_bell_of(&out[k]) = bell;
+        *nodes_beside(&out[k]) = (uint32_t)nodes;
         *notice_of(&out[k]) = (struct notice){.in_line = &qolb_bells_[bell % BELLS].in_line,
                                               .in_all = &anywhere.waiting};
     }
@@ -127,15 +128,19 @@ uint32_t qolb_close(qolb_node *node) {
 
 /* ---- Waiting for a turn ---- */
 
-/* Polls for some 1.5 us, and yields the processor 16 times with a poll after each, while there is time: GRANTED,
- * CLOSED, WAITING. */
-static uint32_t look_a_while(qolb_node *node, const struct limit *limit) {
-    uint32_t got = qolb_wait_proved_(node, qolb_looks_());
-    for (int k = 0; got == QOLB_WAITING && k < YIELDS && left(limit); k++) {
-        sched_yield();
-        got = qolb_poll_proved_(node);
+/* At most so many nodes are before one that waits: all others of a line of few. */
+static uint64_t most_before(const qolb_node *node) {
+    uint32_t others = *nodes_beside(node) - 1;
+    return others <= NEAR_TURNS ? others : UNKNOWN_TURNS;
+}
+
+/* Polls until it is time to sleep, or the limit is over: GRANTED, CLOSED, WAITING. It polls at least once. */
+static uint32_t spin(qolb_node *node, const struct limit *limit, struct spin *spun) {
+    uint64_t before = most_before(node);
+    for (;;) {
+        uint32_t got = qolb_poll_proved_(node);
+        if (got != QOLB_WAITING || !left(limit) || !qolb_spin_once_(spun, before)) return got;
     }
-    return got;
 }
 
 /* The node's place does not change until it is granted the line. */
@@ -165,8 +170,9 @@ static uint32_t give_up(qolb_node *node) {
 
 /* Waits until the request is at its turn: GRANTED, CLOSED, LATE. */
 static uint32_t await(qolb_node *node, const struct limit *limit) {
+    struct spin spun = {0};
     for (;;) {
-        uint32_t got = look_a_while(node, limit);
+        uint32_t got = spin(node, limit, &spun);
         if (got == QOLB_WAITING && left(limit)) got = sleep_at_bell(node, limit);
         if (got != QOLB_WAITING) return got;
         if (left(limit) == 0) return give_up(node);
@@ -180,12 +186,12 @@ static void nap(uint64_t most) {
 
 /* Repeats the request while the node is busy: the final answer, or LATE. */
 static uint32_t ask_again(qolb_node *node, const struct limit *limit) {
+    struct spin spun = {0};
     uint32_t got = QOLB_BUSY;
-    for (unsigned k = 0; got == QOLB_BUSY; k++) {
+    for (int naps = 0; got == QOLB_BUSY;) {
         uint64_t time = left(limit);
         if (time == 0) return QOLB_LATE;
-        if (k < YIELDS) sched_yield();
-        else nap(time);
+        if (naps || !qolb_spin_once_(&spun, UNKNOWN_TURNS)) naps = 1, nap(time);
         got = qolb_enqolb_proved_(node);
     }
     return got;

@@ -53,7 +53,7 @@ extern BY_THREAD __attribute__((visibility("hidden"))) struct room qolb_room_;
 extern BY_THREAD __attribute__((visibility("hidden"))) struct core_room qolb_core_room_;
 
 _Static_assert(SEAT_BYTES <= GAP_BYTES / 2 && NOTICE_BYTES <= GAP_BYTES / 2, "both are before the number");
-_Static_assert(NODE_BYTES % GAP_BYTES + GAP_BYTES / 2 + sizeof(uint32_t) + sizeof(struct before) <= GAP_BYTES,
+_Static_assert(NODE_BYTES % GAP_BYTES + GAP_BYTES / 2 + 2 * sizeof(uint32_t) + sizeof(struct before) <= GAP_BYTES,
                "all has room there");
 
 /* The first bytes behind a node's data. */
@@ -65,6 +65,9 @@ static inline void *behind(const qolb_node *node) { return (char *)node->own + N
 static inline uint32_t *first_bell_of(const qolb_node *node) {
     return (uint32_t *)((char *)node->own + NODE_BYTES + GAP_BYTES / 2);
 }
+
+/* The number of the line's nodes, behind that number. A node of a lock has none. */
+static inline uint32_t *nodes_beside(const qolb_node *node) { return first_bell_of(node) + 1; }
 
 /* The node's notice (bells.h), before that number. A node of a lock has its seat there, and no notice. */
 static inline struct notice *notice_of(const qolb_node *node) { return behind(node); }

@@ -6,9 +6,10 @@
  * are before it; 2 us if more are, as its turn is far; and 20 us if it can't tell. Sleeping and waking cost about as
  * much, so a wait takes at most about twice the best (Karlin and others, SOSP 1991).
  *
- * Each thread learns how long spinning pays. A spin that ends with a sleep halves the length of its next one, down to
- * 2 us, and each spin begins with an eighth more: on a machine whose processors have other work, who spins keeps the
- * holder from going on. A spin after a sleep has a length of its own, as who is woken ahead is next.
+ * Each thread learns how long spinning pays, as on a machine whose processors have other work who spins keeps the holder
+ * from going on. A spin that ends with a sleep halves the length of the thread's next one, down to 2 us, and each spin
+ * begins with an eighth more. A spin after a sleep has a length of its own, and lasts 10 us at least: a waiter is woken
+ * ahead of its turn, and a wake takes about as long.
  *
  * No waiter yields its processor. A yield by a real-time thread gives way to no thread of a lower priority, and by
  * others it makes handoffs slower. A process that may use one processor only does not spin. */
@@ -23,8 +24,9 @@
 
 enum {
     POLL_PAUSE = 90,     /* between two polls */
-    SPIN_NEAR = 50000,   /* before a sleep, with at most NEAR before the waiter, the holder among them */
-    SPIN_FAR = 2000,     /* with more; and the least */
+    SPIN_NEAR = 50000,   /* before a sleep, with at most NEAR_TURNS before the waiter, the holder among them */
+    SPIN_FAR = 2000,     /* with more; and the least that a thread learns */
+    SPIN_WOKEN = 10000,  /* the least after a sleep, unless more are before it */
     SPIN_UNKNOWN = 20000 /* if it can't be told how many */
 };
 enum { NEAR_TURNS = 4, GROWS_BY = 8, SHRINKS_BY = 2 };
@@ -64,23 +66,24 @@ struct spin {
     int slept; /* it has slept in this wait, or was told to */
 };
 
-/* The most polls of this thread's next spins, without a sleep in the same wait and after one. 0: as many as may be. */
-extern __attribute__((visibility("hidden"))) BY_THREAD unsigned qolb_patience_[2];
+/* The most polls of the thread's next spins, without a sleep in the same wait and after one. 0: as many as may be. */
+extern __attribute__((visibility("hidden"))) BY_THREAD unsigned qolb_learned_[2];
 
 static inline unsigned polls_before_sleep(uint64_t before) {
     if (before == UNKNOWN_TURNS) return SPIN_UNKNOWN / POLL_PAUSE;
     return (before <= NEAR_TURNS ? SPIN_NEAR : SPIN_FAR) / POLL_PAUSE;
 }
 
-static inline unsigned begin_spin(unsigned *patience) {
-    unsigned grown = *patience + *patience / GROWS_BY;
-    return *patience = *patience && grown < SPIN_NEAR / POLL_PAUSE ? grown : SPIN_NEAR / POLL_PAUSE;
+/* The most polls of a spin that begins. */
+static inline unsigned begin_spin(unsigned *learned) {
+    unsigned grown = *learned + *learned / GROWS_BY;
+    return *learned = *learned && grown < SPIN_NEAR / POLL_PAUSE ? grown : SPIN_NEAR / POLL_PAUSE;
 }
 
-/* One that ends because the turn is far says nothing of the next one. */
-static inline void end_spin(struct spin *spin, unsigned *patience) {
-    unsigned less = spin->polls / SHRINKS_BY, least = SPIN_FAR / POLL_PAUSE;
-    if (spin->polls > least) *patience = less > least ? less : least;
+/* A spin that ends at once, as the turn is far, says nothing of the next one. */
+static inline void end_spin(struct spin *spin, unsigned *learned) {
+    unsigned less = spin->polls / SHRINKS_BY, least = (spin->slept ? SPIN_WOKEN : SPIN_FAR) / POLL_PAUSE;
+    if (spin->polls > SPIN_FAR / POLL_PAUSE) *learned = less > least ? less : least;
     spin->polls = 0;
     spin->slept = 1;
 }
@@ -89,11 +92,10 @@ static inline void end_spin(struct spin *spin, unsigned *patience) {
  * begins a new spin. How many there are may be told anew with each call. It reads no clock: a thread that loses its
  * processor spins on afterwards. */
 static inline int qolb_spin_once_(struct spin *spin, uint64_t before) {
-    unsigned *patience = &qolb_patience_[spin->slept], most = polls_before_sleep(before);
-    unsigned patient = spin->polls ? *patience : begin_spin(patience);
-    if (spin->polls < (patient < most ? patient : most) && qolb_pause_(POLL_PAUSE)) return spin->polls++, 1;
-    end_spin(spin, patience);
-    return 0;
+    unsigned *learned = &qolb_learned_[spin->slept], most = polls_before_sleep(before);
+    unsigned patience = spin->polls ? *learned : begin_spin(learned);
+    if (spin->polls < (patience < most ? patience : most) && qolb_pause_(POLL_PAUSE)) return spin->polls++, 1;
+    return end_spin(spin, learned), 0;
 }
 
 #endif

@@ -6,10 +6,13 @@
  * it holds, by the call of preload.c. Prints only errors. */
 #define _GNU_SOURCE
 #include <proved.h>
+#include <sched.h>
+#include <spin.h>
 #include <stdarg.h>
 #include <stdatomic.h>
 #include <stdio.h>
 #include <stdlib.h>
+#include <string.h>
 #include <sys/syscall.h>
 #include <sys/wait.h>
 #include <time.h>
@@ -32,29 +35,34 @@ enum { US = 1000, MS = 1000000 };
  * holder, the number of wakes, and the calls that a waiter must not make. */
 static uint64_t now, clocks, yields, sleeps, longest, asks, spins, spun, looks, names, wakes, wrong;
 
-/* How often a waiter yields before it sleeps, as qolb.h says; and how often it polls before it yields: for 1.5 us, by a
- * clock by which 64 pauses take 384 ns. */
+/* How often a node polls before it sleeps, each 90 ns, as qolb.h says: for 50 us on a line of at most five nodes and for
+ * 20 us on others; at least for 2 us, and once it has slept, for 10. A poll is before the pauses and behind each, and
+ * one more comes before the sleep. */
+enum { NEAR = 555, UNKNOWN = 222, LEAST = 22, WOKEN = 111 };
+/* The same behind a spin in vain: half as often, and an eighth of that more. */
+enum { LESS = NEAR / 2 + NEAR / 2 / 8 };
+/* How often a waiter for a lock yields before it sleeps, as qolb.h says; and how often it polls before it yields: for
+ * 1.5 us, by a clock by which 64 pauses take 384 ns. */
 enum { YIELDS = 16, LOOKS = 250 };
 /* The same at the door of a strict lock, where who has so many before it does not yield; and with a seat of a lock at
  * whose door somebody is. */
 enum { YIELDS_AT_DOOR = 32, FAR = 12, YIELDS_IN_CROWD = 128, LOOKS_IN_CROWD = 16 };
 
 /* How long 64 pauses take by the clock in each of the runs in which they are timed, between two clock calls; the number
- * of clock calls for that; and whether the next request begins it. */
+ * of clock calls for that. */
 enum { TIMED = 5 };
 static uint64_t lasts[TIMED];
 static unsigned timed = 2 * TIMED;
-static int will_time;
 
 /* The words of the first sleeps and wakes since then, in their order. */
 enum { NOTED = 8 };
 static const void *slept_at[NOTED], *woken_at[NOTED];
 
-/* An action at the first clock call at this time or later, at this number of yields, during this number of sleeps, or
- * before a request is withdrawn. It happens once. */
+/* An action at the first clock call at this time or later, at this number of yields, during this number of sleeps,
+ * before this number of polls or requests, or before a request is withdrawn. It happens once. */
 static struct {
     void (*does)(void);
-    uint64_t at, at_yield, at_sleep;
+    uint64_t at, at_yield, at_sleep, at_look, at_ask;
     int at_withdrawal;
 } event;
 
@@ -127,8 +135,7 @@ long __wrap_syscall(long number, ...) {
 }
 
 uint32_t __wrap_qolb_enqolb_proved_(qolb_node *node) {
-    asks++;
-    if (will_time) will_time = 0, timed = 0;
+    if (++asks == event.at_ask) happens();
     return __real_qolb_enqolb_proved_(node);
 }
 
@@ -139,7 +146,7 @@ uint32_t __wrap_qolb_wait_proved_(qolb_node *node, uint64_t polls) {
 }
 
 uint32_t __wrap_qolb_poll_proved_(qolb_node *node) {
-    looks++;
+    if (++looks == event.at_look) happens();
     return __real_qolb_poll_proved_(node);
 }
 
@@ -153,36 +160,32 @@ uint64_t __wrap_qolb_went_to_proved_(qolb_node *node) {
     return __real_qolb_went_to_proved_(node);
 }
 
+/* The calling thread forgets what its spins taught it. */
 static void begins(void (*does)(void)) {
+    qolb_learned_[0] = qolb_learned_[1] = 0;
     clocks = yields = sleeps = longest = asks = spins = spun = looks = names = wakes = 0;
     event.does = does;
     event.at = NEVER;
-    event.at_yield = event.at_sleep = 0;
+    event.at_yield = event.at_sleep = event.at_look = event.at_ask = 0;
     event.at_withdrawal = 0;
 }
 
 /* ---- How often a waiter polls ---- */
 
-/* The polls of the first wait of a process in which the runs take so long. */
+/* In bells.h: how often a waiter for a lock polls. */
+unsigned qolb_looks_(void);
+
+/* The polls of a process in which the runs take so long. */
 static int counts(const uint64_t *runs, uint64_t polls) {
-    qolb_bytes zeros = {{0}};
-    qolb_node n[2] = {{0}};
     for (int k = 0; k < TIMED; k++) lasts[k] = runs[k];
-    WANT(qolb_open(QOLB_DEFAULT, 1, 2, QOLB_NO_LEASE, &zeros, n, 2), QOLB_DONE);
-    WANT(qolb_acquire(&n[0]), QOLB_GRANTED);
-    begins(NULL);
-    will_time = 1;
-    WANT(qolb_acquire_within(&n[1], 0), QOLB_LATE);
+    timed = 0;
+    WANT(qolb_looks_(), polls);
     WANT(timed, 2 * TIMED);
-    WANT(spun, polls);
-    WANT(qolb_deqolb(&n[0]), QOLB_DONE);
-    WANT(qolb_close(&n[0]), QOLB_DONE);
-    WANT(qolb_close(&n[1]), QOLB_DONE);
     return 0;
 }
 
-/* Each is the first wait of a process of its own, and the last one that of this process. The quickest run counts; 16 to
- * 512 polls. */
+/* Each is counted in a process of its own, and the last one in this process. The quickest run counts; 16 to 512
+ * polls. */
 static int counts_looks(void) {
     static const struct {
         uint64_t runs[TIMED], polls;
@@ -204,6 +207,57 @@ static int counts_looks(void) {
     return counts(runs, LOOKS);
 }
 
+/* The pauses in 1,024 ns, of which the quickest run counts: 1 to 1,024. */
+static int counts_pauses(void) {
+    static const struct {
+        uint64_t runs[TIMED];
+        unsigned pauses;
+    } rows[] = {
+        {{0, 0, 0, 0, 0}, 1024},
+        {{64, 64, 64, 64, 64}, 1024},
+        {{90000, 800, 5000, 820, 4000}, 81},
+        {{70000, 65536, 70000, 70000, 70000}, 1},
+        {{70000, 70000, 70000, 70000, 70000}, 1},
+    };
+    for (size_t k = 0; k < sizeof rows / sizeof rows[0]; k++) {
+        memcpy(lasts, rows[k].runs, sizeof lasts);
+        timed = 0;
+        WANT(qolb_count_pauses_(), rows[k].pauses);
+        WANT(timed, 2 * TIMED);
+        WANT(atomic_load(&qolb_pauses_), rows[k].pauses);
+    }
+    return 0;
+}
+
+/* A process that may use one processor only, here a child, counts no pauses, and polls once before it sleeps. One that
+ * keeps another thread at a processor counts them. */
+static int sleeps_at_once(void) {
+    qolb_bytes zeros = {{0}};
+    qolb_node n[2] = {{0}};
+    cpu_set_t set;
+    CPU_ZERO(&set);
+    CPU_SET(sched_getcpu(), &set);
+    atomic_store(&qolb_pauses_, 0);
+    WANT(sched_setaffinity(0, sizeof set, &set), 0);
+    WANT(qolb_count_pauses_() + atomic_load(&qolb_pauses_), 0);
+    WANT(qolb_open(QOLB_DEFAULT, 1, 2, QOLB_NO_LEASE, &zeros, n, 2), QOLB_DONE);
+    WANT(qolb_acquire(&n[0]), QOLB_GRANTED);
+    begins(NULL);
+    WANT(qolb_acquire_within(&n[1], MS), QOLB_LATE);
+    WANT(looks, 2);
+    WANT(sleeps, 1);
+    return 0;
+}
+
+static int has_one_processor(void) {
+    int status;
+    pid_t child = fork();
+    if (child == 0) exit(sleeps_at_once());
+    WANT(waitpid(child, &status, 0), (unsigned long long)child);
+    WANT(status, 0);
+    return 0;
+}
+
 /* ---- With a node ---- */
 
 static qolb_node *holder;
@@ -218,21 +272,18 @@ static void shuts(void) {
 
 /* Without a grant, while the first node holds the line. */
 static int late(qolb_node *n) {
-    /* For 20 ms, while it waits and while it is busy: late to the nanosecond. Waiting, it polls for 1.5 us, 16 times
-     * more and yields before each of these, polls once more, and sleeps as long as it may. Busy, it requests again 16
-     * times, and then every 200 us. */
+    /* For 20 ms, while it waits and while it is busy: late to the nanosecond. Waiting, it polls, polls for 50 us and
+     * once more, and sleeps as long as it may. Busy, it requests again for 20 us, and then every 200 us. */
     for (unsigned busy = 0; busy < 2; busy++) {
         uint64_t since = now;
         begins(NULL);
         WANT(qolb_acquire_within(&n[1], 20 * MS), QOLB_LATE);
         WANT(now - since, 20 * MS);
-        WANT(yields, YIELDS);
         WANT(sleeps, busy ? 100 : 1);
         WANT(longest, busy ? 200 * US : 20 * MS);
-        WANT(asks, busy ? 1 + YIELDS + 100 : 1);
-        WANT(spins, !busy);
-        WANT(spun, busy ? 0 : LOOKS);
-        WANT(looks, busy ? 0 : YIELDS + 1);
+        WANT(asks, busy ? 1 + UNKNOWN + 100 : 1);
+        WANT(looks, busy ? 0 : NEAR + 2);
+        WANT(yields + spins, 0);
         WANT(qolb_state(&n[1]), QOLB_STATE_ROLLED);
     }
     /* For less than a nap; and for no time at all: it still makes a request, and polls if it waits. */
@@ -243,8 +294,8 @@ static int late(qolb_node *n) {
         begins(NULL);
         WANT(qolb_acquire_within(&n[k], 0), QOLB_LATE);
         WANT(asks, 1);
-        WANT(spun, k == 1 ? 0 : LOOKS);
-        WANT(yields + sleeps + looks, 0);
+        WANT(looks, k == 1 ? 0 : 1);
+        WANT(yields + sleeps + spins, 0);
         WANT(qolb_state(&n[k]), QOLB_STATE_ROLLED);
     }
     return 0;
@@ -258,20 +309,18 @@ static int sleeps_on(qolb_node *n, int limited) {
     event.at_sleep = 3;
     WANT(limited ? qolb_acquire_within(&n[1], UINT64_MAX) : qolb_acquire(&n[1]), QOLB_GRANTED);
     WANT(clocks, 0);
-    WANT(yields, 3 * YIELDS);
     WANT(sleeps, 3);
     WANT(longest, NEVER);
     WANT(asks, 1);
-    WANT(spins, 4);
-    WANT(spun, 4 * LOOKS);
-    WANT(looks, 3 * (YIELDS + 1));
+    WANT(looks, 2 * (NEAR + 2) + LESS + 2 + 1);
+    WANT(yields + spins, 0);
     WANT(wakes, 1);
     WANT(qolb_deqolb(&n[1]), QOLB_DONE);
     WANT(qolb_acquire(&n[0]), QOLB_GRANTED);
     return 0;
 }
 
-/* The line is granted while it waits: while it sleeps with the longest limit, while it yields, and while it is busy. */
+/* The line is granted while it waits: while it sleeps with the longest limit, while it spins, and while it is busy. */
 static int granted(qolb_node *n) {
     holder = &n[0];
     begins(releases);
@@ -282,21 +331,19 @@ static int granted(qolb_node *n) {
     WANT(wakes, 1);
     holder = &n[1];
     begins(releases);
-    event.at_yield = 5;
+    event.at_look = 5;
     WANT(qolb_acquire(&n[0]), QOLB_GRANTED);
-    WANT(yields, 5);
     WANT(looks, 5);
-    WANT(sleeps + wakes, 0);
+    WANT(yields + sleeps + wakes, 0);
     WANT(qolb_try(&n[1]), QOLB_BUSY);
     holder = &n[0];
     begins(releases);
     event.at_sleep = 1000;
     WANT(qolb_acquire(&n[1]), QOLB_GRANTED);
-    WANT(yields, YIELDS);
     WANT(sleeps, 1000);
     WANT(longest, 200 * US);
-    WANT(asks, 1 + YIELDS + 1000);
-    WANT(spins + looks + wakes + clocks, 0);
+    WANT(asks, 1 + UNKNOWN + 1000);
+    WANT(yields + spins + looks + wakes + clocks, 0);
     WANT(qolb_deqolb(&n[1]), QOLB_DONE);
     return 0;
 }
@@ -342,6 +389,43 @@ static int rests(uint32_t kind) {
     WANT(qolb_acquire(&n[0]), QOLB_GRANTED);
     if (sleeps_on(n, 0) || sleeps_on(n, 1) || granted(n) || at_once(n) || at_the_end(n)) return 1;
     for (int k = 0; k < 3; k++) WANT(qolb_close(&n[k]), QOLB_DONE);
+    return 0;
+}
+
+/* Each spin in vain halves the next one, which begins with an eighth more: down to the least. A spin after a sleep has a
+ * length of its own. On a line of more than five nodes both are shorter. */
+static int learns(uint32_t kind, uint64_t nodes) {
+    qolb_bytes zeros = {{0}};
+    qolb_node n[6] = {{0}};
+    uint64_t most = nodes > 5 ? UNKNOWN : NEAR, slept = most;
+    WANT(qolb_open(kind, 1, nodes, QOLB_NO_LEASE, &zeros, n, nodes), QOLB_DONE);
+    WANT(qolb_acquire(&n[0]), QOLB_GRANTED);
+    begins(NULL);
+    for (unsigned k = 0; k < 20; k++) {
+        looks = 0;
+        holder = &n[k % 2];
+        event.does = releases;
+        event.at_sleep = sleeps + 2;
+        WANT(qolb_acquire(&n[1 - k % 2]), QOLB_GRANTED);
+        WANT(looks, most + 2 + slept + 2 + 1);
+        most = most / 2 > LEAST ? most / 2 : LEAST;
+        slept = slept / 2 > WOKEN ? slept / 2 : WOKEN;
+        most += most / 8;
+        slept += slept / 8;
+    }
+    WANT(most, LEAST + LEAST / 8);
+    WANT(slept, WOKEN + WOKEN / 8);
+    for (unsigned k = 0; k < 60; k++) {
+        holder = &n[k % 2];
+        event.does = releases;
+        event.at_look = looks + 2;
+        WANT(qolb_acquire(&n[1 - k % 2]), QOLB_GRANTED);
+    }
+    looks = 0;
+    WANT(qolb_acquire_within(&n[1], MS), QOLB_LATE);
+    WANT(looks, (nodes > 5 ? UNKNOWN : NEAR) + 2);
+    WANT(qolb_deqolb(&n[0]), QOLB_DONE);
+    for (uint64_t k = 0; k < nodes; k++) WANT(qolb_close(&n[k]), QOLB_DONE);
     return 0;
 }
 
@@ -455,7 +539,7 @@ static uint32_t is_told_as_it_gives_up(qolb_node *node) {
 static uint32_t is_told_after_being_busy(qolb_node *node) {
     if (qolb_try(node) != QOLB_BUSY) wrong++;
     event.does = shuts_other;
-    event.at_yield = yields + 3;
+    event.at_ask = asks + 3;
     return qolb_acquire(node);
 }
 
@@ -838,9 +922,10 @@ static int woken_for_nothing(uint32_t kind) {
 int main(void) {
     alarm(60); /* who never looks at the clock, or never rests, does not end */
     now = 5000000000;
-    if (counts_looks()) return 1;
+    if (counts_looks() || counts_pauses() || has_one_processor()) return 1;
+    atomic_store(&qolb_pauses_, 80); /* also where there is one processor */
     for (uint32_t kind = 0; kind < QOLB_KINDS; kind++)
-        if (rests(kind) || withdraws_late(kind, 0) || withdraws_late(kind, 1) || each_passes_on(kind) ||
+        if (rests(kind) || learns(kind, 2) || learns(kind, 6) || withdraws_late(kind, 0) || withdraws_late(kind, 1) || each_passes_on(kind) ||
             wakes_whom_it_should(kind) || lock_rests(kind) || lock_at_the_end(kind, 0) || lock_at_the_end(kind, 1) ||
             woken_for_nothing(kind) || sleeps_far_from_door(kind) || late_in_each_crowd(kind))
             return 1;

@@ -8,7 +8,7 @@ RIGHT = WIDTH - SIDE - MODEL - GAP
 
 # Of each layer its name, and its parts: a title, its crates or files, and a colour.
 LAYERS = (
-    ("program and C", (("program", "qolb, qolb_serve, qolb_run", "a"), ("your program in Rattle", "line_board, line_accounts", "a"), ("C, C++, Rust", "c/src, qolb_c, qolb_nodes", "c"))),
+    ("program and C", (("program", "qolb, qolb_serve, qolb_run", "a"), ("your program in Rattle", "line_board, line_accounts", "a"), ("calls for C", "qolb_c, qolb_nodes", "a"), ("C, C++, Rust", "c/src, c/rust", "c"))),
     ("waits", (("Rattle", "line_blocking, line_pool", "a"), ("C", "calls.c, lock.c, gate.c, door.c, notify.c", "c"))),
     ("line body", (("Line<K, Q>: every call, once for all locks", "line_generic", "b"),)),
     ("discipline", (("ring", "ring_line, line_cells", "b"), ("ticket line", "ticket_line, line_cells", "b"), ("link line", "link_line, link_core", "b"))),
@@ -23,12 +23,16 @@ def five_layers():
     for k, (name, parts) in enumerate(LAYERS):
         y = 34 + (TALL + GAP) * k
         picture.text(SIDE, y + TALL / 2 + 4, name, "strong", "start")
-        wide = (RIGHT - NAMES - SIDE - GAP * (len(parts) - 1)) / len(parts)
-        for place, (title, crates, kind) in enumerate(parts):
-            x = SIDE + NAMES + place * (wide + GAP)
+        # A box is as wide as what it has to say.
+        letters = [max(len(title), len(crates)) + 4 for title, crates, _ in parts]
+        letter = (RIGHT - NAMES - SIDE - GAP * (len(parts) - 1)) / sum(letters)
+        x = SIDE + NAMES
+        for (title, crates, kind), count in zip(parts, letters):
+            wide = count * letter
             picture.box(x, y, wide, TALL, kind)
             picture.text(x + wide / 2, y + 26, title, "strong small")
             picture.text(x + wide / 2, y + 46, crates, "small")
+            x += wide + GAP
     tall = (TALL + GAP) * 4 - GAP
     picture.box(WIDTH - SIDE - MODEL, 34, MODEL, tall, "d")
     for line, words in enumerate(("qolb_model", "the specification", "that all of these cite")):

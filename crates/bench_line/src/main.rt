@@ -19,7 +19,7 @@ use enqueue::{AtOnce, EnqueueStrategy, TwoCalls};
 use gate::run_gate;
 use law::NonDecreasing;
 use line_generic::{Discipline, Line};
-use line_kinds::{Lines, LinkLine, NAMES, for_kind};
+use line_kinds::{LinkLine, Lock, NAMES, for_kind};
 use line_lanes::{Line64, lane};
 use mutex::run_mutex;
 use pace::Pace;
@@ -72,7 +72,7 @@ enum Way {
 #[derive(Clone, Copy)]
 enum Kind {
     /// This lock. Its nodes ask by one call.
-    AtOnce(Lines),
+    AtOnce(Lock),
     /// The link line. Its nodes ask by two calls.
     TwoCalls,
 }
@@ -228,8 +228,8 @@ fn kind_of(matches: &ArgMatches) -> Kind {
     if matches.get_flag("apart") {
         return Kind::TwoCalls;
     }
-    let named = matches.get_str("kind").and_then(Lines::named);
-    Kind::AtOnce(named.unwrap_or(Lines::Ring))
+    let named = matches.get_str("kind").and_then(Lock::named);
+    Kind::AtOnce(named.unwrap_or(Lock::Ring))
 }
 
 /// Runs what the command line asks for, on a line of this kind.

@@ -5,7 +5,7 @@ mod run;
 mod turns;
 
 use clap::{Arg, ArgAction, ArgMatches, Command};
-use line_kinds::{Lines, NAMES};
+use line_kinds::{Lock, NAMES};
 use run::{measure, try_each};
 use std::alloc::{AllocError, Global};
 use std::time::Duration;
@@ -118,9 +118,9 @@ fn plan_of(matches: &ArgMatches, micros: u64) -> Plan {
 }
 
 /// The kind of line; a ring if `--kind` is not given.
-fn kind_of(matches: &ArgMatches) -> Lines {
+fn kind_of(matches: &ArgMatches) -> Lock {
     matches
         .get_str("kind")
-        .and_then(Lines::named)
-        .unwrap_or(Lines::Ring)
+        .and_then(Lock::named)
+        .unwrap_or(Lock::Ring)
 }

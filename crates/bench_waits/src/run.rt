@@ -6,7 +6,7 @@ ghost use Rattle.std.specs.Duration.{as_nanos};
 use crate::turns::{Plan, Turns, Waiter};
 use line_blocking::scoped::run_scoped;
 use line_generic::{Discipline, Line};
-use line_kinds::{ALL, Lines, for_kind};
+use line_kinds::{ALL, Lock, for_kind};
 use line_lanes::{Line64, lane};
 use qolb_model::{FinishError, Free, LineConfig, OpenError, OpenLine, ParkingLine};
 use std::alloc::Global;
@@ -101,7 +101,7 @@ pub fn try_each<R: Threads + Wait + Clock + Print + Sync>(
 pub fn measure<R: Threads + Wait + Clock + Print + Sync>(
     rt: &R,
     alloc: Global,
-    lines: Lines,
+    lines: Lock,
     plan: Plan,
 ) -> anyhow::Result<()> {
     let measured = run_over(rt, alloc, lines, plan)?;
@@ -122,7 +122,7 @@ pub fn measure<R: Threads + Wait + Clock + Print + Sync>(
 fn run_over<R: Threads + Wait + Clock + Print + Sync>(
     rt: &R,
     alloc: Global,
-    lines: Lines,
+    lines: Lock,
     plan: Plan,
 ) -> anyhow::Result<Measured> {
     for_kind!(lines, run_by, [R], (rt, alloc, plan))

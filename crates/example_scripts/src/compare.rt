@@ -2,8 +2,8 @@
 ghost use Rattle.std.specs.Prelude.{◌≡◌, ◌↔◌, IsOk};
 
 use anyhow::{bail, ensure};
-use line_kinds::ALL;
-use qolb_run::{AlwaysOpen, KINDS, Kind, Lines, WaitMode, answer_work, run_schedule, run_steps};
+use line_kinds::{ALL, Lock};
+use qolb_run::{AlwaysOpen, AnyKind, KINDS, WaitMode, answer_work, run_schedule_with, run_steps};
 use qolb_script::{Watched, WorkKind};
 use std::alloc::Global;
 use std::sync::Wait;
@@ -44,8 +44,8 @@ pub fn compare<R: Threads + Wait + Sync>(
             expect(said.as_slice(), wanted)?;
         }
         Form::Work(kind) => {
-            for &lines in &ALL {
-                let said = report(rt, alloc, script, kind, lines)?;
+            for &lock in &ALL {
+                let said = report(rt, alloc, script, kind, lock)?;
                 expect(said.as_slice(), wanted)?;
             }
         }
@@ -79,9 +79,9 @@ fn expect(said: &[u8], wanted: &[u8]) -> anyhow::Result<()>
 }
 
 /// The output of the schedule over lines of the kind.
-fn replay(alloc: Global, script: &[u8], kind: Kind) -> anyhow::Result<Vec<u8>> {
+fn replay(alloc: Global, script: &[u8], kind: AnyKind) -> anyhow::Result<Vec<u8>> {
     let mut said = Vec::new(alloc);
-    let done = run_schedule(
+    let done = run_schedule_with(
         alloc,
         &mut Watched::new(script),
         &mut Watched::new(&mut said),
@@ -107,16 +107,16 @@ fn steps(alloc: Global, script: &[u8]) -> anyhow::Result<Vec<u8>> {
     }
 }
 
-/// The report of the work over lines of the kind.
+/// The report of the work over lines of the lock.
 fn report<R: Threads + Wait + Sync>(
     rt: &R,
     alloc: Global,
     script: &[u8],
     kind: WorkKind,
-    lines: Lines,
+    lock: Lock,
 ) -> anyhow::Result<Vec<u8>> {
     let waits = WaitMode::Awake;
-    match answer_work(rt, alloc, &AlwaysOpen, script, kind, lines, waits) {
+    match answer_work(rt, alloc, &AlwaysOpen, script, kind, lock, waits) {
         Ok(text) => Ok(text),
         Err(why) => bail!("it is refused: {why}"),
     }

@@ -12,6 +12,12 @@ use std::thread::yield_now;
 /// How many single pauses a waiter makes before it yields its processor or sleeps.
 pub(crate) const SPIN_LIMIT: u32 = 256;
 
+/// How many pauses a waiter makes between two polls: some 90 ns, as most processors pause.
+const PAUSES_A_POLL: u32 = 8;
+
+/// How many polls a waiter makes with pauses behind them, before it yields its processor or sleeps.
+pub(crate) const SPIN_POLLS: u32 = SPIN_LIMIT / PAUSES_A_POLL;
+
 /// How a wait without a time limit ended.
 #[derive(Clone, Copy, Debug, PartialEq, Eq)]
 pub enum Got {
@@ -24,19 +30,19 @@ pub enum Got {
 /// The pauses that a waiter makes between two polls.
 #[derive(Drop)]
 struct Pauses {
-    short: u32,
+    polls: u32,
 }
 
 impl Pauses {
     fn new() -> Pauses {
-        Pauses { short: SPIN_LIMIT }
+        Pauses { polls: SPIN_POLLS }
     }
 
-    /// Pauses: `SPIN_LIMIT` times by one pause of the processor, then by a yield to other threads.
+    /// Pauses: `SPIN_POLLS` times by `pause_between_polls`, then by a yield to other threads.
     fn pause(&mut self) {
-        if self.short > 0 {
-            self.short -= 1;
-            short_pause();
+        if self.polls > 0 {
+            self.polls -= 1;
+            pause_between_polls();
         } else {
             yield_now();
         }
@@ -53,6 +59,13 @@ impl<K: Keep, L: LineSync<K>> WaitStrategy<K, L> for Pauses {
 pub(crate) fn short_pause() {
     // A fresh backoff pauses once; one that is kept pauses twice as long each time, which costs a third of the speed.
     Backoff::new().spin();
+}
+
+/// Makes the pauses between two polls. A poll right after the other takes the word's cache line from who is about to write it.
+pub(crate) fn pause_between_polls() {
+    for _ in 0..PAUSES_A_POLL {
+        short_pause();
+    }
 }
 
 /// Acquires the line: asks until the port is not busy, then polls until the request ends. Blocks: between two polls the caller pauses, and

@@ -7,7 +7,7 @@ ghost use Rattle.qolb_model.specs.Enqueueing.{IsBusy};
 ghost use Rattle.line_blocking.specs.Acquiring.{Acquires, AcquiresTimed, ComesSoon, EndsWaitTimed};
 ghost use Rattle.line_blocking.specs.Deadlines.{nanos_left, IsLeft};
 
-use crate::spin::{Got, SPIN_LIMIT, short_pause};
+use crate::spin::{Got, SPIN_POLLS, pause_between_polls};
 use crate::strategy::{WaitStrategy, wait_by};
 use qolb_model::{Enq, Keep, LineSync, Out, ParkingLine, Poll, PortState};
 use std::rt::Clock;
@@ -16,7 +16,7 @@ use std::sync::atomic::AtomicU64;
 use std::thread::yield_now;
 use std::time::{Duration, Instant};
 
-/// How many times a waiter yields its processor after `SPIN_LIMIT` pauses, before it sleeps.
+/// How many times a waiter yields its processor after `SPIN_POLLS` polls, before it sleeps.
 const YIELDS: u32 = 32;
 
 /// The longest nap of a busy port, in microseconds. No release wakes a busy port.
@@ -36,24 +36,24 @@ pub enum TimedAcquire {
 /// The pauses that a waiter still makes before it sleeps.
 #[derive(Drop)]
 struct Backoff {
-    short: u32,
+    polls: u32,
     yields: u32,
 }
 
 impl Backoff {
     fn new() -> Backoff {
         Backoff {
-            short: SPIN_LIMIT,
+            polls: SPIN_POLLS,
             yields: YIELDS,
         }
     }
 
-    /// Pauses: `SPIN_LIMIT` times by one pause of the processor, then `YIELDS` times by a yield. Returns `false` without a pause after
+    /// Pauses: `SPIN_POLLS` times by `pause_between_polls`, then `YIELDS` times by a yield. Returns `false` without a pause after
     /// these: it is time to sleep.
     fn pause(&mut self) -> bool {
-        if self.short > 0 {
-            self.short -= 1;
-            short_pause();
+        if self.polls > 0 {
+            self.polls -= 1;
+            pause_between_polls();
             true
         } else if self.yields > 0 {
             self.yields -= 1;
@@ -137,9 +137,9 @@ impl Deadline {
     }
 }
 
-/// Acquires the line, and sleeps if the wait is long. Polls 256 times with a pause behind each poll, 32 times with a yield, and once more;
-/// then sleeps until a release wakes the caller, and polls as often again. A busy port asks again, with naps between. Blocks; does not
-/// allocate.
+/// Acquires the line, and sleeps if the wait is long. Polls 32 times with eight pauses behind each poll, 32 times with a yield, and once
+/// more; then sleeps until a release wakes the caller, and polls as often again. A busy port asks again, with naps between. Blocks; does
+/// not allocate.
 ///
 /// Returns `Granted` if the port holds the line, `Closed` if the line is closed.
 pub fn acquire_parking<R: Wait, K: Keep, L: ParkingLine<K>>(

@@ -13,9 +13,9 @@ pub use link_line::{LinkLine, LinkQueue};
 pub use ring_line::{RingLine, RingQueue};
 pub use ticket_line::{TicketLine, TicketQueue};
 
-/// The kind of lock that shares a line.
+/// A lock by which nodes share a line.
 #[derive(Clone, Copy, Debug, PartialEq, Eq)]
-pub enum Lines {
+pub enum Lock {
     /// Rings: an array queue of tickets and cells.
     Ring,
     /// Link lines: a home word and reversed links.
@@ -34,7 +34,7 @@ const SLOT: u64 = size_of::<Payload>() as u64;
 pub const LOCKS: usize = 3;
 
 /// All locks.
-pub static ALL: [Lines; LOCKS] = [Lines::Ring, Lines::Link, Lines::Ticket];
+pub static ALL: [Lock; LOCKS] = [Lock::Ring, Lock::Link, Lock::Ticket];
 
 /// The locks' names on command lines, in the order of `ALL`, behind other texts: `lock_names!(array, "plain")` is an array of four names, and
 /// `lock_names!(text, "kinds: ")` a text in which commas part the locks' names.
@@ -48,15 +48,15 @@ macro_rules! lock_names {
 /// The locks' names on command lines, in the order of `ALL`.
 pub static NAMES: [&str; LOCKS] = lock_names!(array);
 
-impl Lines {
+impl Lock {
     /// Returns the lock of this name, if there is one.
-    pub fn named(name: &str) -> Option<Lines>
+    pub fn named(name: &str) -> Option<Lock>
         ensures { result ≡ lock_named name.now }
     {
         match name {
-            "ring" => Some(Lines::Ring),
-            "link" => Some(Lines::Link),
-            "ticket" => Some(Lines::Ticket),
+            "ring" => Some(Lock::Ring),
+            "link" => Some(Lock::Link),
+            "ticket" => Some(Lock::Ticket),
             _ => None,
         }
     }
@@ -70,9 +70,9 @@ impl Lines {
         ensures parts { result ≡ WORD * words_of self nodes + SLOT * slots_of self nodes }
     {
         match self {
-            Lines::Ring => WORD * word_count(CELLS) as u64 + SLOT,
-            Lines::Link => WORD * link_line::word_count(nodes) as u64 + SLOT,
-            Lines::Ticket => {
+            Lock::Ring => WORD * word_count(CELLS) as u64 + SLOT,
+            Lock::Link => WORD * link_line::word_count(nodes) as u64 + SLOT,
+            Lock::Ticket => {
                 let cells = cell_count(nodes);
                 WORD * word_count(cells) as u64 + SLOT * cells
             }
@@ -80,18 +80,18 @@ impl Lines {
     }
 }
 
-/// Calls a generic function with a kind's queue discipline.
+/// Calls a generic function with a lock's queue discipline.
 ///
-/// The discipline is its last type parameter: `for_kind!(lines, f, [R], (a, b))` is `f::<R, RingQueue>(a, b)` if `lines` is `Ring`. In such an
+/// The discipline is its last type parameter: `for_kind!(lock, f, [R], (a, b))` is `f::<R, RingQueue>(a, b)` if `lock` is `Ring`. In such an
 /// `f` a line is `Line<K, Q>`, for any law `K`. So the prover sees once that it is a line, and not once for each lock; if `f` starts threads,
 /// `Q` is also `Send` and `Sync`.
 #[macro_export]
 macro_rules! for_kind {
-    ($lines:expr, $work:ident, [$($other:ty),*], $given:tt) => {
-        match $lines {
-            $crate::Lines::Ring => $work::<$($other,)* $crate::RingQueue> $given,
-            $crate::Lines::Link => $work::<$($other,)* $crate::LinkQueue> $given,
-            $crate::Lines::Ticket => $work::<$($other,)* $crate::TicketQueue> $given,
+    ($lock:expr, $work:ident, [$($other:ty),*], $given:tt) => {
+        match $lock {
+            $crate::Lock::Ring => $work::<$($other,)* $crate::RingQueue> $given,
+            $crate::Lock::Link => $work::<$($other,)* $crate::LinkQueue> $given,
+            $crate::Lock::Ticket => $work::<$($other,)* $crate::TicketQueue> $given,
         }
     };
 }

@@ -4,7 +4,7 @@ use Rattle.std.specs.Prelude.{Result, Ok, Err, IfOk}
 use Rattle.qolb_model.specs.declared.config.LineConfig.{LineConfig}
 use Rattle.qolb_model.specs.declared.view.View.{View}
 use Rattle.qolb_model.specs.Opening.{AreNew}
-use Rattle.line_kinds.specs.declared.Lines.{Lines}
+use Rattle.line_kinds.specs.declared.Lock.{Lock}
 use Rattle.qolb_nodes.specs.declared.any_node.AnyNode.{AnyNode}
 use Rattle.qolb_nodes.specs.declared.handle.Handle.{Handle}
 use Rattle.qolb_nodes.specs.Calls.{view_of, kind_of, AreOfOneLine}
@@ -24,7 +24,7 @@ module _ {Line Port : Type 0} (view : Port → View) (make : NodeOf Line Port �
   views_are each [] = refl
   views_are each (p ∷ ports) = ap (λ (v : View). v ∷ map view_of (nodes_of ports)) (each (node_at line p)) ∙ ap (λ (vs : List View). view p ∷ vs) (views_are each ports)
 
-  kinds_are : (kind : Lines) → ((n : NodeOf Line Port) → kind_of (make n) ≡ kind) → (ports : List Port) (k : ℕ) (d : AnyNode) → k < length (nodes_of ports) → kind_of (get_or (nodes_of ports) k d) ≡ kind
+  kinds_are : (kind : Lock) → ((n : NodeOf Line Port) → kind_of (make n) ≡ kind) → (ports : List Port) (k : ℕ) (d : AnyNode) → k < length (nodes_of ports) → kind_of (get_or (nodes_of ports) k d) ≡ kind
   kinds_are kind each [] k d low = absurd (omega arith)
   kinds_are kind each (p ∷ ports) zero d low = each (node_at line p)
   kinds_are kind each (p ∷ ports) (suc k) d low = kinds_are kind each ports k d (omega arith)
@@ -48,7 +48,7 @@ module _ {Line Port : Type 0} (view : Port → View) (make : NodeOf Line Port �
       subst (λ (n : AnyNode). AreOfOneLine n b) (sym x.1) (subst (λ (n : AnyNode). AreOfOneLine (make (node_at line x.0)) n) (sym y.1) (each x.0 y.0))
 
 -- the new nodes of one line, as nodes of any kind
-pub new_nodes_of : {Line Port : Type 0} (view : Port → View) (make : NodeOf Line Port → AnyNode) (kind : Lines) (label : ℕ) (config : LineConfig) (nodes : List (NodeOf Line Port)) (anys : List AnyNode)
+pub new_nodes_of : {Line Port : Type 0} (view : Port → View) (make : NodeOf Line Port → AnyNode) (kind : Lock) (label : ℕ) (config : LineConfig) (nodes : List (NodeOf Line Port)) (anys : List AnyNode)
     → ((n : NodeOf Line Port) → view_of (make n) ≡ view n.port) → ((n : NodeOf Line Port) → kind_of (make n) ≡ kind)
     → ((line : Line) (p q : Port) → AreOfOneLine (make (node_at line p)) (make (node_at line q)))
     → AreOfLine view label config nodes → anys ≡ map make nodes → AreNewNodes kind label config anys
@@ -68,7 +68,7 @@ held_are [] = refl
 held_are (b ∷ bs) = ap (λ (os : List (Option AnyNode)). Some b.value ∷ os) (held_are bs)
 
 -- the handles, once they are filled
-pub opened : (kind label : ℕ) (lines : Lines) (config : LineConfig) (old mid new : List Handle) (bs : Boxes)
+pub opened : (kind label : ℕ) (lines : Lock) (config : LineConfig) (old mid new : List Handle) (bs : Boxes)
     → lines_at kind ≡ Some lines → AreNewNodes lines label config (values bs) → AreEmpty config.nodes old → held_by mid ≡ held_by old
     → held_by new ≡ held_values bs ++ drop (length bs) (held_by mid) → AreOpened kind label config old new
 opened kind label lines config old mid new bs of_number are empty same filled = record {

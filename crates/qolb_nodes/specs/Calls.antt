@@ -15,8 +15,8 @@ use Rattle.qolb_model.specs.Leases.{turns_left}
 use Rattle.qolb_model.specs.OneOwner.{turn_after}
 use Rattle.qolb_model.specs.PortStates.{may_ask}
 use Rattle.line_generic.specs.AtTurn.{Names, SeesTurn}
-use Rattle.line_kinds.specs.declared.Lines.{Lines}
-use Rattle.line_kinds.specs.declared.Lines.TheVariants as lines
+use Rattle.line_kinds.specs.declared.Lock.{Lock}
+use Rattle.line_kinds.specs.declared.Lock.TheVariants as lines
 use Rattle.qolb_nodes.specs.declared.answer.Answer.{Answer}
 use Rattle.qolb_nodes.specs.declared.answer.Answer.TheVariants as answer
 use Rattle.qolb_nodes.specs.declared.any_node.AnyNode.{AnyNode}
@@ -60,7 +60,7 @@ abbrev pub AreOfOneLine : AnyNode → AnyNode → Type 0
 AreOfOneLine a b = (info_of a).with_port (info_of b).port ≡ b
 
 -- the kind of a node's line
-abbrev pub kind_of : AnyNode → Lines
+abbrev pub kind_of : AnyNode → Lock
 kind_of node = (info_of node).kind
 
 -- A call that the node's state may forbid. If it is forbidden, it is misuse, and nothing changes; if it is allowed, the line's call is

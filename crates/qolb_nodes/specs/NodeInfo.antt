@@ -9,8 +9,8 @@ use Rattle.line_generic.specs.Ports.{PortModel}
 use Rattle.ring_line.specs.contracts.invariant.RingQueueDisciplineSpec.TheImpl as ring
 use Rattle.link_line.specs.contracts.invariant.LinkQueueDisciplineSpec.TheImpl as link
 use Rattle.ticket_line.specs.contracts.invariant.TicketQueueDisciplineSpec.TheImpl as ticket
-use Rattle.line_kinds.specs.declared.Lines.{Lines}
-use Rattle.line_kinds.specs.declared.Lines.TheVariants as lines
+use Rattle.line_kinds.specs.declared.Lock.{Lock}
+use Rattle.line_kinds.specs.declared.Lock.TheVariants as lines
 use Rattle.qolb_nodes.specs.declared.any_node.AnyNode.{AnyNode}
 use Rattle.qolb_nodes.specs.declared.any_node.AnyNode.TheVariants as any
 use Rattle.qolb_nodes.specs.NodeCalls.{Node}
@@ -18,7 +18,7 @@ use Rattle.qolb_nodes.specs.NodeCalls.{Node}
 -- What a node is, whatever its discipline: the kind of its line, how many nodes that has, the node's port, the node with another port, and
 -- what its discipline says of words and word steps.
 pub record NodeInfo : Type 0 where
-  pub kind : Lines
+  pub kind : Lock
   pub nodes : ℕ
   pub port : PortModel
   pub with_port : PortModel → AnyNode
@@ -27,7 +27,7 @@ pub record NodeInfo : Type 0 where
   pub max_steps : ℕ → ℕ
 
 -- a node of the discipline `d`
-abbrev pub info_by : {K Q O W N : Type 0} {q : discipline.Ghosts Q K O} {w : wake.Ghosts W N} → Lines → spec.Ghosts Q O → (Node q w → AnyNode) → Node q w → NodeInfo
+abbrev pub info_by : {K Q O W N : Type 0} {q : discipline.Ghosts Q K O} {w : wake.Ghosts W N} → Lock → spec.Ghosts Q O → (Node q w → AnyNode) → Node q w → NodeInfo
 info_by kind d make node = record {
   kind = kind;
   nodes = node.line.table.shared.key.config.nodes;
@@ -45,5 +45,5 @@ info_of (any.Link node) = info_by lines.Link link.ghosts any.Link node
 info_of (any.Ticket node) = info_by lines.Ticket ticket.ghosts any.Ticket node
 
 -- the kinds of line, in the order of C's numbers
-abbrev pub c_kinds : List Lines
+abbrev pub c_kinds : List Lock
 c_kinds = lines.Ring ∷ lines.Link ∷ lines.Ticket ∷ []

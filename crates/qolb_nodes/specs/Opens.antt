@@ -7,7 +7,7 @@ use Rattle.qolb_model.specs.declared.config.LineConfig.{LineConfig}
 use Rattle.qolb_model.specs.declared.config.TheConstants.{MAX_NODES}
 use Rattle.qolb_model.specs.declared.view.View.{View}
 use Rattle.qolb_model.specs.Opening.{AreNew, AreNodes, MayOpen}
-use Rattle.line_kinds.specs.declared.Lines.{Lines}
+use Rattle.line_kinds.specs.declared.Lock.{Lock}
 use Rattle.qolb_nodes.specs.declared.answer.Answer.{Answer}
 use Rattle.qolb_nodes.specs.declared.answer.Answer.TheVariants as answer
 use Rattle.qolb_nodes.specs.declared.any_node.AnyNode.{AnyNode}
@@ -17,7 +17,7 @@ use Rattle.qolb_nodes.specs.NodeInfo.{c_kinds}
 use Rattle.qolb_nodes.specs.Nodes.{NodeOf}
 
 -- the kind of line of this number
-abbrev pub lines_at : ℕ → Option Lines
+abbrev pub lines_at : ℕ → Option Lock
 lines_at kind = slice_get c_kinds kind
 
 -- a number of a kind of line
@@ -32,7 +32,7 @@ pub record AreOfLine {Line Port : Type 0} (view : Port → View) (label : ℕ) (
   pub new : AreNew label config (map view ports)
 
 -- a new node for each number from 1 to the number of nodes, in this order, all of this kind and of one line
-pub record AreNewNodes (kind : Lines) (label : ℕ) (config : LineConfig) (nodes : List AnyNode) : Type 0 where
+pub record AreNewNodes (kind : Lock) (label : ℕ) (config : LineConfig) (nodes : List AnyNode) : Type 0 where
   pub new : AreNew label config (map view_of nodes)
   pub of_kind : All (λ node. kind_of node ≡ kind) nodes
   pub one_line : (i j : ℕ) (a b : AnyNode) → slice_get nodes i ≡ Some a → slice_get nodes j ≡ Some b → AreOfOneLine a b
@@ -50,7 +50,7 @@ HasNode many handles = (k : ℕ) × (k < many) × ((node : AnyNode) × (slice_ge
 
 -- a line is opened: the first handles, which were empty, have its new nodes, and the others are unchanged
 pub record AreOpened (kind label : ℕ) (config : LineConfig) (old new : List Handle) : Type 0 where
-  pub lines : Lines
+  pub lines : Lock
   pub of_number : lines_at kind ≡ Some lines
   pub nodes : List AnyNode
   pub are_new : AreNewNodes lines label config nodes

@@ -11,7 +11,7 @@ use crate::answer::Answer;
 use crate::node::{Node, Shown};
 use crate::opening::{boxed, new_nodes};
 use line_generic::SleepersElsewhere;
-use line_kinds::{Lines, LinkLine, RingLine, TicketLine};
+use line_kinds::{LinkLine, Lock, RingLine, TicketLine};
 use line_lanes::{Line64, Mask, lane};
 use qolb_model::{Free, LineConfig, OpenError};
 use std::alloc::Global;
@@ -295,7 +295,7 @@ impl IntoAny for Node<Ticket> {
 /// Those of `OpenLine::open_with`.
 pub(crate) fn nodes_of_kind(
     alloc: Global,
-    lines: Lines,
+    lines: Lock,
     label: u64,
     config: LineConfig,
 ) -> Result<Vec<Box<AnyNode>>, OpenError>
@@ -304,8 +304,8 @@ pub(crate) fn nodes_of_kind(
     ensures why { IfErr result (λ error. MayNotOpen config error) }
 {
     match lines {
-        Lines::Ring => boxed(alloc, new_nodes::<Ring>(alloc, label, config)?),
-        Lines::Link => boxed(alloc, new_nodes::<Link>(alloc, label, config)?),
-        Lines::Ticket => boxed(alloc, new_nodes::<Ticket>(alloc, label, config)?),
+        Lock::Ring => boxed(alloc, new_nodes::<Ring>(alloc, label, config)?),
+        Lock::Link => boxed(alloc, new_nodes::<Link>(alloc, label, config)?),
+        Lock::Ticket => boxed(alloc, new_nodes::<Ticket>(alloc, label, config)?),
     }
 }

@@ -3,8 +3,6 @@ use Rattle.std.specs.Prelude.{◌≡◌, ◌≢◌, ◌<◌, ◌≤◌, ◌⊎�
 use Rattle.qolb_replay.specs.declared.replay.ReplayError.{ReplayError}
 use Rattle.qolb_replay.specs.declared.replay.ReplayError.TheVariants as error
 use Rattle.qolb_replay.specs.declared.input.TheConstants.{MAX_BYTES}
-use Rattle.qolb_replay.specs.declared.input.InputError.{InputError}
-use Rattle.qolb_replay.specs.declared.input.InputError.TheVariants as input
 use Rattle.qolb_replay.specs.declared.steps.Detail.{Detail}
 use Rattle.qolb_script.specs.declared.error.ScriptError.{ScriptError}
 use Rattle.qolb_script.specs.declared.error.ScriptError.TheVariants as script
@@ -50,12 +48,6 @@ HasNoReply input why = HasNoAnswer HasReplayFault input why
 
 abbrev pub HasNoStepReply : List ℕ → ReplayError → Type 0
 HasNoStepReply input why = HasNoAnswer HasStepFault input why
-
--- the error of a replay whose input could not be read
-abbrev pub as_replay_error : InputError → ReplayError
-as_replay_error input.Memory = error.Memory
-as_replay_error input.Read = error.Read
-as_replay_error input.Long = error.Long
 
 -- the error of a replay whose input is no script, or for which memory was refused
 abbrev pub script_error : ScriptError → ReplayError

@@ -9,7 +9,7 @@ mod ported_line;
 mod replay;
 mod steps;
 
-pub use input::{InputError, MAX_BYTES, read_all, read_input};
+pub use input::{MAX_BYTES, read_all};
 pub use line::ReplayLine;
 pub use replay::{ReplayError, answered_over, answered_plainly, run_schedule_over};
 pub use steps::{Detail, answer_steps, run_steps, run_steps_with};

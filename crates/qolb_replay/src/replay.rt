@@ -9,10 +9,10 @@ ghost use Rattle.qolb_model.specs.OneOwner.{OwnerState};
 ghost use Rattle.qolb_model.specs.Whole.{ViewAndTurn, AreSynced};
 ghost use Rattle.qolb_replay.specs.Tallies.{AreLinesOf};
 ghost use Rattle.qolb_replay.specs.declared.replay.ReplayError.TheVariants.{Memory, Write};
-ghost use Rattle.qolb_replay.specs.Outcome.{IsReply, ReplayMayFail, HasNoReply, as_replay_error, script_error};
+ghost use Rattle.qolb_replay.specs.Outcome.{IsReply, ReplayMayFail, HasNoReply, script_error};
 
 use crate::counts::CountingLine;
-use crate::input::{InputError, read_input};
+use crate::input::read_all;
 use crate::line::ReplayLine;
 use crate::ported_line::PortedLine;
 use line_lanes::Line64;
@@ -69,18 +69,6 @@ impl From<AllocError> for ReplayError {
     }
 }
 
-impl From<InputError> for ReplayError {
-    ghost from_gives = { λ fault error. error ≡ as_replay_error fault };
-
-    fn from(error: InputError) -> ReplayError {
-        match error {
-            InputError::Memory => ReplayError::Memory,
-            InputError::Read => ReplayError::Read,
-            InputError::Long => ReplayError::Long,
-        }
-    }
-}
-
 impl From<ScriptError> for ReplayError {
     ghost from_gives = { λ fault error. error ≡ script_error fault };
 
@@ -123,7 +111,7 @@ where
     ensures written { OnOk result (has_failed writer.new ≡ false) }
     ensures memory { result ≢ Err (ReplayError.Script ScriptError.Memory) }
 {
-    let input = read_input(alloc, reader)?;
+    let input = read_all(alloc, reader)?;
     let text = answered_over::<Global, L>(alloc, alloc, input.as_slice())?;
     writer.write_all(text.as_slice())?;
     Ok(())

@@ -10,7 +10,7 @@ ghost use Rattle.qolb_replay.specs.declared.steps.Detail.TheVariants as detail;
 ghost use Rattle.qolb_replay.specs.StepRuns.{IsStepReply, IsStepReplyTo, Heard, heard_text, is_busy, nodes_busy};
 
 use crate::counts::Counts;
-use crate::input::read_input;
+use crate::input::read_all;
 use crate::replay::ReplayError;
 use line_lanes::Line64;
 use link_core::{Core, Point, Told};
@@ -75,7 +75,7 @@ pub fn run_steps_with<A: Allocator, R: Read, W: Write>(
     ensures written { OnOk result (has_failed writer.new ≡ false) }
     ensures memory { result ≢ Err (ReplayError.Script ScriptError.Memory) }
 {
-    let input = read_input(&alloc, reader)?;
+    let input = read_all(&alloc, reader)?;
     let text = answer_steps(&alloc, input.as_slice(), detail)?;
     writer.write_all(text.as_slice())?;
     Ok(())

@@ -1,19 +1,28 @@
--- What is said of each lock: the kind of line by which a replay answers, and a property of work. (Of this project.)
-use Rattle.line_kinds.specs.declared.Lines.{Lines}
-use Rattle.line_kinds.specs.declared.Lines.TheVariants as lines
+-- What is said of each lock: the kinds that name it, and a property of work. (Of this project.)
+use Rattle.line_kinds.specs.declared.Lock.{Lock}
+use Rattle.line_kinds.specs.declared.Lock.TheVariants as lock
 use Rattle.qolb_script.specs.declared.report.Report.{Report}
 use Rattle.qolb_script.specs.WorkScript.{WorkScript}
+use Rattle.qolb_run.specs.declared.each_lock.Lines.{Lines}
+use Rattle.qolb_run.specs.declared.each_lock.Lines.TheVariants as lines
 use Rattle.qolb_run.specs.declared.each_lock.Kind.{Kind}
 use Rattle.qolb_run.specs.declared.each_lock.Kind.TheVariants as kind
+use Rattle.qolb_run.specs.declared.each_lock.AnyKind.{AnyKind}
+use Rattle.qolb_run.specs.declared.each_lock.AnyKind.TheVariants as any
 
--- the kind of lines that have this lock
-abbrev pub kind_of : Lines → Kind
-kind_of lines.Ring = kind.Ring
-kind_of lines.Link = kind.Link
-kind_of lines.Ticket = kind.Ticket
+-- the lock of these lines
+abbrev pub lock_of : Lines → Lock
+lock_of lines.Ring = lock.Ring
+lock_of lines.Link = lock.Link
+
+-- this kind among all kinds
+abbrev pub any_of : Kind → AnyKind
+any_of kind.Plain = any.Plain
+any_of kind.Ring = any.Shared lock.Ring
+any_of kind.Link = any.Shared lock.Link
 
 -- the property for rings, for link lines, or for ticket lines, by the lock
-abbrev pub by_name : (rings links tickets : WorkScript → Report → Type 0) → Lines → WorkScript → Report → Type 0
-by_name rings links tickets lines.Ring = rings
-by_name rings links tickets lines.Link = links
-by_name rings links tickets lines.Ticket = tickets
+abbrev pub by_lock : (rings links tickets : WorkScript → Report → Type 0) → Lock → WorkScript → Report → Type 0
+by_lock rings links tickets lock.Ring = rings
+by_lock rings links tickets lock.Link = links
+by_lock rings links tickets lock.Ticket = tickets

@@ -1,16 +1,17 @@
 -- How a task with some bytes for its script ends.
-use Rattle.std.specs.Prelude.{◌≡◌, ◌<◌, ◌≤◌, ◌⊎◌, ℕ, List, length, Ok, Err}
+use Rattle.std.specs.Prelude.{◌≡◌, ◌≢◌, ◌<◌, ◌≤◌, ◌⊎◌, ℕ, List, length, Ok, Err}
 use Rattle.qolb_replay.specs.declared.replay.ReplayError.{ReplayError}
 use Rattle.qolb_replay.specs.declared.replay.ReplayError.TheVariants as error
 use Rattle.qolb_replay.specs.declared.input.TheConstants.{MAX_BYTES}
 use Rattle.qolb_script.specs.declared.error.ScriptError.{ScriptError}
+use Rattle.qolb_script.specs.declared.error.ScriptError.TheVariants as script
 use Rattle.qolb_replay.specs.StepRuns.{IsStepReplyTo}
-use Rattle.qolb_replay.specs.Outcome.{IsReply, HasReplayFault, HasStepFault, HasNoAnswer, MayFailBy}
-use Rattle.line_kinds.specs.declared.Lines.{Lines}
+use Rattle.qolb_replay.specs.Outcome.{IsReply, HasReplayFault, HasStepFault, MayFailBy}
+use Rattle.line_kinds.specs.declared.Lock.{Lock}
 use Rattle.qolb_run.specs.declared.task.Task.{Task}
 use Rattle.qolb_run.specs.declared.task.Task.TheVariants.{Replay, Steps, Work}
-use Rattle.qolb_run.specs.declared.report.TaskError.{TaskError}
-use Rattle.qolb_run.specs.declared.report.TaskError.TheVariants as ending
+use Rattle.qolb_run.specs.declared.task.TaskError.{TaskError}
+use Rattle.qolb_run.specs.declared.task.TaskError.TheVariants as ending
 use Rattle.qolb_work.specs.declared.work.RunError.{RunError}
 use Rattle.qolb_work.specs.declared.work.RunError.TheVariants as run
 use Rattle.qolb_work.specs.Workers.{MayStop}
@@ -35,10 +36,10 @@ pub record IsReplyOver (IsOver : WorkScript → Report → Type 0) (kind : WorkK
   pub text_is : text ≡ report_text report
 
 -- the text is the reply to the bytes; and the first fault of the bytes, as a script of the task, is this one
-abbrev pub Answers : (Lines → WorkScript → Report → Type 0) → Task → List ℕ → List ℕ → Type 0
+abbrev pub Answers : (Lock → WorkScript → Report → Type 0) → Task → List ℕ → List ℕ → Type 0
 Answers KindSpec (Replay kind) input text = IsReply input text
 Answers KindSpec (Steps detail) input text = IsStepReplyTo detail input text
-Answers KindSpec (Work kind lines waits) input text = IsReplyOver (KindSpec lines) kind input text
+Answers KindSpec (Work kind lock waits) input text = IsReplyOver (KindSpec lock) kind input text
 
 abbrev pub HasWorkFault : WorkKind → List ℕ → ScriptError → Type 0
 HasWorkFault kind input fault = work_of kind input ≡ Err fault
@@ -46,7 +47,7 @@ HasWorkFault kind input fault = work_of kind input ≡ Err fault
 abbrev pub HasFault : Task → List ℕ → ScriptError → Type 0
 HasFault (Replay kind) input fault = HasReplayFault input fault
 HasFault (Steps detail) input fault = HasStepFault input fault
-HasFault (Work kind lines waits) input fault = HasWorkFault kind input fault
+HasFault (Work kind lock waits) input fault = HasWorkFault kind input fault
 
 -- the bytes are too many, or have a first fault
 abbrev pub IsRefused : Task → List ℕ → Type 0
@@ -54,22 +55,47 @@ IsRefused task input = (MAX_BYTES < length input) ⊎ ((fault : ScriptError) × 
 
 -- when each error may come: as to a replay, by the answers to the task and its first fault
 abbrev pub MayFail : Task → List ℕ → ReplayError → Type 0
-MayFail task input error = MayFailBy (Answers (λ lines work report. Unit {0}) task) (HasFault task) input error
+MayFail task input error = MayFailBy (Answers (λ lock work report. Unit {0}) task) (HasFault task) input error
+
+-- a worker of the task gave up, and none before it
+abbrev pub MayStall : Task → List ℕ → ℕ → Type 0
+MayStall (Replay kind) input worker = ⊥
+MayStall (Steps detail) input worker = ⊥
+MayStall (Work kind lock waits) input worker = (work : WorkScript) × IsWork kind input work × MayStop work (run.Stalled worker)
 
 -- when a task may end without an answer: with an error as of a replay; or, if it is work, because one of its workers gave up
 abbrev pub MayEnd : Task → List ℕ → TaskError → Type 0
-MayEnd task input (ending.Replay why) = MayFail task input why
-MayEnd (Replay kind) input (ending.Stalled worker) = ⊥
-MayEnd (Steps detail) input (ending.Stalled worker) = ⊥
-MayEnd (Work kind lines waits) input (ending.Stalled worker) = (work : WorkScript) × IsWork kind input work × MayStop work (run.Stalled worker)
+MayEnd task input ending.Memory = MayFail task input error.Memory
+MayEnd task input ending.Read = MayFail task input error.Read
+MayEnd task input ending.Long = MayFail task input error.Long
+MayEnd task input (ending.Script fault) = MayFail task input (error.Script fault)
+MayEnd task input ending.Write = MayFail task input error.Write
+MayEnd task input (ending.Stalled worker) = MayStall task input worker
 
 -- why bytes have no report of work: memory was refused, or the first fault in them is this one; or they are a work script, and one of its
 -- workers gave up
 abbrev pub HasNoReport : WorkKind → List ℕ → TaskError → Type 0
-HasNoReport kind input (ending.Replay why) = HasNoAnswer (HasWorkFault kind) input why
+HasNoReport kind input ending.Memory = Unit {0}
+HasNoReport kind input ending.Read = ⊥
+HasNoReport kind input ending.Long = ⊥
+HasNoReport kind input (ending.Script fault) = HasWorkFault kind input fault × (fault ≢ script.Memory)
+HasNoReport kind input ending.Write = ⊥
 HasNoReport kind input (ending.Stalled worker) = (work : WorkScript) × (work_of kind input ≡ Ok work) × MayStop work (run.Stalled worker)
 
--- the error of a task whose work has no report
-abbrev pub task_error : RunError → TaskError
-task_error run.Memory = ending.Replay error.Memory
-task_error (run.Stalled worker) = ending.Stalled worker
+-- the error of a task whose script is refused, or that ends as a replay or as work does
+abbrev pub script_ending : ScriptError → TaskError
+script_ending script.Memory = ending.Memory
+script_ending (script.BadLine n) = ending.Script (script.BadLine n)
+script_ending (script.Number n) = ending.Script (script.Number n)
+script_ending (script.TooMany n) = ending.Script (script.TooMany n)
+
+abbrev pub replay_ending : ReplayError → TaskError
+replay_ending error.Memory = ending.Memory
+replay_ending error.Read = ending.Read
+replay_ending error.Long = ending.Long
+replay_ending (error.Script fault) = ending.Script fault
+replay_ending error.Write = ending.Write
+
+abbrev pub work_ending : RunError → TaskError
+work_ending run.Memory = ending.Memory
+work_ending (run.Stalled worker) = ending.Stalled worker

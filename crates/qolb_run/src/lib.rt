@@ -8,17 +8,17 @@ mod report;
 mod task;
 mod work;
 
-pub use each_lock::{KINDS, Kind, KindSpec, Locks};
+pub use each_lock::{AnyKind, KINDS, Kind, KindSpec, Lines, Locks};
 pub use line_blocking::{
     Got, ParkOnPoll, TimedAcquire, acquire, acquire_parking, acquire_timeout, meet_all, scoped,
 };
-pub use line_kinds::Lines;
+pub use line_kinds::Lock;
 pub use qolb_replay::{
-    Detail, InputError, MAX_BYTES, ReplayError, ReplayLine, answer_steps, read_all, read_input,
-    run_schedule_over, run_steps, run_steps_with,
+    Detail, MAX_BYTES, ReplayError, ReplayLine, answer_steps, read_all, run_schedule_over,
+    run_steps, run_steps_with,
 };
 pub use qolb_work::{AlwaysOpen, Gate, MAX_REFUSALS, Progress, RunError, WaitMode, run_work_over};
-pub use replay::{answer_schedule, run_schedule};
-pub use report::{TaskError, answer_work};
-pub use task::Task;
+pub use replay::{answer_schedule, run_schedule, run_schedule_with};
+pub use report::answer_work;
+pub use task::{Task, TaskError};
 pub use work::{run_work, run_work_with};

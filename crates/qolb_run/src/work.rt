@@ -4,12 +4,13 @@ ghost use Rattle.qolb_work.specs.Workers.{MayStop};
 ghost use Rattle.qolb_work.specs.Reports.{IsReportOf};
 ghost use Rattle.qolb_work.specs.BankWork.{IsBankedOver};
 ghost use Rattle.qolb_work.specs.BoardWork.{IsBoardedOver};
+ghost use Rattle.qolb_run.specs.Kinds.{lock_of};
 
-use crate::each_lock::{KindSpec, Locks};
+use crate::each_lock::{KindSpec, Lines, Locks};
 use line_accounts::AccountLaw;
 use line_board::BoardLaw;
 use line_generic::{Discipline, Line};
-use line_kinds::{Lines, for_kind};
+use line_kinds::{Lock, for_kind};
 use qolb_model::LineSync;
 use qolb_script::{Report, Work};
 use qolb_work::{Gate, RunError, WaitMode, run_work_over};
@@ -29,30 +30,30 @@ pub fn run_work<R: Threads + Wait + Sync, G: Gate + Sync>(
     lines: Lines,
 ) -> Result<Report, RunError>
     ensures report { IfOk result (IsReportOf work.now) }
-    ensures over { IfOk result (⟦<Locks as KindSpec>⟧.done_over lines work.now) }
+    ensures over { IfOk result (⟦<Locks as KindSpec>⟧.done_over (lock_of lines) work.now) }
     ensures stalled { IfErr result (MayStop work.now) }
     ensures by_gate { (worker : ℕ) → result ≡ Err (RunError.Stalled worker)
         → G.may_refuse gate.now worker }
 {
-    run_work_with(rt, alloc, gate, work, lines, WaitMode::Awake)
+    run_work_with(rt, alloc, gate, work, lines.lock(), WaitMode::Awake)
 }
 
-/// Does the work as `run_work` does, by workers that wait as `WaitMode` names.
+/// Does the work as `run_work` does, over lines of any lock, by workers that wait as `WaitMode` names.
 pub fn run_work_with<R: Threads + Wait + Sync, G: Gate + Sync>(
     rt: &R,
     alloc: Global,
     gate: &G,
     work: &Work,
-    lines: Lines,
+    lock: Lock,
     waits: WaitMode,
 ) -> Result<Report, RunError>
     ensures report { IfOk result (IsReportOf work.now) }
-    ensures over { IfOk result (⟦<Locks as KindSpec>⟧.done_over lines work.now) }
+    ensures over { IfOk result (⟦<Locks as KindSpec>⟧.done_over lock work.now) }
     ensures stalled { IfErr result (MayStop work.now) }
     ensures by_gate { (worker : ℕ) → result ≡ Err (RunError.Stalled worker)
         → G.may_refuse gate.now worker }
 {
-    for_kind!(lines, run_work_by, [R, G], (rt, alloc, gate, work, waits))
+    for_kind!(lock, run_work_by, [R, G], (rt, alloc, gate, work, waits))
 }
 
 /// Does the work over lines of this discipline.

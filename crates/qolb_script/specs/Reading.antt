@@ -3,8 +3,8 @@ use Rattle.std.specs.Prelude.{◌≡◌, ℕ, ◌==◌, false, List, [], ◌∷�
 use Rattle.std.specs.Borrow.{Bor}
 use Rattle.std.specs.List.{slice_split, enumerate_from}
 use Rattle.std.specs.Str.{bytes_eq}
-use Rattle.qolb_script.specs.declared.words.Words.{Words}
-use Rattle.qolb_script.specs.declared.lines.NumberedLines.{NumberedLines}
+use Rattle.qolb_script.specs.declared.text.Words.{Words}
+use Rattle.qolb_script.specs.declared.text.NumberedLines.{NumberedLines}
 use Rattle.qolb_script.specs.Text.{words_of, worded}
 
 -- the lines of the rest of a text, if there is a rest

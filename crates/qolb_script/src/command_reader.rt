@@ -8,10 +8,8 @@ ghost use Rattle.qolb_script.specs.Reading.{words_left, lease_words, IsNoLease};
 
 use crate::command::{Command, Verb};
 use crate::items::ReadItem;
-use crate::number::number_within;
 use crate::schedule::MAX_LINES;
-use crate::text::LineFault;
-use crate::words::Words;
+use crate::text::{LineFault, Words, number_within};
 use hex::decode_to_slice;
 use line_lanes::{Line64, Mask, placed};
 use qolb_model::MAX_NODES;

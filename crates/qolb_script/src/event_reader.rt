@@ -7,10 +7,8 @@ ghost use Rattle.link_core.specs.Steps.{node_of};
 
 use crate::command_reader::{NODES, WRITE, lease_word, node_within, read_lease, read_placed};
 use crate::items::ReadItem;
-use crate::number::number_within;
 use crate::step::Step;
-use crate::text::LineFault;
-use crate::words::Words;
+use crate::text::{LineFault, Words, number_within};
 use link_core::Event;
 use qolb_model::MAX_NODES;
 

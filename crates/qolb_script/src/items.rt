@@ -3,9 +3,8 @@ ghost use Rattle.qolb_script.specs.Script.{items_of};
 ghost use Rattle.qolb_script.specs.Reading.{lines_left};
 
 use crate::error::ScriptError;
-use crate::lines::NumberedLines;
 use crate::schedule::MAX_COMMANDS;
-use crate::text::LineFault;
+use crate::text::{LineFault, NumberedLines};
 use std::alloc::Allocator;
 
 /// A reader of the lines below a header, each of which is an item.

@@ -8,10 +8,8 @@ ghost use Rattle.qolb_script.specs.declared.schedule.TheConstants.{MAX_LINES};
 use crate::command_reader::{LINES, node_within, read_sizes};
 use crate::items::ReadItem;
 use crate::job::{ACCOUNTS_A_LINE, Job, WorkKind};
-use crate::number::number_within;
 use crate::schedule::MAX_LINES;
-use crate::text::LineFault;
-use crate::words::Words;
+use crate::text::{LineFault, Words, number_within};
 use qolb_model::MAX_NODES;
 
 /// The words of headers.

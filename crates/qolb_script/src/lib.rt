@@ -8,8 +8,6 @@ mod event_reader;
 mod items;
 mod job;
 mod job_reader;
-mod lines;
-mod number;
 pub mod readers;
 mod reply_text;
 mod report;
@@ -18,7 +16,6 @@ mod step;
 mod steps;
 mod text;
 mod watched;
-mod words;
 mod work;
 
 pub use command::Command;

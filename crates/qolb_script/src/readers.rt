@@ -9,9 +9,6 @@ pub use crate::job::ACCOUNTS_A_LINE;
 pub use crate::job_reader::{
     BANK, BOARD, JobReader, MOVE, PAY_IN, PAY_OUT, PUT, TAKE, WORKERS, WorkHeader, read_work_header,
 };
-pub use crate::lines::NumberedLines;
-pub use crate::number::number_within;
 pub use crate::schedule::{MAX_COMMANDS, MAX_LINES};
 pub use crate::step::Step;
-pub use crate::text::LineFault;
-pub use crate::words::Words;
+pub use crate::text::{LineFault, NumberedLines, Words, number_within};

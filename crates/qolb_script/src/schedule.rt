@@ -5,7 +5,7 @@ use crate::command::Command;
 use crate::command_reader::{CommandReader, Header, read_header};
 use crate::error::ScriptError;
 use crate::items::read_items;
-use crate::lines::NumberedLines;
+use crate::text::NumberedLines;
 use std::alloc::{Allocator, Global};
 use std::marker::Model;
 

@@ -4,7 +4,7 @@ ghost use Rattle.qolb_script.specs.StepScript.{steps_of};
 use crate::error::ScriptError;
 use crate::event_reader::{EventReader, StepHeader, read_step_header};
 use crate::items::read_items;
-use crate::lines::NumberedLines;
+use crate::text::NumberedLines;
 use link_core::Event;
 use std::alloc::{Allocator, Global};
 use std::marker::Model;

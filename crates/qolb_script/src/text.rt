@@ -1,9 +1,16 @@
-ghost use Rattle.std.specs.Prelude.{◌≡◌, ◌==◌, ◌<◌, ◌∷◌, [], length, not, IfSome, MatchOption};
+//! The text of scripts: its lines, their words, and the numbers that words write.
+ghost use Rattle.std.specs.Prelude.{◌≡◌, ◌==◌, ◌+◌, ◌<◌, ◌≤◌, ◌^◌, ◌∷◌, [], length, not, IfOk, IfSome, MatchOption};
 ghost use Rattle.std.specs.List.{slice_split};
+ghost use Rattle.std.specs.Option.{ForSome};
+ghost use Rattle.qolb_script.specs.Text as spec;
 ghost use Rattle.qolb_script.specs.Text.{words_of, is_plain};
 ghost use Rattle.qolb_script.specs.Script.{fault_at};
 
 use crate::error::ScriptError;
+use std::str;
+
+/// The largest number of digits of a number.
+const MAX_DIGITS: usize = 20;
 
 /// The fault of a line.
 #[derive(Clone, Copy, Debug, PartialEq, Eq)]
@@ -52,4 +59,167 @@ pub fn is_plain_line(line: &[u8]) -> bool
     ensures { result ≡ is_plain line.now }
 {
     line.iter().all(|&b| b' ' <= b && b <= b'~')
+}
+
+/// The lines of the rest of a text that have words, with their numbers.
+#[derive(Drop)]
+pub struct NumberedLines<'a> {
+    rest: Option<&'a [u8]>,
+    number: u64,
+    // So the numbers of the lines fit.
+    ghost fits: { ForSome rest (λ r. number + length r.now + 1 < 2 ^ 64) },
+}
+
+impl<'a> NumberedLines<'a> {
+    ghost use Rattle.std.specs.Prelude.{◌≡◌};
+    ghost use Rattle.qolb_script.specs.Text.{numbered_lines, worded};
+    ghost use Rattle.qolb_script.specs.Reading.{lines_left};
+
+    /// Returns the lines of a text that have words.
+    pub fn new(text: &'a [u8]) -> NumberedLines<'a>
+        ensures { lines_left result ≡ worded (numbered_lines text.now) }
+    {
+        NumberedLines {
+            rest: Some(text),
+            number: 1,
+        }
+    }
+}
+
+impl<'a> Iterator for NumberedLines<'a> {
+    ghost use Rattle.std.specs.Iterator.{YieldsFirstBy, item_count};
+    ghost use Rattle.qolb_script.specs.Reading.{lines_left};
+
+    type Item = (u64, &'a [u8]);
+
+    ghost next_gives = { YieldsFirstBy (λ line. (line.0, line.1.now)) lines_left };
+
+    ghost remaining = { item_count lines_left };
+
+    fn next(&mut self) -> Option<(u64, &'a [u8])> {
+        while let Some(text) = self.rest {
+            let number = self.number;
+            let (line, rest) = split_once(text, b'\n');
+            self.rest = rest;
+            self.number += 1;
+            if !is_blank(line) {
+                return Some((number, line));
+            }
+        }
+        None
+    }
+}
+
+/// The words of the rest of a line.
+#[derive(Drop)]
+pub struct Words<'a> {
+    rest: &'a [u8],
+}
+
+impl<'a> Words<'a> {
+    ghost use Rattle.std.specs.Prelude.{◌≡◌, [], ◌∷◌, true, false, MatchResult};
+    ghost use Rattle.qolb_script.specs.Text.{words_of, is_plain};
+    ghost use Rattle.qolb_script.specs.Reading.{words_left, Lacks, LacksNamed, AreSome};
+
+    /// Returns the words of a line.
+    pub fn new(line: &'a [u8]) -> Words<'a>
+        ensures { words_left result ≡ words_of line.now }
+    {
+        Words { rest: line }
+    }
+
+    /// Returns the words of a line that has no byte but a script's.
+    pub fn of_line(line: &'a [u8]) -> Result<Words<'a>, LineFault>
+        ensures { MatchResult result
+            (λ words. (is_plain line.now ≡ true) × (words_left words ≡ words_of line.now))
+            (λ fault. (fault ≡ LineFault.Bad) × (is_plain line.now ≡ false)) }
+    {
+        if is_plain_line(line) {
+            Ok(Words::new(line))
+        } else {
+            Err(LineFault::Bad)
+        }
+    }
+
+    /// Takes the next word.
+    pub fn word(&mut self) -> Result<&'a [u8], LineFault>
+        ensures { MatchResult result
+            (λ word. words_left self.old ≡ word.now ∷ words_left self.new)
+            (λ fault. (fault ≡ LineFault.Bad) × (words_left self.old ≡ [])) }
+    {
+        self.next().ok_or(LineFault::Bad)
+    }
+
+    /// Takes the next word, which has to be `name`.
+    pub fn pass(&mut self, name: &[u8]) -> Result<(), LineFault>
+        ensures { MatchResult result
+            (λ _. words_left self.old ≡ name.now ∷ words_left self.new)
+            (λ fault. (fault ≡ LineFault.Bad) × Lacks name.now (words_left self.old)) }
+    {
+        match self.next() {
+            Some(word) if word == name => Ok(()),
+            _ => Err(LineFault::Bad),
+        }
+    }
+
+    /// Takes the next word, which has to be `name`, and returns the word behind it.
+    pub fn named(&mut self, name: &[u8]) -> Result<&'a [u8], LineFault>
+        ensures { MatchResult result
+            (λ word. words_left self.old ≡ name.now ∷ word.now ∷ words_left self.new)
+            (λ fault. (fault ≡ LineFault.Bad) × LacksNamed name.now (words_left self.old)) }
+    {
+        self.pass(name)?;
+        self.word()
+    }
+
+    /// Checks that no word is left.
+    pub fn end(mut self) -> Result<(), LineFault>
+        ensures { MatchResult result
+            (λ _. words_left self.entry ≡ [])
+            (λ fault. (fault ≡ LineFault.Bad) × AreSome (words_left self.entry)) }
+    {
+        match self.next() {
+            None => Ok(()),
+            Some(_) => Err(LineFault::Bad),
+        }
+    }
+}
+
+impl<'a> Iterator for Words<'a> {
+    ghost use Rattle.std.specs.Iterator.{YieldsFirstRef, item_count};
+    ghost use Rattle.qolb_script.specs.Reading.{words_left};
+
+    type Item = &'a [u8];
+
+    ghost next_gives = { YieldsFirstRef words_left };
+
+    ghost remaining = { item_count words_left };
+
+    fn next(&mut self) -> Option<&'a [u8]> {
+        let start = self.rest.iter().position(|&b| b != b' ')?;
+        let (word, rest) = split_once(&self.rest[start..], b' ');
+        self.rest = rest.unwrap_or(&[]);
+        Some(word)
+    }
+}
+
+/// Returns the number that a word of 1 to 20 decimal digits writes, or `None` if it is not below 2^64.
+fn number(word: &[u8]) -> Option<u64>
+    ensures { result ≡ spec.number_of word.now }
+{
+    if word.len() > MAX_DIGITS || !word.iter().all(|b| b.is_ascii_digit()) {
+        return None;
+    }
+    str::from_utf8(word).ok()?.parse().ok()
+}
+
+/// Returns the number that a word writes, if it is from `low` to `high`.
+pub fn number_within(low: u64, high: u64, word: &[u8]) -> Result<u64, LineFault>
+    ensures number { result ≡ spec.number_within low high word.now }
+    ensures range { IfOk result (λ n. (low ≤ n) × (n ≤ high)) }
+{
+    match number(word) {
+        Some(n) if low <= n && n <= high => Ok(n),
+        _ => Err(LineFault::Number),
+    }
 }

@@ -6,8 +6,8 @@ use crate::error::ScriptError;
 use crate::items::read_items;
 use crate::job::{Job, WorkKind};
 use crate::job_reader::{JobReader, WorkHeader, read_work_header};
-use crate::lines::NumberedLines;
 use crate::schedule::MAX_LINES;
+use crate::text::NumberedLines;
 use std::alloc::{Allocator, Global};
 use std::marker::Model;
 

@@ -12,7 +12,7 @@ mod script;
 
 use crate::checked_line::Instrumented;
 use line_generic::{Discipline, Line};
-use line_kinds::{ALL, Lines, for_kind};
+use line_kinds::{ALL, Lock, for_kind};
 use qolb_model::{Free, ParkingLine};
 use rows::expect_eq;
 use std::alloc::Global;
@@ -101,22 +101,22 @@ fn names_over<R: Abort, Q: Discipline<Free>>(rt: &R, alloc: Global) {
 }
 
 /// What differs between this lock and the others.
-fn known_of(lines: Lines) -> Known {
+fn known_of(lines: Lock) -> Known {
     match lines {
         // 256 cells, each with a node's word in 128 bytes, and a slot: as for 200 nodes.
-        Lines::Ring => Known {
+        Lock::Ring => Known {
             few: 8,
             many: 599,
             table: 257 * 128,
         },
         // An entry of 128 bytes for each node, as much for the home word, and a slot.
-        Lines::Link => Known {
+        Lock::Link => Known {
             few: 9,
             many: 797,
             table: 6 * 128,
         },
         // Eight cells, each with a node's word in 128 bytes, and with a slot.
-        Lines::Ticket => Known {
+        Lock::Ticket => Known {
             few: 5,
             many: 399,
             table: 8 * 256,

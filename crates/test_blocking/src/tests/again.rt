@@ -26,7 +26,7 @@ enum Again {
 }
 
 /// The number of busy tries after which a parking or timed call sleeps briefly between two tries.
-const AWAKE: u64 = 288;
+const AWAKE: u64 = 64;
 
 /// How many more tries of node 2 are busy, at least, before node 1 releases.
 const NAPS: u64 = 20;

@@ -146,7 +146,7 @@ impl<'r, R> Ticking<'r, R> {
 static TICKS: [u64; 3] = [3_600_000_000_000, 1_000_000, 1];
 
 /// The limit of a wait, in ticks.
-const AT_MOST: u64 = 584;
+const AT_MOST: u64 = 136;
 
 impl<R: Wait> Wait for Ticking<'_, R> {}
 
@@ -239,11 +239,11 @@ where
     Some((got, clock.readings()))
 }
 
-/// A wait of 584 ticks times out at its limit, and sleeps twice before.
+/// A wait of 136 ticks times out at its limit, and sleeps twice before.
 ///
-/// It begins at the first reading, reads the clock between its polls, and times out when it reads the limit: after 583 polls. It stays
-/// awake for 288 polls (256 spins, then 32 yields), and sleeps after the 289th. A release also wakes the waiter behind the next holder, so the
-/// waiter then stays awake as long again: it sleeps after the 578th poll, with 6 ticks left. No sleep may take longer than the time left.
+/// It begins at the first reading, reads the clock between its polls, and times out when it reads the limit: after 135 polls. It stays
+/// awake for 64 polls (32 spins, then 32 yields), and sleeps after the 65th. A release also wakes the waiter behind the next holder, so the
+/// waiter then stays awake as long again: it sleeps after the 130th poll, with 6 ticks left. No sleep may take longer than the time left.
 /// All this holds for `acquire_timeout` and for `add_within`.
 fn a_wait_keeps_to_its_time<R: Wait + Abort, L: SleepLine>(rt: &R, alloc: Global)
 where
@@ -259,10 +259,10 @@ where
         let clock = Ticking::new(rt, Some(tick));
         let at_most = Duration::from_nanos(tick.wrapping_mul(AT_MOST));
         let found = wait_by::<R, L>(alloc, &notes, &clock, at_most, adds);
-        expect_at(rt, tick, found, Some((TimedAcquire::TimedOut, 585)));
+        expect_at(rt, tick, found, Some((TimedAcquire::TimedOut, 137)));
         let noted = (notes.looks_before(), notes.sleeps(), notes.last());
-        expect_at(rt, tick, noted, (289, 2, tick.wrapping_mul(6)));
-        expect_at(rt, tick, notes.longest(), tick.wrapping_mul(295));
+        expect_at(rt, tick, noted, (65, 2, tick.wrapping_mul(6)));
+        expect_at(rt, tick, notes.longest(), tick.wrapping_mul(71));
     }
 }
 
@@ -333,7 +333,7 @@ where
         let at_most = Duration::from_nanos(tick.wrapping_mul(AT_MOST));
         let got = ask_in_vain::<R, L>(rt, &clock, alloc, &notes, at_most);
         let found = (got, clock.readings(), notes.busy());
-        expect_at(rt, *tick, found, (Some(TimedAcquire::TimedOut), 585, 584));
+        expect_at(rt, *tick, found, (Some(TimedAcquire::TimedOut), 137, 136));
     }
 }
 
@@ -434,7 +434,7 @@ where
     Ok((saw, renewing.readings.load(Ordering::SeqCst)))
 }
 
-/// Busy tries and polls share one time limit: 50 tries leave time for 534 polls, besides the first one.
+/// Busy tries and polls share one time limit: 50 tries leave time for 86 polls, besides the first one.
 fn a_limit_does_not_begin_again<R: Threads + Wait + Clock + Abort + Sync, L: SleepLine + Sync>(
     rt: &R,
     alloc: Global,
@@ -453,7 +453,7 @@ where
         rt,
         "tries and polls",
         (notes.busy(), notes.poll_count()),
-        (BUSY, 535),
+        (BUSY, 87),
     );
 }
 
@@ -788,7 +788,7 @@ where
     all_see_hooked::<R, &Notes, L, Handing>(rt, alloc, 2, notes, &Handing { notes }, &let_go)
 }
 
-/// `acquire_parking` sleeps after 289 polls that found the turn not there, without a limit. Woken ahead of its turn, it polls 289 times again
+/// `acquire_parking` sleeps after 65 polls that found the turn not there, without a limit. Woken ahead of its turn, it polls 65 times again
 /// before it sleeps again.
 fn a_long_wait_sleeps<R: Threads + Wait + Abort + Sync, L: SleepLine + Sync>(rt: &R, alloc: Global)
 where
@@ -805,9 +805,9 @@ where
         rt,
         "polls before",
         (notes.looks_before(), notes.last()),
-        (289, u64::MAX),
+        (65, u64::MAX),
     );
-    expect(rt, "polls again", notes.looks_again(), 578);
+    expect(rt, "polls again", notes.looks_again(), 130);
 }
 
 /// Runs each of these tests over lines of this type.

@@ -140,7 +140,7 @@ where
 }
 
 /// How many tries of node 2 are busy before node 1 releases: more than the polls that a waiter makes before it sleeps.
-const BUSY: u64 = 300;
+const BUSY: u64 = 100;
 
 /// Node 1 holds the line, node 2 has withdrawn behind it, and node 3 waits. Node 2 asks again, is busy until node 1 releases, and then waits
 /// behind node 3, which releases once node 2 sleeps.
@@ -201,7 +201,7 @@ where
     all_see_hooked::<R, &Polls, L, Tired>(rt, alloc, 3, polls, &tired, &let_go)
 }
 
-/// A port that was busy for long polls 289 times before it sleeps, as any other: its wait begins anew.
+/// A port that was busy for long polls 65 times before it sleeps, as any other: its wait begins anew.
 pub(super) fn a_wait_begins_anew_after_busy_tries<
     R: Threads + Wait + Abort + Sync,
     L: SleepLine + Sync,
@@ -212,5 +212,5 @@ where
     let polls = Polls::none();
     let saw = wait_after_busy_tries::<R, L>(rt, alloc, &polls);
     let before = polls.before_sleep.load(Ordering::SeqCst);
-    expect(rt, "polls before the sleep", (saw, before), (Ok(true), 289));
+    expect(rt, "polls before the sleep", (saw, before), (Ok(true), 65));
 }

@@ -1,12 +1,12 @@
 //! The variants of each answer and state, in their order.
-use crate::tests::rows::expect_at;
+use crate::tests::rows::{expect, expect_at};
 use line_accounts::Reply;
 use line_board::{Put, Take};
 use line_kinds::ALL;
 use link_core::Place;
 use link_line::Prep;
 use qolb_model::{Enq, Out, Poll, PortState};
-use qolb_run::{Got, KINDS, Kind, Lines};
+use qolb_run::{AnyKind, Got, KINDS, Kind, Lines, Lock};
 use qolb_script::WorkKind;
 use std::fmt::Debug;
 use std::process::Abort;
@@ -140,15 +140,35 @@ impl Listed for Got {
     }
 }
 
-/// The variants of `Lines` with their numbers. Locks that come later stand behind them.
-static LINES: [(Lines, usize); 3] = [(Lines::Ring, 0), (Lines::Link, 1), (Lines::Ticket, 2)];
+// These `match`es have no last arm: users write them so, and a variant more would not compile.
 
-/// The variants of `Kind` with their numbers.
-static KINDS_SO_FAR: [(Kind, usize); 4] = [
-    (Kind::Plain, 0),
-    (Kind::Ring, 1),
-    (Kind::Link, 2),
-    (Kind::Ticket, 3),
+impl Listed for Lines {
+    fn place(&self) -> usize {
+        match self {
+            Lines::Ring => 0,
+            Lines::Link => 1,
+        }
+    }
+}
+
+impl Listed for Kind {
+    fn place(&self) -> usize {
+        match self {
+            Kind::Plain => 0,
+            Kind::Ring => 1,
+            Kind::Link => 2,
+        }
+    }
+}
+
+/// The lock of each of these lines.
+static LOCKS_OF_LINES: [(Lines, Lock); 2] = [(Lines::Ring, Lock::Ring), (Lines::Link, Lock::Link)];
+
+/// Each of these kinds among all kinds.
+static ANY_OF_KINDS: [(Kind, AnyKind); 3] = [
+    (Kind::Plain, AnyKind::Plain),
+    (Kind::Ring, AnyKind::Shared(Lock::Ring)),
+    (Kind::Link, AnyKind::Shared(Lock::Link)),
 ];
 
 /// Expects that `all` are the type's variants, in their order.
@@ -205,12 +225,22 @@ fn variants_of_runs_are_declared_in_this_order(rt: HostRuntime) {
     for one in [Got::Granted, Got::Closed] {
         expect_at(&rt, &one, one as usize, one.place());
     }
-    for (one, place) in LINES {
-        expect_at(&rt, &one, (one as usize, ALL[place]), (place, one));
+    for (one, lock) in LOCKS_OF_LINES {
+        let place = one.place();
+        let found = (one as usize, one.lock(), ALL[place]);
+        expect_at(&rt, &one, found, (place, lock, lock));
     }
-    for (one, place) in KINDS_SO_FAR {
-        expect_at(&rt, &one, (one as usize, KINDS[place]), (place, one));
+    for (one, any) in ANY_OF_KINDS {
+        let place = one.place();
+        let found = (one as usize, one.any(), KINDS[place]);
+        expect_at(&rt, &one, found, (place, any, any));
     }
+    expect(
+        &rt,
+        "the third lock",
+        (ALL.len(), ALL[2]),
+        (3, Lock::Ticket),
+    );
     for one in [WorkKind::Board, WorkKind::Bank] {
         expect_at(&rt, &one, one as usize, one.place());
     }

@@ -2,12 +2,14 @@
 use crate::tests::rows::{expect, expect_at};
 use qolb_model::{Free, LineSync, OpenLine};
 use qolb_run::{
-    AlwaysOpen, Gate, Got, KINDS, Lines, ReplayError, RunError, WaitMode, acquire, read_all,
-    run_schedule, run_steps, run_work,
+    AlwaysOpen, AnyKind, Gate, Got, KINDS, Kind, Lines, Lock, ReplayError, RunError, WaitMode,
+    acquire, read_all, run_schedule, run_schedule_with, run_steps, run_work, run_work_with,
 };
 use qolb_script::{Report, Watched, Work, WorkKind, read_work};
 use ring_line::RingLine;
 use std::alloc::Global;
+use std::fmt::Debug;
+use std::process::Abort;
 use std::sync::Wait;
 use std::sync::atomic::{AtomicU64, Ordering};
 use std::test::Fail;
@@ -78,26 +80,47 @@ fn work_is_run(rt: HostRuntime) -> Result<(), Fail> {
         Lines::Link,
     );
     expect(&rt, "always open", always, Ok(report));
+    let third: Result<Report, RunError> = run_work_with(
+        &rt,
+        rt.alloc(),
+        &AlwaysOpen,
+        &work,
+        Lock::Ticket,
+        WaitMode::Awake,
+    );
+    expect(&rt, "over ticket lines", third, Ok(report));
     Ok(())
 }
 
 /// The output of a schedule of one node without a command.
 const NONE: &[u8] = b"line 0 served 0 withdrawn 0 told 0 left 0\n";
 
+/// Expects this end of a replay, and its output.
+fn expect_none<R: Abort, K: Debug>(
+    rt: &R,
+    kind: &K,
+    done: Result<(), ReplayError>,
+    writer: Watched<Vec<u8>>,
+) {
+    expect_at(rt, kind, done, Ok(()));
+    expect_at(rt, kind, writer.into_inner().as_slice(), NONE);
+}
+
 #[test]
 fn a_schedule_is_replayed_by_each_kind(rt: HostRuntime) {
+    for kind in [Kind::Plain, Kind::Ring, Kind::Link] {
+        let mut reader = Watched::new(b"nodes 1 lines 1".as_slice());
+        let mut writer: Watched<Vec<u8>> = Watched::new(Vec::new(rt.alloc()));
+        let done = run_schedule(rt.alloc(), &mut reader, &mut writer, kind);
+        expect_none(&rt, &kind, done, writer);
+    }
     for kind in KINDS {
         let mut reader = Watched::new(b"nodes 1 lines 1".as_slice());
         let mut writer: Watched<Vec<u8>> = Watched::new(Vec::new(rt.alloc()));
-        let done: Result<(), ReplayError> = run_schedule(
-            rt.alloc(),
-            &mut reader,
-            &mut writer,
-            kind,
-        );
-        expect_at(&rt, &kind, done, Ok(()));
-        expect_at(&rt, &kind, writer.into_inner().as_slice(), NONE);
+        let done = run_schedule_with(rt.alloc(), &mut reader, &mut writer, kind);
+        expect_none(&rt, &kind, done, writer);
     }
+    expect(&rt, "the first", KINDS[0], AnyKind::Plain);
 }
 
 #[test]

@@ -1,8 +1,8 @@
 //! Eight workers at a gate: each is asked for like the first.
 use crate::tests::gates::{Begun, Closed};
 use crate::tests::rows::{expect, expect_at};
-use line_kinds::{ALL, Lines};
-use qolb_run::{Gate, RunError, WaitMode, run_work, run_work_with};
+use line_kinds::ALL;
+use qolb_run::{Gate, Lines, RunError, WaitMode, run_work, run_work_with};
 use qolb_script::{Report, WorkKind, read_work};
 use std::alloc::Global;
 use std::sync::atomic::{AtomicU64, Ordering};
@@ -31,10 +31,10 @@ static FIRST_TO_STALL: [(WorkKind, &str, u64); 6] = [
 fn the_first_of_many_that_stalls_is_named(rt: HostRuntime) -> Result<(), Fail> {
     for (kind, script, worker) in &FIRST_TO_STALL {
         let work = read_work(rt.alloc(), script.as_bytes(), *kind)?;
-        for lines in ALL {
-            let found = run_work(&rt, rt.alloc(), &Closed, &work, lines);
+        for lock in ALL {
+            let found = run_work_with(&rt, rt.alloc(), &Closed, &work, lock, WaitMode::Awake);
             let wanted = Err(RunError::Stalled(*worker));
-            expect_at(&rt, &(*script, lines), found, wanted);
+            expect_at(&rt, &(*script, lock), found, wanted);
         }
     }
     Ok(())
@@ -157,11 +157,11 @@ fn each_of_eight_workers_asks_before_each_job(rt: HostRuntime) -> Result<(), Fai
     for (kind, head, first, second) in &MANY {
         let script = many_jobs(alloc, *head, *first, *second)?;
         let work = read_work(alloc, script.as_bytes(), *kind)?;
-        for lines in ALL {
+        for lock in ALL {
             let gate = Counts::new(0, 1);
-            let done = run_work_with(&rt, alloc, &gate, &work, lines, WaitMode::Asleep);
+            let done = run_work_with(&rt, alloc, &gate, &work, lock, WaitMode::Asleep);
             let found = (done.is_ok(), gate.told(), loaded(&gate.asked));
-            expect_at(&rt, &(*kind, lines), found, (true, [1, 1_500, 0], ASKED));
+            expect_at(&rt, &(*kind, lock), found, (true, [1, 1_500, 0], ASKED));
         }
     }
     Ok(())
@@ -253,13 +253,13 @@ static IN_ORDER: [(&str, bool, Report); 4] = [
 fn no_job_of_eight_is_done_before_its_gate_is_passed(rt: HostRuntime) -> Result<(), Fail> {
     for (script, backwards, report) in &IN_ORDER {
         let work = read_work(rt.alloc(), script.as_bytes(), WorkKind::Board)?;
-        for lines in ALL {
+        for lock in ALL {
             let gate = InOrder {
                 backwards: *backwards,
                 done: AtomicU64::new(0),
             };
-            let found = run_work(&rt, rt.alloc(), &gate, &work, lines);
-            expect_at(&rt, &(*script, *backwards, lines), found, Ok(*report));
+            let found = run_work_with(&rt, rt.alloc(), &gate, &work, lock, WaitMode::Awake);
+            expect_at(&rt, &(*script, *backwards, lock), found, Ok(*report));
         }
     }
     Ok(())

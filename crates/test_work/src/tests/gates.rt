@@ -1,8 +1,8 @@
 //! Workers at a gate.
 use crate::tests::rows::{expect, expect_at};
 use crate::tests::work::{EITHER, expect_work};
-use line_kinds::{ALL, Lines};
-use qolb_run::{Gate, RunError, TaskError, WaitMode, answer_work, run_work, run_work_with};
+use line_kinds::{ALL, Lock};
+use qolb_run::{Gate, Lines, RunError, TaskError, WaitMode, answer_work, run_work, run_work_with};
 use qolb_script::{Report, WorkKind, read_work};
 use std::alloc::Global;
 use std::process::Abort;
@@ -43,7 +43,7 @@ fn a_report_of_work_says_who_gave_up(rt: HostRuntime) {
         &Closed,
         b"board workers 2\n2 put 5\n",
         WorkKind::Board,
-        Lines::Ring,
+        Lock::Ring,
         WaitMode::Awake,
     );
     expect(&rt, "a report", done.err(), Some(TaskError::Stalled(2)));
@@ -71,9 +71,9 @@ fn expect_behind<R: Threads + Wait + Abort + Sync, G: Gate + Default + Sync + Dr
     report: Report,
 ) -> Result<(), Fail> {
     let work = read_work(alloc, script.as_bytes(), kind)?;
-    for lines in ALL {
-        let found = run_work(rt, alloc, &G::default(), &work, lines);
-        expect_at(rt, &lines, found, Ok(report));
+    for lock in ALL {
+        let found = run_work_with(rt, alloc, &G::default(), &work, lock, WaitMode::Awake);
+        expect_at(rt, &lock, found, Ok(report));
     }
     Ok(())
 }
@@ -299,11 +299,11 @@ static OF_THREE: [(WorkKind, &str); 2] = [
 fn a_worker_asks_before_each_job_and_once_after_the_last(rt: HostRuntime) -> Result<(), Fail> {
     for (kind, script) in &OF_THREE {
         let work = read_work(rt.alloc(), script.as_bytes(), *kind)?;
-        for lines in ALL {
+        for lock in ALL {
             let gate = Counting::new(1);
-            let done = run_work_with(&rt, rt.alloc(), &gate, &work, lines, WaitMode::Asleep);
+            let done = run_work_with(&rt, rt.alloc(), &gate, &work, lock, WaitMode::Asleep);
             let found = (done.is_ok(), gate.numbers(), gate.asks());
-            expect_at(&rt, &(*kind, lines), found, (true, 123, [1, 1, 1]));
+            expect_at(&rt, &(*kind, lock), found, (true, 123, [1, 1, 1]));
         }
     }
     Ok(())
@@ -313,11 +313,11 @@ fn a_worker_asks_before_each_job_and_once_after_the_last(rt: HostRuntime) -> Res
 fn a_gate_is_told_once_of_all_jobs_before_any_worker_asks(rt: HostRuntime) -> Result<(), Fail> {
     for (kind, script) in &OF_THREE {
         let work = read_work(rt.alloc(), script.as_bytes(), *kind)?;
-        for lines in ALL {
+        for lock in ALL {
             let gate = Counting::new(1);
-            let done = run_work(&rt, rt.alloc(), &gate, &work, lines);
+            let done = run_work_with(&rt, rt.alloc(), &gate, &work, lock, WaitMode::Awake);
             let found = (done.is_ok(), gate.told());
-            expect_at(&rt, &(*kind, lines), found, (true, [1, 3, 0]));
+            expect_at(&rt, &(*kind, lock), found, (true, [1, 3, 0]));
         }
     }
     Ok(())
@@ -326,14 +326,14 @@ fn a_gate_is_told_once_of_all_jobs_before_any_worker_asks(rt: HostRuntime) -> Re
 #[test]
 fn work_that_is_reported_is_done_once(rt: HostRuntime) -> Result<(), Fail> {
     for (kind, script) in &OF_THREE {
-        for lines in ALL {
+        for lock in ALL {
             for waits in EITHER {
                 let gate = Counting::new(1);
                 let alloc = rt.alloc();
                 let script = script.as_bytes();
-                let done = answer_work(&rt, alloc, &gate, script, *kind, lines, waits);
+                let done = answer_work(&rt, alloc, &gate, script, *kind, lock, waits);
                 let found = (done.is_ok(), gate.asks());
-                expect_at(&rt, &(*kind, lines, waits), found, (true, [1, 1, 1]));
+                expect_at(&rt, &(*kind, lock, waits), found, (true, [1, 1, 1]));
             }
         }
     }

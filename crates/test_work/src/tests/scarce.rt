@@ -2,8 +2,8 @@
 use crate::tests::eight::{Counts, loaded};
 use crate::tests::gates::Counting;
 use crate::tests::rows::{expect, expect_at};
-use line_kinds::{ALL, Lines};
-use qolb_run::{Gate, RunError, run_work};
+use line_kinds::{ALL, Lock};
+use qolb_run::{Gate, RunError, WaitMode, run_work_with};
 use qolb_script::{Report, Work, WorkKind, read_work};
 use std::alloc::Global;
 use std::fmt::Debug;
@@ -21,10 +21,10 @@ fn worked_in<T: Threads + Wait + Sync, G: Gate + Sync>(
     bytes: usize,
     gate: &G,
     work: &Work,
-    lines: Lines,
+    lock: Lock,
 ) -> Result<Result<Report, RunError>, Fail> {
     let rest = limit.leave(alloc, bytes)?;
-    let found = run_work(rt, alloc, gate, work, lines);
+    let found = run_work_with(rt, alloc, gate, work, lock, WaitMode::Awake);
     drop(rest);
     Ok(found)
 }
@@ -41,7 +41,7 @@ fn work_that_is_refused_is_not_done_again(rt: HostRuntime) -> Result<(), Fail> {
     let mut half_done = 0u32;
     for room in 1..100usize {
         let gate = Counting::new(1);
-        let error = worked_in(&rt, alloc, &limit, room << 20, &gate, &work, Lines::Ring)?.err();
+        let error = worked_in(&rt, alloc, &limit, room << 20, &gate, &work, Lock::Ring)?.err();
         let (first, second) = (gate.asks_for(0), gate.asks_for(1));
         let row = (room, error, first, second);
         let once = first <= 1 && second <= 1;
@@ -120,7 +120,7 @@ fn refusals_of<T: Threads + Wait + Sync + Abort>(
     alloc: Global,
     limit: &MemoryLimit,
     work: &Work,
-    lines: Lines,
+    lock: Lock,
     report: Report,
 ) -> Result<TooSmall, Fail> {
     let mut small = TooSmall {
@@ -130,8 +130,8 @@ fn refusals_of<T: Threads + Wait + Sync + Abort>(
     for (first, end, step) in &ROOMS {
         for bytes in (*first..*end).step_by(*step) {
             let gate = Counts::new(0, 1);
-            let found = worked_in(rt, alloc, limit, bytes, &gate, work, lines)?;
-            let row = (lines, bytes);
+            let found = worked_in(rt, alloc, limit, bytes, &gate, work, lock)?;
+            let row = (lock, bytes);
             let begun = expect_whole(rt, &row, &gate);
             if found.is_ok() {
                 expect_at(rt, &row, (found, begun), (Ok(report), 2));
@@ -154,9 +154,9 @@ fn work_is_refused_in_each_room_that_is_too_small(rt: HostRuntime) -> Result<(),
     let mut half_done = 0u32;
     for (kind, script, report) in &OF_TWO {
         let work = read_work(alloc, script.as_bytes(), *kind)?;
-        for lines in ALL {
-            let small = refusals_of(&rt, alloc, &limit, &work, lines, *report)?;
-            expect_at(&rt, &(*kind, lines, small), small.rooms > 30, true);
+        for lock in ALL {
+            let small = refusals_of(&rt, alloc, &limit, &work, lock, *report)?;
+            expect_at(&rt, &(*kind, lock, small), small.rooms > 30, true);
             half_done = half_done.saturating_add(small.half_done);
         }
     }

@@ -2,8 +2,8 @@
 ghost use Rattle.std.specs.Prelude.{◌<◌};
 
 use crate::tests::rows::{expect, expect_at};
-use line_kinds::{ALL, Lines, NAMES};
-use qolb_run::{AlwaysOpen, Gate, RunError, WaitMode, run_work, run_work_with};
+use line_kinds::{ALL, Lock, NAMES};
+use qolb_run::{AlwaysOpen, Gate, Lines, RunError, WaitMode, run_work, run_work_with};
 use qolb_script::{Report, WorkKind, read_work};
 use std::alloc::Global;
 use std::process::Abort;
@@ -24,10 +24,10 @@ pub(crate) fn expect_work<R: Threads + Wait + Abort + Sync, G: Gate + Sync>(
     want: Result<Report, RunError>,
 ) -> Result<(), Fail> {
     let work = read_work(alloc, script.as_bytes(), kind)?;
-    for lines in ALL {
+    for lock in ALL {
         for waits in EITHER {
-            let found = run_work_with(rt, alloc, gate, &work, lines, waits);
-            expect_at(rt, &(lines, waits), found, want);
+            let found = run_work_with(rt, alloc, gate, &work, lock, waits);
+            expect_at(rt, &(lock, waits), found, want);
         }
     }
     Ok(())
@@ -36,8 +36,8 @@ pub(crate) fn expect_work<R: Threads + Wait + Abort + Sync, G: Gate + Sync>(
 /// The test of `--version` says which names there are.
 #[test]
 fn each_name_is_that_of_the_lock_at_its_place(rt: HostRuntime) -> Result<(), Fail> {
-    for (lines, name) in ALL.iter().zip(NAMES.iter()) {
-        expect_at(&rt, name, Lines::named(name), Some(*lines));
+    for (lock, name) in ALL.iter().zip(NAMES.iter()) {
+        expect_at(&rt, name, Lock::named(name), Some(*lock));
     }
     Ok(())
 }

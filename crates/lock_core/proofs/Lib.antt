@@ -1,0 +1,12 @@
+mod Words
+mod Tally
+mod Base
+mod Looking
+mod Entering
+mod Asking
+mod FirstState
+mod Marks
+mod NextGrant
+mod OuterWord
+mod Meeting
+mod Noting

@@ -1,0 +1,9 @@
+use Rattle.std.proofs.Common.{rules, arith, ap}
+use Rattle.lock_core.proofs.Meeting.{none_left_at_reopening_joins, meet_tells}
+use Rattle.lock_core.proofs.meets.none_left_at_reopening.Goals as goal
+
+pub join_seat-requires : goal.join_seat-requires
+join_seat-requires c = (search rules, search rules, search rules, (let e = c.requires.table in omega arith), none_left_at_reopening_joins _ _ _ _ c.requires.waits c.requires.reopened)
+
+pub load-requires : goal.load-requires
+load-requires c = (search rules, (let e = c.requires.table in omega arith), meet_tells _ _ c.join_seat.new.seat.me (ap (λ m. m.0.phase) c.join_seat.ensures.2) (ap (λ m. m.0.counted) c.join_seat.ensures.2))

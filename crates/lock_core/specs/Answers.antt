@@ -1,0 +1,161 @@
+-- What the answers of calls say, by their cases.
+use Rattle.std.specs.Prelude.{◌≡◌, ℕ, Bool, ◌<◌}
+use Rattle.lock_core.specs.declared.opening.LockKind.{LockKind}
+use Rattle.lock_core.specs.declared.opening.LockKind.TheVariants as kind
+use Rattle.lock_core.specs.declared.opening.OpenError.{OpenError}
+use Rattle.lock_core.specs.declared.opening.OpenError.TheVariants as error
+use Rattle.lock_core.specs.declared.tickets.AskNearResult.{AskNearResult}
+use Rattle.lock_core.specs.declared.tickets.AskNearResult.TheVariants as near
+use Rattle.lock_core.specs.declared.wait.SleepResult.{SleepResult}
+use Rattle.lock_core.specs.declared.wait.SleepResult.TheVariants as sleep
+use Rattle.lock_core.specs.declared.handoff.ReleaseResult.{ReleaseResult}
+use Rattle.lock_core.specs.declared.handoff.ReleaseResult.TheVariants as release
+use Rattle.lock_core.specs.declared.outer.TakeResult.{TakeResult}
+use Rattle.lock_core.specs.declared.outer.TakeResult.TheVariants as taken
+use Rattle.lock_core.specs.declared.outer.LeaveResult.{LeaveResult}
+use Rattle.lock_core.specs.declared.outer.LeaveResult.TheVariants as leave
+use Rattle.lock_core.specs.declared.outer.HeadSleepResult.{HeadSleepResult}
+use Rattle.lock_core.specs.declared.outer.HeadSleepResult.TheVariants as head
+
+-- the most turns from one queue head's to the next
+abbrev pub max_burst_of : LockKind → ℕ
+max_burst_of kind.Strict = 1
+max_burst_of (kind.Bursts turns) = turns
+
+-- the error fits the kind that was asked for
+abbrev pub IsOpenErrorOf : LockKind → OpenError → Type 0
+IsOpenErrorOf k error.Memory = Unit {0}
+IsOpenErrorOf k (error.ShortBurst turns) = (k ≡ kind.Bursts turns) × (turns < 2)
+
+-- `ask_near` drew a ticket, or none
+abbrev pub IfDrawn : AskNearResult → Type 0 → Type 0
+IfDrawn (near.AtTurn ticket) P = P
+IfDrawn (near.Queued ticket rounds) P = P
+IfDrawn (near.Far rounds) P = Unit {0}
+IfDrawn near.Changed P = Unit {0}
+
+abbrev pub IfNotDrawn : AskNearResult → Type 0 → Type 0
+IfNotDrawn (near.AtTurn ticket) P = Unit {0}
+IfNotDrawn (near.Queued ticket rounds) P = Unit {0}
+IfNotDrawn (near.Far rounds) P = P
+IfNotDrawn near.Changed P = P
+
+abbrev pub IfNearAtTurn : AskNearResult → (ℕ → Type 0) → Type 0
+IfNearAtTurn (near.AtTurn ticket) P = P ticket
+IfNearAtTurn (near.Queued ticket rounds) P = Unit {0}
+IfNearAtTurn (near.Far rounds) P = Unit {0}
+IfNearAtTurn near.Changed P = Unit {0}
+
+abbrev pub IfNearQueued : AskNearResult → (ℕ → ℕ → Type 0) → Type 0
+IfNearQueued (near.AtTurn ticket) P = Unit {0}
+IfNearQueued (near.Queued ticket rounds) P = P ticket rounds
+IfNearQueued (near.Far rounds) P = Unit {0}
+IfNearQueued near.Changed P = Unit {0}
+
+abbrev pub IfNearFar : AskNearResult → (ℕ → Type 0) → Type 0
+IfNearFar (near.AtTurn ticket) P = Unit {0}
+IfNearFar (near.Queued ticket rounds) P = Unit {0}
+IfNearFar (near.Far rounds) P = P rounds
+IfNearFar near.Changed P = Unit {0}
+
+abbrev pub IfNearChanged : AskNearResult → Type 0 → Type 0
+IfNearChanged (near.AtTurn ticket) P = Unit {0}
+IfNearChanged (near.Queued ticket rounds) P = Unit {0}
+IfNearChanged (near.Far rounds) P = Unit {0}
+IfNearChanged near.Changed P = P
+
+-- `announce_sleep` found the waiter at its turn, counted it, or neither
+abbrev pub IfSleepAtTurn : SleepResult → Type 0 → Type 0
+IfSleepAtTurn sleep.AtTurn P = P
+IfSleepAtTurn (sleep.Asleep rounds cell) P = Unit {0}
+IfSleepAtTurn (sleep.Full rounds) P = Unit {0}
+IfSleepAtTurn (sleep.Changed rounds) P = Unit {0}
+
+abbrev pub IfSleepAnnounced : SleepResult → (ℕ → ℕ → Type 0) → Type 0
+IfSleepAnnounced sleep.AtTurn P = Unit {0}
+IfSleepAnnounced (sleep.Asleep rounds cell) P = P rounds cell
+IfSleepAnnounced (sleep.Full rounds) P = Unit {0}
+IfSleepAnnounced (sleep.Changed rounds) P = Unit {0}
+
+abbrev pub IfSleepFull : SleepResult → (ℕ → Type 0) → Type 0
+IfSleepFull sleep.AtTurn P = Unit {0}
+IfSleepFull (sleep.Asleep rounds cell) P = Unit {0}
+IfSleepFull (sleep.Full rounds) P = P rounds
+IfSleepFull (sleep.Changed rounds) P = Unit {0}
+
+abbrev pub IfSleepChanged : SleepResult → (ℕ → Type 0) → Type 0
+IfSleepChanged sleep.AtTurn P = Unit {0}
+IfSleepChanged (sleep.Asleep rounds cell) P = Unit {0}
+IfSleepChanged (sleep.Full rounds) P = Unit {0}
+IfSleepChanged (sleep.Changed rounds) P = P rounds
+
+-- `release` granted the next ticket, or is to be called again
+abbrev pub IfGranted : ReleaseResult → (ℕ → Type 0) → Type 0
+IfGranted (release.Granted sleepers) P = P sleepers
+IfGranted release.Unfinished P = Unit {0}
+
+abbrev pub IfUnfinished : ReleaseResult → Type 0 → Type 0
+IfUnfinished (release.Granted sleepers) P = Unit {0}
+IfUnfinished release.Unfinished P = P
+
+-- `take_outer` took the outer word, of an open lock or of a shut one, or not
+abbrev pub IfTaken : TakeResult → Type 0 → Type 0
+IfTaken taken.Open P = P
+IfTaken taken.Shut P = P
+IfTaken taken.Held P = Unit {0}
+IfTaken taken.Changed P = Unit {0}
+
+abbrev pub IfTakenOpen : TakeResult → Type 0 → Type 0
+IfTakenOpen taken.Open P = P
+IfTakenOpen taken.Shut P = Unit {0}
+IfTakenOpen taken.Held P = Unit {0}
+IfTakenOpen taken.Changed P = Unit {0}
+
+abbrev pub IfTakenShut : TakeResult → Type 0 → Type 0
+IfTakenShut taken.Open P = Unit {0}
+IfTakenShut taken.Shut P = P
+IfTakenShut taken.Held P = Unit {0}
+IfTakenShut taken.Changed P = Unit {0}
+
+abbrev pub IfNotTaken : TakeResult → Type 0 → Type 0
+IfNotTaken taken.Open P = Unit {0}
+IfNotTaken taken.Shut P = Unit {0}
+IfNotTaken taken.Held P = P
+IfNotTaken taken.Changed P = P
+
+abbrev pub IfHeld : TakeResult → Type 0 → Type 0
+IfHeld taken.Open P = Unit {0}
+IfHeld taken.Shut P = Unit {0}
+IfHeld taken.Held P = P
+IfHeld taken.Changed P = Unit {0}
+
+abbrev pub IfTakeChanged : TakeResult → Type 0 → Type 0
+IfTakeChanged taken.Open P = Unit {0}
+IfTakeChanged taken.Shut P = Unit {0}
+IfTakeChanged taken.Held P = Unit {0}
+IfTakeChanged taken.Changed P = P
+
+-- `leave` left, and says whether the queue head is asleep at the outer word, or is to be called again
+abbrev pub IfLeft : LeaveResult → (Bool → Type 0) → Type 0
+IfLeft (leave.Outside head_asleep) P = P head_asleep
+IfLeft leave.Changed P = Unit {0}
+
+abbrev pub IfNotLeft : LeaveResult → Type 0 → Type 0
+IfNotLeft (leave.Outside head_asleep) P = Unit {0}
+IfNotLeft leave.Changed P = P
+
+-- `announce_head_sleep` noted the sleep, or not
+abbrev pub IfHeadAsleep : HeadSleepResult → (ℕ → Type 0) → Type 0
+IfHeadAsleep (head.Asleep outer) P = P outer
+IfHeadAsleep head.NotHeld P = Unit {0}
+IfHeadAsleep head.Changed P = Unit {0}
+
+abbrev pub IfNotHeld : HeadSleepResult → Type 0 → Type 0
+IfNotHeld (head.Asleep outer) P = Unit {0}
+IfNotHeld head.NotHeld P = P
+IfNotHeld head.Changed P = Unit {0}
+
+abbrev pub IfHeadChanged : HeadSleepResult → Type 0 → Type 0
+IfHeadChanged (head.Asleep outer) P = Unit {0}
+IfHeadChanged head.NotHeld P = Unit {0}
+IfHeadChanged head.Changed P = P

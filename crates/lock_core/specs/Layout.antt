@@ -1,0 +1,54 @@
+-- The words of a lock: which word has what, and how it is packed.
+use Rattle.std.specs.Prelude.{◌≡◌, ℕ, ◌+◌, ◌-◌, ◌/◌, ◌%◌}
+use Rattle.atomic_table.specs.Seated.{TableId}
+
+-- the table of a lock: the outer word, fifteen words that are never written, the tail, four cells
+abbrev pub IsLockTable : TableId → Type 0
+IsLockTable table = table.words ≡ 21
+
+abbrev pub outer_at : ℕ
+outer_at = 0
+
+abbrev pub tail_at : ℕ
+tail_at = 16
+
+-- the number of the word of a ticket's cell, and the ticket's bit in it
+abbrev pub cell_at : ℕ → ℕ
+cell_at ticket = 17 + ticket % 4
+
+abbrev pub bit_of : ℕ → ℕ
+bit_of ticket = ticket / 4 % 16
+
+-- a cell: its granted rounds modulo 2 ^ 30, and how many sleepers it counts
+abbrev pub rounds_of : ℕ → ℕ
+rounds_of cell = cell / 17179869184
+
+abbrev pub count_of : ℕ → ℕ
+count_of cell = cell / 65536 % 65536
+
+-- the outer word: whether a handoff is requested, and whether the queue head sleeps there
+abbrev pub handoff_of : ℕ → ℕ
+handoff_of outer = outer % 2
+
+abbrev pub asleep_of : ℕ → ℕ
+asleep_of outer = outer / 2 % 2
+
+-- 0 free, 1 held, 2 reserved for the queue head
+abbrev pub state_of : ℕ → ℕ
+state_of outer = outer / 4 % 4
+
+-- whether the lock is shut
+abbrev pub shut_of : ℕ → ℕ
+shut_of outer = outer / 16 % 2
+
+-- the newcomers since the last queue head
+abbrev pub came_of : ℕ → ℕ
+came_of outer = outer / 32
+
+-- the rounds that are granted in a ticket's cell while the tickets up to `turn` are granted
+abbrev pub rounds : ℕ → ℕ → ℕ
+rounds turn ticket = (turn + 4 - ticket % 4) / 4
+
+-- the rounds to be granted until the ticket's own is, by the word of its cell
+abbrev pub to_go : ℕ → ℕ → ℕ
+to_go cell ticket = (ticket / 4 + 1 + 1073741824 - rounds_of cell) % 1073741824

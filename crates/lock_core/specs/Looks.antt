@@ -1,0 +1,72 @@
+-- What a caller's last word steps found: so an answer that gives up says what the word showed.
+use Rattle.std.specs.Prelude.{◌≡◌, ◌≢◌, ℕ, ◌+◌, ◌%◌, ◌<◌, ◌≤◌, ◌⊎◌}
+use Rattle.atomic_table.specs.Table.{Step}
+use Rattle.atomic_table.specs.declared.shared.Seat.{Seat}
+use Rattle.lock_core.specs.declared.view.View.{View}
+use Rattle.lock_core.specs.declared.view.Looks.{Looks}
+use Rattle.lock_core.specs.Layout.{cell_at, tail_at, outer_at, to_go, state_of, shut_of, handoff_of, came_of}
+use Rattle.lock_core.specs.Views.{Timely, view_of}
+
+-- after a step that found `found` in its word, and left `left` there
+abbrev pub looked : Step ℕ → ℕ → ℕ → Looks → Looks
+looked st found left l = record { steps = l.steps + 1; word = st.word; found = found; left = left; word_before = l.word; found_before = l.found }
+
+-- k word steps later
+abbrev pub StepsLater : ℕ → Seat ℕ View → Seat ℕ View → Type 0
+StepsLater k old new = (view_of new).looks.steps ≡ (view_of old).looks.steps + k
+
+-- one word step later, behind what was the last
+abbrev pub LooksOnce : Seat ℕ View → Seat ℕ View → Type 0
+LooksOnce old new = StepsLater 1 old new × ((view_of new).looks.word_before ≡ (view_of old).looks.word) × ((view_of new).looks.found_before ≡ (view_of old).looks.found)
+
+-- no word step later
+abbrev pub LooksNoMore : Seat ℕ View → Seat ℕ View → Type 0
+LooksNoMore old new = (view_of new).looks ≡ (view_of old).looks
+
+-- at most k word steps later
+abbrev pub StepsAtMost : ℕ → Seat ℕ View → Seat ℕ View → Type 0
+StepsAtMost k old new = (view_of new).looks.steps ≤ (view_of old).looks.steps + k
+
+-- its last step found this in the word
+abbrev pub Found : ℕ → (ℕ → Type 0) → Seat ℕ View → Type 0
+Found word P seat = ((view_of seat).looks.word ≡ word) × P (view_of seat).looks.found
+
+-- its last step left this in the word
+abbrev pub Leaves : ℕ → (ℕ → Type 0) → Seat ℕ View → Type 0
+Leaves word P seat = ((view_of seat).looks.word ≡ word) × P (view_of seat).looks.left
+
+-- its last two steps found the word changed
+abbrev pub FoundChanged : ℕ → Seat ℕ View → Type 0
+FoundChanged word seat = Found word (λ n. n ≢ (view_of seat).looks.found_before) seat × ((view_of seat).looks.word_before ≡ word)
+
+-- its last steps found the tail, and that the next ticket has rounds to go that fit P
+abbrev pub FoundNext : (ℕ → Type 0) → Seat ℕ View → Type 0
+FoundNext P seat = Found (cell_at (view_of seat).looks.found_before) (λ n. P (to_go n (view_of seat).looks.found_before)) seat × ((view_of seat).looks.word_before ≡ tail_at)
+
+-- its last step found that the tail is not what it had read
+abbrev pub FoundTailMoved : Seat ℕ View → Type 0
+FoundTailMoved seat = ((view_of seat).looks.word ≡ tail_at) × (Timely (view_of seat) → (view_of seat).looks.found ≢ (view_of seat).tail_seen % 18446744073709551616)
+
+-- the next ticket had rounds to go, or was drawn by another
+abbrev pub FoundBusy : Seat ℕ View → Seat ℕ View → Type 0
+FoundBusy old new = (StepsLater 2 old new × FoundNext (λ rounds. 0 < rounds) new) ⊎ (StepsLater 3 old new × FoundTailMoved new)
+
+-- the outer word is not free for a newcomer: held, reserved, or shut
+abbrev pub IsNoEntry : ℕ → Type 0
+IsNoEntry outer = 0 < state_of outer + shut_of outer
+
+-- the expected word is no entry, or the outer word is another
+abbrev pub FoundNoEntry : ℕ → Seat ℕ View → Seat ℕ View → Type 0
+FoundNoEntry expected old new = (LooksNoMore old new × IsNoEntry expected) ⊎ (LooksOnce old new × Found outer_at (λ n. n ≢ expected) new)
+
+-- the outer word is no entry, or has changed
+abbrev pub FoundNotFree : Seat ℕ View → Seat ℕ View → Type 0
+FoundNotFree old new = (StepsLater 1 old new × Found outer_at IsNoEntry new) ⊎ (StepsLater 2 old new × FoundChanged outer_at new)
+
+-- the outer word as it is left: reserved where a handoff is requested and after the last turn of a burst, else free
+abbrev pub IsLeftAs : ℕ → ℕ → ℕ → Type 0
+IsLeftAs burst found left = (handoff_of found ≡ 1 → state_of left ≡ 2) × (burst ≤ came_of found + 1 → state_of left ≡ 2) × (handoff_of found ≡ 0 → came_of found + 1 < burst → state_of left ≡ 0)
+
+-- its last step left the outer word as that says, by the word that it found there
+abbrev pub LeavesAsFound : ℕ → Seat ℕ View → Type 0
+LeavesAsFound burst seat = Leaves outer_at (IsLeftAs burst (view_of seat).looks.found) seat

@@ -1,0 +1,52 @@
+-- What two callers know of one another.
+use Rattle.std.specs.Prelude.{◌≡◌, ◌≢◌, ℕ, ◌<◌, ◌≤◌, ◌⊎◌, max}
+use Rattle.atomic_table.specs.Table.{Step, Me}
+use Rattle.lock_core.specs.declared.view.View.{View}
+use Rattle.lock_core.specs.declared.view.Phase.TheVariants.{Idle, Asleep, Impossible}
+use Rattle.lock_core.specs.Views.{Awaits, HasTurn, Timely, initial_view}
+
+-- it is served: in a strict lock at its turn, with bursts inside
+abbrev pub Served : View → Type 0
+Served v = ((v.max_newcomers ≡ 0) × HasTurn v) ⊎ (v.inside ≡ 1)
+
+-- it waits with its ticket, asleep or not
+abbrev pub IsWaiting : View → Type 0
+IsWaiting v = Awaits v.phase
+
+-- it waits, and asked while the lock was open; or while it was shut
+abbrev pub IsWaitingOpen : View → Type 0
+IsWaitingOpen v = IsWaiting v × (v.asked_open ≡ 1)
+
+abbrev pub IsWaitingShut : View → Type 0
+IsWaitingShut v = IsWaiting v × (v.asked_open ≢ 1)
+
+-- it announced its sleep, has not retracted it, and was not at its turn then
+abbrev pub IsStillAsleep : View → Type 0
+IsStillAsleep v = v.phase ≡ Asleep
+
+-- it granted this ticket, and was told that nobody sleeps for it
+abbrev pub GrantedToNobodyAsleepAt : ℕ → View → Type 0
+GrantedToNobodyAsleepAt ticket v = (v.told_nobody ≡ 1) × (v.granted ≡ ticket)
+
+-- its last turn as a newcomer has the place that u's had
+abbrev pub HadNewcomersTurn : View → View → Type 0
+HadNewcomersTurn u v = (0 < v.newcomer_turn) × (v.heads_before ≡ u.heads_before) × (v.place_after_head ≡ u.place_after_head)
+
+-- w knows of each ended request and each turn that v knew of
+abbrev pub HasHeard : View → View → Type 0
+HasHeard v w = (v.ended ≤ w.ended) × (v.newcomers_seen ≤ w.newcomers_seen) × (v.takes_seen ≤ w.takes_seen)
+
+-- the view of two that cannot meet, and what a step tells of them
+abbrev pub meet : View → View → View
+meet v w = record (initial_view 0) { most_open = v.most_open; phase = Impossible }
+
+abbrev pub tells_of_two : Step ℕ → Me ℕ View → ℕ → Me ℕ View → Type 0
+tells_of_two st m n m' = Timely m'.0 → ⊥
+
+-- what a caller tells another: the load, the ended requests, the turns and the closing that it knows of
+abbrev pub told_of : View → View
+told_of v = record (initial_view v.max_newcomers) { most_open = v.most_open; ended = v.ended; newcomers_seen = v.newcomers_seen; takes_seen = v.takes_seen; knows_shut = v.knows_shut; epoch = v.epoch }
+
+-- what it knows then
+abbrev pub learns : View → View → View
+learns v w = record v { most_open = max v.most_open w.most_open; ended = max v.ended w.ended; rounds_seen = 0; ticket = 0; phase = Idle; counted = 0; newcomers_at_ask = 0; first_pending = 0; newcomers_seen = max v.newcomers_seen w.newcomers_seen; takes_seen = max v.takes_seen w.takes_seen; inside = 0; door = 0; nobody_behind = 0 }

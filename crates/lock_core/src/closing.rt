@@ -1,0 +1,76 @@
+//! A lock is shut, by whoever is served, and reopened, by whoever is at its turn with nobody behind.
+ghost use Rattle.std.specs.Prelude.{◌≡◌, ◌≢◌, ◌+◌, ◌%◌, ◌^◌, ◌≤◌, true, false};
+ghost use Rattle.lock_core.specs.Layout.{IsLockTable, tail_at};
+ghost use Rattle.lock_core.specs.Views.{view_of, InTime, InTimeFrom, LoadGrows, IsSeatOf, IsAtTurn, HasTurnOf, Kept, KnowsShut, ServedOpen, ServedShut, SameKnown, SameSleepAtOuter, IsLaterEpoch};
+ghost use Rattle.lock_core.specs.Looks.{StepsLater, Found};
+
+use crate::layout::{OUTER, SHUT, TAIL, is_shut};
+use crate::plays::{CheckOpen, ReadTail, Reopen, Shut};
+use crate::rule::{SharedTable, TicketSeat};
+
+/// At the turn of a strict lock: whether the lock is open, and the caller so served. One word step. If it is shut, the
+/// caller passes its turn on by `release`, or reopens.
+#[inline(always)]
+pub fn check_open(table: &SharedTable, seat: &mut TicketSeat, ticket: u64) -> bool
+    requires table { IsLockTable table.now.table_id }
+    requires strict { table.now.key ≤ 1 }
+    requires seat { IsSeatOf table.now.table_id table.now.key seat.old }
+    requires at_turn { InTime seat.old (IsAtTurn ticket) }
+    ensures seat { IsSeatOf table.now.table_id table.now.key seat.new }
+    ensures load { LoadGrows seat.old seat.new }
+    ensures steps { StepsLater 1 seat.old seat.new }
+    ensures kept { Kept (view_of seat.old) (view_of seat.new) }
+    ensures sleep { SameSleepAtOuter (view_of seat.old) (view_of seat.new) }
+    ensures open { result ≡ true → InTime seat.new ServedOpen }
+    ensures shut { result ≡ false → InTime seat.new ServedShut }
+    ensures knows { result ≡ false → InTime seat.new KnowsShut }
+    ensures epoch { InTimeFrom seat.old seat.new IsLaterEpoch }
+{
+    !is_shut(table.load::<CheckOpen>(seat, OUTER))
+}
+
+/// Whoever is served shuts the lock: one word step. From then on each caller at its turn is told of it, and no newcomer
+/// goes in.
+#[inline(always)]
+pub fn shut(table: &SharedTable, seat: &mut TicketSeat)
+    requires table { IsLockTable table.now.table_id }
+    requires seat { IsSeatOf table.now.table_id table.now.key seat.old }
+    requires open { InTime seat.old ServedOpen }
+    ensures seat { IsSeatOf table.now.table_id table.now.key seat.new }
+    ensures load { LoadGrows seat.old seat.new }
+    ensures steps { StepsLater 1 seat.old seat.new }
+    ensures kept { Kept (view_of seat.old) (view_of seat.new) }
+    ensures sleep { SameSleepAtOuter (view_of seat.old) (view_of seat.new) }
+    ensures shut { ServedShut (view_of seat.new) }
+    ensures knows { KnowsShut (view_of seat.new) }
+    ensures epoch { (view_of seat.new).epoch ≡ (view_of seat.old).epoch }
+{
+    table.fetch_add::<Shut>(seat, OUTER, SHUT);
+}
+
+/// Whoever is at its turn, and was told that the lock is shut, reopens it, if nobody asked after it: two word steps.
+/// Then it is served. `false`: somebody asked after it, one word step.
+#[inline(always)]
+pub fn reopen(table: &SharedTable, seat: &mut TicketSeat, ticket: u64) -> bool
+    requires table { IsLockTable table.now.table_id }
+    requires seat { IsSeatOf table.now.table_id table.now.key seat.old }
+    requires turn { InTime seat.old (HasTurnOf ticket) }
+    requires shut { InTime seat.old ServedShut }
+    ensures seat { IsSeatOf table.now.table_id table.now.key seat.new }
+    ensures load { LoadGrows seat.old seat.new }
+    ensures kept { Kept (view_of seat.old) (view_of seat.new) }
+    ensures sleep { SameSleepAtOuter (view_of seat.old) (view_of seat.new) }
+    ensures open { result ≡ true → ServedOpen (view_of seat.new) }
+    ensures epoch { result ≡ true → (view_of seat.new).epoch ≡ (view_of seat.old).epoch + 1 }
+    ensures steps { result ≡ true → StepsLater 2 seat.old seat.new }
+    ensures shut { result ≡ false → (view_of seat.new).door ≡ (view_of seat.old).door }
+    ensures known { result ≡ false → SameKnown (view_of seat.old) (view_of seat.new) }
+    ensures busy { result ≡ false → StepsLater 1 seat.old seat.new
+        × Found tail_at (λ n. n ≢ (ticket + 1) % 2 ^ 64) seat.new }
+{
+    if table.load::<ReadTail>(seat, TAIL) != ticket.wrapping_add(1) {
+        return false;
+    }
+    table.fetch_sub::<Reopen>(seat, OUTER, SHUT);
+    true
+}

@@ -1,0 +1,31 @@
+//! The core of a lock by tickets, for any number of threads, in strict order or with bursts: its rule, and its word
+//! steps. No call waits.
+#![tactic(auto)]
+
+mod closing;
+mod handoff;
+mod layout;
+mod meets;
+mod opening;
+mod outer;
+mod plays;
+mod rule;
+mod tickets;
+mod view;
+mod wait;
+
+pub use closing::{check_open, reopen, shut};
+pub use handoff::{ReleaseResult, release};
+pub use meets::{
+    asked_while_open, first_come, learn, never_two, never_two_heads, no_lost_wake,
+    no_lost_wake_at_outer, none_left_at_reopening, none_served_after_shut, tell, turns_differ,
+};
+pub use opening::{LockKind, OpenError, new_seat, open};
+pub use outer::{
+    HeadSleepResult, LeaveResult, TakeResult, announce_head_sleep, go_in, go_in_if, leave,
+    leave_if, request_handoff, take_outer,
+};
+pub use rule::{LockRule, SharedTable, TicketSeat, TicketTable};
+pub use tickets::{AskNearResult, ask, ask_near, try_ask};
+pub use view::{Looks, Phase, View};
+pub use wait::{SleepResult, announce_sleep, poll, retract_sleep, withdraw};

@@ -1,0 +1,162 @@
+//! What two callers know of one another.
+//!
+//! A clause speaks of one caller's seat. So a fact about two is a function that is lent both, and ensures that they
+//! cannot meet. None of these is to be called: a caller's proof may.
+ghost use Rattle.std.specs.Prelude.{◌≡◌, ◌<◌, ◌≤◌};
+ghost use Rattle.lock_core.specs.Layout.{IsLockTable};
+ghost use Rattle.lock_core.specs.Views.{view_of, InTime, NeverInTime, IsSeatOf, IsIdle, HasTurn, KnowsShut, LeftQuietly, ServedOpen, SleepsAtOuter};
+ghost use Rattle.lock_core.specs.Meets.{Served, IsWaiting, IsWaitingOpen, IsWaitingShut, IsStillAsleep, GrantedToNobodyAsleepAt, HadNewcomersTurn, HasHeard, told_of};
+
+use crate::plays::{Learn, Meet, Tell};
+use crate::rule::{SharedTable, TicketSeat};
+
+/// Exclusion: no two callers are served at one time. In a strict lock who is at its turn is served, with bursts who is
+/// inside.
+pub fn never_two(table: &SharedTable, seat: &mut TicketSeat, other: TicketSeat)
+    requires table { IsLockTable table.now.table_id }
+    requires seat { IsSeatOf table.now.table_id table.now.key seat.old }
+    requires other { IsSeatOf table.now.table_id table.now.key other }
+    requires one { InTime seat.old Served }
+    requires two { InTime other Served }
+    ensures never { NeverInTime seat.new }
+{
+    table.join_seat::<Meet>(seat, other);
+    table.load::<Meet>(seat, 0);
+}
+
+/// No two callers are at their turn by a ticket: with bursts there is one queue head.
+pub fn never_two_heads(table: &SharedTable, seat: &mut TicketSeat, other: TicketSeat)
+    requires table { IsLockTable table.now.table_id }
+    requires seat { IsSeatOf table.now.table_id table.now.key seat.old }
+    requires other { IsSeatOf table.now.table_id table.now.key other }
+    requires one { InTime seat.old HasTurn }
+    requires two { InTime other HasTurn }
+    ensures never { NeverInTime seat.new }
+{
+    table.join_seat::<Meet>(seat, other);
+    table.load::<Meet>(seat, 0);
+}
+
+/// Order: nobody is at its turn by a ticket while a caller with a smaller ticket waits.
+pub fn first_come(table: &SharedTable, seat: &mut TicketSeat, other: TicketSeat)
+    requires table { IsLockTable table.now.table_id }
+    requires seat { IsSeatOf table.now.table_id table.now.key seat.old }
+    requires other { IsSeatOf table.now.table_id table.now.key other }
+    requires waits { InTime seat.old IsWaiting }
+    requires at_turn { InTime other HasTurn }
+    requires before { (view_of seat.old).ticket < (view_of other).ticket }
+    ensures never { NeverInTime seat.new }
+{
+    table.join_seat::<Meet>(seat, other);
+    table.load::<Meet>(seat, 0);
+}
+
+/// No lost wake-up: one that granted a ticket and was told that nobody sleeps for it, and one that has announced its
+/// sleep for that ticket.
+pub fn no_lost_wake(table: &SharedTable, seat: &mut TicketSeat, other: TicketSeat)
+    requires table { IsLockTable table.now.table_id }
+    requires seat { IsSeatOf table.now.table_id table.now.key seat.old }
+    requires other { IsSeatOf table.now.table_id table.now.key other }
+    requires granted { InTime seat.old (GrantedToNobodyAsleepAt (view_of other).ticket) }
+    requires asleep { InTime other IsStillAsleep }
+    ensures never { NeverInTime seat.new }
+{
+    table.join_seat::<Meet>(seat, other);
+    table.load::<Meet>(seat, 0);
+}
+
+/// No lost wake-up at the outer word: one that left it and was told that no queue head sleeps, and a queue head that
+/// announced its sleep while that one was inside.
+pub fn no_lost_wake_at_outer(table: &SharedTable, seat: &mut TicketSeat, other: TicketSeat)
+    requires table { IsLockTable table.now.table_id }
+    requires seat { IsSeatOf table.now.table_id table.now.key seat.old }
+    requires other { IsSeatOf table.now.table_id table.now.key other }
+    requires left { InTime seat.old LeftQuietly }
+    requires sleeps { InTime other SleepsAtOuter }
+    requires take { InTime other (λ w. w.slept_in_take ≡ (view_of seat.old).last_take) }
+    ensures never { NeverInTime seat.new }
+{
+    table.join_seat::<Meet>(seat, other);
+    table.load::<Meet>(seat, 0);
+}
+
+/// After a shut nobody is served, told that the lock is open, until it is reopened.
+pub fn none_served_after_shut(table: &SharedTable, seat: &mut TicketSeat, other: TicketSeat)
+    requires table { IsLockTable table.now.table_id }
+    requires seat { IsSeatOf table.now.table_id table.now.key seat.old }
+    requires other { IsSeatOf table.now.table_id table.now.key other }
+    requires knows { InTime seat.old KnowsShut }
+    requires served { InTime other ServedOpen }
+    requires epoch { InTime other (λ w. w.epoch ≤ (view_of seat.old).epoch) }
+    ensures never { NeverInTime seat.new }
+{
+    table.join_seat::<Meet>(seat, other);
+    table.load::<Meet>(seat, 0);
+}
+
+/// Once the lock is reopened nobody waits who asked before it was shut.
+pub fn none_left_at_reopening(table: &SharedTable, seat: &mut TicketSeat, other: TicketSeat)
+    requires table { IsLockTable table.now.table_id }
+    requires seat { IsSeatOf table.now.table_id table.now.key seat.old }
+    requires other { IsSeatOf table.now.table_id table.now.key other }
+    requires waits { InTime other IsWaitingOpen }
+    requires reopened { InTime other (λ w. w.asked_in_epoch < (view_of seat.old).epoch) }
+    ensures never { NeverInTime seat.new }
+{
+    table.join_seat::<Meet>(seat, other);
+    table.load::<Meet>(seat, 0);
+}
+
+/// While a caller is served, told that the lock is open, nobody waits who asked in this epoch while it was shut.
+pub fn asked_while_open(table: &SharedTable, seat: &mut TicketSeat, other: TicketSeat)
+    requires table { IsLockTable table.now.table_id }
+    requires seat { IsSeatOf table.now.table_id table.now.key seat.old }
+    requires other { IsSeatOf table.now.table_id table.now.key other }
+    requires served { InTime seat.old ServedOpen }
+    requires waits { InTime other IsWaitingShut }
+    requires same { InTime other (λ w. w.asked_in_epoch ≡ (view_of seat.old).epoch) }
+    ensures never { NeverInTime seat.new }
+{
+    table.join_seat::<Meet>(seat, other);
+    table.load::<Meet>(seat, 0);
+}
+
+/// No two newcomers' turns have the same place between two queue heads: so there are at most `max_newcomers`.
+pub fn turns_differ(table: &SharedTable, seat: &mut TicketSeat, other: TicketSeat)
+    requires table { IsLockTable table.now.table_id }
+    requires seat { IsSeatOf table.now.table_id table.now.key seat.old }
+    requires other { IsSeatOf table.now.table_id table.now.key other }
+    requires one { InTime seat.old (HadNewcomersTurn (view_of seat.old)) }
+    requires two { InTime other (HadNewcomersTurn (view_of seat.old)) }
+    ensures never { NeverInTime seat.new }
+{
+    table.join_seat::<Meet>(seat, other);
+    table.load::<Meet>(seat, 0);
+}
+
+/// A seat for another caller, which knows what this one does of ended requests, turns and closing.
+pub fn tell(table: &SharedTable, seat: &mut TicketSeat) -> TicketSeat
+    requires table { IsLockTable table.now.table_id }
+    requires seat { IsSeatOf table.now.table_id table.now.key seat.old }
+    ensures seat { IsSeatOf table.now.table_id table.now.key seat.new }
+    ensures other { IsSeatOf table.now.table_id table.now.key result }
+    ensures same { view_of seat.new ≡ view_of seat.old }
+    ensures told { view_of result ≡ told_of (view_of seat.old) }
+{
+    table.split_seat::<Tell>(seat)
+}
+
+/// Before its request a caller learns what another knows: then its request is behind that one's last turn.
+pub fn learn(table: &SharedTable, seat: &mut TicketSeat, other: TicketSeat)
+    requires table { IsLockTable table.now.table_id }
+    requires seat { IsSeatOf table.now.table_id table.now.key seat.old }
+    requires other { IsSeatOf table.now.table_id table.now.key other }
+    requires idle { IsIdle (view_of seat.old) }
+    requires tells { IsIdle (view_of other) }
+    ensures seat { IsSeatOf table.now.table_id table.now.key seat.new }
+    ensures idle { IsIdle (view_of seat.new) }
+    ensures own { HasHeard (view_of seat.old) (view_of seat.new) }
+    ensures others { HasHeard (view_of other) (view_of seat.new) }
+{
+    table.join_seat::<Learn>(seat, other);
+}

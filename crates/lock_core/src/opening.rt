@@ -1,0 +1,101 @@
+//! A lock is opened, and callers come.
+ghost use Rattle.std.specs.Prelude.{◌≡◌, ◌≢◌, ◌<◌, ◌≤◌, IfOk, IfErr};
+ghost use Rattle.lock_core.specs.Layout.{IsLockTable};
+ghost use Rattle.lock_core.specs.Views.{view_of, IsSeatOf, IsIdle};
+ghost use Rattle.lock_core.specs.Answers.{max_burst_of, IsOpenErrorOf};
+ghost use Rattle.lock_core.specs.declared.opening.LockKind.TheVariants.{Bursts};
+
+use crate::layout::UNWRITTEN;
+use crate::plays::Come;
+use crate::rule::{SharedTable, TicketSeat, TicketTable};
+use std::alloc::Global;
+use thiserror::Error;
+
+/// The order of a lock's turns.
+#[derive(Clone, Copy, Debug, PartialEq, Eq)]
+pub enum LockKind {
+    /// Strict: in the order of tickets.
+    Strict,
+    /// In bursts: the most turns from one queue head's to the next, the head's and those of newcomers that overtake the
+    /// queue. From 2 to 65,535.
+    Bursts(u16),
+}
+
+impl LockKind {
+    /// The most turns from one queue head's to the next: 1 in a strict lock.
+    #[inline]
+    pub fn max_burst(self) -> u64
+        ensures burst { result ≡ max_burst_of self }
+        ensures max { result ≤ 65535 }
+    {
+        match self {
+            LockKind::Strict => 1,
+            LockKind::Bursts(turns) => turns.into(),
+        }
+    }
+}
+
+/// Why a lock was not opened.
+#[derive(Clone, Copy, Debug, PartialEq, Eq, Error)]
+pub enum OpenError {
+    #[error("out of memory")]
+    Memory,
+    /// The bursts have fewer than 2 turns.
+    #[error("bursts of {0}: a burst has from 2 to 65,535 turns")]
+    ShortBurst(u16),
+}
+
+/// The words of a new lock: the first ticket is granted.
+const FIRST_WORDS: [u64; 21] = [
+    0,
+    0,
+    0,
+    0,
+    0,
+    0,
+    0,
+    0,
+    0,
+    0,
+    0,
+    0,
+    0,
+    0,
+    0,
+    0,
+    0,
+    17179869184,
+    0,
+    0,
+    0,
+];
+
+/// Opens a lock: two blocks of at most 256 bytes together, 168 of them its words. Refused by name: bursts of fewer than
+/// two turns, and where memory is short. Nothing is kept then.
+pub fn open(alloc: Global, kind: LockKind) -> Result<TicketTable, OpenError>
+    ensures table { IfOk result (λ lock. IsLockTable lock.shared.table_id) }
+    ensures kind { IfOk result (λ lock. lock.shared.key ≡ max_burst_of kind) }
+    ensures long { IfOk result (λ lock. (kind ≢ Bursts 0) × (kind ≢ Bursts 1)) }
+    ensures err { IfErr result (IsOpenErrorOf kind) }
+{
+    if let LockKind::Bursts(turns) = kind {
+        if turns < 2 {
+            return Err(OpenError::ShortBurst(turns));
+        }
+    }
+    match TicketTable::of_words(alloc, &FIRST_WORDS, &kind.max_burst()) {
+        Ok((table, _)) => Ok(table),
+        Err(_) => Err(OpenError::Memory),
+    }
+}
+
+/// A seat for a new caller: one load, of a word that is never written.
+#[inline(always)]
+pub fn new_seat(table: &SharedTable) -> TicketSeat
+    requires table { IsLockTable table.now.table_id }
+    ensures seat { IsSeatOf table.now.table_id table.now.key result }
+    ensures idle { IsIdle (view_of result) }
+{
+    let (_, seat) = table.load_new_seat::<Come>(UNWRITTEN);
+    seat
+}

@@ -1,0 +1,297 @@
+//! Bursts: newcomers and the queue head go in and out by the outer word.
+ghost use Rattle.std.specs.Prelude.{◌≡◌, ◌≢◌, ◌+◌, ◌/◌, ◌<◌, ◌≤◌, ◌⊎◌, true, false};
+ghost use Rattle.lock_core.specs.Layout.{IsLockTable, outer_at, state_of, handoff_of, asleep_of};
+ghost use Rattle.lock_core.specs.Views.{view_of, InTime, InTimeFrom, LoadGrows, IsSeatOf, IsIdle, IsAtTurn, IsOvertakenInBounds, IsInside, IsOutside, IsHeadInside, IsNewcomersTurn, GoesInAfter, TakesOuter, LeftQuietly, SleepsAtOuter, ServedOpen, ServedShut, KnowsShut, Kept, SameRequest, SameNewcomerTurn, SameKnown, SameSleepAtOuter, IsLaterEpoch, LeavesSameTake, SleepsInTake, SameDoor, OnlyLooks};
+ghost use Rattle.lock_core.specs.Looks.{StepsLater, LooksOnce, Found, FoundChanged, FoundNoEntry, FoundNotFree, Leaves, LeavesAsFound, IsLeftAs};
+ghost use Rattle.lock_core.specs.Answers.{IfTakenOpen, IfTakenShut, IfTaken, IfNotTaken, IfHeld, IfTakeChanged, IfLeft, IfNotLeft, IfHeadAsleep, IfNotHeld, IfHeadChanged};
+
+use crate::layout::{HANDOFF, HEAD_ASLEEP, HELD, NEWCOMER, OUTER, RESERVED, SHUT, is_shut, state};
+use crate::plays::{AnnounceHeadSleep, GoIn, Leave, ReadOuter, RequestHandoff, TakeOuter};
+use crate::rule::{SharedTable, TicketSeat};
+
+/// What `take_outer` did.
+#[derive(Clone, Copy, Debug, PartialEq, Eq)]
+pub enum TakeResult {
+    /// The queue head is inside, and the lock is open.
+    Open,
+    /// The queue head is inside, and the lock is shut.
+    Shut,
+    /// Another caller is inside.
+    Held,
+    /// The outer word changed at that moment.
+    Changed,
+}
+
+/// What `leave` did.
+#[derive(Clone, Copy, Debug, PartialEq, Eq)]
+pub enum LeaveResult {
+    /// The caller is outside. If the queue head is asleep at the outer word, it is to be woken.
+    Outside { head_asleep: bool },
+    /// The outer word changed at that moment, and the caller is inside yet: it is to call again.
+    Changed,
+}
+
+/// What `announce_head_sleep` did.
+#[derive(Clone, Copy, Debug, PartialEq, Eq)]
+pub enum HeadSleepResult {
+    /// The queue head may sleep while the outer word is `outer`, by the lower 32 bits: who leaves it is told.
+    Asleep { outer: u64 },
+    /// Nobody is inside: the queue head is to take the outer word.
+    NotHeld,
+    /// The outer word changed at that moment: it is to be looked at again.
+    Changed,
+}
+
+/// A newcomer takes the outer word, if that is `expected` and free for newcomers, and the lock open: one word step, or
+/// none where `expected` says that it is not.
+#[inline(always)]
+pub fn go_in_if(table: &SharedTable, seat: &mut TicketSeat, expected: u64) -> bool
+    requires table { IsLockTable table.now.table_id }
+    requires bursts { 2 ≤ table.now.key }
+    requires seat { IsSeatOf table.now.table_id table.now.key seat.old }
+    requires idle { InTime seat.old IsIdle }
+    ensures seat { IsSeatOf table.now.table_id table.now.key seat.new }
+    ensures load { LoadGrows seat.old seat.new }
+    ensures steps { result ≡ true → LooksOnce seat.old seat.new }
+    ensures inside { result ≡ true → InTime seat.new IsInside }
+    ensures open { result ≡ true → InTime seat.new ServedOpen }
+    ensures newcomer { result ≡ true → InTime seat.new IsNewcomersTurn }
+    ensures order { result ≡ true → InTimeFrom seat.old seat.new GoesInAfter }
+    ensures idle { result ≡ false → InTime seat.new IsIdle }
+    ensures no_entry { result ≡ false → FoundNoEntry expected seat.old seat.new }
+{
+    if expected / HELD % 8 != 0 {
+        return false;
+    }
+    let held = expected.wrapping_add(HELD + NEWCOMER);
+    table.compare_exchange::<GoIn>(seat, OUTER, expected, held) == expected
+}
+
+/// A newcomer takes the outer word, if that is free for newcomers and the lock open: at most two word steps.
+#[inline(always)]
+pub fn go_in(table: &SharedTable, seat: &mut TicketSeat) -> bool
+    requires table { IsLockTable table.now.table_id }
+    requires bursts { 2 ≤ table.now.key }
+    requires seat { IsSeatOf table.now.table_id table.now.key seat.old }
+    requires idle { InTime seat.old IsIdle }
+    ensures seat { IsSeatOf table.now.table_id table.now.key seat.new }
+    ensures load { LoadGrows seat.old seat.new }
+    ensures steps { result ≡ true → StepsLater 2 seat.old seat.new }
+    ensures inside { result ≡ true → InTime seat.new IsInside }
+    ensures open { result ≡ true → InTime seat.new ServedOpen }
+    ensures newcomer { result ≡ true → InTime seat.new IsNewcomersTurn }
+    ensures order { result ≡ true → InTimeFrom seat.old seat.new GoesInAfter }
+    ensures idle { result ≡ false → InTime seat.new IsIdle }
+    ensures not_in { result ≡ false → FoundNotFree seat.old seat.new }
+{
+    let outer = table.load::<ReadOuter>(seat, OUTER);
+    go_in_if(table, seat, outer)
+}
+
+/// The queue head takes the outer word, free or reserved, and the count of newcomers starts anew: at most two word
+/// steps. Inside, it passes its turn of the queue on by `release`.
+#[inline(always)]
+pub fn take_outer(table: &SharedTable, seat: &mut TicketSeat, ticket: u64) -> TakeResult
+    requires table { IsLockTable table.now.table_id }
+    requires bursts { 2 ≤ table.now.key }
+    requires seat { IsSeatOf table.now.table_id table.now.key seat.old }
+    requires at_turn { InTime seat.old (IsAtTurn ticket) }
+    ensures seat { IsSeatOf table.now.table_id table.now.key seat.new }
+    ensures load { LoadGrows seat.old seat.new }
+    ensures turn { SameNewcomerTurn (view_of seat.old) (view_of seat.new) }
+    ensures request { InTimeFrom seat.old seat.new SameRequest }
+    ensures inside { IfTaken result (InTime seat.new (IsHeadInside ticket)) }
+    ensures overtaken { IfTaken result (InTime seat.new IsOvertakenInBounds) }
+    ensures order { IfTaken result (InTimeFrom seat.old seat.new TakesOuter) }
+    ensures epoch { IfTaken result (InTimeFrom seat.old seat.new IsLaterEpoch) }
+    ensures steps { IfTaken result (StepsLater 2 seat.old seat.new) }
+    ensures open { IfTakenOpen result (InTime seat.new ServedOpen) }
+    ensures shut { IfTakenShut result (InTime seat.new ServedShut) }
+    ensures knows { IfTakenShut result (InTime seat.new KnowsShut) }
+    ensures at_turn { IfNotTaken result (InTime seat.new (IsAtTurn ticket)) }
+    ensures sleep { IfNotTaken result (InTimeFrom seat.old seat.new SameSleepAtOuter) }
+    ensures held { IfHeld result (StepsLater 1 seat.old seat.new
+        × Found outer_at (λ n. state_of n ≡ 1) seat.new) }
+    ensures changed { IfTakeChanged result (StepsLater 2 seat.old seat.new
+        × FoundChanged outer_at seat.new) }
+{
+    let outer = table.load::<ReadOuter>(seat, OUTER);
+    if state(outer) == 1 {
+        return TakeResult::Held;
+    }
+    let held = outer / SHUT % 2 * SHUT + HELD;
+    if table.compare_exchange::<TakeOuter>(seat, OUTER, outer, held) != outer {
+        return TakeResult::Changed;
+    }
+    if is_shut(outer) {
+        TakeResult::Shut
+    } else {
+        TakeResult::Open
+    }
+}
+
+/// Leaves the outer word free for newcomers, if it is `expected`.
+#[inline(always)]
+fn leave_free(table: &SharedTable, seat: &mut TicketSeat, expected: u64) -> bool
+    requires table { IsLockTable table.now.table_id }
+    requires seat { IsSeatOf table.now.table_id table.now.key seat.old }
+    requires room { expected / 32 + 2 ≤ table.now.key }
+    requires inside { InTime seat.old IsInside }
+    ensures seat { IsSeatOf table.now.table_id table.now.key seat.new }
+    ensures load { LoadGrows seat.old seat.new }
+    ensures steps { LooksOnce seat.old seat.new }
+    ensures turn { SameNewcomerTurn (view_of seat.old) (view_of seat.new) }
+    ensures known { SameKnown (view_of seat.old) (view_of seat.new) }
+    ensures take { LeavesSameTake seat.old seat.new }
+    ensures quiet { result ≡ true → asleep_of expected ≡ 0 → InTime seat.new LeftQuietly }
+    ensures outside { result ≡ true → InTime seat.new IsOutside }
+    ensures free { result ≡ true → Leaves outer_at (λ n. state_of n ≡ 0) seat.new }
+    ensures as_found { result ≡ true → Found outer_at (λ n. n ≡ expected) seat.new }
+    ensures inside { result ≡ false → InTime seat.new IsInside }
+    ensures door { result ≡ false → InTimeFrom seat.old seat.new SameDoor }
+    ensures found { result ≡ false → Found outer_at (λ n. n ≢ expected) seat.new }
+{
+    let free = expected / SHUT * SHUT;
+    table.compare_exchange::<Leave>(seat, OUTER, expected, free) == expected
+}
+
+/// Leaves the outer word reserved for the queue head, if it is `expected`.
+#[inline(always)]
+fn leave_reserved(table: &SharedTable, seat: &mut TicketSeat, expected: u64) -> bool
+    requires table { IsLockTable table.now.table_id }
+    requires seat { IsSeatOf table.now.table_id table.now.key seat.old }
+    requires inside { InTime seat.old IsInside }
+    ensures seat { IsSeatOf table.now.table_id table.now.key seat.new }
+    ensures load { LoadGrows seat.old seat.new }
+    ensures steps { LooksOnce seat.old seat.new }
+    ensures turn { SameNewcomerTurn (view_of seat.old) (view_of seat.new) }
+    ensures known { SameKnown (view_of seat.old) (view_of seat.new) }
+    ensures take { LeavesSameTake seat.old seat.new }
+    ensures quiet { result ≡ true → asleep_of expected ≡ 0 → InTime seat.new LeftQuietly }
+    ensures outside { result ≡ true → InTime seat.new IsOutside }
+    ensures reserved { result ≡ true → Leaves outer_at (λ n. state_of n ≡ 2) seat.new }
+    ensures as_found { result ≡ true → Found outer_at (λ n. n ≡ expected) seat.new }
+    ensures inside { result ≡ false → InTime seat.new IsInside }
+    ensures door { result ≡ false → InTimeFrom seat.old seat.new SameDoor }
+    ensures found { result ≡ false → Found outer_at (λ n. n ≢ expected) seat.new }
+{
+    let reserved = expected / SHUT * SHUT + RESERVED;
+    table.compare_exchange::<Leave>(seat, OUTER, expected, reserved) == expected
+}
+
+/// Leaves the outer word, if it is `expected`: reserved for the queue head where a handoff is requested, or this was
+/// the last turn of a burst of at most `burst`; else free. One word step, the last access to the lock's memory.
+#[inline(always)]
+pub fn leave_if(
+    table: &SharedTable,
+    seat: &mut TicketSeat,
+    burst: u64,
+    expected: u64,
+) -> LeaveResult
+    requires table { IsLockTable table.now.table_id }
+    requires burst { burst ≤ table.now.key }
+    requires seat { IsSeatOf table.now.table_id table.now.key seat.old }
+    requires inside { InTime seat.old IsInside }
+    ensures seat { IsSeatOf table.now.table_id table.now.key seat.new }
+    ensures load { LoadGrows seat.old seat.new }
+    ensures steps { LooksOnce seat.old seat.new }
+    ensures turn { SameNewcomerTurn (view_of seat.old) (view_of seat.new) }
+    ensures known { SameKnown (view_of seat.old) (view_of seat.new) }
+    ensures take { LeavesSameTake seat.old seat.new }
+    ensures outside { IfLeft result (λ _. InTime seat.new IsOutside) }
+    ensures quiet { IfLeft result (λ asleep. asleep ≡ false → InTime seat.new LeftQuietly) }
+    ensures left { IfLeft result (λ _. Leaves outer_at (IsLeftAs burst expected) seat.new) }
+    ensures found { IfLeft result (λ _. Found outer_at (λ n. n ≡ expected) seat.new) }
+    ensures inside { IfNotLeft result (InTime seat.new IsInside) }
+    ensures door { IfNotLeft result (InTimeFrom seat.old seat.new SameDoor) }
+    ensures changed { IfNotLeft result (Found outer_at (λ n. n ≢ expected) seat.new) }
+{
+    let is_last = expected / NEWCOMER + 1 >= burst;
+    let has_left = if expected % 2 == 1 || is_last {
+        leave_reserved(table, seat, expected)
+    } else {
+        leave_free(table, seat, expected)
+    };
+    if has_left {
+        LeaveResult::Outside {
+            head_asleep: expected / HEAD_ASLEEP % 2 == 1,
+        }
+    } else {
+        LeaveResult::Changed
+    }
+}
+
+/// Leaves the outer word, as `leave_if`, whatever it is: two word steps.
+#[inline(always)]
+pub fn leave(table: &SharedTable, seat: &mut TicketSeat, burst: u64) -> LeaveResult
+    requires table { IsLockTable table.now.table_id }
+    requires burst { burst ≤ table.now.key }
+    requires seat { IsSeatOf table.now.table_id table.now.key seat.old }
+    requires inside { InTime seat.old IsInside }
+    ensures seat { IsSeatOf table.now.table_id table.now.key seat.new }
+    ensures load { LoadGrows seat.old seat.new }
+    ensures steps { StepsLater 2 seat.old seat.new }
+    ensures turn { SameNewcomerTurn (view_of seat.old) (view_of seat.new) }
+    ensures known { SameKnown (view_of seat.old) (view_of seat.new) }
+    ensures take { LeavesSameTake seat.old seat.new }
+    ensures outside { IfLeft result (λ _. InTime seat.new IsOutside) }
+    ensures quiet { IfLeft result (λ asleep. asleep ≡ false → InTime seat.new LeftQuietly) }
+    ensures left { IfLeft result (λ _. LeavesAsFound burst seat.new) }
+    ensures inside { IfNotLeft result (InTime seat.new IsInside) }
+    ensures door { IfNotLeft result (InTimeFrom seat.old seat.new SameDoor) }
+    ensures changed { IfNotLeft result (FoundChanged outer_at seat.new) }
+{
+    let outer = table.load::<ReadOuter>(seat, OUTER);
+    leave_if(table, seat, burst, outer)
+}
+
+/// The queue head asks whoever is inside to leave the outer word reserved for it: at most two word steps. `false`: the
+/// outer word changed at that moment, and is to be looked at again.
+#[inline(always)]
+pub fn request_handoff(table: &SharedTable, seat: &mut TicketSeat) -> bool
+    requires table { IsLockTable table.now.table_id }
+    requires seat { IsSeatOf table.now.table_id table.now.key seat.old }
+    ensures seat { IsSeatOf table.now.table_id table.now.key seat.new }
+    ensures same { OnlyLooks (view_of seat.old) (view_of seat.new) }
+    ensures steps { StepsLater 1 seat.old seat.new ⊎ StepsLater 2 seat.old seat.new }
+    ensures requested { result ≡ true → Leaves outer_at (λ n. handoff_of n ≡ 1) seat.new }
+    ensures changed { result ≡ false → FoundChanged outer_at seat.new }
+{
+    let outer = table.load::<ReadOuter>(seat, OUTER);
+    if outer % 2 == 1 {
+        return true;
+    }
+    table.compare_exchange::<RequestHandoff>(seat, OUTER, outer, outer + HANDOFF) == outer
+}
+
+/// The queue head notes at the outer word that it sleeps, while that is held: at most two word steps. Then who leaves
+/// it is told of that.
+#[inline(always)]
+pub fn announce_head_sleep(table: &SharedTable, seat: &mut TicketSeat) -> HeadSleepResult
+    requires table { IsLockTable table.now.table_id }
+    requires seat { IsSeatOf table.now.table_id table.now.key seat.old }
+    ensures seat { IsSeatOf table.now.table_id table.now.key seat.new }
+    ensures load { LoadGrows seat.old seat.new }
+    ensures kept { Kept (view_of seat.old) (view_of seat.new) }
+    ensures known { SameKnown (view_of seat.old) (view_of seat.new) }
+    ensures door { SameDoor (view_of seat.old) (view_of seat.new) }
+    ensures asleep { IfHeadAsleep result (λ _. SleepsAtOuter (view_of seat.new)) }
+    ensures in_take { IfHeadAsleep result (λ _. InTimeFrom seat.old seat.new SleepsInTake) }
+    ensures word { IfHeadAsleep result (λ outer. (asleep_of outer ≡ 1) × (state_of outer ≡ 1)
+        × Leaves outer_at (λ n. n ≡ outer) seat.new) }
+    ensures steps { IfHeadAsleep result (λ _. StepsLater 2 seat.old seat.new) }
+    ensures not_held { IfNotHeld result (StepsLater 1 seat.old seat.new
+        × Found outer_at (λ n. state_of n ≢ 1) seat.new) }
+    ensures changed { IfHeadChanged result (StepsLater 2 seat.old seat.new
+        × FoundChanged outer_at seat.new) }
+{
+    let outer = table.load::<ReadOuter>(seat, OUTER);
+    if state(outer) != 1 {
+        return HeadSleepResult::NotHeld;
+    }
+    let noted = outer / HELD * HELD + HEAD_ASLEEP + outer % 2;
+    if table.compare_exchange::<AnnounceHeadSleep>(seat, OUTER, outer, noted) != outer {
+        return HeadSleepResult::Changed;
+    }
+    HeadSleepResult::Asleep { outer: noted }
+}
