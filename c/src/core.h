@@ -1,11 +1,11 @@
 /* For the library's internal files: the proved lock, as crates/qolb_c/src/core_calls.rt exports it. Many threads may
- * call with one lock at a time. No call waits; each takes at most three atomic steps, a release two more for each withdrawn
- * request that it passes, at most 64. Only opening allocates.
+ * call with one lock at a time. No call waits; each takes at most three atomic steps, a release two more for each
+ * withdrawn request that it passes, of which there are at most 64. Only opening allocates.
  *
- * A lock has a queue of tickets, and an *outer word*. A strict lock (a bound of bursts of at most 1): ask, wait for
- * the ticket's turn, check_open, be served, release. With bursts: a newcomer goes in by the outer word and leaves;
- * who can't asks for a ticket; at its turn it is the queue head, takes the outer word, releases its turn of the
- * queue (it stays in), is served, and leaves.
+ * A lock has a queue of tickets, and an *outer word*. A strict lock (a bound of bursts of at most 1): ask, wait for the
+ * ticket's turn, check_open, be served, release. With bursts: a newcomer goes in by the outer word and leaves; else it
+ * asks for a ticket; at its turn it is the queue head, takes the outer word, releases its turn of the queue (it stays
+ * in), is served, and leaves.
  *
  * The answers are those of qolb.h where it has one, and these. MISUSE always means that nothing changed.
  *
@@ -14,8 +14,8 @@
  * - a `qolb_core` that opening wrote, or a copy of it;
  * - a ticket of zeros, or as its last call left it, in one call at a time, and not copied;
  * - for each opening a label of its own;
- * - nothing else in the lock's bytes while a call on it may come, and no call on it afterwards. A FREE ticket of such a
- *   lock may be used for another. */
+ * - nothing else in the lock's bytes while a call on it may be made, and none afterwards. A FREE ticket of such a lock
+ *   may be used for another. */
 #ifndef QOLB_CORE_H
 #define QOLB_CORE_H
 
