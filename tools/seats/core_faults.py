@@ -12,6 +12,7 @@ HOOKED = [
     (WAITS, "", "REQUEST_PART = 16", "REQUEST_PART = 2"),
     ("spin.h", "", "SPIN_NEAR = 50000", "SPIN_NEAR = 90"),
     ("spin.h", "", "SPIN_FAR = 2000", "SPIN_FAR = 90"),
+    ("spin.h", "", "SPIN_WOKEN = 10000", "SPIN_WOKEN = 90"),
     ("spin.h", "qolb_pause_", "unsigned each = pauses_in_1024();", "unsigned each = 1;"),
     ("core_lock/parks.c", "", "NAP = 1000000", "NAP = 1000"),
     ("bells.h", "", "GUARD_LOOKS = 64", "GUARD_LOOKS = 1"),

@@ -18,7 +18,7 @@ static struct {
 
 BY_THREAD struct room qolb_room_;
 BY_THREAD struct core_room qolb_core_room_;
-BY_THREAD unsigned qolb_patience_[2];
+BY_THREAD unsigned qolb_learned_[2];
 unsigned model_near, model_sleepers;
 
 /* As gaps.c, which is not explored. */
@@ -570,7 +570,7 @@ void check_end(const struct scene *scene) {
 
 int is_own(uintptr_t at) {
     return at - (uintptr_t)&qolb_own_ < sizeof qolb_own_ || at - (uintptr_t)&qolb_core_room_ < sizeof qolb_core_room_ ||
-           at - (uintptr_t)&qolb_patience_ < sizeof qolb_patience_;
+           at - (uintptr_t)&qolb_learned_ < sizeof qolb_learned_;
 }
 
 UNSEEN void change_thread(struct own_data *from, const struct own_data *to) {
