@@ -31,6 +31,23 @@ def filled(text):
     return escaped("\n".join(textwrap.wrap(text, 72, break_long_words=False, break_on_hyphens=False)))
 
 
+def by_default(text):
+    """The header without what a library has that was built with LOCK=core."""
+    kept, conditions = [], []
+    for line in text.split("\n"):
+        word = re.match(r"#(ifdef|ifndef|if|else|endif)\b(.*)", line)
+        if word and word[1].startswith("if"):
+            conditions.append({"ifdef QOLB_LOCK_CORE": False, "ifndef QOLB_LOCK_CORE": True}.get(word[0][1:]))
+        is_core = bool(word) and conditions[-1] is not None
+        if is_core and word[1] == "else":
+            conditions[-1] = not conditions[-1]
+        if not is_core and False not in conditions:
+            kept.append(line)
+        if word and word[1] == "endif":
+            conditions.pop()
+    return "\n".join(kept)
+
+
 def uncommented(comment):
     """The lines of a comment without its stars."""
     body = comment.strip()[2:-2].strip()
@@ -184,8 +201,7 @@ def released(version):
 
 
 def page_of_header():
-    text = HEADER.read_text()
-    head, rest = text.split("#ifndef QOLB_H", 1)
+    head, rest = by_default(HEADER.read_text()).split("#ifndef QOLB_H", 1)
     parts = dict(sections(uncommented(head)))
     version = ".".join(re.search(rf"QOLB_VERSION_{part} (\d+)", rest)[1] for part in ("MAJOR", "MINOR", "PATCH"))
     what, _, of_what = parts["DESCRIPTION"][0][0].partition(": ")

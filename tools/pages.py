@@ -19,17 +19,17 @@ import figures
 ROOT = pathlib.Path(__file__).resolve().parent.parent
 LIMITS = {
     "README.md": 900,
-    "docs/ARCHITECTURE.md": 1600,
+    "docs/ARCHITECTURE.md": 1650,
     "docs/USING.md": 2500,
     "docs/LOCKS.md": 1200,
     "docs/PROVED.md": 4250,
     "docs/CHANGING.md": 2000,
-    "docs/DECISIONS.md": 3150,
+    "docs/DECISIONS.md": 3400,
     "docs/SCRIPTS.md": 2000,
     "CHANGELOG.md": 1500,
 }
 # All pages but the CHANGELOG; the READMEs of crates, all and the lines of each; a call of qolb(3).
-ALL, CRATES, CRATE_LINES, CALL = 25000, 4900, 25, 112
+ALL, CRATES, CRATE_LINES, CALL = 26500, 5400, 25, 112
 # Three readers: who needs a lock, who wants the theorems, who carries it on.
 PATHS = {
     "lock user": (["README.md", "docs/USING.md#locks"], 2500),

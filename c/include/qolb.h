@@ -492,6 +492,7 @@ uint32_t qolb_state(qolb_node *node);
 
 /* A lock, unopened: 64 bytes of zeros, 1 to 200 seats, and bursts or none (LOCKS). Only these calls read or change its
  * contents. */
+#ifndef QOLB_LOCK_CORE
 typedef struct qolb_lock {
     void *own;
     uint32_t kind, seats;
@@ -500,6 +501,18 @@ typedef struct qolb_lock {
 #define QOLB_LOCK_INIT(seats) {QOLB_NULL_, QOLB_DEFAULT, (seats)}
 #define QOLB_LOCK_INIT_OF(kind, seats) {QOLB_NULL_, (kind), (seats)}
 #define QOLB_LOCK_INIT_BURSTS(kind, seats, burst) {QOLB_NULL_, (kind), QOLB_SEATS(seats, burst)}
+#else
+/* Of a library that was built with LOCK=core: all of the lock lies here (docs/CORE_LOCK.md). */
+typedef struct __attribute__((aligned(16))) qolb_lock {
+    void *own;
+    uint32_t kind, seats;
+    uint64_t more[38];
+} qolb_lock;
+#define QOLB_LOCK_INIT_DEFAULT {QOLB_NULL_, QOLB_LINK, 4, {0}}
+#define QOLB_LOCK_INIT(seats) {QOLB_NULL_, QOLB_DEFAULT, (seats), {0}}
+#define QOLB_LOCK_INIT_OF(kind, seats) {QOLB_NULL_, (kind), (seats), {0}}
+#define QOLB_LOCK_INIT_BURSTS(kind, seats, burst) {QOLB_NULL_, (kind), QOLB_SEATS(seats, burst), {0}}
+#endif
 
 /* The number of seats for qolb_lock_open, of a lock with bursts of at most `burst` turns; 0: it is strict. An older
  * library answers BAD_NODES. It may evaluate its arguments twice. */
@@ -548,10 +561,15 @@ uint32_t qolb_lock_shut(qolb_lock *lock);
  * condition of it. */
 uint32_t qolb_lock_close(qolb_lock *lock);
 
+#ifndef QOLB_LOCK_CORE
 /* The holder's node, lent until the holder leaves, for qolb_read, qolb_write, qolb_read_lane, qolb_write_lane,
  * qolb_add_lane, qolb_turns_left, qolb_number, qolb_label and qolb_state. For every other call, and for any other
  * thread, it is MISUSE. NULL if the calling thread does not hold the lock. */
 qolb_node *qolb_lock_turn(qolb_lock *lock);
+#else
+/* 1 if the calling thread holds the lock, else 0. */
+int qolb_lock_is_mine(const qolb_lock *lock);
+#endif
 
 /* A number of the thread that holds the lock; UINT64_MAX if a task does; 0 if none does, and for the moment of a
  * handoff. On Linux it is the system's, which the thread had when it first entered a lock. */
@@ -572,6 +590,7 @@ uint32_t qolb_cond_wait_within(qolb_cond *cond, qolb_lock *lock, uint64_t nanose
 uint32_t qolb_cond_signal(qolb_cond *cond);
 uint32_t qolb_cond_broadcast(qolb_cond *cond);
 
+#ifndef QOLB_LOCK_CORE
 /* clang-format off */
 
 /* A task that enters locks: nobody waits in it. It starts as QOLB_TASK_INIT. It stays where it is while it waits. Once
@@ -610,6 +629,7 @@ uint32_t qolb_task_shut(qolb_task *task);
 /* The node of a task that holds a lock, lent until it leaves, as qolb_lock_turn lends a thread's: to whoever makes the
  * calls for the task. Else NULL. */
 qolb_node *qolb_task_turn(qolb_task *task);
+#endif
 
 /* The version of the library, as QOLB_VERSION is that of the header. */
 uint32_t qolb_version(void);
@@ -683,7 +703,11 @@ static inline uint32_t qolb_entered_(qolb_lock *lock, uint32_t got) {
 }
 
 static inline void qolb_leaves_(qolb_lock *lock) {
+#ifdef QOLB_LOCK_CORE
+    if (qolb_lock_is_mine(lock)) QOLB_GIVES_(lock);
+#else
     if (qolb_lock_turn(lock)) QOLB_GIVES_(lock);
+#endif
 }
 
 QOLB_LOOK static inline uint32_t qolb_lock_enter_(qolb_lock *lock) {
@@ -703,6 +727,7 @@ QOLB_LOOK static inline uint32_t qolb_cond_wait_within_(qolb_cond *cond, qolb_lo
     return qolb_leaves_(lock), qolb_entered_(lock, qolb_cond_wait_within(cond, lock, nanoseconds));
 }
 
+#ifndef QOLB_LOCK_CORE
 /* A task's lock is its first word. */
 static inline uint32_t qolb_tasked_(qolb_task *task, uint32_t got) {
     if (got == QOLB_GRANTED || got == QOLB_CLOSED) QOLB_TOOK_(task->own[0]);
@@ -728,6 +753,7 @@ static inline uint32_t qolb_task_shut_(qolb_task *task) { return qolb_task_leave
 #define qolb_task_poll qolb_task_poll_
 #define qolb_task_leave qolb_task_leave_
 #define qolb_task_shut qolb_task_shut_
+#endif
 #define qolb_lock_enter qolb_lock_enter_
 #define qolb_lock_try qolb_lock_try_
 #define qolb_lock_enter_within qolb_lock_enter_within_

@@ -350,7 +350,7 @@ class Lock {
     constexpr Lock() noexcept : lock_ QOLB_LOCK_INIT_DEFAULT {}
     // With 1 to 200 seats, of this kind. A link line takes the least memory.
     explicit constexpr Lock(std::uint32_t seats, qolb_kind kind = QOLB_DEFAULT) noexcept
-        : lock_{nullptr, static_cast<std::uint32_t>(kind), seats} {}
+        : lock_ QOLB_LOCK_INIT_OF(static_cast<std::uint32_t>(kind), seats) {}
     // With 2 to 200 seats, and bursts of 2 to 65,535 turns: qolb::lock(qolb::seats{4}, qolb::burst{1024}).
     constexpr Lock(qolb::seats many, qolb::burst most, qolb_kind kind = QOLB_LINK) noexcept
         : lock_ QOLB_LOCK_INIT_BURSTS(static_cast<std::uint32_t>(kind), many.number, most.turns) {}
@@ -491,14 +491,14 @@ template <class T> class Guarded {
     // value.
     template <class Change> auto with(Change change) -> decltype(change(std::declval<T &>())) {
         std::lock_guard<Lock> held(lock_);
-        Copy copy(qolb_lock_turn(lock_.native_handle()));
+        Copy copy(place());
         return copy.changed(change, std::is_void<decltype(change(std::declval<T &>()))>());
     }
 
     // Enters, and returns the value as the last thread left it. Throws as `with` does.
     QOLB_NODISCARD T load() const {
         std::lock_guard<Lock> held(lock_);
-        return Copy(qolb_lock_turn(lock_.native_handle())).value();
+        return Copy(place()).value();
     }
     void store(const T &value) {
         with([&value](T &it) { std::memcpy(&it, &value, sizeof value); });
@@ -520,41 +520,58 @@ template <class T> class Guarded {
         std::uint32_t got = qolb_lock_open(lock_.native_handle(), of.kind, 0, of.seats, &bytes);
         if (got == QOLB_NO_MEMORY) QOLB_THROW(std::bad_alloc());
         if (got != QOLB_DONE) QOLB_THROW(Misuse());
+#ifdef QOLB_LOCK_CORE
+        std::memcpy(kept_, &value, sizeof value);
+#endif
     }
+
+    // Where the holder finds the value: in the line; of a lock on the core, which has none, beside it.
+#ifdef QOLB_LOCK_CORE
+    using Place = unsigned char *;
+    Place place() const { return kept_; }
+    static void read(Place from, unsigned char *to) { std::memcpy(to, from, sizeof(T)); }
+    static void write(Place to, const unsigned char *from) { std::memcpy(to, from, sizeof(T)); }
+#else
+    using Place = qolb_node *;
+    Place place() const { return qolb_lock_turn(lock_.native_handle()); }
+    static void read(Place from, unsigned char *to) {
+        qolb_bytes bytes{};
+        qolb_read(from, &bytes);
+        std::memcpy(to, bytes.byte, sizeof(T));
+    }
+    static void write(Place to, const unsigned char *from) {
+        qolb_bytes bytes{};
+        std::memcpy(bytes.byte, from, sizeof(T));
+        qolb_write(to, UINT64_MAX, &bytes);
+    }
+#endif
 
     // The value during a turn. T may have no default constructor, so the value is in bytes.
     class Copy {
       public:
-        explicit Copy(qolb_node *turn) : turn_(turn) {
-            qolb_bytes bytes{};
-            qolb_read(turn_, &bytes);
-            std::memcpy(place_, bytes.byte, sizeof(T));
-        }
+        explicit Copy(Place turn) : turn_(turn) { Guarded::read(turn_, place_); }
 
         T &value() { return *reinterpret_cast<T *>(place_); }
 
         template <class Change> void changed(Change &change, std::true_type) {
             change(value());
-            write();
+            Guarded::write(turn_, place_);
         }
         template <class Change> auto changed(Change &change, std::false_type) -> decltype(change(std::declval<T &>())) {
             decltype(change(std::declval<T &>())) told = change(value());
-            write();
+            Guarded::write(turn_, place_);
             return told;
         }
 
       private:
-        void write() {
-            qolb_bytes bytes{};
-            std::memcpy(bytes.byte, place_, sizeof(T));
-            qolb_write(turn_, UINT64_MAX, &bytes);
-        }
-
-        qolb_node *turn_;
+        Place turn_;
         alignas(T) unsigned char place_[sizeof(T)];
     };
 
     mutable Lock lock_; // it is entered to read the value, too
+#ifdef QOLB_LOCK_CORE
+    alignas(T) mutable unsigned char kept_[sizeof(T)];
+#endif
 };
 
 template <class T> using guarded = Guarded<T>;
@@ -659,6 +676,8 @@ template <class Loop> class Turn final : public detail::Waits<Loop> {
     qolb_node *node_;
 };
 
+#ifndef QOLB_LOCK_CORE
+
 // A turn of a lock.
 class Entered {
   public:
@@ -712,8 +731,11 @@ template <class Loop> class Enter final : public detail::Waits<Loop> {
     qolb_task task_ = QOLB_TASK_INIT;
 };
 
-template <class Loop> Turn<Loop> turn(Node &node, Loop &loop) { return Turn<Loop>(node.native_handle(), loop); }
 template <class Loop> Enter<Loop> enter(Lock &which, Loop &loop) { return Enter<Loop>(which.native_handle(), loop); }
+
+#endif
+
+template <class Loop> Turn<Loop> turn(Node &node, Loop &loop) { return Turn<Loop>(node.native_handle(), loop); }
 
 #endif
 

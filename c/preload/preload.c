@@ -2,10 +2,10 @@
  *
  *   make -C c && LD_PRELOAD=c/build/preload.so PROGRAM        (glibc, Linux 4.14); installed as LIBDIR/qolb/preload.so
  *
- * Each ordinary mutex that the program locks gets its own qolb_lock, of 3 KB, and each condition variable by which it
- * waits with one a qolb_cond. Recursive, error-checking, robust, shared and priority mutexes stay the C library's, and
- * so does one for which there is no memory. Whether a mutex is a lock of ours is decided once, at its first use, until
- * it is destroyed or initialised again.
+ * Each ordinary mutex that the program locks gets its own qolb_lock, of 3 KB (with LOCK=core half a KB), and each
+ * condition variable by which it waits with one a qolb_cond. Recursive, error-checking, robust, shared and priority
+ * mutexes stay the C library's, and so does one for which there is no memory. Whether a mutex is a lock of ours is
+ * decided once, at its first use, until it is destroyed or initialised again.
  *
  * As with the C library, any thread may unlock such a mutex, unlocking a free one changes nothing, and a thread that
  * locks one that it holds waits until another unlocks it. A mutex that a thread held when it forked is held in the
@@ -23,7 +23,7 @@
  * What does not call the C library's mutexes by their names is not taken in: C11's mtx_t, Rust's std::sync::Mutex, and
  * libraries that are opened with RTLD_DEEPBIND, which must not share a mutex with others then. */
 #define _GNU_SOURCE
-#include "preload.h"
+#include "preload_turns.h"
 #include <dlfcn.h>
 #include <errno.h>
 #include <fcntl.h>
@@ -170,8 +170,8 @@ static struct line *take_line(void) {
 
 /* Of this process. A thread that has left it may still be in that call. */
 static int is_free(struct line *line) {
-    if (atomic_load(&line->waiting) || qolb_lock_try(&line->lock) != QOLB_GRANTED) return 0;
-    qolb_lock_leave(&line->lock);
+    if (atomic_load(&line->waiting) || try_line(line) != QOLB_GRANTED) return 0;
+    leave_line(line);
     return 1;
 }
 
@@ -212,7 +212,7 @@ static inline int is_ordinary(const pthread_mutex_t *mutex) {
 static int is_of_this_process(const struct entry *entry) { return entry->process == qolb_process_(); }
 
 /* Whether a thread held it, in the process in which it was last used. */
-static int is_held(const struct entry *entry) { return entry->line && qolb_lock_holder(&entry->line->lock); }
+static int is_held(const struct entry *entry) { return entry->line && is_held_line(entry->line); }
 
 /* The line that the mutex gets. One that was initialised again keeps its line, if that is free; and else the line is
  * forgotten, and never used again. */
@@ -247,7 +247,7 @@ static struct line *decide_for(pthread_mutex_t *mutex) {
     }
     if (!entry->line) count_mutex();
     if (line != entry->line) atomic_store(&line->inside, held);
-    if (held && qolb_lock_enter_unasked_(&line->lock, FOR_EVER) != QOLB_GRANTED) return NULL;
+    if (held && enter_line(line, FOR_EVER) != QOLB_GRANTED) return NULL;
     entry->line = line;
     entry->process = qolb_process_();
     say(mutex, line, sign_of(mutex, line));
@@ -294,15 +294,15 @@ static inline int told(struct line *line, uint32_t got) {
 
 /* After the leave another thread may destroy the mutex. */
 static inline int unlock(struct line *line) {
-    if (counts() && qolb_lock_holder(&line->lock)) count_leaving(line);
-    if (qolb_lock_leave(&line->lock) != QOLB_DONE) qolb_lock_leave_for_another_(&line->lock);
+    if (counts() && is_held_line(line)) count_leaving(line);
+    leave_line(line);
     return 0;
 }
 
 /* As in the C library, a time that is none is an error only if the mutex is not free. */
 static int lock_until(struct line *line, clockid_t clock, const struct timespec *end) {
-    if (is_time(end)) return told(line, qolb_lock_enter_unasked_(&line->lock, until(clock, end)));
-    uint32_t got = qolb_lock_try(&line->lock);
+    if (is_time(end)) return told(line, enter_line(line, until(clock, end)));
+    uint32_t got = try_line(line);
     return got == QOLB_GRANTED ? told(line, got) : EINVAL;
 }
 
@@ -328,12 +328,12 @@ int pthread_mutex_destroy(pthread_mutex_t *mutex) {
 
 int pthread_mutex_lock(pthread_mutex_t *mutex) {
     struct line *line = line_of(mutex);
-    return line ? told(line, qolb_lock_enter_unasked_(&line->lock, FOR_EVER)) : real_mutex_lock()(mutex);
+    return line ? told(line, enter_line(line, FOR_EVER)) : real_mutex_lock()(mutex);
 }
 
 int pthread_mutex_trylock(pthread_mutex_t *mutex) {
     struct line *line = line_of(mutex);
-    return line ? told(line, qolb_lock_try(&line->lock)) : real_mutex_trylock()(mutex);
+    return line ? told(line, try_line(line)) : real_mutex_trylock()(mutex);
 }
 
 int pthread_mutex_timedlock(pthread_mutex_t *mutex, const struct timespec *end) {
@@ -386,7 +386,7 @@ static int wait_a_moment(struct line *line, uint64_t nanoseconds) {
     atomic_uint word = 0;
     unlock(line);
     qolb_sleep_at_(&word, 0, nanoseconds < MOMENT ? nanoseconds : MOMENT);
-    told(line, qolb_lock_enter_unasked_(&line->lock, FOR_EVER));
+    told(line, enter_line(line, FOR_EVER));
     pthread_testcancel();
     return nanoseconds <= MOMENT ? ETIMEDOUT : 0;
 }
@@ -394,14 +394,14 @@ static int wait_a_moment(struct line *line, uint64_t nanoseconds) {
 /* Waits with a line at most this long, and has it again. A thread may be cancelled here, as where the C library waits,
  * with the mutex locked. */
 static int wait_at(struct line *line, pthread_cond_t *condition, uint64_t nanoseconds) {
-    if (!qolb_lock_turn(&line->lock)) return EPERM;
+    if (!is_own_line(line)) return EPERM;
     own_wait.cancels = atomic_load(&cancels);
     pthread_testcancel();
     own_wait.at = cond_of(condition);
     if (!own_wait.at) return wait_a_moment(line, nanoseconds);
     count_leaving(line);
     atomic_fetch_add(&line->waiting, 1);
-    uint32_t got = qolb_cond_wait_within(own_wait.at, &line->lock, nanoseconds);
+    uint32_t got = wait_with_line(own_wait.at, line, nanoseconds);
     own_wait.at = NULL;
     atomic_fetch_sub(&line->waiting, 1);
     told(line, QOLB_GRANTED);

@@ -3,6 +3,9 @@
 #define QOLB_PRELOAD_H
 
 #include "bells.h"
+#ifdef QOLB_LOCK_CORE
+#include "core_lock/lock.h"
+#endif
 
 /* ---- Processes ----
  *
@@ -43,6 +46,11 @@ struct line {
     struct line *next;  /* of those that serve none */
     atomic_int inside;  /* the number of threads in it, if they are counted */
     atomic_int waiting; /* the number of threads that left it to wait at a condition */
+#ifdef QOLB_LOCK_CORE
+    struct turn at;         /* of its holder: any thread may unlock */
+    _Atomic uint64_t owner; /* the number of that thread, or 0 */
+    _Atomic uint64_t guess; /* of the outer word */
+#endif
 };
 
 /* What is kept of an address. An entry stays in its tree, and may get another address once its own is removed. */

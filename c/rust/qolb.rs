@@ -51,6 +51,8 @@ use std::panic::{RefUnwindSafe, UnwindSafe};
 use std::pin::Pin;
 use std::ptr::{NonNull, null_mut};
 use std::sync::PoisonError;
+#[cfg(qolb_core)]
+use std::sync::atomic::{AtomicPtr, Ordering};
 use std::task::{Context, Poll, Waker};
 use std::time::{Duration, Instant};
 
@@ -231,6 +233,8 @@ unsafe extern "C" {
     fn qolb_lock_shut(lock: *mut RawLock) -> u32;
     fn qolb_lock_close(lock: *mut RawLock) -> u32;
     fn qolb_lock_turn(lock: *mut RawLock) -> Option<NonNull<Handle>>;
+    #[cfg(qolb_core)]
+    fn qolb_lock_is_mine(lock: *const RawLock) -> std::ffi::c_int;
     fn qolb_lock_holder(lock: *const RawLock) -> u64;
     fn qolb_cond_wait(cond: *mut RawCond, lock: *mut RawLock) -> u32;
     fn qolb_cond_wait_within(cond: *mut RawCond, lock: *mut RawLock, nanoseconds: u64) -> u32;
@@ -568,11 +572,22 @@ fn state_told(state: u32) -> State {
 
 // ---- Locks for threads that come and go ----
 
+#[cfg(not(qolb_core))]
 #[repr(C)]
 struct RawLock {
     own: *mut c_void,
     kind: u32,
     seats: u32,
+}
+
+/// Of a library that was built with LOCK=core (docs/CORE_LOCK.md): the lock lies here, and does not move once it is used.
+#[cfg(qolb_core)]
+#[repr(C, align(16))]
+struct RawLock {
+    own: *mut c_void,
+    kind: u32,
+    seats: u32,
+    more: [u64; 38],
 }
 
 #[repr(C)]
@@ -603,7 +618,125 @@ fn from_now_to(end: Instant) -> Duration {
 ///
 /// It opens at its first use. The thread that entered must leave. If it is dropped while a thread holds it or waits for it, which a leaked guard may
 /// cause, its memory stays.
+#[cfg(not(qolb_core))]
 pub struct RawQolb(UnsafeCell<RawLock>);
+
+/// The same. It is in a box from its first use on, since a value may move and a lock may not.
+#[cfg(qolb_core)]
+pub struct RawQolb {
+    boxed: AtomicPtr<Boxed>,
+    kind: u32,
+    seats: u32,
+}
+
+/// A lock, and the bytes of a `Lock`, which has no line.
+#[cfg(qolb_core)]
+#[repr(C)]
+struct Boxed {
+    lock: RawLock,
+    bytes: LineBytes,
+}
+
+#[cfg(not(qolb_core))]
+impl RawQolb {
+    const fn over(kind: u32, seats: u32) -> RawQolb {
+        RawQolb(UnsafeCell::new(RawLock { own: null_mut(), kind, seats }))
+    }
+
+    fn at(&self) -> *mut RawLock {
+        self.0.get()
+    }
+
+    fn is_mine(&self) -> bool {
+        unsafe { qolb_lock_turn(self.at()) }.is_some()
+    }
+
+    fn open(&self, opening: &LineBytes) -> Answer {
+        // SAFETY: no other thread has the lock yet.
+        let RawLock { kind, seats, .. } = unsafe { &*self.at() };
+        told(unsafe { qolb_lock_open(self.at(), *kind, 0, u64::from(*seats), opening) })
+    }
+
+    /// Reads the line, for the holder.
+    fn read(&self, bytes: &mut LineBytes) {
+        let mut turn = unsafe { qolb_lock_turn(self.at()) }.expect("the lock is held");
+        unsafe { qolb_read(turn.as_mut(), (&raw mut *bytes).cast()) };
+    }
+
+    /// Writes the line, for the holder; nothing, if the thread is none.
+    fn write(&self, bytes: &LineBytes) {
+        unsafe { qolb_lock_turn(self.at()).map(|mut turn| qolb_write(turn.as_mut(), u64::MAX, (&raw const *bytes).cast())) };
+    }
+
+    fn close(&mut self) {
+        unsafe { qolb_lock_close(self.at()) };
+    }
+}
+
+#[cfg(qolb_core)]
+impl RawQolb {
+    const fn over(kind: u32, seats: u32) -> RawQolb {
+        RawQolb { boxed: AtomicPtr::new(null_mut()), kind, seats }
+    }
+
+    fn boxed(&self) -> *mut Boxed {
+        let at = self.boxed.load(Ordering::Acquire);
+        if at.is_null() { self.put_in_box() } else { at }
+    }
+
+    /// Of threads that make one at the same time, one's is taken.
+    #[cold]
+    fn put_in_box(&self) -> *mut Boxed {
+        let lock = RawLock { own: null_mut(), kind: self.kind, seats: self.seats, more: [0; 38] };
+        let made = Box::into_raw(Box::new(Boxed { lock, bytes: LineBytes([MaybeUninit::uninit(); 64]) }));
+        match self.boxed.compare_exchange(null_mut(), made, Ordering::AcqRel, Ordering::Acquire) {
+            Ok(_) => made,
+            Err(at) => {
+                // SAFETY: no other thread has seen it.
+                drop(unsafe { Box::from_raw(made) });
+                at
+            }
+        }
+    }
+
+    fn at(&self) -> *mut RawLock {
+        self.boxed().cast()
+    }
+
+    fn is_mine(&self) -> bool {
+        unsafe { qolb_lock_is_mine(self.at()) == 1 }
+    }
+
+    fn open(&self, opening: &LineBytes) -> Answer {
+        // SAFETY: no other thread has the lock yet.
+        unsafe { (*self.boxed()).bytes = LineBytes(opening.0) };
+        told(unsafe { qolb_lock_open(self.at(), self.kind, 0, u64::from(self.seats), opening) })
+    }
+
+    /// Reads the bytes, for the holder.
+    fn read(&self, bytes: &mut LineBytes) {
+        assert!(self.is_mine(), "the lock is held");
+        // SAFETY: one thread at a time holds the lock.
+        bytes.0 = unsafe { (*self.boxed()).bytes.0 };
+    }
+
+    /// Writes the bytes, for the holder; nothing, if the thread is none.
+    fn write(&self, bytes: &LineBytes) {
+        if self.is_mine() {
+            // SAFETY: one thread at a time holds the lock.
+            unsafe { (*self.boxed()).bytes = LineBytes(bytes.0) };
+        }
+    }
+
+    /// A lock that is held or waited for keeps its box.
+    fn close(&mut self) {
+        let at = *self.boxed.get_mut();
+        if !at.is_null() && told(unsafe { qolb_lock_close(at.cast()) }) == Answer::Done {
+            // SAFETY: it was made by a box, and nobody uses it any more.
+            drop(unsafe { Box::from_raw(at) });
+        }
+    }
+}
 
 // SAFETY: the library lets any threads call for one lock at the same time, and only the library reads or changes its contents.
 unsafe impl Sync for RawQolb {}
@@ -626,7 +759,7 @@ impl RawQolb {
     /// If `seats` is not 1 to 200.
     pub const fn of_kind(kind: Kind, seats: u32) -> RawQolb {
         assert!(seats >= 1 && seats <= 200, "a lock has 1 to 200 seats");
-        RawQolb(UnsafeCell::new(RawLock { own: null_mut(), kind: kind as u32, seats }))
+        RawQolb::over(kind as u32, seats)
     }
 
     /// A lock with bursts, for threads that enter again and again: of the kind of the default lock, with `seats` seats.
@@ -650,7 +783,7 @@ impl RawQolb {
         assert!(seats >= 1 && seats <= 200, "a lock has 1 to 200 seats");
         assert!(burst != 1 && burst <= u16::MAX as u32, "a burst has 2 to 65,535 turns");
         assert!(burst == 0 || seats > 1, "a lock with bursts has 2 seats or more");
-        RawQolb(UnsafeCell::new(RawLock { own: null_mut(), kind: kind as u32, seats: seats + (burst << 16) }))
+        RawQolb::over(kind as u32, seats + (burst << 16))
     }
 
     /// A lock for any number of threads, first come, first served, in at most 3 kilobytes of heap.
@@ -661,51 +794,51 @@ impl RawQolb {
     /// Enters, and waits as long as it takes: `Granted`, `Closed`; `Misuse` if the calling thread holds it; `NoMemory` at the first use.
     #[must_use]
     pub fn enter(&self) -> Answer {
-        self.took(unsafe { qolb_lock_enter(self.0.get()) })
+        self.took(unsafe { qolb_lock_enter(self.at()) })
     }
 
     /// Enters if no thread has it: `Granted`, `Busy` (also if the calling thread holds it), `Closed`; `NoMemory` at the first use.
     #[must_use]
     pub fn try_enter(&self) -> Answer {
-        self.took(unsafe { qolb_lock_try(self.0.get()) })
+        self.took(unsafe { qolb_lock_try(self.at()) })
     }
 
     /// Enters, and waits at most `time`: `Granted`, `Late`, `Closed`; `Misuse` at once if the calling thread holds it; `NoMemory` at the first use.
     #[must_use]
     pub fn enter_for(&self, time: Duration) -> Answer {
-        self.took(unsafe { qolb_lock_enter_within(self.0.get(), nanoseconds(time)) })
+        self.took(unsafe { qolb_lock_enter_within(self.at(), nanoseconds(time)) })
     }
 
     /// Leaves: `Done`; `Misuse` if the calling thread does not hold it.
     pub fn leave(&self) -> Answer {
         self.gives();
-        told(unsafe { qolb_lock_leave(self.0.get()) })
+        told(unsafe { qolb_lock_leave(self.at()) })
     }
 
     /// Leaves and closes the lock: no later thread enters. `Done`; `Misuse` if the calling thread does not hold it.
     pub fn shut(&self) -> Answer {
         self.gives();
-        told(unsafe { qolb_lock_shut(self.0.get()) })
+        told(unsafe { qolb_lock_shut(self.at()) })
     }
 
     /// Returns a number of the holding thread (`gettid` on Linux), or `u64::MAX` if a task holds it; `None` if nobody does, and for the moment of a handoff.
     pub fn holder(&self) -> Option<u64> {
-        Some(unsafe { qolb_lock_holder(self.0.get()) }).filter(|number| *number != 0)
+        Some(unsafe { qolb_lock_holder(self.at()) }).filter(|number| *number != 0)
     }
 
     /// Tells the thread sanitizer of an answer by which the thread may have entered.
     fn took(&self, answer: u32) -> Answer {
         let answer = told(answer);
         if let Answer::Granted | Answer::Closed = answer {
-            tsan::acquire(self.0.get());
+            tsan::acquire(self.at());
         }
         answer
     }
 
     /// Tells the thread sanitizer that the holder is about to leave.
     fn gives(&self) {
-        if cfg!(qolb_tsan) && unsafe { qolb_lock_turn(self.0.get()) }.is_some() {
-            tsan::release(self.0.get());
+        if cfg!(qolb_tsan) && self.is_mine() {
+            tsan::release(self.at());
         }
     }
 }
@@ -752,7 +885,7 @@ impl fmt::Debug for RawQolb {
 
 impl Drop for RawQolb {
     fn drop(&mut self) {
-        unsafe { qolb_lock_close(self.0.get()) };
+        self.close();
     }
 }
 
@@ -1089,7 +1222,7 @@ impl Condition {
     fn waited<'a, T: ?Sized>(&self, guard: MutexGuard<'a, T>, time: Option<Duration>) -> Result<(MutexGuard<'a, T>, bool), Stopped> {
         let mutex = guard.mutex;
         std::mem::forget(guard);
-        let (cond, lock) = (self.0.get(), mutex.raw.0.get());
+        let (cond, lock) = (self.0.get(), mutex.raw.at());
         mutex.raw.gives();
         let answer = match time {
             None => unsafe { qolb_cond_wait(cond, lock) },
@@ -1148,11 +1281,8 @@ impl<T: Copy + Send + 'static> Lock<T> {
         Lock::over(RawQolb::with_burst(seats, burst), value)
     }
 
-    fn over(mut raw: RawQolb, value: T) -> Result<Lock<T>, Answer> {
-        let opening = bytes_of(value);
-        let RawLock { kind, seats, .. } = *raw.0.get_mut();
-        // SAFETY: no other thread has the lock yet, and the bytes are valid for the call.
-        match told(unsafe { qolb_lock_open(raw.0.get(), kind, 0, seats.into(), &opening) }) {
+    fn over(raw: RawQolb, value: T) -> Result<Lock<T>, Answer> {
+        match raw.open(&bytes_of(value)) {
             Answer::Done => Ok(Lock { raw, value: PhantomData }),
             refused => Err(refused),
         }
@@ -1179,8 +1309,11 @@ impl<T: Copy + Send + 'static> Lock<T> {
     }
 
     fn guard(&self) -> LockGuard<'_, T> {
-        // SAFETY: the calling thread holds the lock, so there is a turn.
-        let value = unsafe { value_of(qolb_lock_turn(self.raw.0.get())) };
+        let () = Lock::<T>::FITS;
+        let mut bytes = LineBytes([MaybeUninit::uninit(); 64]);
+        self.raw.read(&mut bytes);
+        // SAFETY: the calling thread holds the lock, and an opening or a guard wrote a `T` there.
+        let value = unsafe { bytes.0.as_ptr().cast::<T>().read_unaligned() };
         LockGuard { lock: self, value, stays: PhantomData }
     }
 }
@@ -1244,9 +1377,7 @@ impl<T: Copy + Send + 'static> LockGuard<'_, T> {
     }
 
     fn write(&self) {
-        let bytes = bytes_of(self.value);
-        // SAFETY: there is a turn if the thread holds the lock.
-        unsafe { qolb_lock_turn(self.lock.raw.0.get()).map(|mut turn| qolb_write(turn.as_mut(), u64::MAX, (&raw const bytes).cast())) };
+        self.lock.raw.write(&bytes_of(self.value));
     }
 }
 
@@ -1417,7 +1548,7 @@ impl<'a> Entering<'a> {
         let answer = unsafe {
             match self.waits {
                 true => qolb_task_poll(&raw mut self.task),
-                false => qolb_task_enter(&raw mut self.task, self.raw.0.get(), wake, self.slot.arg()),
+                false => qolb_task_enter(&raw mut self.task, self.raw.at(), wake, self.slot.arg()),
             }
         };
         let answer = self.raw.took(answer);
@@ -1440,7 +1571,7 @@ impl Drop for Entering<'_> {
 
 /// Leaves, or shuts, for a task that holds the lock.
 fn leave_by(raw: &RawQolb, task: &mut RawTask, shuts: bool) {
-    tsan::release(raw.0.get());
+    tsan::release(raw.at());
     // SAFETY: the task holds the lock.
     unsafe {
         match shuts {

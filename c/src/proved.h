@@ -55,6 +55,12 @@ __attribute__((visibility("hidden"))) uint32_t qolb_lock_enter_unasked_(qolb_loc
  * not there. */
 __attribute__((visibility("hidden"))) void qolb_free_guards_(void);
 
+#ifdef QOLB_LOCK_CORE
+/* A lock of core_lock lends no node. */
+static inline int qolb_is_lent_(const qolb_node *node) { return (void)node, 0; }
+#define qolb_lent_(node) ((void)(node), (qolb_node *)NULL)
+#else
 static inline int qolb_is_lent_(const qolb_node *node) { return (int)((uintptr_t)node->own & 1); }
+#endif
 
 #endif

@@ -63,16 +63,36 @@ static int forks(uint32_t kind) {
     return goes_on(n, 5, 7) || closes(n);
 }
 
+/* What a lock guards is in its line; of one on the core, which has none, beside it. */
+#ifdef QOLB_LOCK_CORE
+static uint64_t beside;
+static uint32_t read_guarded(qolb_lock *lock, uint64_t *out) {
+    *out = beside;
+    return qolb_lock_is_mine(lock) ? QOLB_DONE : QOLB_MISUSE;
+}
+static uint32_t write_guarded(qolb_lock *lock, uint64_t value) {
+    beside = value;
+    return qolb_lock_is_mine(lock) ? QOLB_DONE : QOLB_MISUSE;
+}
+#else
+static uint32_t read_guarded(qolb_lock *lock, uint64_t *out) { return qolb_read_lane(qolb_lock_turn(lock), 0, out); }
+static uint32_t write_guarded(qolb_lock *lock, uint64_t value) {
+    return qolb_write_lane(qolb_lock_turn(lock), 0, value);
+}
+#endif
+
 /* The same test with a lock, which is held at the fork. */
 static int lock_goes_on(qolb_lock *lock, uint64_t was, uint64_t leaves) {
     uint64_t lane;
     WANT(qolb_lock_try(lock), QOLB_BUSY);
-    WANT(qolb_read_lane(qolb_lock_turn(lock), 0, &lane), QOLB_DONE);
+    WANT(qolb_lock_holder(lock) != 0, 1);
+    WANT(read_guarded(lock, &lane), QOLB_DONE);
     WANT(lane, was);
-    WANT(qolb_write_lane(qolb_lock_turn(lock), 0, leaves), QOLB_DONE);
+    WANT(write_guarded(lock, leaves), QOLB_DONE);
     WANT(qolb_lock_leave(lock), QOLB_DONE);
+    WANT(qolb_lock_holder(lock), 0);
     WANT(qolb_lock_enter(lock), QOLB_GRANTED);
-    WANT(qolb_read_lane(qolb_lock_turn(lock), 0, &lane), QOLB_DONE);
+    WANT(read_guarded(lock, &lane), QOLB_DONE);
     WANT(lane, leaves);
     WANT(qolb_lock_leave(lock), QOLB_DONE);
     WANT(qolb_lock_close(lock), QOLB_DONE);
@@ -80,10 +100,10 @@ static int lock_goes_on(qolb_lock *lock, uint64_t was, uint64_t leaves) {
 }
 
 static int forks_a_lock(uint32_t kind) {
-    qolb_lock lock = {NULL, kind, 3};
+    qolb_lock lock = QOLB_LOCK_INIT_OF(kind, 3);
     int ended;
     WANT(qolb_lock_enter(&lock), QOLB_GRANTED);
-    WANT(qolb_write_lane(qolb_lock_turn(&lock), 0, 5), QOLB_DONE);
+    WANT(write_guarded(&lock, 5), QOLB_DONE);
     pid_t child = fork();
     if (child < 0) return perror("fork"), 1;
     if (child == 0) exit(lock_goes_on(&lock, 5, 6));

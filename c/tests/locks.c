@@ -13,6 +13,13 @@
 
 enum { MOST = 200 };
 
+/* A lock on the core lends no node (docs/CORE_LOCK.md). */
+#ifdef QOLB_LOCK_CORE
+#define IS_MINE(lock) qolb_lock_is_mine(lock)
+#else
+#define IS_MINE(lock) (qolb_lock_turn(lock) != NULL)
+#endif
+
 /* A thread that a test starts: its number, which it reports right before it waits. */
 struct helper {
     pthread_t id;
@@ -42,7 +49,7 @@ static int of_a_closed_one(void) {
     WANT(qolb_cond_signal(&cond), QOLB_DONE);
     WANT(qolb_cond_broadcast(&cond), QOLB_DONE);
     WANT(qolb_lock_holder(&lock), 0);
-    WANT(qolb_lock_turn(&lock) == NULL, 1);
+    WANT(IS_MINE(&lock), 0);
     WANT(qolb_lock_close(&lock), QOLB_DONE);
     WANT(lock.own == NULL, 1);
     WANT(qolb_lock_enter(&none), QOLB_BAD_NODES);
@@ -89,8 +96,7 @@ static int of_bursts(void) {
 /* The answers to another thread, of a holder's lock and of the node that it was lent. */
 static void *of_another(void *argument) {
     struct helper *me = argument;
-    qolb_node *lent = qolb_lock_turn(me->lock);
-    MUST(lent == NULL, 1);
+    MUST(IS_MINE(me->lock), 0);
     MUST(qolb_lock_leave(me->lock), QOLB_MISUSE);
     MUST(qolb_lock_shut(me->lock), QOLB_MISUSE);
     MUST(qolb_cond_wait(me->cond, me->lock), QOLB_MISUSE);
@@ -100,6 +106,7 @@ static void *of_another(void *argument) {
     return NULL;
 }
 
+#ifndef QOLB_LOCK_CORE
 static qolb_node *lent_node;
 
 static void *by_lent_node(void *argument) {
@@ -150,12 +157,42 @@ static int reads_and_writes(qolb_node *lent, const qolb_bytes *opening) {
     return refuses_to_move(lent);
 }
 
+static int lends_a_node(qolb_lock *lock, struct helper *other, const qolb_bytes *opening) {
+    lent_node = qolb_lock_turn(lock);
+    if (reads_and_writes(lent_node, opening)) return 1;
+    start(other, by_lent_node);
+    pthread_join(other->id, NULL);
+    return 0;
+}
+
+/* Once the lock is left, and entered anew. */
+static int lends_no_more(void) {
+    WANT(qolb_state(lent_node), QOLB_STATE_EMPTY);
+    return refuses_to_move(lent_node);
+}
+
+static int lane_7_is(qolb_lock *lock, uint64_t wanted) {
+    uint64_t lane;
+    WANT(qolb_read_lane(qolb_lock_turn(lock), 7, &lane), QOLB_DONE);
+    WANT(lane, wanted);
+    return 0;
+}
+#else
+static int lends_a_node(qolb_lock *lock, struct helper *other, const qolb_bytes *opening) {
+    (void)lock, (void)other, (void)opening;
+    return 0;
+}
+static int lends_no_more(void) { return 0; }
+static int lane_7_is(qolb_lock *lock, uint64_t wanted) {
+    (void)lock, (void)wanted;
+    return 0;
+}
+#endif
+
 static int of_others(qolb_lock *lock) {
     qolb_cond cond = QOLB_COND_INIT;
     struct helper other = {.lock = lock, .cond = &cond};
     start(&other, of_another);
-    pthread_join(other.id, NULL);
-    start(&other, by_lent_node);
     pthread_join(other.id, NULL);
     double since = seconds(CLOCK_MONOTONIC);
     WANT(qolb_lock_enter_within(lock, 20 * MS), QOLB_MISUSE);
@@ -169,7 +206,6 @@ static int of_others(qolb_lock *lock) {
  * and its seats. */
 static int of_a_shut_one(qolb_lock *lock) {
     uint32_t kind = lock->kind, seats = lock->seats;
-    uint64_t lane;
     WANT(qolb_lock_shut(lock), QOLB_DONE);
     WANT(qolb_lock_shut(lock), QOLB_MISUSE);
     for (int k = 0; k < 5; k++) {
@@ -181,8 +217,7 @@ static int of_a_shut_one(qolb_lock *lock) {
     WANT(lock->kind, kind);
     WANT(lock->seats, seats);
     WANT(qolb_lock_enter(lock), QOLB_GRANTED);
-    WANT(qolb_read_lane(qolb_lock_turn(lock), 7, &lane), QOLB_DONE);
-    WANT(lane, 0);
+    if (lane_7_is(lock, 0)) return 1;
     WANT(qolb_lock_leave(lock), QOLB_DONE);
     WANT(qolb_lock_close(lock), QOLB_DONE);
     return 0;
@@ -191,14 +226,14 @@ static int of_a_shut_one(qolb_lock *lock) {
 static int of_the_holder(uint32_t kind) {
     qolb_bytes opening = {{1, 2}};
     qolb_lock lock = QOLB_LOCK_INIT(1);
-    uint64_t lane;
+    struct helper other = {.lock = &lock};
     WANT(qolb_lock_open(&lock, kind, 9, 3, &opening), QOLB_DONE);
     WANT(qolb_lock_open(&lock, kind, 9, 3, &opening), QOLB_OCCUPIED);
     WANT(lock.seats, 3);
     WANT(qolb_lock_enter(&lock), QOLB_GRANTED);
     WANT(qolb_lock_holder(&lock), gettid());
-    qolb_node *lent = lent_node = qolb_lock_turn(&lock);
-    if (reads_and_writes(lent, &opening)) return 1;
+    WANT(IS_MINE(&lock), 1);
+    if (lends_a_node(&lock, &other, &opening)) return 1;
     WANT(qolb_lock_try(&lock), QOLB_BUSY);
     WANT(qolb_lock_close(&lock), QOLB_MISUSE);
     if (of_others(&lock)) return 1;
@@ -206,11 +241,9 @@ static int of_the_holder(uint32_t kind) {
     WANT(qolb_lock_leave(&lock), QOLB_DONE);
     WANT(qolb_lock_leave(&lock), QOLB_MISUSE);
     WANT(qolb_lock_holder(&lock), 0);
-    WANT(qolb_state(lent), QOLB_STATE_EMPTY);
-    if (refuses_to_move(lent)) return 1;
+    if (lends_no_more()) return 1;
     WANT(qolb_lock_try(&lock), QOLB_GRANTED);
-    WANT(qolb_read_lane(qolb_lock_turn(&lock), 7, &lane), QOLB_DONE);
-    WANT(lane, 5);
+    if (lane_7_is(&lock, 5)) return 1;
     return of_a_shut_one(&lock);
 }
 
@@ -472,6 +505,7 @@ static void *waits_a_second_at_condition(void *argument) {
     return NULL;
 }
 
+#ifndef WITHOUT_NODES
 static qolb_node waiting_node;
 
 static void *waits_a_second_with_a_node(void *argument) {
@@ -482,17 +516,36 @@ static void *waits_a_second_with_a_node(void *argument) {
     return NULL;
 }
 
+static int open_nodes(qolb_node *held) {
+    qolb_bytes zeros = {{0}};
+    qolb_node nodes[2] = {{0}};
+    WANT(qolb_open(QOLB_TICKET, 1, 2, QOLB_NO_LEASE, &zeros, nodes, 2), QOLB_DONE);
+    WANT(qolb_acquire(&nodes[0]), QOLB_GRANTED);
+    *held = qolb_move(&nodes[0]);
+    waiting_node = qolb_move(&nodes[1]);
+    return 0;
+}
+
+static int close_nodes(qolb_node *held) {
+    WANT(qolb_deqolb(held), QOLB_DONE);
+    WANT(qolb_close(held), QOLB_DONE);
+    WANT(qolb_close(&waiting_node), QOLB_DONE);
+    return 0;
+}
+#else
+static int open_nodes(qolb_node *held) { return held->own != NULL; }
+static int close_nodes(qolb_node *held) { return held->own != NULL; }
+#define waits_a_second_with_a_node waits_a_second_at_condition
+#endif
+
 static int waiters_take_no_processor(void) {
     static qolb_lock held = QOLB_LOCK_INIT(2), free = QOLB_LOCK_INIT(2);
     static qolb_cond cond = QOLB_COND_INIT;
     static void *(*const works[])(void *) = {waits_a_second, waits_a_second, waits_a_second,
                                              waits_a_second_at_condition, waits_a_second_with_a_node};
-    qolb_bytes zeros = {{0}};
-    qolb_node nodes[2] = {{0}};
+    qolb_node node = {0};
     struct helper threads[5] = {{0}};
-    WANT(qolb_open(QOLB_TICKET, 1, 2, QOLB_NO_LEASE, &zeros, nodes, 2), QOLB_DONE);
-    WANT(qolb_acquire(&nodes[0]), QOLB_GRANTED);
-    waiting_node = qolb_move(&nodes[1]);
+    if (open_nodes(&node)) return 1;
     WANT(qolb_lock_enter(&held), QOLB_GRANTED);
     for (int k = 0; k < 5; k++) {
         threads[k].lock = k < 3 ? &held : &free;
@@ -504,9 +557,7 @@ static int waiters_take_no_processor(void) {
         WANT(threads[k].processor < 0.1, 1);
     }
     WANT(qolb_lock_leave(&held), QOLB_DONE);
-    WANT(qolb_deqolb(&nodes[0]), QOLB_DONE);
-    WANT(qolb_close(&nodes[0]), QOLB_DONE);
-    WANT(qolb_close(&waiting_node), QOLB_DONE);
+    if (close_nodes(&node)) return 1;
     WANT(qolb_lock_close(&held), QOLB_DONE);
     WANT(qolb_lock_close(&free), QOLB_DONE);
     return 0;
@@ -774,7 +825,7 @@ static int much_use(uint32_t kind, unsigned threads, unsigned seats, int ends_by
     long had = 0;
     memset(&shared, 0, sizeof shared);
     memset(helpers, 0, sizeof helpers);
-    shared.lock = (qolb_lock){NULL, kind, seats};
+    shared.lock = (qolb_lock)QOLB_LOCK_INIT_OF(kind, seats);
     shared.ends_by_shut = ends_by_shut;
     shared.rounds = threads > 32 ? 30 : 3000 / (int)threads;
     for (unsigned k = 0; k < threads; k++) {

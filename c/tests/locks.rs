@@ -379,6 +379,29 @@ fn bursts() {
     }
 }
 
+/// A mutex may be moved once it was used; and one whose guard is forgotten may be dropped, whose thread goes on.
+fn moved_and_forgotten() {
+    for burst in [0, 64] {
+        let mutex = Mutex::with_burst(1, 4, burst);
+        *mutex.lock().unwrap() += 1;
+        let mut moved = vec![mutex];
+        moved.reserve(100);
+        thread::scope(|scope| {
+            for _ in 0..4 {
+                scope.spawn(|| (0..100).for_each(|_| *moved[0].lock().unwrap() += 1));
+            }
+        });
+        let boxed = Box::new(moved.pop().unwrap());
+        assert_eq!(*boxed.lock().unwrap(), 402);
+        std::mem::forget(boxed.lock().unwrap());
+        drop(boxed);
+        let another = Mutex::with_burst(7, 4, burst);
+        assert_eq!(*another.lock().unwrap(), 7);
+    }
+    let never_used: Mutex<u8> = Mutex::new(3);
+    assert_eq!(never_used.into_inner(), 3);
+}
+
 fn main() {
     panic::set_hook(Box::new(|told| {
         let said = told.payload_as_str().unwrap_or_default();
@@ -388,6 +411,7 @@ fn main() {
         }
     }));
     mutex_guards();
+    moved_and_forgotten();
     mutex_answers();
     are_as_others();
     guards_of_parts();

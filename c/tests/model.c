@@ -326,6 +326,10 @@ static void lock_is_opened(void) {
     memcpy(locked.byte, opening.byte, 64);
 }
 
+/* A lock on the core has no bytes, and lends no node. */
+#ifdef QOLB_LOCK_CORE
+static void lock_is_read_and_written(void) { SAME(qolb_lock_is_mine(&locked.lock), 0, (uint64_t)locked.held); }
+#else
 static void lock_is_read_and_written(void) {
     qolb_node *turn = qolb_lock_turn(&locked.lock);
     uint64_t lane = draw(8), value = draw(UINT64_MAX), out = 0;
@@ -341,6 +345,7 @@ static void lock_is_read_and_written(void) {
     SAME(qolb_deqolb(turn), 0, QOLB_MISUSE);
     SAME(qolb_withdraw(turn), 0, QOLB_MISUSE);
 }
+#endif
 
 static void lock_call(void) {
     switch (draw(12)) {
@@ -373,7 +378,8 @@ static void lock_call(void) {
 static void one_lock(void) {
     memset(&locked, 0, sizeof locked);
     locked.seats = draw(10) ? 1 + draw(6) : 1 + draw(MOST);
-    locked.lock = (qolb_lock){NULL, (uint32_t)draw(QOLB_KINDS), (uint32_t)locked.seats};
+    uint32_t kind = (uint32_t)draw(QOLB_KINDS);
+    locked.lock = (qolb_lock)QOLB_LOCK_INIT_OF(kind, (uint32_t)locked.seats);
     for (uint64_t end = done + 1 + draw(1000); done < end && done < calls;) lock_call();
     lock_leaves(0);
     qolb_lock_leave(&locked.lock);

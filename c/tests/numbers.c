@@ -38,10 +38,16 @@ long __wrap_syscall(long number, ...) {
 static qolb_lock lock;
 static qolb_cond cond = QOLB_COND_INIT;
 
+#ifdef QOLB_LOCK_CORE
+#define IS_MINE(lock) qolb_lock_is_mine(lock)
+#else
+#define IS_MINE(lock) (qolb_lock_turn(lock) != NULL)
+#endif
+
 /* Another thread holds the lock. */
 static void *holds_nothing(void *unused) {
     WANT(qolb_lock_holder(&lock), NUMBER);
-    WANT(qolb_lock_turn(&lock) == NULL, 1);
+    WANT(IS_MINE(&lock), 0);
     WANT(qolb_lock_leave(&lock), QOLB_MISUSE);
     WANT(qolb_lock_shut(&lock), QOLB_MISUSE);
     WANT(qolb_cond_wait(&cond, &lock), QOLB_MISUSE);
@@ -67,7 +73,7 @@ static void in_another_thread(void *(*work)(void *)) {
 static void is_held(void) {
     in_another_thread(holds_nothing);
     WANT(qolb_lock_enter(&lock), QOLB_MISUSE);
-    WANT(qolb_lock_turn(&lock) != NULL, 1);
+    WANT(IS_MINE(&lock), 1);
     WANT(qolb_lock_leave(&lock), QOLB_DONE);
     in_another_thread(has_it);
     WANT(qolb_lock_enter(&lock), QOLB_GRANTED);

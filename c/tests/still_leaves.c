@@ -1,9 +1,10 @@
 /* A thread leaves a lock, and is stopped in that call while it wakes the next holder. All others can enter, whichever
- * call the thread left by. The lock is closed only once that thread is out. Linked with --wrap for syscall. Prints only
- * errors. */
+ * call the thread left by. The lock is closed only once that thread is out; one on the core at once, and its memory may
+ * go. Linked with --wrap for syscall. Prints only errors. */
 #define _GNU_SOURCE
 #include <qolb.h>
 #include <stdarg.h>
+#include <string.h>
 #include <sys/syscall.h>
 
 #include "waiters.h"
@@ -23,7 +24,7 @@ long __wrap_syscall(long number, ...) {
     for (int k = 0; k < 6; k++) word[k] = va_arg(rest, long);
     va_end(rest);
     long got = __real_syscall(number, word[0], word[1], word[2], word[3], word[4], word[5]);
-    if (first && word[1] == 129 /* FUTEX_WAKE_PRIVATE */) {
+    if (first && (word[1] == 129 /* FUTEX_WAKE_PRIVATE */ || word[1] == 138 /* FUTEX_WAKE_BITSET_PRIVATE */)) {
         atomic_store(&is_stopped, 1);
         while (!atomic_load(&may_go_on)) usleep(1000);
     }
@@ -63,9 +64,15 @@ static void is_free_meanwhile(uint32_t kind, uint32_t seats) {
     MUST(pthread_create(&one, NULL, leaves_to_another, NULL), 0);
     while (!atomic_load(&holds)) sched_yield();
     uses();
+#ifdef QOLB_LOCK_CORE
+    MUST(qolb_lock_close(&lock), QOLB_DONE);
+    memset(&lock, 0x5a, sizeof lock);
+    MUST(pthread_create(&other, NULL, goes_on, NULL), 0);
+#else
     MUST(pthread_create(&other, NULL, goes_on, NULL), 0);
     MUST(qolb_lock_close(&lock), QOLB_DONE);
     MUST(atomic_load(&may_go_on), 1);
+#endif
     pthread_join(one, NULL);
     pthread_join(other, NULL);
 }
@@ -73,6 +80,11 @@ static void is_free_meanwhile(uint32_t kind, uint32_t seats) {
 int main(void) {
     alarm(600);
     for (uint32_t kind = 0; kind < QOLB_KINDS; kind++)
-        for (uint32_t seats = 2; seats <= 4; seats++) is_free_meanwhile(kind, seats);
+        for (uint32_t seats = 2; seats <= 4; seats++) {
+            is_free_meanwhile(kind, seats);
+#ifdef QOLB_LOCK_CORE
+            is_free_meanwhile(kind, QOLB_SEATS(seats, 64));
+#endif
+        }
     return 0;
 }

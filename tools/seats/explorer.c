@@ -25,6 +25,7 @@ static struct thread {
     void *in_call;
     enum { ENDED, RUNS, SLEEPS } state;
     uintptr_t word;
+    uint32_t classes; /* of those at the word */
     int times_out, lates;
     uint64_t now;
     struct clock clock;
@@ -39,6 +40,8 @@ static long runs;
 static struct { unsigned char taken, options, free; } path[1 << 14];
 
 static struct thread *me(void) { return &threads[self_]; }
+
+int self_number(void) { return self_; }
 
 void **model_in_call(void) { return &me()->in_call; }
 
@@ -120,9 +123,13 @@ void touch(const volatile void *where, unsigned size, int how) {
 
 static uint64_t get(uintptr_t at, unsigned size) { return size == 4 ? *(uint32_t *)at : *(uint64_t *)at; }
 
-static void put(const struct late *it) {
+static void put_own(const struct late *it) {
     if (it->size == 4) *(uint32_t *)it->at = (uint32_t)it->value;
     else *(uint64_t *)it->at = it->value;
+}
+
+static void put(const struct late *it) {
+    put_own(it);
     if (it->releases) cell_of(it->at)->told = it->clock;
     else memset(&cell_of(it->at)->told, 0, sizeof(struct clock));
 }
@@ -174,8 +181,10 @@ void releases(struct clock *clock) {
     me()->clock.at[self_]++;
 }
 
+/* A thread's own data are at one place for all threads, and of no interest to the others. */
 static uint64_t load(const volatile void *where, unsigned size, int order) {
     uintptr_t at = (uintptr_t)where;
+    if (is_own(at)) return get(at, size);
     step(0);
     touch(where, size, READ);
     for (int k = me()->lates - 1; k >= 0; k--)
@@ -185,9 +194,10 @@ static uint64_t load(const volatile void *where, unsigned size, int order) {
 }
 
 static void store(volatile void *where, unsigned size, uint64_t value, int order) {
+    struct late made = {(uintptr_t)where, size, value, me()->clock, order != __ATOMIC_RELAXED};
+    if (is_own(made.at)) return put_own(&made);
     step(0);
     touch(where, size, WRITE);
-    struct late made = {(uintptr_t)where, size, value, me()->clock, order != __ATOMIC_RELAXED};
     me()->clock.at[self_]++;
     if (order == __ATOMIC_SEQ_CST || self_ == THREADS) {
         show_all();
@@ -205,8 +215,8 @@ static uint64_t change(volatile void *where, unsigned size, enum change how, uin
     uintptr_t at = (uintptr_t)where;
     step(0);
     show_all();
-    touch(where, size, WRITE);
     uint64_t was = get(at, size);
+    touch(where, size, only && was != *only ? READ : WRITE);
     struct clock *told = &cell_of(at)->told;
     acquires(told);
     if (only && was != *only) return was;
@@ -241,6 +251,8 @@ static uint64_t change(volatile void *where, unsigned size, enum change how, uin
     void __tsan_write##bytes(void *p) { touch(p, bytes, PLAIN_WRITE); }
 OF_SIZE(32, 4)
 OF_SIZE(64, 8)
+void __tsan_read1(void *p) { touch(p, 1, PLAIN_READ); }
+void __tsan_write1(void *p) { touch(p, 1, PLAIN_WRITE); }
 void __tsan_read16(void *p) { touch(p, 16, PLAIN_READ); }
 void __tsan_write16(void *p) { touch(p, 16, PLAIN_WRITE); }
 void __tsan_write_range(void *p, size_t size) { touch(p, (unsigned)size, PLAIN_WRITE); }
@@ -274,18 +286,22 @@ int model_clock(int clock, struct timespec *out) {
     return *out = (struct timespec){0, (long)me()->now}, 0;
 }
 
-static void sleeps(uintptr_t word, uint32_t value, int times_out) {
+static void sleeps(uintptr_t word, uint32_t value, int times_out, uint32_t classes) {
+    touch((void *)word, 4, READ);
     if (get(word, 4) != value) return;
-    me()->state = SLEEPS, me()->word = word, me()->times_out = times_out;
+    me()->state = SLEEPS, me()->word = word, me()->times_out = times_out, me()->classes = classes;
     step(1);
 }
 
-static void wakes(uintptr_t word, int many) {
+static void wakes(uintptr_t word, int many, uint32_t classes) {
     for (int k = 0; k < scene->threads && many > 0; k++)
-        if (threads[k].state == SLEEPS && threads[k].word == word) threads[k].state = RUNS, many--;
+        if (threads[k].state == SLEEPS && threads[k].word == word && threads[k].classes & classes)
+            threads[k].state = RUNS, many--;
 }
 
-/* The system calls of a lock. Each lets all stores before it be seen. */
+/* The system calls of a lock: sleeping for a while, in classes until a time, and waking. Each lets all stores before it
+ * be seen. */
+enum { WAITS = 128, WAITS_IN_CLASSES = 137, WAKES_CLASSES = 138 };
 long model_syscall(long number, ...) {
     va_list rest;
     if (number == SYS_gettid) return 100 + self_;
@@ -296,10 +312,16 @@ long model_syscall(long number, ...) {
     uint32_t value = va_arg(rest, uint32_t);
     step(0);
     show_all();
-    const struct timespec *time = what == 128 ? va_arg(rest, const struct timespec *) : NULL;
-    if (time && time->tv_sec == 0 && time->tv_nsec < MS) step(1); /* a sleep from which no thread wakes it */
-    else if (what == 128) sleeps(word, value, time != NULL);
-    else wakes(word, (int)value);
+    const struct timespec *time = va_arg(rest, const struct timespec *);
+    (void)va_arg(rest, void *);
+    uint32_t classes = what == WAITS_IN_CLASSES || what == WAKES_CLASSES ? va_arg(rest, uint32_t) : UINT32_MAX;
+    if (what == WAITS && time && time->tv_sec == 0 && time->tv_nsec < MS)
+        step(1); /* a sleep from which no thread wakes it */
+    else if (what == WAITS || what == WAITS_IN_CLASSES) sleeps(word, value, time != NULL, classes);
+    else wakes(word, (int)value, classes);
+#ifdef QOLB_LOCK_CORE
+    step(0); /* who is woken may be the next to go on */
+#endif
     va_end(rest);
     return 0;
 }
@@ -320,8 +342,8 @@ static void run(void) {
     threads[THREADS].clock.at[THREADS] = 1;
     set_up(scene);
     for (int k = 0; k < scene->threads; k++) {
-        threads[k].own = (struct own_data){0, 0, 0}, threads[k].in_call = NULL, threads[k].state = RUNS,
-        threads[k].now = 0, threads[k].lates = 0;
+        threads[k].own = (struct own_data){0}, threads[k].in_call = NULL, threads[k].state = RUNS, threads[k].now = 0,
+        threads[k].lates = 0;
         threads[k].clock = threads[THREADS].clock, threads[k].clock.at[k] = 1;
         getcontext(&threads[k].context);
         threads[k].context.uc_stack.ss_sp = threads[k].stack,

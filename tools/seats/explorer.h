@@ -10,6 +10,24 @@ struct clock {
     unsigned at[THREADS + 1];
 };
 
+#ifdef QOLB_LOCK_CORE
+/* What these threads do at the same time, each by its number, over a lock on the core with these bursts, which is
+ * opened before or at its first use. A request can be withdrawn with at most so many rounds to go, and so many
+ * threads may announce a sleep at one cell. */
+struct scene {
+    const char *name;
+    void (*does)(int self);
+    int threads;
+    unsigned burst;
+    int at_first_use;
+    unsigned near, sleepers;
+};
+
+/* The data of a thread in the lock's files, which is in one place here. */
+struct own_data {
+    _Alignas(8) char bytes[640];
+};
+#else
 /* What these threads do at the same time, each by its number, over a lock of this kind with these seats and bursts,
  * which is opened at its first use or before; or with a node each of a line of this kind. The places of a line share
  * one bell or none. A lock whose line is never kept has had fewer turns than that takes. Of two lines the places share
@@ -28,6 +46,7 @@ struct own_data {
     uint64_t number;
     unsigned last_seat, by_seat;
 };
+#endif
 
 /* In scenes.c: all scenes, and a last one without a name. */
 extern const struct scene scenes[];
@@ -50,3 +69,4 @@ void touch(const volatile void *where, unsigned size, int how);
 void show_all(void);
 void acquires(const struct clock *clock);
 void releases(struct clock *clock);
+int self_number(void);

@@ -1,11 +1,11 @@
 -- The promise of each call of a lock, by its answer. `was` and `now` are the ticket before and after. (Of this project.)
-use Rattle.std.specs.Prelude.{◌≡◌, ◌≢◌, ℕ, ◌<◌, ◌≤◌, ◌+◌, ◌%◌, ◌⊎◌, false, max, [], ◌∷◌}
+use Rattle.std.specs.Prelude.{◌≡◌, ◌≢◌, ℕ, ◌<◌, ◌≤◌, ◌+◌, ◌%◌, ◌⊎◌, true, false, max, [], ◌∷◌}
 use Rattle.std.specs.declared.option.Option.{Option}
 use Rattle.std.specs.declared.option.Option.TheVariants.{Some}
 use Rattle.atomic_table.specs.declared.shared.Seat.{Seat}
 use Rattle.lock_core.specs.declared.view.View.{View}
 use Rattle.lock_core.specs.Layout.{outer_at, tail_at, cell_at, to_go, count_of, handoff_of, asleep_of, state_of}
-use Rattle.lock_core.specs.Looks.{Found, FoundChanged, FoundNext, FoundTailMoved, IsLeftAs, IsNoEntry}
+use Rattle.lock_core.specs.Looks.{Found, FoundChanged, FoundNext, FoundTailMoved, IsHeldAnew, IsLeftAs, IsNoEntry}
 use Rattle.lock_core.specs.Looks as looks
 use Rattle.lock_core.specs.Views.{Timely, view_of, IsNewcomersTurn, IsOvertakenInBounds, GrantedToNobodyAsleep, GrantedAfter, LeftQuietly, SleepsAtOuter}
 use Rattle.qolb_locks.specs.declared.answer.Answer.{Answer}
@@ -91,6 +91,7 @@ Withdraws lock was now _ = ⊥
 -- the ticket granted the one after its number; where the count of sleepers there was 0, nobody slept
 abbrev pub GrantsNext : Lock → Ticket → Type 0
 GrantsNext lock now = Knows lock now (λ v. GrantedAfter now.number v × (now.sleepers ≡ 0 → GrantedToNobodyAsleep v))
+    × Shows now (Found (cell_at (now.number + 1)) (λ n. count_of n ≡ now.sleepers))
 
 -- `release`: a head that is in stays in
 abbrev pub Releases : Lock → Ticket → Ticket → Answer → Type 0
@@ -127,8 +128,8 @@ IsHead lock t = HasBursts lock × Is state.AtTurn lock t
 
 -- `take_outer`: the head is in, and is to release its turn of the queue
 abbrev pub TakesOuterWord : Lock → Ticket → Answer → Type 0
-TakesOuterWord lock now answer.Granted = Has state.HeadInside lock now × InBounds lock now
-TakesOuterWord lock now answer.Closed = Has state.HeadInsideShut lock now × InBounds lock now
+TakesOuterWord lock now answer.Granted = Has state.HeadInside lock now × InBounds lock now × Shows now (looks.Leaves outer_at IsHeldAnew)
+TakesOuterWord lock now answer.Closed = Has state.HeadInsideShut lock now × InBounds lock now × Shows now (looks.Leaves outer_at IsHeldAnew)
 TakesOuterWord lock now answer.Waiting = Has state.AtTurn lock now
     × Shows now (λ seat. Found outer_at (λ n. state_of n ≡ 1) seat ⊎ FoundChanged outer_at seat)
 TakesOuterWord lock now _ = ⊥
@@ -137,6 +138,7 @@ TakesOuterWord lock now _ = ⊥
 abbrev pub Leaves : Lock → Ticket → Ticket → Answer → Type 0
 Leaves lock was now answer.Done = Has state.Free lock now × Knows lock now (λ v. (v.inside ≡ 0) × (now.head_sleeps ≡ false → LeftQuietly v))
     × Shows now (looks.Leaves outer_at (IsLeftAs lock.burst was.outer))
+    × (now.head_sleeps ≡ true → asleep_of was.outer ≡ 1)
 Leaves lock was now answer.Busy = (Is state.Inside lock was → Has state.Inside lock now) × (Is state.InsideShut lock was → Has state.InsideShut lock now)
     × Shows now (Found outer_at (λ n. n ≢ was.outer))
 Leaves lock was now _ = ⊥
