@@ -99,7 +99,7 @@ fn have_turns<N: Turns, R: Wait>(
     After { tickets }
 }
 
-/// Has so many threads count so many turns each. Returns the count at the end, or `None` without memory.
+/// Has `threads` threads count `turns` turns each. Returns the count at the end, or `None` without memory.
 fn run<N: Turns + Send + Sync, R: Threads + Wait + Sync>(
     rt: &R,
     alloc: Global,
@@ -142,7 +142,7 @@ fn make<T: Drop>(alloc: Global, burst: u16, value: T) -> Option<FairLock<T>> {
     }
 }
 
-/// Has so many threads count so many turns each. Returns the count at the end, or `None` without memory.
+/// Has `threads` threads count `turns` turns each. Returns the count at the end, or `None` without memory.
 pub fn count<R: Threads + Wait + Sync>(
     rt: &R,
     alloc: Global,

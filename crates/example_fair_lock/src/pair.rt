@@ -47,7 +47,7 @@ fn move_coins<R: Wait>(rt: &R, lock: &FairLock<Purses>, times: u32) {
     }
 }
 
-/// The coins after so many threads have moved them so often; `None` without memory.
+/// The coins after all threads have moved them as often as asked; `None` without memory.
 pub fn sum_after<R: Threads + Wait + Sync>(
     rt: &R,
     alloc: Global,

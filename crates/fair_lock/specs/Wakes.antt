@@ -24,4 +24,4 @@ IfNotAnnounced announced.Not P = P
 
 -- Who granted a ticket is to wake the sleepers at that ticket's wake word. Where it is to wake nobody, nobody slept for the ticket.
 abbrev pub IsToldOf : ToWake → View → Type 0
-IsToldOf to_wake v = (to_wake.place ≡ v.granted % 4) × (to_wake.asleep ≡ false → GrantedToNobodyAsleep v)
+IsToldOf told v = (told.place ≡ v.granted % 4) × (told.asleep ≡ false → GrantedToNobodyAsleep v)

@@ -3,7 +3,7 @@ ghost use Rattle.std.specs.Prelude.{◌≡◌};
 
 use lock_core::ValueSeat;
 
-/// The lock is shut: there are no more turns. It has no bytes, and shows in proofs that the caller was told so.
+/// The lock is shut: there are no more turns. It has no bytes, and shows in proofs that the caller was told of it.
 #[derive(Drop)]
 pub struct Closed<T> {
     pub(crate) seat: ValueSeat<T>,

@@ -47,7 +47,7 @@ impl<T> Guard<'_, T> {
         self.seat.slot_mut(&lock.table.shared, 0)
     }
 
-    /// Shuts the lock: every later request is told so, and so are those that wait. One word step.
+    /// Shuts the lock: every later request is told of it, and so are those that wait. One word step.
     #[tactic(auto, unfolding(crate::specs::Turns::IsGuard))]
     pub fn shut(&mut self)
         requires guard { IsGuard self.old }

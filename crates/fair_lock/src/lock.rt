@@ -36,12 +36,12 @@ impl<T> FairLock<T> {
         FairLock::of_kind(alloc, LockKind::Strict, value)
     }
 
-    /// Makes a lock with bursts of at most `turns` turns, from 2 to 65,535: who comes may overtake the queue, by at most
+    /// Makes a lock with bursts of at most `turns` turns, from 2 to 65,535: a newcomer may overtake the queue, by at most
     /// `turns` - 1 turns from one queue head's to the next. Allocates.
     ///
     /// # Errors
     ///
-    /// `OpenError::ShortBurst` for fewer than two turns, `OpenError::Memory` where memory is short. The value comes back.
+    /// `OpenError::ShortBurst` for fewer than two turns, `OpenError::Memory` where memory is short. The value is returned.
     pub fn with_bursts(alloc: Global, turns: u16, value: T) -> Result<FairLock<T>, NewError<T>>
         ensures bursts { IfOk result (λ lock. (lock.burst ≡ turns) × (2 ≤ turns)) }
         ensures err { IfErr result (λ e. (e.value ≡ value)

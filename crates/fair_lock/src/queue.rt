@@ -9,7 +9,7 @@ use lock_core::{AskWithinResult, ValueSeat, ask_within, poll};
 use std::hint::spin_loop;
 use std::sync::{Wait, WaitMethods};
 
-/// A request is made while at most so many rounds, of four tickets each, are before it.
+/// A request is made while at most this number of rounds, of four tickets each, is before it.
 const WINDOW: u64 = 1 << 27;
 
 /// So often a waiter polls before it sleeps.

@@ -19,7 +19,7 @@ use std::rt::Clock;
 use std::sync::{Wait, WaitMethods};
 use std::time::{Duration, Instant};
 
-/// A request can be taken back while at most so many rounds are to be granted until its own.
+/// A request can be taken back while at most this number of rounds is to be granted until its own.
 const NEAR: u64 = 15;
 
 /// So often the queue head looks at the outer word before it sleeps.

@@ -16,7 +16,7 @@ use std::sync::Wait;
 impl<T> FairLock<T> {
     /// Enters, and waits for that as long as it takes: polls for some 20 us, and then sleeps. Blocks.
     ///
-    /// In a strict lock the turn comes in the order of requests. In one with bursts a newcomer may be served at once,
+    /// In a strict lock turns are in the order of requests. In one with bursts a newcomer may be served at once,
     /// and who waits is overtaken by at most `turns` - 1 of them before each turn of the queue.
     ///
     /// # Errors

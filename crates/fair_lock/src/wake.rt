@@ -118,10 +118,10 @@ impl WakeWords {
             .park_timeout(rt, counted.place * STRIDE, counted.low, at_most);
     }
 
-    /// Wakes whoever sleeps at the place of `to_wake`, if it says that somebody does.
+    /// Wakes whoever sleeps at the place of `told`, if it says that somebody does.
     #[inline]
-    pub(crate) fn wake(&self, to_wake: ToWake) {
-        let ToWake { place, asleep } = to_wake;
+    pub(crate) fn wake(&self, told: ToWake) {
+        let ToWake { place, asleep } = told;
         if asleep {
             self.wake_all(place);
         }

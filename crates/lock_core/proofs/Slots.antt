@@ -1,4 +1,4 @@
--- The value in the slot: a step that a table without a slot allows is allowed with one, where who comes to be served takes the value, and who ends that
+-- The value in the slot: a step that a table without a slot allows is allowed with one, where whoever is served from then on takes the value, and who ends that
 -- gives it back.
 use Rattle.std.proofs.Common.{◌≡◌, ◌≢◌, ℕ, suc, ◌+◌, ◌-◌, ◌*◌, ◌/◌, ◌%◌, ◌^◌, ◌<◌, ◌≤◌, List, [], ◌∷◌, map, length, set, slice_index, sym, refl, ap, ◌∙◌, subst, arith, eqb, length-set, ⊎_elim}
 use mathlib.Core.Logic.{dite}

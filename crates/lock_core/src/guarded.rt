@@ -17,9 +17,9 @@ const MAX_TICKETS: u64 = 1 << 63;
 pub enum AskWithinResult {
     /// It drew this ticket, which is at its turn.
     AtTurn { ticket: u64 },
-    /// It drew this ticket; so many rounds are to be granted until the ticket's own is.
+    /// It drew this ticket; `rounds` rounds are to be granted until the ticket's own is.
     Queued { ticket: u64, rounds: u64 },
-    /// It drew none: the next ticket has so many rounds to go, more than the window.
+    /// It drew none: the next ticket has `rounds` rounds to go, more than the window.
     Far { rounds: u64 },
     /// It drew none: another caller drew at that moment.
     Changed,

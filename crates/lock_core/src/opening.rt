@@ -106,7 +106,7 @@ pub struct OpenValueError<T> {
 }
 
 /// Opens a lock with the one value in `values`: two blocks for the words and the value. Refused by name: bursts of fewer
-/// than two turns, and where memory is short. The value comes back then, and nothing is kept.
+/// than two turns, and where memory is short. The value is returned then, and nothing is kept.
 pub fn open_value<T>(
     alloc: Global,
     kind: LockKind,
