@@ -8,6 +8,7 @@ mod FirstState
 mod Marks
 mod NextGrant
 mod OuterWord
+mod ClosingSteps
 mod Meeting
 mod Noting
 mod Slots

@@ -20,7 +20,8 @@ use Rattle.lock_core.proofs.Asking.{IsFew, ask_allowed, read_tail_allowed, read_
 use Rattle.lock_core.proofs.Looking.{look_allowed, announce_sleep_allowed, retract_sleep_allowed}
 use Rattle.lock_core.proofs.Marks.{withdraw_allowed, clear_allowed}
 use Rattle.lock_core.proofs.NextGrant.{grant_allowed}
-use Rattle.lock_core.proofs.OuterWord.{request_handoff_allowed, go_in_allowed, take_outer_allowed, leave_allowed, shut_allowed, reopen_allowed, check_open_allowed, announce_head_sleep_allowed}
+use Rattle.lock_core.proofs.OuterWord.{request_handoff_allowed, go_in_allowed, take_outer_allowed, leave_allowed}
+use Rattle.lock_core.proofs.ClosingSteps.{shut_allowed, reopen_allowed, check_open_allowed, announce_head_sleep_allowed}
 
 pub set_there : {A : Type 0} (l : List A) (i : ℕ) (v w : A) → get_elem? l i ≡ some v → get_elem? (set l i w) i ≡ some w
 set_there [] i v w at = absurd (some-ne-none v (sym at))

@@ -1,5 +1,5 @@
 -- The outer word: newcomers and heads take it and leave it.
-use Rattle.std.proofs.Common.{◌≡◌, ◌≢◌, ℕ, ◌+◌, ◌*◌, ◌/◌, ◌%◌, ◌<◌, ◌≤◌, ◌-◌, inl, inr, set, slice_index, sym, refl, ap, ◌∙◌, subst, arith, length-set, get_or-set_same, get_or-set_other, eqb, eq-eqb, ne_eqb, ⊎_elim}
+use Rattle.std.proofs.Common.{◌≡◌, ◌≢◌, ℕ, ◌+◌, ◌*◌, ◌/◌, ◌%◌, ◌<◌, ◌≤◌, ◌-◌, inr, set, slice_index, sym, refl, ap, ◌∙◌, subst, arith, length-set, get_or-set_same, get_or-set_other, eqb, eq-eqb, ne_eqb, ⊎_elim}
 use mathlib.Core.Option.{none, some}
 use mathlib.Core.Logic.{dite}
 use native.Mathlib.Decide.{ℕ_discrete}
@@ -11,10 +11,10 @@ use Rattle.lock_core.specs.declared.view.View.{View}
 use Rattle.lock_core.specs.declared.view.Phase.{Phase}
 use Rattle.lock_core.specs.declared.view.Phase.TheVariants.{Idle, Queued, Asleep, AtTurn, Passing, HeadInside, Impossible}
 use Rattle.lock_core.specs.Layout.{cell_at, state_of, came_of, shut_of, rounds, asleep_of}
-use Rattle.lock_core.specs.Views.{limit, Timely, IsAtTurn, IsIdle, IsInside, ServedOpen, ServedShut, Awaits, HasTurn}
+use Rattle.lock_core.specs.Views.{limit, Timely, IsAtTurn, IsIdle, IsInside}
 use Rattle.lock_core.specs.Invariant.{tally, Ghost, Late, Waiter, Holder, Guest, Place, Door, Counts, Fits, Cell, Tickets, takes_of, Rests, AtOuter, Probe, Asks}
-use Rattle.lock_core.specs.Steps.{goes_in, takes_outer, leaves, checks_open, shuts, reopens, announces_head_sleep, requests_handoff}
-use Rattle.lock_core.proofs.Base.{put, put_here, put_else, each_after, cells_same, tally_none, known, heard, fits, place_of, other, door_apart, door_on, idle_asks, asks_on, turn_of_place, busy_of, place_told, in_bounds}
+use Rattle.lock_core.specs.Steps.{goes_in, takes_outer, leaves, requests_handoff}
+use Rattle.lock_core.proofs.Base.{put, put_here, put_else, each_after, cells_same, tally_none, known, heard, fits, place_of, other, door_on, idle_asks, asks_on, place_told, in_bounds}
 use Rattle.lock_core.proofs.Base.{unchanged}
 use Rattle.lock_core.proofs.Tally.{tally_set}
 
@@ -109,11 +109,11 @@ module _ {fl : ℕ} (s : State ℕ View) (r : Tickets fl s) (id : ℕ) (h : Ghos
   }
 
 -- who sleeps there stays told of
-rest_on : (g : Ghost) (x epoch : ℕ) (b : View) → (state_of x ≡ 1 → state_of g.outer ≡ 1) → (asleep_of g.outer ≡ 1 → asleep_of x ≡ 1) → Rests g b → Rests (record g { outer = x; epoch = epoch }) b
+pub rest_on : (g : Ghost) (x epoch : ℕ) (b : View) → (state_of x ≡ 1 → state_of g.outer ≡ 1) → (asleep_of g.outer ≡ 1 → asleep_of x ≡ 1) → Rests g b → Rests (record g { outer = x; epoch = epoch }) b
 rest_on g x epoch b state asleep k = record { takes_seen = k.takes_seen; held = k.held; lulls = k.lulls; sleeps_at_outer = λ one. let n = k.sleeps_at_outer one in (n.0, n.1, (λ e z. asleep (n.2 e (state z)))) }
 
 -- a request stays as it was while the epoch goes on
-asks_kept : (asked : ℕ) (g h : Ghost) (v : View) (alone : ℕ) (p : Phase) → h.epoch ≡ g.epoch → (shut_of g.outer ≡ 1 → shut_of h.outer ≡ 1) → (alone ≡ 1 → v.nobody_behind ≡ 1) → Asks asked g v p → Asks asked (gated g h) (record v { nobody_behind = alone }) p
+pub asks_kept : (asked : ℕ) (g h : Ghost) (v : View) (alone : ℕ) (p : Phase) → h.epoch ≡ g.epoch → (shut_of g.outer ≡ 1 → shut_of h.outer ≡ 1) → (alone ≡ 1 → v.nobody_behind ≡ 1) → Asks asked g v p → Asks asked (gated g h) (record v { nobody_behind = alone }) p
 asks_kept asked g h v alone p same_ shut_ old k = record { stamped = k.stamped; early = let e = k.early in omega arith; open_then = λ w one. k.open_then w one ∙ sym same_; shut_then = λ w ne e. shut_ (k.shut_then w ne (e ∙ same_)); nobody_behind = λ one two. k.nobody_behind (old one) two }
 
 -- The word changes and nobody takes the outer word: x is the new word.
@@ -509,189 +509,4 @@ leave_allowed {fl} id slots old new me same_ free few still_shut has s r sized a
           tt,
           unchanged s r id v at 0 x (omega arith) (ap (λ b. either b new outer) (ne_eqb outer old ne)) w refl (heard s r id v at) (λ le. (inside le).1.1) (λ _. refl) (λ le. let f = fits s r id v at le in record { knows = f.knows; lowest = omega arith; mine = λ busy. absurd (busy refl); place = tt; told_nobody = f.told_nobody; outer = f.outer; door = door_on r.g v v.phase Idle (λ e. let z = (inside le).1.0 in cc) f.door; tail_seen = f.tail_seen; asks = idle_asks r.asked r.g w f.asks.early refl }),
           ((refl, refl, known s r id v at, (let k = heard s r id v at in omega arith)), (refl, refl, refl), (refl, refl), refl, (λ timely. (holds_low timely, (λ is. absurd (ne is)), (λ _. (((inside timely).0, (refl, refl)), refl))))),
-        )
-
--- one at the door shuts the lock
-pub shut_allowed : {fl : ℕ} (id slots : ℕ) (me : Me ℕ View) → (Timely me.0 → ServedOpen me.0) → Allows (Tickets fl) slots id me 0 (λ n. (n + 16) % 18446744073709551616) (shuts (step slots 0 16 0 none) me)
-shut_allowed {fl} id slots me served s r sized at low =
-    let v : View = me.0 in
-    let outer : ℕ = slice_index s.words 0 in
-    let x : ℕ = (outer + 16) % 18446744073709551616 in (
-      knowing s r id v at x r.g.epoch 2 1 v.epoch v.takes_seen v.slept_in_take v.sleeps_at_outer 0,
-      keeps,
-      tt,
-      learned s r id v at x r.g.epoch 2 1 v.epoch v.takes_seen v.slept_in_take v.sleeps_at_outer 0 (λ le.
-          let is : outer ≡ r.g.outer = r.outer in
-          let one = served (let k = known s r id v at in omega arith) in
-          let f = fits s r id v at le in
-          let door = f.door (λ e. omega arith) in
-          let open_ : shut_of r.g.outer ≡ 0 = let d = door.0 in omega arith in
-          let new : x ≡ r.g.outer + 16 = omega arith in
-          let shut_ : shut_of x ≡ 1 = omega arith in record {
-            came = omega arith;
-            state = omega arith;
-            asleep = λ e. omega arith;
-            counts = (fits s r id v at le).outer.rests.takes_seen;
-            own = λ one. let q = (fits s r id v at le).outer.rests.sleeps_at_outer one in (q.0, q.1, (λ e z. let a = q.2 e (omega arith) in omega arith));
-            later = omega arith;
-            keeps_shut = λ e z. shut_;
-            doors = λ j b ne there told. absurd (door_apart s r id v at le j b ne door.2 there (((r.granted le).each j b there).door told).2);
-            dated = f.outer.dated;
-            barrier = λ one now. shut_;
-            door = λ ne. (omega arith, door.1, door.2);
-            asks = let k = (fits s r id v at le).asks in record { stamped = k.stamped; early = k.early; open_then = k.open_then; shut_then = λ q ne e. shut_; nobody_behind = λ one. absurd (omega arith) };
-            others = λ j b ne there. asks_kept r.asked r.g (record r.g { outer = x }) b b.nobody_behind b.phase refl (λ z. shut_) (λ e. e) ((r.granted le).each j b there).asks;
-          }),
-      ((refl, refl, known s r id v at, (omega arith)), (refl, refl, refl, refl, refl, refl, refl, (refl, refl, refl), (refl, refl)), (refl, refl), refl, refl, refl),
-    )
-
--- one at the door of a shut lock check_open it again
-pub reopen_allowed : {fl : ℕ} (id slots : ℕ) (me : Me ℕ View) → (Timely me.0 → HasTurn me.0) → (Timely me.0 → me.0.nobody_behind ≡ 1) → (Timely me.0 → ServedShut me.0) → Allows (Tickets fl) slots id me 0 (λ n. (n + 18446744073709551600) % 18446744073709551616) (reopens (step slots 0 16 0 none) me)
-reopen_allowed {fl} id slots me turns is_alone served s r sized at low =
-    let v : View = me.0 in
-    let outer : ℕ = slice_index s.words 0 in
-    let x : ℕ = (outer + 18446744073709551600) % 18446744073709551616 in (
-      knowing s r id v at x (r.g.epoch + 1) 1 0 (v.epoch + 1) v.takes_seen v.slept_in_take v.sleeps_at_outer 0,
-      keeps,
-      tt,
-      learned s r id v at x (r.g.epoch + 1) 1 0 (v.epoch + 1) v.takes_seen v.slept_in_take v.sleeps_at_outer 0 (λ le.
-          let is : outer ≡ r.g.outer = r.outer in
-          let two = served (let k = known s r id v at in omega arith) in
-          let f = fits s r id v at le in
-          let door = f.door (λ e. omega arith) in
-          let shut_ : shut_of r.g.outer ≡ 1 = let d = door.0 in omega arith in
-          let new : x + 16 ≡ r.g.outer = omega arith in
-          let dated = f.outer.dated in record {
-            came = omega arith;
-            state = omega arith;
-            asleep = λ e. omega arith;
-            counts = (fits s r id v at le).outer.rests.takes_seen;
-            own = λ one. let q = (fits s r id v at le).outer.rests.sleeps_at_outer one in (q.0, q.1, (λ e z. let a = q.2 e (omega arith) in omega arith));
-            later = omega arith;
-            keeps_shut = λ e. absurd (omega arith);
-            doors = λ j b ne there told. absurd (door_apart s r id v at le j b ne door.2 there (((r.granted le).each j b there).door told).2);
-            dated = omega arith;
-            barrier = λ one. absurd (omega arith);
-            door = λ ne. (omega arith, (let e = door.1 in omega arith), door.2);
-            asks = record { stamped = f.asks.stamped; early = let e = f.asks.early in omega arith; open_then = λ q. absurd (still_at_turn le q); shut_then = λ q. absurd (still_at_turn le q); nobody_behind = λ one. absurd (omega arith) };
-            others = λ j b ne there. let h = (r.granted le).each j b there in record {
-              stamped = h.asks.stamped;
-              early = let e = h.asks.early in omega arith;
-              open_then = λ q one. absurd (
-                  let busy : b.phase ≢ Idle = λ e. ⊎_elim (λ a. cc) (λ a. cc) q in
-                  let turn = turns (let k = known s r id v at in omega arith) in
-                  let t = turn_of_place fl r.g v turn f.place in
-                  let m = h.mine busy in
-                  let m0 = m.0 in
-                  let apart = other s r id v at le j b ne (busy_of v turn) busy there in
-                  let z = f.asks.nobody_behind (is_alone (let k = known s r id v at in omega arith)) two b.ticket (omega arith) m.1 in
-                  let st = h.asks.stamped busy in
-                  omega arith);
-              shut_then = λ q n e. absurd (let a = h.asks.early in omega arith);
-              nobody_behind = h.asks.nobody_behind;
-            };
-          }),
-      ((refl, refl, known s r id v at, (omega arith)), (refl, refl, refl, refl, refl, refl, refl, (refl, refl, refl), (refl, refl)), (refl, refl), refl, refl),
-    )
-  where
-    still_at_turn : r.most_open ≤ limit → Awaits me.0.phase → ⊥
-    still_at_turn le q = ⊎_elim (λ a. ⊎_elim (λ e. cc) (λ e. cc) q) (λ a. ⊎_elim (λ e. cc) (λ e. cc) q) (turns (let k = known s r id me.0 at in omega arith))
-
--- in a strict lock the one at its turn looks at the outer word
-pub check_open_allowed : {fl : ℕ} (id slots ticket : ℕ) (me : Me ℕ View) → fl ≡ 0 → (Timely me.0 → IsAtTurn ticket me.0) → Allows (Tickets fl) slots id me 0 (λ n. n) (checks_open (step slots 0 0 0 none) me)
-check_open_allowed {fl} id slots ticket me strict has s r sized at low =
-    let v : View = me.0 in
-    let outer : ℕ = slice_index s.words 0 in
-    let is : outer ≡ r.g.outer = r.outer in (
-      knowing s r id v at outer r.g.epoch (1 + shut_of outer) (shut_of outer) r.g.epoch v.takes_seen v.slept_in_take v.sleeps_at_outer 0,
-      keeps,
-      tt,
-      learned s r id v at outer r.g.epoch (1 + shut_of outer) (shut_of outer) r.g.epoch v.takes_seen v.slept_in_take v.sleeps_at_outer 0 (λ le.
-          let h = has (let k = known s r id v at in omega arith) in record {
-            came = omega arith;
-            state = omega arith;
-            asleep = λ e. omega arith;
-            counts = (fits s r id v at le).outer.rests.takes_seen;
-            own = λ one. let q = (fits s r id v at le).outer.rests.sleeps_at_outer one in (q.0, q.1, (λ e z. let a = q.2 e (omega arith) in omega arith));
-            later = omega arith;
-            keeps_shut = λ e z. omega arith;
-            doors = λ j b ne there told. (omega arith, refl);
-            dated = omega arith;
-            barrier = λ one now. one;
-            door = λ ne. (refl, refl, inl (strict, h.0));
-            asks = let k = (fits s r id v at le).asks in record { stamped = k.stamped; early = k.early; open_then = k.open_then; shut_then = λ q ne e. ap shut_of is ∙ k.shut_then q ne e; nobody_behind = λ one. absurd (omega arith) };
-            others = λ j b ne there. asks_kept r.asked r.g (record r.g { outer = outer }) b b.nobody_behind b.phase refl (λ z. omega arith) (λ e. e) ((r.granted le).each j b there).asks;
-          }),
-      ((refl, refl, known s r id v at, (omega arith)), (refl, refl, refl, refl, refl, refl, refl, (refl, refl, refl), (refl, refl)), (refl, refl), (λ timely. (refl, refl, (fits s r id v at timely).outer.dated))),
-    )
-
--- the head notes at the outer word that it sleeps
-pub announce_head_sleep_allowed : {fl : ℕ} (id slots old new : ℕ) (me : Me ℕ View) → state_of old ≡ 1 → new / 4 ≡ old / 4 → asleep_of new ≡ 1 → Allows (Tickets fl) slots id me 0 (λ n. either (eqb n old) new n) (announces_head_sleep (step slots 0 old new none) me)
-announce_head_sleep_allowed {fl} id slots old new me held half sets s r sized at low = dite (ℕ_discrete outer old) notes stays
-  where
-    v : View
-    v = me.0
-
-    outer : ℕ
-    outer = slice_index s.words 0
-
-    x : ℕ
-    x = either (eqb outer old) new outer
-
-    Goal : Type 0
-    Goal = (w : View) × (a : Act ℕ) × Valid s.homes me.1 a × Tickets fl (stepped s 0 x id me.1 w a) × announces_head_sleep (step slots 0 old new none) me outer (w, carried_after me.1 a)
-
-    notes : outer ≡ old → Goal
-    notes is =
-        let x_is : x ≡ new = ap (λ b. either b new outer) (eq-eqb outer old is) in
-        let old_is : old ≡ r.g.outer = sym is ∙ r.outer in
-        let shut_ : shut_of x ≡ shut_of r.g.outer = omega arith in (
-          knowing s r id v at x r.g.epoch v.door v.knows_shut v.epoch (takes_of r.g) (takes_of r.g) 1 v.nobody_behind,
-          keeps,
-          tt,
-          learned s r id v at x r.g.epoch v.door v.knows_shut v.epoch (takes_of r.g) (takes_of r.g) 1 v.nobody_behind (λ le.
-              let o = r.granted le in
-              let f = fits s r id v at le in record {
-                came = omega arith;
-                state = omega arith;
-                asleep = λ e. omega arith;
-                counts = omega arith;
-                own = λ one. (omega arith, o.counts.awake (omega arith), (λ e z. omega arith));
-                later = omega arith;
-                keeps_shut = λ e z. shut_ ∙ z;
-                doors = λ j b ne there told. (shut_, refl);
-                dated = f.outer.dated;
-                barrier = λ one now. shut_ ∙ f.outer.barrier one now;
-                door = λ ne. let k = f.door ne in (k.0 ∙ ap (λ z. 1 + z) (sym shut_), k.1, k.2);
-                asks = asks_kept r.asked r.g (record r.g { outer = x }) v v.nobody_behind v.phase refl (λ z. shut_ ∙ z) (λ e. e) (fits s r id v at le).asks;
-                others = λ j b ne there. asks_kept r.asked r.g (record r.g { outer = x }) b b.nobody_behind b.phase refl (λ z. shut_ ∙ z) (λ e. e) ((r.granted le).each j b there).asks;
-              }),
-          ((refl, refl, known s r id v at, (omega arith)), (refl, refl, refl, refl, refl, refl, refl, (refl, refl, refl), (refl, refl)), (refl, refl), refl, (λ _. refl), (λ timely _. ((fits s r id v at timely).outer.rests.takes_seen, refl))),
-        )
-
-    stays : outer ≢ old → Goal
-    stays ne =
-        let same_ : x ≡ outer = ap (λ b. either b new outer) (ne_eqb outer old ne) in
-        let is : x ≡ r.g.outer = same_ ∙ r.outer in
-        let shut_ : shut_of x ≡ shut_of r.g.outer = ap shut_of is in (
-          knowing s r id v at x r.g.epoch v.door v.knows_shut v.epoch v.takes_seen v.slept_in_take v.sleeps_at_outer v.nobody_behind,
-          keeps,
-          tt,
-          learned s r id v at x r.g.epoch v.door v.knows_shut v.epoch v.takes_seen v.slept_in_take v.sleeps_at_outer v.nobody_behind (λ le.
-              let f = fits s r id v at le in record {
-                came = ap came_of is;
-                state = ap state_of is;
-                asleep = λ e. ap asleep_of is ∙ e;
-                counts = f.outer.rests.takes_seen;
-                own = λ one. let q = f.outer.rests.sleeps_at_outer one in (q.0, q.1, (λ e z. ap asleep_of is ∙ q.2 e (ap state_of (sym is) ∙ z)));
-                later = omega arith;
-                keeps_shut = λ e z. shut_ ∙ z;
-                doors = λ j b ne there told. (shut_, refl);
-                dated = f.outer.dated;
-                barrier = λ one now. shut_ ∙ f.outer.barrier one now;
-                door = λ some_. let k = f.door some_ in (k.0 ∙ ap (λ z. 1 + z) (sym shut_), k.1, k.2);
-                asks = asks_kept r.asked r.g (record r.g { outer = x }) v v.nobody_behind v.phase refl (λ z. shut_ ∙ z) (λ e. e) (fits s r id v at le).asks;
-                others = λ j b ne there. asks_kept r.asked r.g (record r.g { outer = x }) b b.nobody_behind b.phase refl (λ z. shut_ ∙ z) (λ e. e) ((r.granted le).each j b there).asks;
-              }),
-          ((refl, refl, known s r id v at, (omega arith)), (refl, refl, refl, refl, refl, refl, refl, (refl, refl, refl), (refl, refl)), (refl, refl), refl, (λ e. absurd (ne e)), (λ _ e. absurd (ne e))),
         )
