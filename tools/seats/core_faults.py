@@ -65,8 +65,9 @@ FAULTS = {
     "a shut tells nobody at a condition": (1, "", (LOCK, "qolb_lock_shut", "    qolb_tell_shut_(lock);\n", "")),
     "a shut leaves nothing": (1, "", (LOCK, "qolb_lock_shut", "    qolb_leave_at_(lock, at);\n", "")),
     "a lock is closed while it is held": (1, "", (LOCK, "qolb_lock_close", "    if (qolb_core_try_ask_proved_(&lock->core, &at->ticket) != QOLB_GRANTED) return QOLB_MISUSE;\n", "    if (qolb_core_ask_proved_(&lock->core, &at->ticket) != QOLB_GRANTED) return __atomic_store_n(&lock->core.at, NULL, __ATOMIC_SEQ_CST), QOLB_DONE;\n")),
-    "a lock with bursts is closed while one is in": (1, "bursts", (LOCK, "is_alone", " || got == QOLB_WAITING) return 0;", ") return 0;\n    if (got == QOLB_WAITING) return 1;")),
-    "a lock is closed while it has guests": (2, "one closes beside", (LOCK, "is_alone", "atomic_load(&lock->guests) || ", "")),
+    "a lock with bursts is closed while one is in": (1, "bursts", (LOCK, "is_alone", "got == QOLB_WAITING || ", ""), (LOCK, "is_alone", "return got == QOLB_GRANTED ||", "return got != QOLB_CLOSED ||")),
+    "a lock is closed while it has guests": (2, "one closes beside", (LOCK, "is_alone", " || atomic_load(&lock->guests)", "")),
+    "a lock is closed without a look at who asked after": (2, "one signals and frees", (LOCK, "is_alone", " || tail_word(lock) != at->ticket.number + 1", "")),
     "who does not close the lock keeps its turn": (1, "", (LOCK, "qolb_lock_close", "    qolb_pass_on_(lock, at);\n", "    if (alone) qolb_pass_on_(lock, at);\n")),
     "who closes a lock with bursts stays in": (2, "bursts", (LOCK, "qolb_lock_close", "    if (at->ticket.state != QOLB_TICKET_FREE_) qolb_leave_outer_(lock, at);\n", "    if (alone && at->ticket.state != QOLB_TICKET_FREE_) qolb_leave_outer_(lock, at);\n")),
     # Opening.
@@ -101,8 +102,6 @@ FAULTS = {
 HARMLESS = {
     # The lock is not closed while it is counted, and that is its last access.
     "a guest counts itself out once it is served": ((LOCK, "await", "    be_no_guest(my);\n    if (got == QOLB_WAITING)", "    if (got == QOLB_WAITING)"), (LOCK, "await", "    return got;\n", "    be_no_guest(my);\n    return got;\n")),
-    # Nobody may be about to call, and who waits was found before. It is a help to who does not keep that.
-    "a shut lock is closed without a look at who asked after": ((LOCK, "is_alone", "got == QOLB_GRANTED || qolb_core_reopen_proved_(&lock->core, &at->ticket) == QOLB_GRANTED", "1"),),
     # The lock's bound is the core's count of newcomers.
     "the queue head requests no handoff": ((WAITS, "watch_held", "!requested && is_long(my, watch, outer)", "!requested && !my && is_long(my, watch, outer)"),),
     "the queue head takes any free word at once": ((WAITS, "may_take", "had == watch->had", "1"),),

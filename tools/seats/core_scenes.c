@@ -399,6 +399,28 @@ static void shuts_and_frees(int self) {
     it.lock = NULL;
 }
 
+/* The same of a lock that stays open. */
+static void signals_and_frees(int self) {
+    if (self) {
+        MUST(qolb_lock_enter(it.lock) == QOLB_GRANTED);
+        it.has = 1;
+        while (it.has == 1) MUST(qolb_cond_wait(&it.cond, it.lock) == QOLB_GRANTED);
+        leave();
+        return;
+    }
+    for (int waits = 0; !waits;) {
+        MUST(qolb_lock_enter(it.lock) == QOLB_GRANTED);
+        waits = it.has;
+        if (waits) it.has = 2;
+        if (waits) MUST(qolb_cond_signal(&it.cond) == QOLB_DONE);
+        leave();
+        if (!waits) sched_yield();
+    }
+    while (qolb_lock_close(it.lock) != QOLB_DONE) sched_yield();
+    model_free(it.block);
+    it.lock = NULL;
+}
+
 /* One closes the lock while another waits at its condition. */
 static void one_closes_beside_a_waiter(int self) {
     int waits = 0;
@@ -485,6 +507,7 @@ const struct scene scenes[] = {
     {"one waits at a condition while one stays", waits_while_one_stays, 2, 0, 0, ROOMY},
     {"two wait at a condition until one shuts", waits_until_shut, 3, 0, 0, ROOMY},
     {"one shuts and frees beside a waiter", shuts_and_frees, 2, 0, 0, ROOMY},
+    {"one signals and frees", signals_and_frees, 2, 0, 0, ROOMY},
     {"one closes beside a waiter", one_closes_beside_a_waiter, 2, 0, 0, ROOMY},
     {"enters again", enters_again, 2, 0, 0, ROOMY},
     {"holds three", holds_three, 2, 0, 1, ROOMY},
@@ -516,6 +539,7 @@ const struct scene scenes[] = {
     {"bursts: two wait at a condition, one not for ever", waits, 3, 2, 0, ROOMY},
     {"bursts: two wait at a condition until one shuts", waits_until_shut, 3, 2, 0, ROOMY},
     {"bursts: one shuts and frees beside a waiter", shuts_and_frees, 2, 2, 0, ROOMY},
+    {"bursts: one signals and frees", signals_and_frees, 2, 2, 0, ROOMY},
     {"bursts: one closes beside a waiter", one_closes_beside_a_waiter, 2, 2, 0, ROOMY},
     {"bursts: enters again", enters_again, 2, 2, 0, ROOMY},
     {"bursts: holds three", holds_three, 2, 2, 0, ROOMY},

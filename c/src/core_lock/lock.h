@@ -76,13 +76,18 @@ static inline void *slots_of(struct lock *lock) {
     return bytes_before_words(lock) == CORE_SLOTS_BYTES ? (void *)lock->words : beyond_of(lock) + 1;
 }
 
-/* ---- Looks at the words: hints for waiting, and CLOSED for who gives up ---- */
+/* ---- Looks at the words: hints for waiting, CLOSED for who gives up, and whether who closes is alone ---- */
 
-enum { TICKETS_IN_ROUND = 4, FIRST_CELL = 17, CLASSES_OF_SLEEPERS = 32 };
+enum { TICKETS_IN_ROUND = 4, TAIL = 16, FIRST_CELL = 17, CLASSES_OF_SLEEPERS = 32 };
 enum { HANDOFF_REQUESTED = 1, HEAD_ASLEEP = 2, OUTER_HELD = 4, OUTER_RESERVED = 8, OUTER_STATE = 12, OUTER_SHUT = 16 };
 enum { NEWCOMER = 32 };
 
 static inline uint64_t outer_word(const struct lock *lock) { return __atomic_load_n(words_of(lock), __ATOMIC_SEQ_CST); }
+
+/* The next ticket's number. */
+static inline uint64_t tail_word(const struct lock *lock) {
+    return __atomic_load_n(words_of(lock) + TAIL, __ATOMIC_SEQ_CST);
+}
 
 /* The 32 bits at which the queue head sleeps, and those of a ticket's cell at which a waiter sleeps. */
 static inline uint32_t *outer_half(uint64_t *words) { return (uint32_t *)words; }
