@@ -224,8 +224,8 @@ uint32_t qolb_lock_shut(qolb_lock *of) {
 
 /* ---- Closing ---- */
 
-/* In, and at the turn of the queue, of a lock that is shut or not. Whether it is the only one, and the lock open. A guest
- * draws its ticket before it counts itself out: so who is not counted any more has asked after this one. */
+/* In, and at the turn of the queue, of a lock that is shut or not. Whether it is the only one, and the lock open. A
+ * guest draws its ticket before it counts itself out: so who is not counted any more has asked after this one. */
 static int is_alone(struct lock *lock, struct turn *at, uint32_t got) {
     if (got == QOLB_WAITING || atomic_load(&lock->guests) || tail_word(lock) != at->ticket.number + 1) return 0;
     return got == QOLB_GRANTED || qolb_core_reopen_proved_(&lock->core, &at->ticket) == QOLB_GRANTED;
