@@ -4,7 +4,7 @@ ghost use Rattle.lock_core.specs.Layout.{IsValueTable};
 ghost use Rattle.lock_core.specs.Answers.{max_burst_of, HasLongBursts, IsOpenErrorOf};
 
 use crate::wake::WakeWords;
-use lock_core::{LockKind, OpenError, OpenValueError, ValueTable, open_value};
+use lock_core::{LockKind, OpenError, OpenValueError, ValueTable, check_kind, open_value};
 use std::alloc::{AllocFailed, Global};
 
 /// A lock of a value, for threads that come and go: in strict order, or with bursts.
@@ -55,6 +55,9 @@ impl<T> FairLock<T> {
         ensures long { IfOk result (λ _. HasLongBursts kind) }
         ensures err { IfErr result (λ e. (e.value ≡ value) × IsOpenErrorOf kind e.error) }
     {
+        if let Err(error) = check_kind(kind) {
+            return Err(NewError { error, value });
+        }
         let Ok(wakes) = WakeWords::new(alloc) else {
             return Err(NewError {
                 error: OpenError::Memory,

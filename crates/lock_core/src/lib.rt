@@ -22,7 +22,7 @@ pub use meets::{
     asked_while_open, first_come, learn, never_two, never_two_heads, no_lost_wake,
     no_lost_wake_at_outer, none_left_at_reopening, none_served_after_shut, tell, turns_differ,
 };
-pub use opening::{LockKind, OpenError, OpenValueError, new_seat, open, open_value};
+pub use opening::{LockKind, OpenError, OpenValueError, check_kind, new_seat, open, open_value};
 pub use outer::{
     HeadSleepResult, LeaveResult, TakeResult, announce_head_sleep, go_in, go_in_if, leave,
     leave_if, request_handoff, take_outer,

@@ -70,8 +70,8 @@ const FIRST_WORDS: [u64; 21] = [
     0,
 ];
 
-/// Refuses bursts of fewer than two turns.
-fn check_kind(kind: LockKind) -> Result<(), OpenError>
+/// Refuses bursts of fewer than two turns, as opening does.
+pub fn check_kind(kind: LockKind) -> Result<(), OpenError>
     ensures long { IfOk result (λ _. HasLongBursts kind) }
     ensures err { IfErr result (λ e. (e ≢ OpenError.Memory) × IsOpenErrorOf kind e) }
 {
