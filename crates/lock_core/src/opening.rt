@@ -1,7 +1,7 @@
 //! A lock is opened, and callers come.
 ghost use Rattle.std.specs.Prelude.{◌≡◌, ◌≢◌, ◌≤◌, IfOk, IfErr, length};
 ghost use Rattle.lock_core.specs.Layout.{HasLockWords, IsLockTable, IsValueTable};
-ghost use Rattle.lock_core.specs.Views.{view_of, IsSeatOf, IsIdle};
+ghost use Rattle.lock_core.specs.Views.{view_of, IsSeatOf, IsOutside};
 ghost use Rattle.lock_core.specs.Answers.{max_burst_of, HasLongBursts, IsOpenErrorOf};
 
 use crate::layout::UNWRITTEN;
@@ -136,7 +136,7 @@ pub fn open_value<T>(
 pub fn new_seat<T>(table: &SharedValue<T>) -> ValueSeat<T>
     requires table { HasLockWords table.now.table_id }
     ensures seat { IsSeatOf table.now.table_id table.now.key result }
-    ensures idle { IsIdle (view_of result) }
+    ensures outside { IsOutside (view_of result) }
 {
     let (_, seat) = table.load_new_seat::<Come>(UNWRITTEN);
     seat
