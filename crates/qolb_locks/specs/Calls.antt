@@ -128,8 +128,8 @@ IsHead lock t = HasBursts lock × Is state.AtTurn lock t
 
 -- `take_outer`: the head is in, and is to release its turn of the queue
 abbrev pub TakesOuterWord : Lock → Ticket → Answer → Type 0
-TakesOuterWord lock now answer.Granted = Has state.HeadInside lock now × InBounds lock now × Shows now (looks.Leaves outer_at IsHeldAnew)
-TakesOuterWord lock now answer.Closed = Has state.HeadInsideShut lock now × InBounds lock now × Shows now (looks.Leaves outer_at IsHeldAnew)
+TakesOuterWord lock now answer.Granted = Has state.HeadInside lock now × InBounds lock now × Shows now (looks.Changes outer_at IsHeldAnew)
+TakesOuterWord lock now answer.Closed = Has state.HeadInsideShut lock now × InBounds lock now × Shows now (looks.Changes outer_at IsHeldAnew)
 TakesOuterWord lock now answer.Waiting = Has state.AtTurn lock now
     × Shows now (λ seat. Found outer_at (λ n. state_of n ≡ 1) seat ⊎ FoundChanged outer_at seat)
 TakesOuterWord lock now _ = ⊥
