@@ -65,6 +65,7 @@ Tries lock now _ = ⊥
 abbrev pub AsksNear : Lock → Ticket → Answer → Type 0
 AsksNear lock now answer.Granted = Has state.AtTurn lock now
 AsksNear lock now answer.Waiting = Has state.Waiting lock now × (0 < now.rounds) × (now.rounds ≤ 15)
+    × Shows now (looks.FoundBefore (cell_at now.number) (λ n. to_go n now.number ≡ now.rounds))
 AsksNear lock now answer.Far = Has state.Free lock now × (15 < now.rounds)
     × Shows now (FoundNext (λ rounds. rounds ≡ now.rounds))
 AsksNear lock now answer.Busy = Has state.Free lock now × Shows now FoundTailMoved
@@ -73,18 +74,19 @@ AsksNear lock now _ = ⊥
 -- `announce_sleep`: with the word at which to sleep
 abbrev pub AnnouncesSleep : Lock → Ticket → Answer → Type 0
 AnnouncesSleep lock now answer.Granted = Has state.AtTurn lock now × InBounds lock now
-AnnouncesSleep lock now answer.Asleep = Has state.Asleep lock now × (0 < to_go now.word now.number)
+AnnouncesSleep lock now answer.Asleep = Has state.Asleep lock now × (0 < to_go now.word now.number) × (to_go now.word now.number ≡ now.rounds)
     × Shows now (looks.Leaves (cell_at now.number) (λ n. n ≡ now.word))
 AnnouncesSleep lock now answer.Waiting = Has state.Waiting lock now × (0 < now.rounds)
     × Shows now (FoundChanged (cell_at now.number))
+    × Shows now (Found (cell_at now.number) (λ n. to_go n now.number ≡ now.rounds))
 AnnouncesSleep lock now answer.Full = Has state.Waiting lock now × (0 < now.rounds)
-    × Shows now (Found (cell_at now.number) (λ n. count_of n ≡ 65535))
+    × Shows now (Found (cell_at now.number) (λ n. (count_of n ≡ 65535) × (to_go n now.number ≡ now.rounds)))
 AnnouncesSleep lock now _ = ⊥
 
 -- `withdraw`: one that is too far away stays as it is
 abbrev pub Withdraws : Lock → Ticket → Ticket → Answer → Type 0
 Withdraws lock was now answer.Withdrawn = Has state.Free lock now
-Withdraws lock was now answer.Granted = Has state.AtTurn lock now
+Withdraws lock was now answer.Granted = Has state.AtTurn lock now × InBounds lock now
 Withdraws lock was now answer.Far = (15 < was.rounds) × (now ≡ was)
 Withdraws lock was now _ = ⊥
 
@@ -118,6 +120,7 @@ ChecksOpen lock now _ = ⊥
 -- `go_in`, with this guess of the outer word
 abbrev pub GoesIn : Lock → ℕ → Ticket → Answer → Type 0
 GoesIn lock guess now answer.Granted = Has state.Inside lock now × Knows lock now IsNewcomersTurn
+    × Shows now (looks.Changes outer_at looks.IsHeldByNewcomer)
 GoesIn lock guess now answer.Busy = Has state.Free lock now
     × (IsNoEntry guess ⊎ Shows now (Found outer_at (λ n. n ≢ guess)))
 GoesIn lock guess now _ = ⊥
@@ -138,7 +141,7 @@ TakesOuterWord lock now _ = ⊥
 abbrev pub Leaves : Lock → Ticket → Ticket → Answer → Type 0
 Leaves lock was now answer.Done = Has state.Free lock now × Knows lock now (λ v. (v.inside ≡ 0) × (now.head_sleeps ≡ false → LeftQuietly v))
     × Shows now (looks.Leaves outer_at (IsLeftAs lock.burst was.outer))
-    × (now.head_sleeps ≡ true → asleep_of was.outer ≡ 1)
+    × Shows now (looks.Changes outer_at looks.IsLeftClean) × (now.head_sleeps ≡ true → asleep_of was.outer ≡ 1)
 Leaves lock was now answer.Busy = (Is state.Inside lock was → Has state.Inside lock now) × (Is state.InsideShut lock was → Has state.InsideShut lock now)
     × Shows now (Found outer_at (λ n. n ≢ was.outer))
 Leaves lock was now _ = ⊥
@@ -171,7 +174,7 @@ SameTicket was now = (now.number ≡ was.number) × (now.rounds ≡ was.rounds) 
 
 -- `request_handoff`
 abbrev pub RequestsHandoff : Lock → Ticket → Answer → Type 0
-RequestsHandoff lock now answer.Done = Has state.AtTurn lock now × Shows now (looks.Leaves outer_at (λ n. handoff_of n ≡ 1))
+RequestsHandoff lock now answer.Done = Has state.AtTurn lock now × Shows now (looks.Changes outer_at looks.IsRequested)
 RequestsHandoff lock now answer.Busy = Has state.AtTurn lock now × Shows now (FoundChanged outer_at)
 RequestsHandoff lock now _ = ⊥
 
@@ -182,7 +185,11 @@ HeldWithSleeper outer = (asleep_of outer ≡ 1) × (state_of outer ≡ 1)
 -- `announce_head_sleep`: with the word at which to sleep
 abbrev pub SleepsAsHead : Lock → Ticket → Answer → Type 0
 SleepsAsHead lock now answer.Asleep = Has state.AtTurn lock now × Knows lock now SleepsAtOuter × HeldWithSleeper now.outer
-    × Shows now (looks.Leaves outer_at (λ n. n ≡ now.outer))
+    × Shows now (looks.Leaves outer_at (λ n. n ≡ now.outer)) × Shows now (looks.Changes outer_at looks.IsNotedAsleep)
 SleepsAsHead lock now answer.Waiting = Has state.AtTurn lock now
     × Shows now (λ seat. Found outer_at (λ n. state_of n ≢ 1) seat ⊎ FoundChanged outer_at seat)
 SleepsAsHead lock now _ = ⊥
+
+-- the ticket keeps its seat, and its caller makes at most k word steps
+abbrev pub StepsUpTo : ℕ → Ticket → Ticket → Type 0
+StepsUpTo k was now = (v w : View) × (was.claim.views ≡ v ∷ []) × (now.claim.views ≡ w ∷ []) × (w.looks.steps ≤ v.looks.steps + k)

@@ -1,7 +1,7 @@
 //! Requests.
 ghost use Rattle.std.specs.Prelude.{◌≡◌};
 ghost use Rattle.qolb_locks.specs.declared.ticket.State.{State};
-ghost use Rattle.qolb_locks.specs.Calls.{IsMisuse, Learns, IsBehind, Looks, Tries, AsksNear};
+ghost use Rattle.qolb_locks.specs.Calls.{IsMisuse, StepsUpTo, Learns, IsBehind, Looks, Tries, AsksNear};
 ghost use Rattle.qolb_locks.specs.Tickets.{Is, Has, IsFree, IsKnown};
 
 use crate::answer::Answer;
@@ -27,6 +27,8 @@ fn ask_again(lock: &Lock, ticket: &mut Ticket) -> Answer
     ensures known { IsKnown lock.now ticket.new }
     ensures does { Looks lock.now ticket.new result }
     ensures after { Learns ticket.old ticket.new IsBehind }
+    ensures steps { StepsUpTo 2 ticket.old ticket.new }
+    ensures outer_kept { ticket.new.outer ≡ ticket.old.outer }
 {
     let mut seat = ticket.claim.take();
     ticket.number = lock_core::ask(&lock.table.shared, &mut seat);
@@ -43,6 +45,7 @@ fn ask_first(lock: &Lock, ticket: &mut Ticket) -> Answer
     requires { IsFree ticket.old }
     ensures known { IsKnown lock.now ticket.new }
     ensures does { Looks lock.now ticket.new result }
+    ensures outer_kept { ticket.new.outer ≡ ticket.old.outer }
 {
     take_new_seat(lock, ticket);
     ask_again(lock, ticket)
@@ -58,6 +61,8 @@ pub fn ask(lock: &Lock, ticket: &mut Ticket) -> Answer
     ensures misuse { ¬ IsFree ticket.old → IsMisuse ticket.old ticket.new result }
     ensures does { IsFree ticket.old → Looks lock.now ticket.new result }
     ensures after { Is State.Free lock.now ticket.old → Learns ticket.old ticket.new IsBehind }
+    ensures steps { Is State.Free lock.now ticket.old → StepsUpTo 2 ticket.old ticket.new }
+    ensures outer_kept { ticket.new.outer ≡ ticket.old.outer }
 {
     if ticket.state != State::Free as u32 {
         return Answer::Misuse;
@@ -74,6 +79,8 @@ fn try_ask_again(lock: &Lock, ticket: &mut Ticket) -> Answer
     requires { Has State.Free lock.now ticket.old }
     ensures known { IsKnown lock.now ticket.new }
     ensures does { Tries lock.now ticket.new result }
+    ensures steps { StepsUpTo 3 ticket.old ticket.new }
+    ensures outer_kept { ticket.new.outer ≡ ticket.old.outer }
 {
     let mut seat = ticket.claim.take();
     let drawn = lock_core::try_ask(&lock.table.shared, &mut seat);
@@ -94,6 +101,7 @@ fn try_ask_first(lock: &Lock, ticket: &mut Ticket) -> Answer
     requires { IsFree ticket.old }
     ensures known { IsKnown lock.now ticket.new }
     ensures does { Tries lock.now ticket.new result }
+    ensures outer_kept { ticket.new.outer ≡ ticket.old.outer }
 {
     take_new_seat(lock, ticket);
     try_ask_again(lock, ticket)
@@ -108,6 +116,8 @@ pub fn try_ask(lock: &Lock, ticket: &mut Ticket) -> Answer
     ensures known { IsKnown lock.now ticket.new }
     ensures misuse { ¬ IsFree ticket.old → IsMisuse ticket.old ticket.new result }
     ensures does { IsFree ticket.old → Tries lock.now ticket.new result }
+    ensures steps { Is State.Free lock.now ticket.old → StepsUpTo 3 ticket.old ticket.new }
+    ensures outer_kept { ticket.new.outer ≡ ticket.old.outer }
 {
     if ticket.state != State::Free as u32 {
         return Answer::Misuse;
@@ -124,6 +134,8 @@ fn ask_near_again(lock: &Lock, ticket: &mut Ticket) -> Answer
     requires { Has State.Free lock.now ticket.old }
     ensures known { IsKnown lock.now ticket.new }
     ensures does { AsksNear lock.now ticket.new result }
+    ensures steps { StepsUpTo 3 ticket.old ticket.new }
+    ensures outer_kept { ticket.new.outer ≡ ticket.old.outer }
 {
     let mut seat = ticket.claim.take();
     let asked = lock_core::ask_near(&lock.table.shared, &mut seat);
@@ -159,6 +171,7 @@ fn ask_near_first(lock: &Lock, ticket: &mut Ticket) -> Answer
     requires { IsFree ticket.old }
     ensures known { IsKnown lock.now ticket.new }
     ensures does { AsksNear lock.now ticket.new result }
+    ensures outer_kept { ticket.new.outer ≡ ticket.old.outer }
 {
     take_new_seat(lock, ticket);
     ask_near_again(lock, ticket)
@@ -173,6 +186,8 @@ pub fn ask_near(lock: &Lock, ticket: &mut Ticket) -> Answer
     ensures known { IsKnown lock.now ticket.new }
     ensures misuse { ¬ IsFree ticket.old → IsMisuse ticket.old ticket.new result }
     ensures does { IsFree ticket.old → AsksNear lock.now ticket.new result }
+    ensures steps { Is State.Free lock.now ticket.old → StepsUpTo 3 ticket.old ticket.new }
+    ensures outer_kept { ticket.new.outer ≡ ticket.old.outer }
 {
     if ticket.state != State::Free as u32 {
         return Answer::Misuse;

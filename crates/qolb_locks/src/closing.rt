@@ -2,7 +2,7 @@
 ghost use Rattle.std.specs.Prelude.{◌≡◌, ◌≢◌, ◌+◌, ◌%◌, ◌^◌, true, false};
 ghost use Rattle.lock_core.specs.Views.{HasTurnOf, ServedOpen, ServedShut};
 ghost use Rattle.qolb_locks.specs.declared.ticket.State.{State};
-ghost use Rattle.qolb_locks.specs.Calls.{IsMisuse, IsAtStrictTurn, ChecksOpen, SameTicket, IsServed, Shuts, IsToldShut, Reopens, Shows};
+ghost use Rattle.qolb_locks.specs.Calls.{IsMisuse, StepsUpTo, IsAtStrictTurn, ChecksOpen, SameTicket, IsServed, Shuts, IsToldShut, Reopens, Shows};
 ghost use Rattle.lock_core.specs.Layout.{tail_at};
 ghost use Rattle.lock_core.specs.Looks.{Found};
 ghost use Rattle.qolb_locks.specs.Tickets.{IsKnown, Knows, Says};
@@ -18,6 +18,8 @@ pub fn check_open(lock: &Lock, ticket: &mut Ticket) -> Answer
     ensures known { IsKnown lock.now ticket.new }
     ensures misuse { ¬ IsAtStrictTurn lock.now ticket.old → IsMisuse ticket.old ticket.new result }
     ensures does { IsAtStrictTurn lock.now ticket.old → ChecksOpen lock.now ticket.new result }
+    ensures steps { IsAtStrictTurn lock.now ticket.old → StepsUpTo 1 ticket.old ticket.new }
+    ensures outer_kept { ticket.new.outer ≡ ticket.old.outer }
 {
     if lock.burst > 1 || !ticket.is_at_turn(lock) {
         return Answer::Misuse;
@@ -47,6 +49,7 @@ fn shut_served(lock: &Lock, ticket: &mut Ticket)
     ensures inside { Knows lock.now ticket.old (Says State.Inside ticket.old.number
         ticket.old.rounds) →
         Knows lock.now ticket.new (Says State.InsideShut ticket.new.number ticket.new.rounds) }
+    ensures steps { StepsUpTo 1 ticket.old ticket.new }
 {
     let mut seat = ticket.claim.take();
     lock_core::shut(&lock.table.shared, &mut seat);
@@ -60,6 +63,7 @@ pub fn shut(lock: &Lock, ticket: &mut Ticket) -> Answer
     ensures known { IsKnown lock.now ticket.new }
     ensures misuse { ¬ IsServed lock.now ticket.old → IsMisuse ticket.old ticket.new result }
     ensures does { IsServed lock.now ticket.old → Shuts lock.now ticket.old ticket.new result }
+    ensures steps { IsServed lock.now ticket.old → StepsUpTo 1 ticket.old ticket.new }
 {
     if ticket.has(State::Served, lock) {
         shut_served(lock, ticket);

@@ -3,7 +3,7 @@ ghost use Rattle.std.specs.Prelude.{◌≡◌, ◌+◌, ◌%◌, ◌^◌, ◌≤
 ghost use Rattle.lock_core.specs.Views.{HasTurnOf, IsIdle, IsNewcomersTurn, SameRequest, ServedOpen, ServedShut, KnowsShut};
 ghost use Rattle.qolb_locks.specs.declared.answer.Answer.{Answer};
 ghost use Rattle.qolb_locks.specs.declared.ticket.State.{State};
-ghost use Rattle.qolb_locks.specs.Calls.{IsMisuse, Learns, SameTicket, GrantsNext, Releases, GoesIn, IsHead, TakesOuterWord, Leaves, RequestsHandoff, SleepsAsHead};
+ghost use Rattle.qolb_locks.specs.Calls.{IsMisuse, StepsUpTo, Learns, SameTicket, GrantsNext, Releases, GoesIn, IsHead, TakesOuterWord, Leaves, RequestsHandoff, SleepsAsHead};
 ghost use Rattle.qolb_locks.specs.Tickets.{Has, Is, IsFree, IsWithin, IsKnown, HasBursts, Knows, Says};
 
 use crate::answer::Answer;
@@ -33,6 +33,8 @@ fn pass_on(lock: &Lock, ticket: &mut Ticket) -> bool
     ensures head_shut { result ≡ false →
         Knows lock.now ticket.old (Says State.HeadInsideShut ticket.old.number ticket.old.rounds) →
         Knows lock.now ticket.new (Says State.HeadInsideShut ticket.new.number ticket.new.rounds) }
+    ensures steps { StepsUpTo 128 ticket.old ticket.new }
+    ensures outer_kept { ticket.new.outer ≡ ticket.old.outer }
 {
     let mut seat = ticket.claim.take();
     let released = lock_core::release(&lock.table.shared, &mut seat, &mut ticket.number);
@@ -56,6 +58,8 @@ pub fn release(lock: &Lock, ticket: &mut Ticket) -> Answer
     ensures misuse { ¬ IsWithin 3 8 lock.now ticket.old → IsMisuse ticket.old ticket.new result }
     ensures does { IsWithin 3 8 lock.now ticket.old →
         Releases lock.now ticket.old ticket.new result }
+    ensures steps { IsWithin 3 8 lock.now ticket.old → StepsUpTo 128 ticket.old ticket.new }
+    ensures outer_kept { ticket.new.outer ≡ ticket.old.outer }
 {
     if ticket.has_turn_outside(lock) {
         if !pass_on(lock, ticket) {
@@ -76,6 +80,8 @@ fn release_inside(lock: &Lock, ticket: &mut Ticket) -> Answer
     ensures misuse { ¬ IsWithin 7 8 lock.now ticket.old → IsMisuse ticket.old ticket.new result }
     ensures does { IsWithin 7 8 lock.now ticket.old →
         Releases lock.now ticket.old ticket.new result }
+    ensures steps { IsWithin 7 8 lock.now ticket.old → StepsUpTo 128 ticket.old ticket.new }
+    ensures outer_kept { ticket.new.outer ≡ ticket.old.outer }
 {
     if ticket.has(State::HeadInside, lock) {
         if !pass_on(lock, ticket) {
@@ -101,6 +107,7 @@ fn go_in_again(lock: &Lock, ticket: &mut Ticket) -> Answer
     requires free { Has State.Free lock.now ticket.old }
     ensures known { IsKnown lock.now ticket.new }
     ensures does { GoesIn lock.now ticket.old.outer ticket.new result }
+    ensures steps { StepsUpTo 1 ticket.old ticket.new }
 {
     let guess = ticket.outer;
     let mut seat = ticket.claim.take();
@@ -140,6 +147,7 @@ pub fn go_in(lock: &Lock, ticket: &mut Ticket) -> Answer
     ensures misuse { ¬ IsFree ticket.old → IsMisuse ticket.old ticket.new result }
     ensures does { HasBursts lock.now → IsFree ticket.old →
         GoesIn lock.now ticket.old.outer ticket.new result }
+    ensures steps { HasBursts lock.now → Is State.Free lock.now ticket.old → StepsUpTo 1 ticket.old ticket.new }
 {
     if lock.burst < 2 || ticket.state != State::Free as u32 {
         return Answer::Misuse;
@@ -195,6 +203,7 @@ pub fn leave(lock: &Lock, ticket: &mut Ticket) -> Answer
     ensures misuse { ¬ IsWithin 9 10 lock.now ticket.old → IsMisuse ticket.old ticket.new result }
     ensures does { IsWithin 9 10 lock.now ticket.old →
         Leaves lock.now ticket.old ticket.new result }
+    ensures steps { IsWithin 9 10 lock.now ticket.old → StepsUpTo 1 ticket.old ticket.new }
 {
     if !ticket.is_inside(lock) {
         return Answer::Misuse;
@@ -226,6 +235,8 @@ pub fn request_handoff(lock: &Lock, ticket: &mut Ticket) -> Answer
     ensures misuse { ¬ Is State.AtTurn lock.now ticket.old → IsMisuse ticket.old ticket.new result }
     ensures does { Is State.AtTurn lock.now ticket.old →
         RequestsHandoff lock.now ticket.new result }
+    ensures steps { Is State.AtTurn lock.now ticket.old → StepsUpTo 2 ticket.old ticket.new }
+    ensures outer_kept { ticket.new.outer ≡ ticket.old.outer }
 {
     if !ticket.has(State::AtTurn, lock) {
         return Answer::Misuse;

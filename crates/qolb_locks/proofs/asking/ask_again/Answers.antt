@@ -15,3 +15,12 @@ returns-clause-after c = (
       let same = c.poll-rounds.ensures.request t in let order = c.ask-ticket.ensures.order early in
       (omega (arith, order.0, same.2), omega (arith, order.1, same.0, same.2), omega (arith, order.2, same.1)),
 )
+
+pub returns-clause-steps : goal.returns-clause-steps
+returns-clause-steps c = (
+  c.take-seat.result.me.0,
+  c.poll-rounds.new.seat.me.0,
+  c.take-seat.ensures.view,
+  ap (λ (claim : Claim). claim.views) c.settle.ensures.claim ∙ c.put.ensures.view,
+  omega (arith, c.ask-ticket.ensures.steps, c.poll-rounds.ensures.steps),
+)

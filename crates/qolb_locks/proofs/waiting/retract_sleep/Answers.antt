@@ -1,4 +1,4 @@
-use Rattle.std.proofs.Common.{ap, ◌∙◌}
+use Rattle.std.proofs.Common.{ap, ◌∙◌, arith}
 use Rattle.qolb_locks.specs.declared.claim.Claim.{Claim}
 use Rattle.qolb_locks.proofs.waiting.retract_sleep.Goals as goal
 
@@ -10,4 +10,13 @@ returns-clause-same c = λ _. (
   ap (λ (claim : Claim). claim.views) c.settle.ensures.claim ∙ c.put.ensures.view,
   c.retract_sleep-rounds.ensures.load,
   c.retract_sleep-rounds.ensures.request,
+)
+
+pub returns-clause-steps : goal.returns-clause-steps
+returns-clause-steps c = λ _. (
+  c.take-seat.result.me.0,
+  c.retract_sleep-rounds.new.seat.me.0,
+  c.take-seat.ensures.view,
+  ap (λ (claim : Claim). claim.views) c.settle.ensures.claim ∙ c.put.ensures.view,
+  omega (arith, c.retract_sleep-rounds.ensures.steps),
 )
