@@ -103,14 +103,15 @@ uint32_t qolb_core_release_proved_(const struct qolb_core *, struct qolb_ticket 
  * reopen). MISUSE unless it is AT_TURN, SERVED or SERVED_SHUT in a strict lock. */
 uint32_t qolb_core_check_open_proved_(const struct qolb_core *, struct qolb_ticket *);
 /* A newcomer takes the outer word, if that is ticket.outer, free for anyone, and open: GRANTED (INSIDE); BUSY:
- * ticket.outer has the word that was found. MISUSE: the ticket has a request or is in, or the lock is strict. */
+ * ticket.outer has the word as a later look found it. MISUSE: the ticket has a request or is in, or the lock is
+ * strict. */
 uint32_t qolb_core_go_in_proved_(const struct qolb_core *, struct qolb_ticket *);
 /* The queue head takes the outer word, if it is free: GRANTED (HEAD_INSIDE) or CLOSED (HEAD_INSIDE_SHUT): in;
- * release the turn of the queue next. WAITING: it is held, or changed at that moment; ticket.outer has the word.
+ * release the turn of the queue next. WAITING: it is held, or changed at that moment; ticket.outer has a later look.
  * MISUSE unless it is AT_TURN in a lock with bursts. */
 uint32_t qolb_core_take_outer_proved_(const struct qolb_core *, struct qolb_ticket *);
 /* Leaves the outer word, if that is ticket.outer: DONE (FREE; ticket.head_sleeps; the lock may be gone). BUSY: the
- * word was another, which ticket.outer has now: call again. MISUSE unless it is INSIDE or INSIDE_SHUT. */
+ * word was another, and ticket.outer has a later look: call again. MISUSE unless it is INSIDE or INSIDE_SHUT. */
 uint32_t qolb_core_leave_proved_(const struct qolb_core *, struct qolb_ticket *);
 /* The queue head asks whoever is in to leave the outer word for the head alone: DONE, or BUSY (it changed at that
  * moment). MISUSE unless it is AT_TURN. */

@@ -11,7 +11,7 @@ use crate::answer::Answer;
 use crate::lock::Lock;
 use crate::ticket::{State, Ticket};
 
-/// At the turn of a strict lock looks whether that is open: only then the caller is served. Else it passes the turn on.
+/// At the turn of a strict lock looks whether that is open: only then the caller is served. Else it is to pass the turn on, by `release`.
 #[inline(always)]
 pub fn check_open(lock: &Lock, ticket: &mut Ticket) -> Answer
     requires { IsKnown lock.now ticket.old }

@@ -147,7 +147,8 @@ pub fn go_in(lock: &Lock, ticket: &mut Ticket) -> Answer
     ensures misuse { ¬ IsFree ticket.old → IsMisuse ticket.old ticket.new result }
     ensures does { HasBursts lock.now → IsFree ticket.old →
         GoesIn lock.now ticket.old.outer ticket.new result }
-    ensures steps { HasBursts lock.now → Is State.Free lock.now ticket.old → StepsUpTo 1 ticket.old ticket.new }
+    ensures steps { HasBursts lock.now → Is State.Free lock.now ticket.old
+        → StepsUpTo 1 ticket.old ticket.new }
 {
     if lock.burst < 2 || ticket.state != State::Free as u32 {
         return Answer::Misuse;
