@@ -1,6 +1,5 @@
 //! Each answer, by one thread.
 use super::{add, lock_of};
-
 use fair_lock::{EnterError, FairLock, NewError, OpenError, TryEnterError};
 use std::time::Duration;
 

@@ -1,6 +1,5 @@
 //! Threads that share a value: no turn is lost, and no two are at one time.
 use super::{add, add_within, lock_of, try_add};
-
 use std::thread;
 use std::time::Duration;
 
@@ -39,13 +38,18 @@ fn each_turn_counts_once(rt: HostRuntime) {
 fn whoever_is_late_had_no_turn(rt: HostRuntime) {
     for burst in [1, 2, 32] {
         let lock = lock_of(rt.alloc(), burst, 0).expect(&rt, "memory");
-        let had = thread::map_indices(&rt, rt.alloc(), 8, &|i| {
-            if i % 2 == 0 {
-                add_within(&rt, &lock, 300, Duration::from_micros(30))
-            } else {
-                add(&rt, &lock, 300)
-            }
-        })
+        let had = thread::map_indices(
+            &rt,
+            rt.alloc(),
+            8,
+            &|i| {
+                if i % 2 == 0 {
+                    add_within(&rt, &lock, 300, Duration::from_micros(30))
+                } else {
+                    add(&rt, &lock, 300)
+                }
+            },
+        )
         .ok()
         .expect(&rt, "memory");
         let all = sum(&had);
@@ -58,13 +62,18 @@ fn whoever_is_late_had_no_turn(rt: HostRuntime) {
 fn a_try_that_fails_leaves_nothing(rt: HostRuntime) {
     for burst in [1, 2, 32] {
         let lock = lock_of(rt.alloc(), burst, 0).expect(&rt, "memory");
-        let had = thread::map_indices(&rt, rt.alloc(), 6, &|i| {
-            if i % 2 == 0 {
-                try_add(&rt, &lock, 500)
-            } else {
-                add(&rt, &lock, 500)
-            }
-        })
+        let had = thread::map_indices(
+            &rt,
+            rt.alloc(),
+            6,
+            &|i| {
+                if i % 2 == 0 {
+                    try_add(&rt, &lock, 500)
+                } else {
+                    add(&rt, &lock, 500)
+                }
+            },
+        )
         .ok()
         .expect(&rt, "memory");
         let all = sum(&had);
@@ -77,21 +86,26 @@ fn a_try_that_fails_leaves_nothing(rt: HostRuntime) {
 fn those_that_sleep_are_woken(rt: HostRuntime) {
     for burst in [1, 2] {
         let lock = lock_of(rt.alloc(), burst, 0).expect(&rt, "memory");
-        let had = thread::map_indices(&rt, rt.alloc(), 9, &|i| {
-            if i == 0 {
-                let mut turns = 0u64;
-                for _ in 0..4 {
-                    if let Ok(guard) = lock.enter(&rt) {
-                        thread::sleep(&rt, Duration::from_millis(5));
-                        guard.leave(&rt);
-                        turns = turns.wrapping_add(1);
+        let had = thread::map_indices(
+            &rt,
+            rt.alloc(),
+            9,
+            &|i| {
+                if i == 0 {
+                    let mut turns = 0u64;
+                    for _ in 0..4 {
+                        if let Ok(guard) = lock.enter(&rt) {
+                            thread::sleep(&rt, Duration::from_millis(5));
+                            guard.leave(&rt);
+                            turns = turns.wrapping_add(1);
+                        }
                     }
+                    turns
+                } else {
+                    add(&rt, &lock, 20)
                 }
-                turns
-            } else {
-                add(&rt, &lock, 20)
-            }
-        })
+            },
+        )
         .ok()
         .expect(&rt, "memory");
         assert_eq!(&rt; sum(&had), 164, "at {burst}");

@@ -227,13 +227,13 @@ fn variants_of_runs_are_declared_in_this_order(rt: HostRuntime) {
     }
     for (one, lock) in LOCKS_OF_LINES {
         let place = one.place();
-        let found = (one as usize, one.lock(), ALL[place]);
-        expect_at(&rt, &one, found, (place, lock, lock));
+        let found = (one as usize, one.lock(), ALL.get(place).copied());
+        expect_at(&rt, &one, found, (place, lock, Some(lock)));
     }
     for (one, any) in ANY_OF_KINDS {
         let place = one.place();
-        let found = (one as usize, one.any(), KINDS[place]);
-        expect_at(&rt, &one, found, (place, any, any));
+        let found = (one as usize, one.any(), KINDS.get(place).copied());
+        expect_at(&rt, &one, found, (place, any, Some(any)));
     }
     expect(
         &rt,
