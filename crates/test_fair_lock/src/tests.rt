@@ -2,7 +2,7 @@
 mod answers;
 mod threads;
 
-use fair_lock::{EnterError, FairLock};
+use fair_lock::FairLock;
 use std::alloc::Global;
 use std::rt::Clock;
 use std::sync::Wait;
@@ -35,14 +35,11 @@ fn add<R: Wait>(rt: &R, lock: &FairLock<u64>, times: u64) -> u64 {
 fn add_within<R: Wait + Clock>(rt: &R, lock: &FairLock<u64>, times: u64, at_most: Duration) -> u64 {
     let mut had = 0u64;
     for _ in 0..times {
-        match lock.enter_within(rt, at_most) {
-            Ok(mut guard) => {
-                let value = guard.value_mut();
-                *value = value.wrapping_add(1);
-                guard.leave(rt);
-                had = had.wrapping_add(1);
-            }
-            Err(EnterError::Late) | Err(EnterError::Closed(_)) => {}
+        if let Ok(mut guard) = lock.enter_within(rt, at_most) {
+            let value = guard.value_mut();
+            *value = value.wrapping_add(1);
+            guard.leave(rt);
+            had = had.wrapping_add(1);
         }
     }
     had

@@ -26,16 +26,20 @@ fn a_held_lock_is_busy_and_late(rt: HostRuntime) {
                 second.leave(&rt);
                 panic!(&rt; "two were served, at {burst}")
             }
-            Err(TryEnterError::Busy) => {}
-            Err(TryEnterError::Closed(_)) => panic!(&rt; "shut, at {burst}"),
+            Err(error) => match error {
+                TryEnterError::Busy => {}
+                TryEnterError::Closed(_closed) => panic!(&rt; "shut, at {burst}"),
+            },
         }
         match lock.enter_within(&rt, Duration::from_millis(3)) {
             Ok(second) => {
                 second.leave(&rt);
                 panic!(&rt; "two were served, at {burst}")
             }
-            Err(EnterError::Late) => {}
-            Err(EnterError::Closed(_)) => panic!(&rt; "shut, at {burst}"),
+            Err(error) => match error {
+                EnterError::Late => {}
+                EnterError::Closed(_closed) => panic!(&rt; "shut, at {burst}"),
+            },
         }
         guard.leave(&rt);
         assert_eq!(&rt; add(&rt, &lock, 3), 3);
