@@ -114,7 +114,11 @@ fn write_form<W: fmt::Write>(f: &mut fmt::Formatter<W>, line: &[u8], form: Form)
         }
         Form::StepWrite => f.write_str("write NODE OFFSET HEX")?,
         Form::Job(ScriptKind::Board) => f.write_str("WORKER put TASK` or `WORKER take")?,
-        Form::Job(_) => f.write_str("WORKER in ACCOUNT AMOUNT`, or with `out` or `move")?,
+        Form::Job(_) => {
+            f.write_str(
+                "WORKER in ACCOUNT AMOUNT`, the same with `out`, or `WORKER move FROM TO AMOUNT",
+            )?;
+        }
         Form::Put => f.write_str("WORKER put TASK")?,
         Form::Take => f.write_str("WORKER take")?,
         Form::Payment => {

@@ -20,6 +20,12 @@ const REPLAYED_HELP: &str =
 
 const SHARED_HELP: &str = "The lock of the lines";
 
+const MISUSE_EXPLAINED: &str = "Explains a refused line, and each answer of misuse";
+
+const REFUSALS_EXPLAINED: &str = "Explains a refused line, and each answer of refused";
+
+const LINE_EXPLAINED: &str = "Explains a refused line";
+
 const ABOUT: &str =
     "Queued line locks: nodes queue at a line of 64 bytes, and a release hands lock and\nline to the next";
 
@@ -331,7 +337,7 @@ fn replay<'a>(alloc: Global, kinds: &'a [&'a str]) -> Result<Command<'a>, AllocE
         .about("Replays the schedule script on standard input, and prints what each call answers")
         .after_help(REPLAY)
         .arg(kind_argument(alloc, kinds, REPLAYED_HELP).required(true))?
-        .arg(explain(alloc))
+        .arg(explain(alloc, MISUSE_EXPLAINED))
 }
 
 /// Builds the subcommand that runs a step script.
@@ -348,7 +354,7 @@ fn steps<'a>(alloc: Global) -> Result<Command<'a>, AllocError>
             "rank",
             "Prints after each word how many productive events can follow each other from there",
         ))?
-        .arg(explain(alloc))
+        .arg(explain(alloc, REFUSALS_EXPLAINED))
 }
 
 /// Builds the subcommand for work of this name, over lines of these kinds.
@@ -376,7 +382,7 @@ fn work<'a>(
             "progress",
             "Says on standard error, once a second, how many of all jobs are done",
         ))?
-        .arg(explain(alloc))
+        .arg(explain(alloc, LINE_EXPLAINED))
 }
 
 /// Builds the subcommand that draws a schedule or a step script.
@@ -394,7 +400,7 @@ fn draw<'a>(alloc: Global) -> Result<Command<'a>, AllocError>
             "steps",
             "Draws a step script, as of `qolb steps`, in place of a schedule",
         ))?
-        .arg(explain(alloc))
+        .arg(explain(alloc, LINE_EXPLAINED))
 }
 
 /// Builds an argument without a value: `--name`.
@@ -409,15 +415,11 @@ fn flag<'a>(alloc: Global, name: &'a str, help: &'a str) -> Arg<'a>
 }
 
 /// Builds `--explain`.
-fn explain<'a>(alloc: Global) -> Arg<'a>
+fn explain<'a>(alloc: Global, help: &'a str) -> Arg<'a>
     ensures rule { rule_of result ≡ spec.flag_rule (codes "explain") }
     ensures local { result.global ≡ false }
 {
-    flag(
-        alloc,
-        "explain",
-        "Explains a refused line, and each answer of misuse or refused",
-    )
+    flag(alloc, "explain", help)
 }
 
 /// Builds `--kind`, with one of these names.

@@ -157,7 +157,7 @@ static TEXTS: [(&str, Reason, &str); 30] = [
     (
         "1",
         Reason::Count(Form::Job(ScriptKind::Bank)),
-        "    1\nwrong number of words, the form is `WORKER in ACCOUNT AMOUNT`, or with `out` or `move`",
+        "    1\nwrong number of words, the form is `WORKER in ACCOUNT AMOUNT`, the same with `out`, or `WORKER move FROM TO AMOUNT`",
     ),
     (
         "1 put",
@@ -191,6 +191,79 @@ fn says_what_may_stand_there(rt: HostRuntime) -> Result<(), Fail> {
         };
         let text = format!(in rt.alloc(); "{complaint}")?;
         expect(&rt, *line, text.as_str(), *wanted);
+    }
+    Ok(())
+}
+
+/// Words that may not stand at a place, and the word to take there: one that may, and that does what those say.
+static NEAR: [(Allowed, &[&str], &str); 18] = [
+    (
+        Allowed::Commands,
+        &[
+            "enqolb", "enqueue", "ask", "acquire", "lock", "request", "prepend",
+        ],
+        "enq",
+    ),
+    (Allowed::Commands, &["load", "wait", "try"], "poll"),
+    (Allowed::Commands, &["set", "store"], "write"),
+    (Allowed::Commands, &["read", "get", "bytes"], "show"),
+    (
+        Allowed::Commands,
+        &["deqolb", "dequeue", "release", "unlock", "free"],
+        "deq",
+    ),
+    (
+        Allowed::Commands,
+        &["withdraw", "roll", "rollout", "cancel", "leave"],
+        "out",
+    ),
+    (Allowed::Commands, &["close"], "shut"),
+    (
+        Allowed::Events,
+        &["enq", "enqolb", "enqueue", "ask", "swap"],
+        "reset, prepend and link",
+    ),
+    (Allowed::Events, &["poll", "wait"], "load"),
+    (
+        Allowed::Events,
+        &["deq", "deqolb", "dequeue", "release", "unlock"],
+        "home, done and grant",
+    ),
+    (
+        Allowed::Events,
+        &["out", "withdraw", "rollout", "cancel"],
+        "roll",
+    ),
+    (Allowed::Events, &["free"], "freed"),
+    (Allowed::Events, &["shut"], "close"),
+    (
+        Allowed::BoardJobs,
+        &["push", "add", "give", "store", "in"],
+        "put",
+    ),
+    (Allowed::BoardJobs, &["pop", "get", "remove", "out"], "take"),
+    (Allowed::BankJobs, &["deposit", "pay", "put"], "in"),
+    (Allowed::BankJobs, &["withdraw", "take", "take_out"], "out"),
+    (Allowed::BankJobs, &["transfer"], "move"),
+];
+
+#[test]
+fn says_which_word_to_take(rt: HostRuntime) -> Result<(), Fail> {
+    let alloc = rt.alloc();
+    for (allowed, words, meant) in &NEAR {
+        for word in *words {
+            let complaint = Complaint {
+                number: 2,
+                line: word.as_bytes(),
+                reason: Reason::Word {
+                    place: 1,
+                    allowed: *allowed,
+                },
+            };
+            let text = format!(in alloc; "{complaint}")?;
+            let end = format!(in alloc; "; for {word} take {meant}")?;
+            expect(&rt, *word, text.as_str().ends_with(end.as_str()), true);
+        }
     }
     Ok(())
 }

@@ -42,7 +42,7 @@ static LINES: [(&str, &[&str]); 5] = [
     (
         "replay",
         &[
-            "      --explain      Explains a refused line, and each answer of misuse or refused",
+            "      --explain      Explains a refused line, and each answer of misuse",
             "  nodes N lines L             its first line: 1 to 200 nodes and 1 to 8 lines",
             "  nodes N lines L lease C     the same; each line closes at its C-th served turn",
             "  COMMAND n l                 a call of node n on line l: enq, poll, deq, show,",
@@ -54,6 +54,7 @@ static LINES: [(&str, &[&str]); 5] = [
         "steps",
         &[
             "      --rank     Prints after each word how many productive events can follow each other from there",
+            "      --explain  Explains a refused line, and each answer of refused",
             "  nodes N                     its first line: 1 to 200 nodes",
             "  nodes N lease C             the same; the line closes at its C-th served turn",
             "  EVENT n                     a word step of node n: reset, prepend, link, load, home,",
@@ -66,6 +67,7 @@ static LINES: [(&str, &[&str]); 5] = [
         &[
             "      --sleep        Workers sleep until they are woken, in place of looking again and again",
             "      --progress     Says on standard error, once a second, how many of all jobs are done",
+            "      --explain      Explains a refused line",
             "  board workers W             its first line: 1 to 200 workers",
             "  w put TASK                  worker w puts a task, a number below 2^64, on the board",
             "  w take                      worker w takes the oldest task off the board",
@@ -78,6 +80,7 @@ static LINES: [(&str, &[&str]); 5] = [
         &[
             "      --sleep        Workers sleep until they are woken, in place of looking again and again",
             "      --progress     Says on standard error, once a second, how many of all jobs are done",
+            "      --explain      Explains a refused line",
             "  bank workers W lines L      its first line: 1 to 200 workers and 1 to 8 lines",
             "  w in ACCOUNT AMOUNT         worker w pays an amount into an account, 0 to 8L - 1",
             "  w out ACCOUNT AMOUNT        worker w pays it out",
@@ -91,6 +94,7 @@ static LINES: [(&str, &[&str]); 5] = [
         &[
             "      --svg      Draws an SVG in place of plain text",
             "      --steps    Draws a step script, as of `qolb steps`, in place of a schedule",
+            "      --explain  Explains a refused line",
             "The script, on standard input, is a schedule, as of `qolb replay`. Each line is drawn as a",
             "row for each node that calls on it, with a letter for each command on the line: how the",
             "node stands after it. A step script is drawn as a line for each event: a letter for each",

@@ -134,7 +134,7 @@ fn expect<T: Threads + Wait + Clock + Eprint + Abort + Sync>(
 }
 
 /// Returns these words and `--explain`.
-fn with_explain<'a>(alloc: Global, words: &[&'a str]) -> Result<Vec<&'a str>, Fail> {
+pub fn with_explain<'a>(alloc: Global, words: &[&'a str]) -> Result<Vec<&'a str>, Fail> {
     let mut all = Vec::new(alloc);
     all.extend_from_slice(words)?;
     all.push("--explain")?;

@@ -1,4 +1,5 @@
 //! Notes behind an answer: why `misuse` and `refused` are said.
+use crate::tests::long::with_explain;
 use crate::tests::runs::{KINDS, expect, told};
 use std::test::Fail;
 
@@ -40,20 +41,68 @@ command 9, show 2 0: node 2 neither waits nor holds, which allows enq
 command 1, poll 1 1: node 1 neither waits nor holds, which allows enq
 ";
 
+/// Commands of nodes at their turn, at rest and at a lease's end. An answer `busy` is no misuse.
+const MISUSED_AT_THE_END: &str = "nodes 3 lines 1 lease 1
+shut 1 0
+enq 1 0
+enq 2 0
+enq 3 0
+out 3 0
+enq 3 0
+shut 2 0
+deq 1 0
+deq 1 0
+enq 2 0
+poll 2 0
+show 2 0
+";
+
+/// The answers to these commands.
+const MISUSES_AT_THE_END: &str = "misuse
+granted
+queued
+queued
+withdrawn
+busy
+misuse
+released
+misuse
+misuse
+closed
+misuse
+line 0 served 1 withdrawn 1 told 1 left 0
+";
+
+/// The notes on them.
+const NOTES_AT_THE_END: &str =
+    "command 1, shut 1 0: node 1 neither waits nor holds, which allows enq
+command 7, shut 2 0: node 2 waits, which allows poll, out
+command 9, deq 1 0: node 1 neither waits nor holds, which allows enq
+command 10, enq 2 0: node 2 waits, which allows poll, out
+command 12, show 2 0: node 2 neither waits nor holds, which allows enq
+";
+
+/// Schedules, with their answers and the notes.
+static NOTED: [(&str, &str, &str); 2] = [
+    (MISUSED, MISUSES, NOTES),
+    (MISUSED_AT_THE_END, MISUSES_AT_THE_END, NOTES_AT_THE_END),
+];
+
 #[test]
 fn misuse_is_explained_by_each_kind(rt: HostRuntime) -> Result<(), Fail> {
-    let noted = format!(in rt.alloc(); "{MISUSES}{NOTES}")?;
-    for kind in &KINDS {
-        let words = ["replay", "--kind", *kind, "--explain"];
-        let plain = (0, MISUSES, "");
-        expect(&rt, rt.alloc(), &words[..3], MISUSED, plain)?;
-        expect(&rt, rt.alloc(), &words, MISUSED, (0, noted.as_str(), ""))?;
+    for (script, answers, notes) in &NOTED {
+        let noted = format!(in rt.alloc(); "{answers}{notes}")?;
+        for kind in &KINDS {
+            let words = ["replay", "--kind", *kind, "--explain"];
+            expect(&rt, rt.alloc(), &words[..3], *script, (0, *answers, ""))?;
+            expect(&rt, rt.alloc(), &words, *script, (0, noted.as_str(), ""))?;
+        }
     }
     Ok(())
 }
 
 /// Events that are refused at each point, with their answers and the notes.
-static REFUSED: [(&str, &str, &str); 3] = [
+static REFUSED: [(&str, &str, &str); 4] = [
     // Idle, Ready, Holding, Leaving, Marking, Linking, Left, Shut
     (
         "nodes 2
@@ -165,6 +214,66 @@ line 0 served 1 withdrawn 0 told 0 left 0
 event 7, home 1: node 1 is at Shut, which allows reset
 ",
     ),
+    // the entry of another node: the first node passes the second, and ends the only turn of the lease
+    (
+        "nodes 3 lease 1
+done 1
+grant 1
+freed 2
+reset 1
+prepend 1
+reset 2
+prepend 2
+link 2
+roll 2
+reset 3
+prepend 3
+home 1
+done 1
+grant 1
+grant 1
+home 1
+home 1
+link 3
+done 1
+grant 1
+freed 1
+prepend 1
+load 2
+",
+        "refused
+refused
+refused
+went
+granted
+went
+went
+queued
+withdrawn
+went
+went
+went
+went
+went
+refused
+went
+refused
+queued
+went
+went
+shut
+refused
+free
+line 0 served 1 withdrawn 1 told 0 left 1
+",
+        "event 1, done 1: node 1 is at Idle, which allows reset
+event 2, grant 1: node 1 is at Idle, which allows reset
+event 3, freed 2: node 2 is at Idle, which allows reset
+event 15, grant 1: node 1 is at Leaving 2, which allows home
+event 17, home 1: node 1 is at Marking 2, which allows done
+event 22, prepend 1: node 1 is at Shut, which allows reset
+",
+    ),
 ];
 
 #[test]
@@ -179,9 +288,40 @@ fn refusals_are_explained(rt: HostRuntime) -> Result<(), Fail> {
 }
 
 #[test]
-fn pictures_have_no_notes(rt: HostRuntime) -> Result<(), Fail> {
+fn refusals_are_explained_beside_ranks(rt: HostRuntime) -> Result<(), Fail> {
     let alloc = rt.alloc();
-    let (_, picture, _) = told(&rt, alloc, &["draw", "--svg"], MISUSED)?;
-    let words = ["draw", "--svg", "--explain"];
-    expect(&rt, alloc, &words, MISUSED, (0, picture.as_str(), ""))
+    for (script, _, notes) in &REFUSED {
+        let (_, ranks, _) = told(&rt, alloc, &["steps", "--rank"], *script)?;
+        let noted = format!(in alloc; "{ranks}{notes}")?;
+        let words = ["steps", "--rank", "--explain"];
+        expect(&rt, alloc, &words, *script, (0, noted.as_str(), ""))?;
+    }
+    Ok(())
+}
+
+/// Words, and scripts with misuses, refusals and jobs that can't be done, whose answers have no notes.
+static UNNOTED: [(&[&str], &str); 6] = [
+    (&["draw"], MISUSED),
+    (&["draw", "--svg"], MISUSED),
+    (&["draw", "--steps"], "nodes 1\nlink 1\n"),
+    (&["draw", "--steps", "--svg"], "nodes 1\nlink 1\n"),
+    (&["board"], "board workers 1\n1 take\n"),
+    (&["bank"], "bank workers 1 lines 1\n1 out 0 1\n"),
+];
+
+#[test]
+fn other_answers_have_no_notes(rt: HostRuntime) -> Result<(), Fail> {
+    let alloc = rt.alloc();
+    for (words, script) in &UNNOTED {
+        let (_, answer, _) = told(&rt, alloc, *words, *script)?;
+        let all = with_explain(alloc, *words)?;
+        expect(
+            &rt,
+            alloc,
+            all.as_slice(),
+            *script,
+            (0, answer.as_str(), ""),
+        )?;
+    }
+    Ok(())
 }
