@@ -27,7 +27,7 @@ fn a_held_lock_is_busy_and_late(rt: HostRuntime) {
                 panic!(&rt; "two were served, at {burst}")
             }
             Err(error) => match error {
-                TryEnterError::Busy => {}
+                TryEnterError::Busy(_busy) => {}
                 TryEnterError::Closed(_closed) => panic!(&rt; "shut, at {burst}"),
             },
         }
@@ -37,7 +37,7 @@ fn a_held_lock_is_busy_and_late(rt: HostRuntime) {
                 panic!(&rt; "two were served, at {burst}")
             }
             Err(error) => match error {
-                EnterError::Late => {}
+                EnterError::Late(_late) => {}
                 EnterError::Closed(_closed) => panic!(&rt; "shut, at {burst}"),
             },
         }
@@ -68,7 +68,7 @@ fn a_shut_lock_is_closed_to_all(rt: HostRuntime) {
                 panic!(&rt; "served after it was shut, at {burst}")
             }
             Err(TryEnterError::Closed(_)) => {}
-            Err(TryEnterError::Busy) => panic!(&rt; "busy, at {burst}"),
+            Err(TryEnterError::Busy(_)) => panic!(&rt; "busy, at {burst}"),
         }
         match lock.enter_within(&rt, Duration::from_millis(3)) {
             Ok(late) => {
@@ -76,7 +76,7 @@ fn a_shut_lock_is_closed_to_all(rt: HostRuntime) {
                 panic!(&rt; "served after it was shut, at {burst}")
             }
             Err(EnterError::Closed(_)) => {}
-            Err(EnterError::Late) => panic!(&rt; "late, at {burst}"),
+            Err(EnterError::Late(_)) => panic!(&rt; "late, at {burst}"),
         }
         assert_eq!(&rt; lock.into_inner(), 2);
     }
