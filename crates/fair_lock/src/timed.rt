@@ -1,6 +1,6 @@
 //! A thread enters within a limit of time.
 ghost use Rattle.std.specs.Prelude.{◌≡◌, ◌≤◌, IfOk, IfErr, true, false};
-ghost use Rattle.lock_core.specs.Views.{InTime, LoadGrows, IsSeatOf, IsQueued, IsAtTurn, IsIdle, IsHeadInside, IsOvertakenInBounds, ServedOpen, KnowsShut};
+ghost use Rattle.lock_core.specs.Views.{InTime, LoadGrows, IsSeatOf, IsQueued, IsQueuedWithin, IsAtTurn, IsIdle, IsHeadInside, IsOvertakenInBounds, ServedOpen, KnowsShut};
 ghost use Rattle.fair_lock.specs.Turns.{IsGuard, IsOpen};
 ghost use Rattle.fair_lock.specs.Closing.{IsToldShut, AsksNothing, IfEnterClosed, IfEnterLate};
 
@@ -76,7 +76,7 @@ impl<T> FairLock<T> {
         unreachable!()
     }
 
-    /// Waits until the ticket is at its turn, or withdraws the request once the span is over.
+    /// Waits until a ticket that could be taken back is at its turn, or withdraws the request once the span is over.
     fn wait_within<R: Wait + Clock>(
         &self,
         rt: &R,
@@ -85,7 +85,7 @@ impl<T> FairLock<T> {
         span: &Span,
     ) -> Result<(), Over>
         requires seat { IsSeatOf self.now.table.shared.table_id self.now.table.shared.key seat.old }
-        requires queued { InTime seat.old (IsQueued ticket) }
+        requires near { InTime seat.old (IsQueuedWithin 15 ticket) }
         ensures seat { IsSeatOf self.now.table.shared.table_id self.now.table.shared.key seat.new }
         ensures at_turn { IfOk result (λ _. InTime seat.new (IsAtTurn ticket)) }
         ensures overtaken { IfOk result (λ _. InTime seat.new IsOvertakenInBounds) }
