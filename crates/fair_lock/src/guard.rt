@@ -79,7 +79,7 @@ impl<T> Guard<'_, T> {
             lock.wakes
                 .wake(pass_on(rt, &lock.table.shared, &mut seat, ticket));
         } else {
-            lock.leave_outer(rt, &mut seat);
+            lock.wakes.wake(lock.leave_outer(rt, &mut seat));
         }
         Left { seat }
     }

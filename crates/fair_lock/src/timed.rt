@@ -201,8 +201,8 @@ impl<T> FairLock<T> {
             match take_outer(&self.table.shared, seat, ticket) {
                 TakeResult::Open => return Ok(true),
                 TakeResult::Shut => return Ok(false),
-                TakeResult::Changed => {}
-                TakeResult::Held => {
+                TakeResult::Changed { outer: _ } => {}
+                TakeResult::Held { outer: _ } => {
                     if looks < LOOKS {
                         looks += 1;
                         pause();

@@ -78,7 +78,7 @@ impl<T> FairLock<T> {
         let open = match take_outer(&self.table.shared, &mut seat, ticket) {
             TakeResult::Open => true,
             TakeResult::Shut => false,
-            TakeResult::Held | TakeResult::Changed => {
+            TakeResult::Held { outer: _ } | TakeResult::Changed { outer: _ } => {
                 let found = FoundTaken::by(&seat);
                 self.wakes
                     .wake(pass_on(rt, &self.table.shared, &mut seat, ticket));
@@ -137,7 +137,7 @@ impl<T> FairLock<T> {
         if is_open {
             return Ok(self.guard(seat, ticket, order));
         }
-        self.leave_outer(rt, &mut seat);
+        self.wakes.wake(self.leave_outer(rt, &mut seat));
         Err(Closed { seat })
     }
 }

@@ -1,7 +1,7 @@
 //! Requests.
 ghost use Rattle.std.specs.Prelude.{◌≡◌};
 ghost use Rattle.qolb_locks.specs.declared.ticket.State.{State};
-ghost use Rattle.qolb_locks.specs.Calls.{IsMisuse, StepsUpTo, Learns, IsBehind, Looks, Tries, AsksNear};
+ghost use Rattle.qolb_locks.specs.Calls.{IsMisuse, OnlyRequest, OnlyEntry, StepsUpTo, Learns, IfDrawn, IsBehind, Looks, Tries, AsksNear};
 ghost use Rattle.qolb_locks.specs.Tickets.{Is, Has, IsFree, IsKnown};
 
 use crate::answer::Answer;
@@ -15,6 +15,7 @@ pub(crate) fn take_new_seat(lock: &Lock, ticket: &mut Ticket)
     requires { IsFree ticket.old }
     ensures free { Has State.Free lock.now ticket.new }
     ensures outer { ticket.new.outer ≡ ticket.old.outer }
+    ensures kept { OnlyEntry ticket.old ticket.new }
 {
     ticket.claim.put(lock_core::new_seat(&lock.table.shared));
     ticket.label = lock.label;
@@ -28,7 +29,7 @@ fn ask_again(lock: &Lock, ticket: &mut Ticket) -> Answer
     ensures does { Looks lock.now ticket.new result }
     ensures after { Learns ticket.old ticket.new IsBehind }
     ensures steps { StepsUpTo 2 ticket.old ticket.new }
-    ensures outer_kept { ticket.new.outer ≡ ticket.old.outer }
+    ensures kept { OnlyRequest ticket.old ticket.new }
 {
     let mut seat = ticket.claim.take();
     ticket.number = lock_core::ask(&lock.table.shared, &mut seat);
@@ -45,7 +46,7 @@ fn ask_first(lock: &Lock, ticket: &mut Ticket) -> Answer
     requires { IsFree ticket.old }
     ensures known { IsKnown lock.now ticket.new }
     ensures does { Looks lock.now ticket.new result }
-    ensures outer_kept { ticket.new.outer ≡ ticket.old.outer }
+    ensures kept { OnlyRequest ticket.old ticket.new }
 {
     take_new_seat(lock, ticket);
     ask_again(lock, ticket)
@@ -62,7 +63,7 @@ pub fn ask(lock: &Lock, ticket: &mut Ticket) -> Answer
     ensures does { IsFree ticket.old → Looks lock.now ticket.new result }
     ensures after { Is State.Free lock.now ticket.old → Learns ticket.old ticket.new IsBehind }
     ensures steps { Is State.Free lock.now ticket.old → StepsUpTo 2 ticket.old ticket.new }
-    ensures outer_kept { ticket.new.outer ≡ ticket.old.outer }
+    ensures kept { OnlyRequest ticket.old ticket.new }
 {
     if ticket.state != State::Free as u32 {
         return Answer::Misuse;
@@ -79,8 +80,9 @@ fn try_ask_again(lock: &Lock, ticket: &mut Ticket) -> Answer
     requires { Has State.Free lock.now ticket.old }
     ensures known { IsKnown lock.now ticket.new }
     ensures does { Tries lock.now ticket.new result }
+    ensures after { IfDrawn result (Learns ticket.old ticket.new IsBehind) }
     ensures steps { StepsUpTo 3 ticket.old ticket.new }
-    ensures outer_kept { ticket.new.outer ≡ ticket.old.outer }
+    ensures kept { OnlyRequest ticket.old ticket.new }
 {
     let mut seat = ticket.claim.take();
     let drawn = lock_core::try_ask(&lock.table.shared, &mut seat);
@@ -101,13 +103,13 @@ fn try_ask_first(lock: &Lock, ticket: &mut Ticket) -> Answer
     requires { IsFree ticket.old }
     ensures known { IsKnown lock.now ticket.new }
     ensures does { Tries lock.now ticket.new result }
-    ensures outer_kept { ticket.new.outer ≡ ticket.old.outer }
+    ensures kept { OnlyRequest ticket.old ticket.new }
 {
     take_new_seat(lock, ticket);
     try_ask_again(lock, ticket)
 }
 
-/// Requests the lock if nobody has it and nobody waits.
+/// Requests the lock if nobody has it and nobody waits. The request is behind the ticket's last turn at this lock.
 ///
 /// Else leaves nothing behind.
 #[inline(always)]
@@ -116,8 +118,10 @@ pub fn try_ask(lock: &Lock, ticket: &mut Ticket) -> Answer
     ensures known { IsKnown lock.now ticket.new }
     ensures misuse { ¬ IsFree ticket.old → IsMisuse ticket.old ticket.new result }
     ensures does { IsFree ticket.old → Tries lock.now ticket.new result }
+    ensures after { Is State.Free lock.now ticket.old →
+        IfDrawn result (Learns ticket.old ticket.new IsBehind) }
     ensures steps { Is State.Free lock.now ticket.old → StepsUpTo 3 ticket.old ticket.new }
-    ensures outer_kept { ticket.new.outer ≡ ticket.old.outer }
+    ensures kept { OnlyRequest ticket.old ticket.new }
 {
     if ticket.state != State::Free as u32 {
         return Answer::Misuse;
@@ -134,8 +138,9 @@ fn ask_near_again(lock: &Lock, ticket: &mut Ticket) -> Answer
     requires { Has State.Free lock.now ticket.old }
     ensures known { IsKnown lock.now ticket.new }
     ensures does { AsksNear lock.now ticket.new result }
+    ensures after { IfDrawn result (Learns ticket.old ticket.new IsBehind) }
     ensures steps { StepsUpTo 3 ticket.old ticket.new }
-    ensures outer_kept { ticket.new.outer ≡ ticket.old.outer }
+    ensures kept { OnlyRequest ticket.old ticket.new }
 {
     let mut seat = ticket.claim.take();
     let asked = lock_core::ask_near(&lock.table.shared, &mut seat);
@@ -171,13 +176,13 @@ fn ask_near_first(lock: &Lock, ticket: &mut Ticket) -> Answer
     requires { IsFree ticket.old }
     ensures known { IsKnown lock.now ticket.new }
     ensures does { AsksNear lock.now ticket.new result }
-    ensures outer_kept { ticket.new.outer ≡ ticket.old.outer }
+    ensures kept { OnlyRequest ticket.old ticket.new }
 {
     take_new_seat(lock, ticket);
     ask_near_again(lock, ticket)
 }
 
-/// Requests the lock if the request could be withdrawn.
+/// Requests the lock if the request could be withdrawn. The request is behind the ticket's last turn at this lock.
 ///
 /// Else leaves nothing behind: `Far` if too many are before it, and `Busy` if another drew a ticket at that moment.
 #[inline(always)]
@@ -186,8 +191,10 @@ pub fn ask_near(lock: &Lock, ticket: &mut Ticket) -> Answer
     ensures known { IsKnown lock.now ticket.new }
     ensures misuse { ¬ IsFree ticket.old → IsMisuse ticket.old ticket.new result }
     ensures does { IsFree ticket.old → AsksNear lock.now ticket.new result }
+    ensures after { Is State.Free lock.now ticket.old →
+        IfDrawn result (Learns ticket.old ticket.new IsBehind) }
     ensures steps { Is State.Free lock.now ticket.old → StepsUpTo 3 ticket.old ticket.new }
-    ensures outer_kept { ticket.new.outer ≡ ticket.old.outer }
+    ensures kept { OnlyRequest ticket.old ticket.new }
 {
     if ticket.state != State::Free as u32 {
         return Answer::Misuse;

@@ -1,16 +1,16 @@
 //! The outer word, and the end of a turn.
 ghost use Rattle.std.specs.Prelude.{◌≡◌, ◌+◌, ◌%◌, ◌^◌, ◌≤◌, true, false};
-ghost use Rattle.lock_core.specs.Views.{HasTurnOf, IsIdle, IsNewcomersTurn, SameRequest, ServedOpen, ServedShut, KnowsShut};
+ghost use Rattle.lock_core.specs.Views.{HasEnded, HasTurnOf, IsIdle, IsNewcomersTurn, SameRequest, ServedOpen, ServedShut, KnowsShut};
 ghost use Rattle.qolb_locks.specs.declared.answer.Answer.{Answer};
 ghost use Rattle.qolb_locks.specs.declared.ticket.State.{State};
-ghost use Rattle.qolb_locks.specs.Calls.{IsMisuse, StepsUpTo, Learns, SameTicket, GrantsNext, Releases, GoesIn, IsHead, TakesOuterWord, Leaves, RequestsHandoff, SleepsAsHead};
+ghost use Rattle.qolb_locks.specs.Calls.{IsMisuse, OnlyState, OnlyGrant, OnlyOuter, OnlyEntry, OnlyExit, StepsUpTo, Learns, SameTicket, GrantsNext, Releases, GoesIn, IsHead, TakesOuterWord, Leaves, RequestsHandoff, SleepsAsHead};
 ghost use Rattle.qolb_locks.specs.Tickets.{Has, Is, IsFree, IsWithin, IsKnown, HasBursts, Knows, Says};
 
 use crate::answer::Answer;
 use crate::asking::take_new_seat;
 use crate::lock::Lock;
 use crate::ticket::{State, Ticket};
-use lock_core::{HeadSleepResult, LeaveResult, ReleaseResult, TakeResult};
+use lock_core::{GoInResult, HeadSleepResult, LeaveResult, ReleaseResult, TakeResult};
 
 /// Passes a turn of the queue on. Returns `false` if it is not at its end.
 #[inline(always)]
@@ -18,6 +18,7 @@ fn pass_on(lock: &Lock, ticket: &mut Ticket) -> bool
     requires { Knows lock.now ticket.old (HasTurnOf ticket.old.number) }
     ensures label { (ticket.new.label ≡ ticket.old.label) × (ticket.new.state ≡ ticket.old.state) }
     ensures granted { result ≡ true → GrantsNext lock.now ticket.new }
+    ensures ended { result ≡ true → Learns ticket.old ticket.new HasEnded }
     ensures free { result ≡ true → Knows lock.now ticket.new IsIdle }
     ensures inside { result ≡ true →
         Knows lock.now ticket.old (Says State.HeadInside ticket.old.number ticket.old.rounds) →
@@ -34,7 +35,7 @@ fn pass_on(lock: &Lock, ticket: &mut Ticket) -> bool
         Knows lock.now ticket.old (Says State.HeadInsideShut ticket.old.number ticket.old.rounds) →
         Knows lock.now ticket.new (Says State.HeadInsideShut ticket.new.number ticket.new.rounds) }
     ensures steps { StepsUpTo 128 ticket.old ticket.new }
-    ensures outer_kept { ticket.new.outer ≡ ticket.old.outer }
+    ensures kept { OnlyGrant ticket.old ticket.new }
 {
     let mut seat = ticket.claim.take();
     let released = lock_core::release(&lock.table.shared, &mut seat, &mut ticket.number);
@@ -59,7 +60,7 @@ pub fn release(lock: &Lock, ticket: &mut Ticket) -> Answer
     ensures does { IsWithin 3 8 lock.now ticket.old →
         Releases lock.now ticket.old ticket.new result }
     ensures steps { IsWithin 3 8 lock.now ticket.old → StepsUpTo 128 ticket.old ticket.new }
-    ensures outer_kept { ticket.new.outer ≡ ticket.old.outer }
+    ensures kept { OnlyGrant ticket.old ticket.new }
 {
     if ticket.has_turn_outside(lock) {
         if !pass_on(lock, ticket) {
@@ -81,7 +82,7 @@ fn release_inside(lock: &Lock, ticket: &mut Ticket) -> Answer
     ensures does { IsWithin 7 8 lock.now ticket.old →
         Releases lock.now ticket.old ticket.new result }
     ensures steps { IsWithin 7 8 lock.now ticket.old → StepsUpTo 128 ticket.old ticket.new }
-    ensures outer_kept { ticket.new.outer ≡ ticket.old.outer }
+    ensures kept { OnlyGrant ticket.old ticket.new }
 {
     if ticket.has(State::HeadInside, lock) {
         if !pass_on(lock, ticket) {
@@ -106,20 +107,25 @@ fn go_in_again(lock: &Lock, ticket: &mut Ticket) -> Answer
     requires bursts { HasBursts lock.now }
     requires free { Has State.Free lock.now ticket.old }
     ensures known { IsKnown lock.now ticket.new }
+    ensures kept { OnlyEntry ticket.old ticket.new }
     ensures does { GoesIn lock.now ticket.old.outer ticket.new result }
     ensures steps { StepsUpTo 1 ticket.old ticket.new }
 {
     let guess = ticket.outer;
     let mut seat = ticket.claim.take();
-    let inside = lock_core::go_in_if(&lock.table.shared, &mut seat, guess);
+    let went = lock_core::go_in_if(&lock.table.shared, &mut seat, guess);
     ticket.claim.put(seat);
-    if !inside {
-        ticket.outer = lock.table.shared.peek(0);
-        return Answer::Busy;
+    match went {
+        GoInResult::Inside => {
+            ticket.outer = guess.wrapping_add(36);
+            ticket.state = State::Inside as u32;
+            Answer::Granted
+        }
+        GoInResult::Outside { outer } => {
+            ticket.outer = outer;
+            Answer::Busy
+        }
     }
-    ticket.outer = guess.wrapping_add(36);
-    ticket.state = State::Inside as u32;
-    Answer::Granted
 }
 
 /// A newcomer goes in with a ticket that is not of the lock yet.
@@ -130,6 +136,7 @@ fn go_in_first(lock: &Lock, ticket: &mut Ticket) -> Answer
     requires bursts { HasBursts lock.now }
     requires free { IsFree ticket.old }
     ensures known { IsKnown lock.now ticket.new }
+    ensures kept { OnlyEntry ticket.old ticket.new }
     ensures does { GoesIn lock.now ticket.old.outer ticket.new result }
 {
     take_new_seat(lock, ticket);
@@ -145,6 +152,7 @@ pub fn go_in(lock: &Lock, ticket: &mut Ticket) -> Answer
     ensures known { IsKnown lock.now ticket.new }
     ensures strict { ¬ HasBursts lock.now → IsMisuse ticket.old ticket.new result }
     ensures misuse { ¬ IsFree ticket.old → IsMisuse ticket.old ticket.new result }
+    ensures kept { OnlyEntry ticket.old ticket.new }
     ensures does { HasBursts lock.now → IsFree ticket.old →
         GoesIn lock.now ticket.old.outer ticket.new result }
     ensures steps { HasBursts lock.now → Is State.Free lock.now ticket.old
@@ -161,16 +169,19 @@ pub fn go_in(lock: &Lock, ticket: &mut Ticket) -> Answer
 
 /// The queue head takes the outer word, if that is free. Then it is to release its turn of the queue, and is in.
 ///
-/// `Closed` if it is in a lock that is shut; `Waiting` if the outer word is held, or changed at that moment.
+/// `Closed` if it is in a lock that is shut; `Waiting` if the outer word is held, or changed at that moment: the ticket has the word that was
+/// found.
 #[inline(always)]
 pub fn take_outer(lock: &Lock, ticket: &mut Ticket) -> Answer
     requires { IsKnown lock.now ticket.old }
     ensures known { IsKnown lock.now ticket.new }
     ensures misuse { ¬ IsHead lock.now ticket.old → IsMisuse ticket.old ticket.new result }
+    ensures kept { OnlyOuter ticket.old ticket.new }
     ensures does { IsHead lock.now ticket.old → TakesOuterWord lock.now ticket.new result }
     ensures same { IsHead lock.now ticket.old → Learns ticket.old ticket.new SameRequest }
+    ensures steps { IsHead lock.now ticket.old → StepsUpTo 2 ticket.old ticket.new }
 {
-    if lock.burst < 2 || !ticket.has(State::AtTurn, lock) {
+    if !ticket.is_head(lock) {
         return Answer::Misuse;
     }
     let mut seat = ticket.claim.take();
@@ -187,8 +198,8 @@ pub fn take_outer(lock: &Lock, ticket: &mut Ticket) -> Answer
             ticket.state = State::HeadInsideShut as u32;
             Answer::Closed
         }
-        TakeResult::Held | TakeResult::Changed => {
-            ticket.outer = lock.table.shared.peek(0);
+        TakeResult::Held { outer } | TakeResult::Changed { outer } => {
+            ticket.outer = outer;
             Answer::Waiting
         }
     }
@@ -202,6 +213,7 @@ pub fn leave(lock: &Lock, ticket: &mut Ticket) -> Answer
     requires { IsKnown lock.now ticket.old }
     ensures known { IsKnown lock.now ticket.new }
     ensures misuse { ¬ IsWithin 9 10 lock.now ticket.old → IsMisuse ticket.old ticket.new result }
+    ensures kept { OnlyExit ticket.old ticket.new }
     ensures does { IsWithin 9 10 lock.now ticket.old →
         Leaves lock.now ticket.old ticket.new result }
     ensures steps { IsWithin 9 10 lock.now ticket.old → StepsUpTo 1 ticket.old ticket.new }
@@ -220,8 +232,8 @@ pub fn leave(lock: &Lock, ticket: &mut Ticket) -> Answer
             ticket.state = State::Free as u32;
             Answer::Done
         }
-        LeaveResult::Changed => {
-            ticket.outer = lock.table.shared.peek(0);
+        LeaveResult::Changed { outer } => {
+            ticket.outer = outer;
             Answer::Busy
         }
     }
@@ -233,13 +245,13 @@ pub fn leave(lock: &Lock, ticket: &mut Ticket) -> Answer
 pub fn request_handoff(lock: &Lock, ticket: &mut Ticket) -> Answer
     requires { IsKnown lock.now ticket.old }
     ensures known { IsKnown lock.now ticket.new }
-    ensures misuse { ¬ Is State.AtTurn lock.now ticket.old → IsMisuse ticket.old ticket.new result }
-    ensures does { Is State.AtTurn lock.now ticket.old →
+    ensures misuse { ¬ IsHead lock.now ticket.old → IsMisuse ticket.old ticket.new result }
+    ensures does { IsHead lock.now ticket.old →
         RequestsHandoff lock.now ticket.new result }
-    ensures steps { Is State.AtTurn lock.now ticket.old → StepsUpTo 2 ticket.old ticket.new }
-    ensures outer_kept { ticket.new.outer ≡ ticket.old.outer }
+    ensures steps { IsHead lock.now ticket.old → StepsUpTo 2 ticket.old ticket.new }
+    ensures kept { OnlyState ticket.old ticket.new }
 {
-    if !ticket.has(State::AtTurn, lock) {
+    if !ticket.is_head(lock) {
         return Answer::Misuse;
     }
     let mut seat = ticket.claim.take();
@@ -258,10 +270,12 @@ pub fn request_handoff(lock: &Lock, ticket: &mut Ticket) -> Answer
 pub fn announce_head_sleep(lock: &Lock, ticket: &mut Ticket) -> Answer
     requires { IsKnown lock.now ticket.old }
     ensures known { IsKnown lock.now ticket.new }
-    ensures misuse { ¬ Is State.AtTurn lock.now ticket.old → IsMisuse ticket.old ticket.new result }
-    ensures does { Is State.AtTurn lock.now ticket.old → SleepsAsHead lock.now ticket.new result }
+    ensures misuse { ¬ IsHead lock.now ticket.old → IsMisuse ticket.old ticket.new result }
+    ensures kept { OnlyOuter ticket.old ticket.new }
+    ensures does { IsHead lock.now ticket.old → SleepsAsHead lock.now ticket.old ticket.new result }
+    ensures steps { IsHead lock.now ticket.old → StepsUpTo 2 ticket.old ticket.new }
 {
-    if !ticket.has(State::AtTurn, lock) {
+    if !ticket.is_head(lock) {
         return Answer::Misuse;
     }
     let mut seat = ticket.claim.take();
