@@ -1,8 +1,11 @@
 //! Threads come and go, and share a value under a fair lock: a count whose total is proved, and a pair whose sum is.
 #![tactic(auto)]
 
+mod book;
 mod count;
+mod history;
 mod pair;
+mod turn;
 
 use anyhow::Context;
 
@@ -13,5 +16,8 @@ fn main(rt: HostRuntime) -> anyhow::Result<()> {
     println!(rt; "8 threads had 500 turns each, in bursts of at most 32: {bursts}")?;
     let sum = pair::sum_after(&rt, rt.alloc(), 8, 500).context("no memory")?;
     println!(rt; "8 threads moved coins between two purses 500 times each: {sum} coins")?;
+    let (one, two) = history::found_and_left(&rt, rt.alloc(), (3, 4)).context("no memory")?;
+    let found_left = one.found == two.left || two.found == one.left;
+    println!(rt; "of 2 turns one found what the other left: {found_left}")?;
     Ok(())
 }

@@ -1,7 +1,7 @@
 -- What an announcement of a sleep and a release say.
 use Rattle.std.specs.Prelude.{◌≡◌, ◌%◌, false}
 use Rattle.lock_core.specs.declared.view.View.{View}
-use Rattle.lock_core.specs.Views.{GrantedToNobodyAsleep}
+use Rattle.lock_core.specs.Views.{GrantedToNobodyAsleep, LeftQuietly}
 use Rattle.fair_lock.specs.declared.wake.ToWake.{ToWake}
 use Rattle.fair_lock.specs.declared.wake.Announced.{Announced}
 use Rattle.fair_lock.specs.declared.wake.Announced.TheVariants as announced
@@ -25,3 +25,7 @@ IfNotAnnounced announced.Not P = P
 -- Who granted a ticket is to wake the sleepers at that ticket's wake word. Where it is to wake nobody, nobody slept for the ticket.
 abbrev pub IsToldOf : ToWake → View → Type 0
 IsToldOf told v = (told.place ≡ v.granted % 4) × (told.asleep ≡ false → GrantedToNobodyAsleep v)
+
+-- Who left the outer word is to wake the queue head at its wake word. Where it is to wake nobody, no queue head slept there.
+abbrev pub IsToldOfHead : ToWake → View → Type 0
+IsToldOfHead told v = (told.place ≡ 4) × (told.asleep ≡ false → LeftQuietly v)

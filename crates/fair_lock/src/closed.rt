@@ -1,6 +1,8 @@
 //! Why a thread has no turn.
 ghost use Rattle.std.specs.Prelude.{◌≡◌};
 
+use crate::found::FoundTaken;
+use crate::span::Over;
 use lock_core::ValueSeat;
 
 /// The lock is shut: there are no more turns. It has no bytes, and shows in proofs that the caller was told of it.
@@ -9,11 +11,25 @@ pub struct Closed<T> {
     pub(crate) seat: ValueSeat<T>,
 }
 
+/// Another thread was served, or waited. It has no bytes, and shows in proofs that nothing is left behind.
+#[derive(Drop)]
+pub struct Busy<T> {
+    pub(crate) seat: ValueSeat<T>,
+    pub(crate) found: FoundTaken,
+}
+
+/// The time was over. It has no bytes, and shows in proofs that no request is left behind.
+#[derive(Drop)]
+pub struct Late<T> {
+    pub(crate) seat: ValueSeat<T>,
+    pub(crate) over: Over,
+}
+
 /// Why `try_enter` gave no turn.
 #[derive(Drop)]
 pub enum TryEnterError<T> {
     /// Another thread is served, or waits.
-    Busy,
+    Busy(Busy<T>),
     /// The lock is shut.
     Closed(Closed<T>),
 }
@@ -24,7 +40,7 @@ pub enum EnterError<T> {
     /// The lock is shut.
     Closed(Closed<T>),
     /// The time was over before the turn. A request that was made is withdrawn.
-    Late,
+    Late(Late<T>),
 }
 
 /// A turn has ended. It has no bytes, and shows in proofs that its thread has left.

@@ -6,6 +6,7 @@ ghost use Rattle.fair_lock.specs.Closing.{HasLeft};
 ghost use Rattle.fair_lock.specs.Turns.{IsServed, IsGuard, IsOpen, LendsValue, SameValue, with_value};
 
 use crate::closed::Left;
+use crate::found::InOrder;
 use crate::lock::FairLock;
 use crate::sleep::pass_on;
 use lock_core::ValueSeat;
@@ -16,12 +17,13 @@ pub struct Guard<'a, T> {
     pub(crate) lock: &'a FairLock<T>,
     pub(crate) seat: ValueSeat<T>,
     pub(crate) ticket: u64,
+    pub(crate) order: InOrder,
 }
 
 impl<T> FairLock<T> {
-    /// The guard of a thread that is served.
+    /// The guard of a thread that is served, and came in its order.
     #[tactic(auto, unfolding(crate::specs::Turns::IsGuard))]
-    pub(crate) fn guard(&self, seat: ValueSeat<T>, ticket: u64) -> Guard<'_, T>
+    pub(crate) fn guard(&self, seat: ValueSeat<T>, ticket: u64, order: InOrder) -> Guard<'_, T>
         requires seat { IsSeatOf self.now.table.shared.table_id self.now.table.shared.key seat }
         requires served { InTime seat (IsServed self.now.burst ticket) }
         ensures guard { IsGuard result }
@@ -31,6 +33,7 @@ impl<T> FairLock<T> {
             lock: self,
             seat,
             ticket,
+            order,
         }
     }
 }
@@ -65,13 +68,18 @@ impl<T> Guard<'_, T> {
         requires guard { IsGuard self }
         ensures left { HasLeft self.entry.lock.now result }
     {
-        let Guard { lock, seat, ticket } = self;
+        let Guard {
+            lock,
+            seat,
+            ticket,
+            order: _,
+        } = self;
         let mut seat = seat;
         if lock.burst < 2 {
             lock.wakes
                 .wake(pass_on(rt, &lock.table.shared, &mut seat, ticket));
         } else {
-            lock.leave_outer(rt, &mut seat);
+            lock.wakes.wake(lock.leave_outer(rt, &mut seat));
         }
         Left { seat }
     }

@@ -1,6 +1,7 @@
 //! The outer word of a lock with bursts: the queue head waits for it, and whoever is inside leaves it.
 ghost use Rattle.std.specs.Prelude.{◌≡◌, ◌≤◌, true, false};
 ghost use Rattle.lock_core.specs.Views.{view_of, InTime, LoadGrows, IsSeatOf, IsAtTurn, IsHeadInside, IsInside, IsOutside, IsOvertakenInBounds, ServedOpen, ServedShut, KnowsShut, SameKnown};
+ghost use Rattle.fair_lock.specs.Wakes.{IsToldOfHead};
 
 use crate::lock::FairLock;
 use crate::queue::pause;
@@ -63,14 +64,15 @@ impl<T> FairLock<T> {
         }
     }
 
-    /// Leaves the outer word, and wakes the queue head if it sleeps there.
-    pub(crate) fn leave_outer<R: Wait>(&self, rt: &R, seat: &mut ValueSeat<T>)
+    /// Leaves the outer word. The queue head is to be woken if it sleeps there.
+    pub(crate) fn leave_outer<R: Wait>(&self, rt: &R, seat: &mut ValueSeat<T>) -> ToWake
         requires seat { IsSeatOf self.now.table.shared.table_id self.now.table.shared.key seat.old }
         requires inside { InTime seat.old IsInside }
         ensures seat { IsSeatOf self.now.table.shared.table_id self.now.table.shared.key seat.new }
         ensures outside { InTime seat.new IsOutside }
         ensures known { SameKnown (view_of seat.old) (view_of seat.new) }
         ensures load { LoadGrows seat.old seat.new }
+        ensures told { InTime seat.new (IsToldOfHead result) }
     {
         for _ in rt.forever() {
             if let LeaveResult::Outside { head_asleep } = leave(
@@ -78,8 +80,7 @@ impl<T> FairLock<T> {
                 seat,
                 self.burst,
             ) {
-                self.wakes.wake(ToWake::head(head_asleep));
-                return;
+                return ToWake::head(head_asleep);
             }
         }
         unreachable!()

@@ -2,16 +2,18 @@
 #![tactic(auto)]
 
 mod closed;
+mod found;
 mod guard;
 mod head;
 mod lock;
 mod queue;
 mod sleep;
+mod span;
 mod timed;
 mod turns;
 mod wake;
 
-pub use closed::{Closed, EnterError, Left, TryEnterError};
+pub use closed::{Busy, Closed, EnterError, Late, Left, TryEnterError};
 pub use guard::Guard;
 pub use lock::{FairLock, NewError};
 pub use lock_core::{LockKind, OpenError};

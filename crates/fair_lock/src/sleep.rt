@@ -91,7 +91,10 @@ impl Counted {
 impl ToWake {
     /// The duty of one that left the outer word, and was told whether the queue head sleeps there.
     #[inline]
-    pub(crate) fn head(asleep: bool) -> ToWake {
+    pub(crate) fn head(asleep: bool) -> ToWake
+        ensures place { result.place ≡ 4 }
+        ensures asleep { result.asleep ≡ asleep }
+    {
         ToWake {
             place: HEAD,
             asleep,

@@ -1,14 +1,16 @@
 //! A thread enters within a limit of time.
-ghost use Rattle.std.specs.Prelude.{◌≡◌, ◌≤◌, IfOk, IfErr, IfSome, IfNone, true, false};
-ghost use Rattle.lock_core.specs.Views.{InTime, LoadGrows, IsSeatOf, IsQueued, IsAtTurn, IsIdle, IsHeadInside, ServedOpen, KnowsShut};
+ghost use Rattle.std.specs.Prelude.{◌≡◌, ◌≤◌, IfOk, IfErr, true, false};
+ghost use Rattle.lock_core.specs.Views.{InTime, LoadGrows, IsSeatOf, IsQueued, IsQueuedWithin, IsAtTurn, IsIdle, IsHeadInside, IsOvertakenInBounds, ServedOpen, KnowsShut};
 ghost use Rattle.fair_lock.specs.Turns.{IsGuard, IsOpen};
-ghost use Rattle.fair_lock.specs.Closing.{IsToldShut, IfEnterClosed};
+ghost use Rattle.fair_lock.specs.Closing.{IsToldShut, AsksNothing, IfEnterClosed, IfEnterLate};
 
-use crate::closed::EnterError;
+use crate::closed::{EnterError, Late};
+use crate::found::InOrder;
 use crate::guard::Guard;
 use crate::lock::FairLock;
 use crate::queue::pause;
 use crate::sleep::pass_on;
+use crate::span::{Over, Span};
 use crate::wake::Announced;
 use crossbeam_utils::Backoff;
 use lock_core::{
@@ -17,42 +19,13 @@ use lock_core::{
 };
 use std::rt::Clock;
 use std::sync::{Wait, WaitMethods};
-use std::time::{Duration, Instant};
+use std::time::Duration;
 
 /// A request can be taken back while at most this number of rounds is to be granted until its own.
 const NEAR: u64 = 15;
 
 /// So often the queue head looks at the outer word before it sleeps.
 const LOOKS: u32 = 100;
-
-/// A span of time. It counts as over if the clock could not be read.
-#[derive(Drop)]
-struct Span {
-    since: Option<Instant>,
-    at_most: Duration,
-}
-
-impl Span {
-    fn begin<R: Clock>(rt: &R, at_most: Duration) -> Span {
-        Span {
-            since: Instant::now(rt).ok(),
-            at_most,
-        }
-    }
-
-    /// What is left of the span, or `None` if it is over.
-    fn left<R: Clock>(&self, rt: &R) -> Option<Duration> {
-        let (Some(since), Some(now)) = (self.since, Instant::now(rt).ok()) else {
-            return None;
-        };
-        let left = self.at_most.saturating_sub(now.duration_since(since));
-        if left.as_nanos() > 0 {
-            Some(left)
-        } else {
-            None
-        }
-    }
-}
 
 impl<T> FairLock<T> {
     /// Enters within `at_most`, or not at all. Blocks for no longer than about that.
@@ -71,67 +44,73 @@ impl<T> FairLock<T> {
     ) -> Result<Guard<'_, T>, EnterError<T>>
         ensures guard { IfOk result (λ guard. IsGuard guard × IsOpen guard) }
         ensures closed { IfErr result (IfEnterClosed (IsToldShut self.now)) }
+        ensures late { IfErr result (IfEnterLate (λ late. AsksNothing self.now late.seat)) }
     {
         let span = Span::begin(rt, at_most);
         let mut seat = new_seat(&self.table.shared);
         let backoff = Backoff::new();
         for _ in rt.forever() {
             if self.burst >= 2 && go_in(&self.table.shared, &mut seat) {
-                return Ok(self.guard(seat, 0));
+                let order = InOrder::as_newcomer(&seat);
+                return Ok(self.guard(seat, 0, order));
             }
             match ask_within(&self.table.shared, &mut seat, NEAR) {
                 AskWithinResult::AtTurn { ticket } => {
                     return self.begin_within(rt, seat, ticket, &span);
                 }
                 AskWithinResult::Queued { ticket, rounds: _ } => {
-                    if self.wait_within(rt, &mut seat, ticket, &span) {
-                        return self.begin_within(rt, seat, ticket, &span);
-                    }
-                    return Err(EnterError::Late);
+                    return match self.wait_within(rt, &mut seat, ticket, &span) {
+                        Ok(()) => self.begin_within(rt, seat, ticket, &span),
+                        Err(over) => Err(EnterError::Late(Late { seat, over })),
+                    };
                 }
                 AskWithinResult::Far { rounds: _ }
                 | AskWithinResult::Changed
                 | AskWithinResult::Spent => {}
             }
-            if span.left(rt).is_none() {
-                return Err(EnterError::Late);
+            if let Err(over) = span.left(rt) {
+                return Err(EnterError::Late(Late { seat, over }));
             }
             backoff.snooze();
         }
         unreachable!()
     }
 
-    /// Waits until the ticket is at its turn, or withdraws the request once the span is over. `true`: it is at its turn.
+    /// Waits until a ticket that could be taken back is at its turn, or withdraws the request once the span is over.
     fn wait_within<R: Wait + Clock>(
         &self,
         rt: &R,
         seat: &mut ValueSeat<T>,
         ticket: u64,
         span: &Span,
-    ) -> bool
+    ) -> Result<(), Over>
         requires seat { IsSeatOf self.now.table.shared.table_id self.now.table.shared.key seat.old }
-        requires queued { InTime seat.old (IsQueued ticket) }
+        requires near { InTime seat.old (IsQueuedWithin 15 ticket) }
         ensures seat { IsSeatOf self.now.table.shared.table_id self.now.table.shared.key seat.new }
-        ensures at_turn { result ≡ true → InTime seat.new (IsAtTurn ticket) }
-        ensures withdrawn { result ≡ false → InTime seat.new IsIdle }
+        ensures at_turn { IfOk result (λ _. InTime seat.new (IsAtTurn ticket)) }
+        ensures overtaken { IfOk result (λ _. InTime seat.new IsOvertakenInBounds) }
+        ensures withdrawn { IfErr result (λ _. InTime seat.new IsIdle) }
     {
         for _ in rt.forever() {
             if self.spin(seat, ticket) {
-                return true;
+                return Ok(());
             }
             match span.left(rt) {
-                Some(left) => {
+                Ok(left) => {
                     if self.sleep_within(rt, seat, ticket, left) {
-                        return true;
+                        return Ok(());
                     }
                 }
-                None => {
+                Err(over) => {
                     let rounds = poll(&self.table.shared, seat, ticket);
                     if rounds == 0 {
-                        return true;
+                        return Ok(());
                     }
                     if rounds <= NEAR {
-                        return !withdraw(&self.table.shared, seat, ticket, rounds);
+                        if withdraw(&self.table.shared, seat, ticket, rounds) {
+                            return Err(over);
+                        }
+                        return Ok(());
                     }
                 }
             }
@@ -152,6 +131,7 @@ impl<T> FairLock<T> {
         ensures seat { IsSeatOf self.now.table.shared.table_id self.now.table.shared.key seat.new }
         ensures load { LoadGrows seat.old seat.new }
         ensures at_turn { result ≡ true → InTime seat.new (IsAtTurn ticket) }
+        ensures overtaken { result ≡ true → InTime seat.new IsOvertakenInBounds }
         ensures queued { result ≡ false → InTime seat.new (IsQueued ticket) }
     {
         let table = &self.table.shared;
@@ -175,18 +155,22 @@ impl<T> FairLock<T> {
     ) -> Result<Guard<'_, T>, EnterError<T>>
         requires seat { IsSeatOf self.now.table.shared.table_id self.now.table.shared.key seat }
         requires at_turn { InTime seat (IsAtTurn ticket) }
+        requires overtaken { InTime seat IsOvertakenInBounds }
         ensures guard { IfOk result (λ guard. IsGuard guard × IsOpen guard) }
         ensures closed { IfErr result (IfEnterClosed (IsToldShut self.now)) }
+        ensures late { IfErr result (IfEnterLate (λ late. AsksNothing self.now late.seat)) }
     {
         let answer = if self.burst < 2 {
             self.look_and_begin(rt, seat, ticket)
         } else {
-            let Some(open) = self.go_in_within(rt, &mut seat, ticket, span) else {
-                self.wakes
-                    .wake(pass_on(rt, &self.table.shared, &mut seat, ticket));
-                return Err(EnterError::Late);
-            };
-            self.pass_on_inside(rt, seat, ticket, open)
+            match self.go_in_within(rt, &mut seat, ticket, span) {
+                Ok(open) => self.pass_on_inside(rt, seat, ticket, open),
+                Err(over) => {
+                    self.wakes
+                        .wake(pass_on(rt, &self.table.shared, &mut seat, ticket));
+                    return Err(EnterError::Late(Late { seat, over }));
+                }
+            }
         };
         match answer {
             Ok(guard) => Ok(guard),
@@ -194,28 +178,29 @@ impl<T> FairLock<T> {
         }
     }
 
-    /// Waits as the queue head until it is inside: `Some(false)` if the lock is shut, `None` once the span is over.
+    /// Waits as the queue head until it is inside: `false` if the lock is shut.
     fn go_in_within<R: Wait + Clock>(
         &self,
         rt: &R,
         seat: &mut ValueSeat<T>,
         ticket: u64,
         span: &Span,
-    ) -> Option<bool>
+    ) -> Result<bool, Over>
         requires bursts { 2 ≤ self.now.burst }
         requires seat { IsSeatOf self.now.table.shared.table_id self.now.table.shared.key seat.old }
         requires at_turn { InTime seat.old (IsAtTurn ticket) }
         ensures seat { IsSeatOf self.now.table.shared.table_id self.now.table.shared.key seat.new }
-        ensures inside { IfSome result (λ _. InTime seat.new (IsHeadInside ticket)) }
-        ensures open { IfSome result (λ is_open. is_open ≡ true → InTime seat.new ServedOpen) }
-        ensures shut { IfSome result (λ is_open. is_open ≡ false → InTime seat.new KnowsShut) }
-        ensures at_turn { IfNone result (InTime seat.new (IsAtTurn ticket)) }
+        ensures inside { IfOk result (λ _. InTime seat.new (IsHeadInside ticket)) }
+        ensures overtaken { IfOk result (λ _. InTime seat.new IsOvertakenInBounds) }
+        ensures open { IfOk result (λ is_open. is_open ≡ true → InTime seat.new ServedOpen) }
+        ensures shut { IfOk result (λ is_open. is_open ≡ false → InTime seat.new KnowsShut) }
+        ensures at_turn { IfErr result (λ _. InTime seat.new (IsAtTurn ticket)) }
     {
         let mut looks = 0;
         for _ in rt.forever() {
             match take_outer(&self.table.shared, seat, ticket) {
-                TakeResult::Open => return Some(true),
-                TakeResult::Shut => return Some(false),
+                TakeResult::Open => return Ok(true),
+                TakeResult::Shut => return Ok(false),
                 TakeResult::Changed { outer: _ } => {}
                 TakeResult::Held { outer: _ } => {
                     if looks < LOOKS {

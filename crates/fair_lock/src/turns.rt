@@ -1,10 +1,11 @@
 //! A thread enters, and leaves.
 ghost use Rattle.std.specs.Prelude.{◌≡◌, ◌≤◌, IfOk, IfErr, true, false};
-ghost use Rattle.lock_core.specs.Views.{InTime, IsSeatOf, IsAtTurn, IsHeadInside, ServedOpen, KnowsShut};
+ghost use Rattle.lock_core.specs.Views.{InTime, IsSeatOf, IsAtTurn, IsHeadInside, IsOvertakenInBounds, ServedOpen, KnowsShut};
 ghost use Rattle.fair_lock.specs.Turns.{IsGuard, IsOpen};
-ghost use Rattle.fair_lock.specs.Closing.{IsToldShut, IfTryClosed};
+ghost use Rattle.fair_lock.specs.Closing.{IsToldShut, AsksNothing, IfTryClosed, IfTryBusy};
 
-use crate::closed::{Closed, TryEnterError};
+use crate::closed::{Busy, Closed, TryEnterError};
+use crate::found::{FoundTaken, InOrder};
 use crate::guard::Guard;
 use crate::lock::FairLock;
 use crate::sleep::pass_on;
@@ -32,7 +33,8 @@ impl<T> FairLock<T> {
             return self.look_and_begin(rt, seat, ticket);
         }
         if go_in(&self.table.shared, &mut seat) {
-            return Ok(self.guard(seat, 0));
+            let order = InOrder::as_newcomer(&seat);
+            return Ok(self.guard(seat, 0, order));
         }
         let ticket = self.come_to_turn(rt, &mut seat);
         let open = self.go_in_as_head(rt, &mut seat, ticket);
@@ -47,13 +49,25 @@ impl<T> FairLock<T> {
     pub fn try_enter<R: Wait>(&self, rt: &R) -> Result<Guard<'_, T>, TryEnterError<T>>
         ensures guard { IfOk result (λ guard. IsGuard guard × IsOpen guard) }
         ensures closed { IfErr result (IfTryClosed (IsToldShut self.now)) }
+        ensures busy { IfErr result (IfTryBusy (λ busy. AsksNothing self.now busy.seat)) }
     {
         let mut seat = new_seat(&self.table.shared);
         if self.burst >= 2 && go_in(&self.table.shared, &mut seat) {
-            return Ok(self.guard(seat, 0));
+            let order = InOrder::as_newcomer(&seat);
+            return Ok(self.guard(seat, 0, order));
         }
-        let AskWithinResult::AtTurn { ticket } = ask_within(&self.table.shared, &mut seat, 0) else {
-            return Err(TryEnterError::Busy);
+        let ticket = match ask_within(&self.table.shared, &mut seat, 0) {
+            AskWithinResult::AtTurn { ticket } => ticket,
+            AskWithinResult::Queued {
+                ticket: _,
+                rounds: _,
+            } => unreachable!(),
+            AskWithinResult::Far { rounds: _ }
+            | AskWithinResult::Changed
+            | AskWithinResult::Spent => {
+                let found = FoundTaken::by(&seat);
+                return Err(TryEnterError::Busy(Busy { seat, found }));
+            }
         };
         if self.burst < 2 {
             return match self.look_and_begin(rt, seat, ticket) {
@@ -65,9 +79,10 @@ impl<T> FairLock<T> {
             TakeResult::Open => true,
             TakeResult::Shut => false,
             TakeResult::Held { outer: _ } | TakeResult::Changed { outer: _ } => {
+                let found = FoundTaken::by(&seat);
                 self.wakes
                     .wake(pass_on(rt, &self.table.shared, &mut seat, ticket));
-                return Err(TryEnterError::Busy);
+                return Err(TryEnterError::Busy(Busy { seat, found }));
             }
         };
         match self.pass_on_inside(rt, seat, ticket, open) {
@@ -86,11 +101,13 @@ impl<T> FairLock<T> {
         requires strict { self.now.burst ≤ 1 }
         requires seat { IsSeatOf self.now.table.shared.table_id self.now.table.shared.key seat }
         requires at_turn { InTime seat (IsAtTurn ticket) }
+        requires overtaken { InTime seat IsOvertakenInBounds }
         ensures guard { IfOk result (λ guard. IsGuard guard × IsOpen guard) }
         ensures closed { IfErr result (IsToldShut self.now) }
     {
+        let order = InOrder::by_ticket(&seat);
         if check_open(&self.table.shared, &mut seat, ticket) {
-            return Ok(self.guard(seat, ticket));
+            return Ok(self.guard(seat, ticket, order));
         }
         self.wakes
             .wake(pass_on(rt, &self.table.shared, &mut seat, ticket));
@@ -108,17 +125,19 @@ impl<T> FairLock<T> {
         requires bursts { 2 ≤ self.now.burst }
         requires seat { IsSeatOf self.now.table.shared.table_id self.now.table.shared.key seat }
         requires inside { InTime seat (IsHeadInside ticket) }
+        requires overtaken { InTime seat IsOvertakenInBounds }
         requires open { is_open ≡ true → InTime seat ServedOpen }
         requires shut { is_open ≡ false → InTime seat KnowsShut }
         ensures guard { IfOk result (λ guard. IsGuard guard × IsOpen guard) }
         ensures closed { IfErr result (IsToldShut self.now) }
     {
+        let order = InOrder::by_ticket(&seat);
         self.wakes
             .wake(pass_on(rt, &self.table.shared, &mut seat, ticket));
         if is_open {
-            return Ok(self.guard(seat, ticket));
+            return Ok(self.guard(seat, ticket, order));
         }
-        self.leave_outer(rt, &mut seat);
+        self.wakes.wake(self.leave_outer(rt, &mut seat));
         Err(Closed { seat })
     }
 }

@@ -5,7 +5,7 @@ ghost use Rattle.std.specs.Prelude.{◌≡◌, ◌≢◌, true};
 ghost use Rattle.lock_core.specs.Views.{SameRequest};
 ghost use Rattle.qolb_locks.specs.declared.answer.Answer.{Answer};
 ghost use Rattle.qolb_locks.specs.declared.ticket.State.{State};
-ghost use Rattle.qolb_locks.specs.Calls.{Opens, IsMisuse, StepsUpTo, Learns, IfDrawn, IsBehind, Looks, Tries, AsksNear, AnnouncesSleep, Withdraws, Releases, IsAtStrictTurn, ChecksOpen, GoesIn, IsHead, TakesOuterWord, Leaves, RequestsHandoff, SleepsAsHead, IsServed, Shuts, IsToldShut, Reopens};
+ghost use Rattle.qolb_locks.specs.Calls.{Opens, IsMisuse, OnlyState, OnlyRequest, OnlyRounds, OnlySleep, OnlyGrant, OnlyOuter, OnlyEntry, OnlyExit, StepsUpTo, Learns, IfDrawn, IsBehind, Looks, Tries, AsksNear, AnnouncesSleep, Withdraws, Releases, IsAtStrictTurn, ChecksOpen, GoesIn, IsHead, TakesOuterWord, Leaves, RequestsHandoff, SleepsAsHead, IsServed, Shuts, IsToldShut, Reopens};
 ghost use Rattle.qolb_locks.specs.Tickets.{HasBursts, Is, IsFree, IsKnown, IsWithin};
 ghost use Rattle.qolb_c.specs.CoreCalls.{number_of, Of, Answers};
 
@@ -48,7 +48,7 @@ pub extern "C" fn qolb_core_ask_proved_(lock: &LockRef, ticket: &mut Ticket) -> 
         (λ l a. Is State.Free l ticket.old → Learns ticket.old ticket.new IsBehind) }
     ensures steps { Of lock.now.lock (λ l. Is State.Free l ticket.old
         → StepsUpTo 2 ticket.old ticket.new) }
-    ensures outer_kept { ticket.new.outer ≡ ticket.old.outer }
+    ensures kept { OnlyRequest ticket.old ticket.new }
 {
     number(qolb_locks::ask(lock.get(), ticket))
 }
@@ -66,7 +66,7 @@ pub extern "C" fn qolb_core_ask_near_proved_(lock: &LockRef, ticket: &mut Ticket
         (λ l a. Is State.Free l ticket.old → IfDrawn a (Learns ticket.old ticket.new IsBehind)) }
     ensures steps { Of lock.now.lock (λ l. Is State.Free l ticket.old
         → StepsUpTo 3 ticket.old ticket.new) }
-    ensures outer_kept { ticket.new.outer ≡ ticket.old.outer }
+    ensures kept { OnlyRequest ticket.old ticket.new }
 {
     number(qolb_locks::ask_near(lock.get(), ticket))
 }
@@ -83,7 +83,7 @@ pub extern "C" fn qolb_core_try_ask_proved_(lock: &LockRef, ticket: &mut Ticket)
         (λ l a. Is State.Free l ticket.old → IfDrawn a (Learns ticket.old ticket.new IsBehind)) }
     ensures steps { Of lock.now.lock (λ l. Is State.Free l ticket.old
         → StepsUpTo 3 ticket.old ticket.new) }
-    ensures outer_kept { ticket.new.outer ≡ ticket.old.outer }
+    ensures kept { OnlyRequest ticket.old ticket.new }
 {
     number(qolb_locks::try_ask(lock.get(), ticket))
 }
@@ -101,7 +101,7 @@ pub extern "C" fn qolb_core_poll_proved_(lock: &LockRef, ticket: &mut Ticket) ->
         (λ l a. Is State.Waiting l ticket.old → Learns ticket.old ticket.new SameRequest) }
     ensures steps { Of lock.now.lock (λ l. Is State.Waiting l ticket.old
         → StepsUpTo 1 ticket.old ticket.new) }
-    ensures outer_kept { ticket.new.outer ≡ ticket.old.outer }
+    ensures kept { OnlyRounds ticket.old ticket.new }
 {
     number(qolb_locks::poll(lock.get(), ticket))
 }
@@ -121,7 +121,7 @@ pub extern "C" fn qolb_core_announce_sleep_proved_(lock: &LockRef, ticket: &mut 
         (λ l a. Is State.Waiting l ticket.old → Learns ticket.old ticket.new SameRequest) }
     ensures steps { Of lock.now.lock (λ l. Is State.Waiting l ticket.old
         → StepsUpTo 2 ticket.old ticket.new) }
-    ensures outer_kept { ticket.new.outer ≡ ticket.old.outer }
+    ensures kept { OnlySleep ticket.old ticket.new }
 {
     number(qolb_locks::announce_sleep(lock.get(), ticket))
 }
@@ -139,7 +139,7 @@ pub extern "C" fn qolb_core_retract_sleep_proved_(lock: &LockRef, ticket: &mut T
         (λ l a. Is State.Asleep l ticket.old → Learns ticket.old ticket.new SameRequest) }
     ensures steps { Of lock.now.lock (λ l. Is State.Asleep l ticket.old
         → StepsUpTo 1 ticket.old ticket.new) }
-    ensures outer_kept { ticket.new.outer ≡ ticket.old.outer }
+    ensures kept { OnlyRounds ticket.old ticket.new }
 {
     number(qolb_locks::retract_sleep(lock.get(), ticket))
 }
@@ -155,7 +155,7 @@ pub extern "C" fn qolb_core_withdraw_proved_(lock: &LockRef, ticket: &mut Ticket
         (λ l a. Is State.Waiting l ticket.old → Withdraws l ticket.old ticket.new a) }
     ensures steps { Of lock.now.lock (λ l. Is State.Waiting l ticket.old
         → StepsUpTo 2 ticket.old ticket.new) }
-    ensures outer_kept { ticket.new.outer ≡ ticket.old.outer }
+    ensures kept { OnlyState ticket.old ticket.new }
 {
     number(qolb_locks::withdraw(lock.get(), ticket))
 }
@@ -171,7 +171,7 @@ pub extern "C" fn qolb_core_release_proved_(lock: &LockRef, ticket: &mut Ticket)
         (λ l a. IsWithin 3 8 l ticket.old → Releases l ticket.old ticket.new a) }
     ensures steps { Of lock.now.lock (λ l. IsWithin 3 8 l ticket.old
         → StepsUpTo 128 ticket.old ticket.new) }
-    ensures outer_kept { ticket.new.outer ≡ ticket.old.outer }
+    ensures kept { OnlyGrant ticket.old ticket.new }
 {
     number(qolb_locks::release(lock.get(), ticket))
 }
@@ -187,7 +187,7 @@ pub extern "C" fn qolb_core_check_open_proved_(lock: &LockRef, ticket: &mut Tick
         (λ l a. IsAtStrictTurn l ticket.old → ChecksOpen l ticket.new a) }
     ensures steps { Of lock.now.lock (λ l. IsAtStrictTurn l ticket.old
         → StepsUpTo 1 ticket.old ticket.new) }
-    ensures outer_kept { ticket.new.outer ≡ ticket.old.outer }
+    ensures kept { OnlyState ticket.old ticket.new }
 {
     number(qolb_locks::check_open(lock.get(), ticket))
 }
@@ -207,6 +207,7 @@ pub extern "C" fn qolb_core_go_in_proved_(lock: &LockRef, ticket: &mut Ticket) -
         (λ l a. HasBursts l → IsFree ticket.old → GoesIn l ticket.old.outer ticket.new a) }
     ensures steps { Of lock.now.lock (λ l. HasBursts l → Is State.Free l ticket.old
         → StepsUpTo 1 ticket.old ticket.new) }
+    ensures kept { OnlyEntry ticket.old ticket.new }
 {
     number(qolb_locks::go_in(lock.get(), ticket))
 }
@@ -226,6 +227,7 @@ pub extern "C" fn qolb_core_take_outer_proved_(lock: &LockRef, ticket: &mut Tick
         (λ l a. IsHead l ticket.old → Learns ticket.old ticket.new SameRequest) }
     ensures steps { Of lock.now.lock (λ l. IsHead l ticket.old
         → StepsUpTo 2 ticket.old ticket.new) }
+    ensures kept { OnlyOuter ticket.old ticket.new }
 {
     number(qolb_locks::take_outer(lock.get(), ticket))
 }
@@ -243,6 +245,7 @@ pub extern "C" fn qolb_core_leave_proved_(lock: &LockRef, ticket: &mut Ticket) -
         (λ l a. IsWithin 9 10 l ticket.old → Leaves l ticket.old ticket.new a) }
     ensures steps { Of lock.now.lock (λ l. IsWithin 9 10 l ticket.old
         → StepsUpTo 1 ticket.old ticket.new) }
+    ensures kept { OnlyExit ticket.old ticket.new }
 {
     number(qolb_locks::leave(lock.get(), ticket))
 }
@@ -258,7 +261,7 @@ pub extern "C" fn qolb_core_request_handoff_proved_(lock: &LockRef, ticket: &mut
         (λ l a. IsHead l ticket.old → RequestsHandoff l ticket.new a) }
     ensures steps { Of lock.now.lock (λ l. IsHead l ticket.old
         → StepsUpTo 2 ticket.old ticket.new) }
-    ensures outer_kept { ticket.new.outer ≡ ticket.old.outer }
+    ensures kept { OnlyState ticket.old ticket.new }
 {
     number(qolb_locks::request_handoff(lock.get(), ticket))
 }
@@ -276,6 +279,7 @@ pub extern "C" fn qolb_core_announce_head_sleep_proved_(lock: &LockRef, ticket: 
         (λ l a. IsHead l ticket.old → SleepsAsHead l ticket.old ticket.new a) }
     ensures steps { Of lock.now.lock (λ l. IsHead l ticket.old
         → StepsUpTo 2 ticket.old ticket.new) }
+    ensures kept { OnlyOuter ticket.old ticket.new }
 {
     number(qolb_locks::announce_head_sleep(lock.get(), ticket))
 }
@@ -291,6 +295,7 @@ pub extern "C" fn qolb_core_shut_proved_(lock: &LockRef, ticket: &mut Ticket) ->
         (λ l a. IsServed l ticket.old → Shuts l ticket.old ticket.new a) }
     ensures steps { Of lock.now.lock (λ l. IsServed l ticket.old
         → StepsUpTo 1 ticket.old ticket.new) }
+    ensures kept { OnlyOuter ticket.old ticket.new }
 {
     number(qolb_locks::shut(lock.get(), ticket))
 }
@@ -306,6 +311,7 @@ pub extern "C" fn qolb_core_reopen_proved_(lock: &LockRef, ticket: &mut Ticket) 
         (λ l a. IsToldShut l ticket.old → Reopens l ticket.old ticket.new a) }
     ensures steps { Of lock.now.lock (λ l. IsToldShut l ticket.old
         → StepsUpTo 2 ticket.old ticket.new) }
+    ensures kept { OnlyOuter ticket.old ticket.new }
 {
     number(qolb_locks::reopen(lock.get(), ticket))
 }

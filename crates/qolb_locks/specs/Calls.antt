@@ -31,6 +31,38 @@ Opens burst label lock _ = ⊥
 abbrev pub IsMisuse : Ticket → Ticket → Answer → Type 0
 IsMisuse was now a = (a ≡ answer.Misuse) × (now ≡ was)
 
+-- what a call may change of its ticket, and no more: the state, and what its caller knows; or beside that
+abbrev pub OnlyState : Ticket → Ticket → Type 0
+OnlyState was now = now ≡ record was { state = now.state; claim = now.claim }
+
+-- the request, and the label of its lock
+abbrev pub OnlyRequest : Ticket → Ticket → Type 0
+OnlyRequest was now = now ≡ record was { number = now.number; rounds = now.rounds; label = now.label; state = now.state; claim = now.claim }
+
+-- the rounds to go
+abbrev pub OnlyRounds : Ticket → Ticket → Type 0
+OnlyRounds was now = now ≡ record was { rounds = now.rounds; state = now.state; claim = now.claim }
+
+-- the rounds to go, and the word to sleep at
+abbrev pub OnlySleep : Ticket → Ticket → Type 0
+OnlySleep was now = now ≡ record was { rounds = now.rounds; word = now.word; state = now.state; claim = now.claim }
+
+-- the ticket that was granted last, and the sleepers there
+abbrev pub OnlyGrant : Ticket → Ticket → Type 0
+OnlyGrant was now = now ≡ record was { number = now.number; sleepers = now.sleepers; state = now.state; claim = now.claim }
+
+-- the outer word
+abbrev pub OnlyOuter : Ticket → Ticket → Type 0
+OnlyOuter was now = now ≡ record was { outer = now.outer; state = now.state; claim = now.claim }
+
+-- the outer word, and the label of its lock
+abbrev pub OnlyEntry : Ticket → Ticket → Type 0
+OnlyEntry was now = now ≡ record was { outer = now.outer; label = now.label; state = now.state; claim = now.claim }
+
+-- the outer word, and whether the queue head sleeps there
+abbrev pub OnlyExit : Ticket → Ticket → Type 0
+OnlyExit was now = now ≡ record was { outer = now.outer; state = now.state; head_sleeps = now.head_sleeps; claim = now.claim }
+
 -- the seat of the ticket's caller, and this is so of it: what its last steps found
 abbrev pub Shows : Ticket → (Seat ℕ View → Type 0) → Type 0
 Shows t P = (seat : Seat ℕ View) × (t.claim.views ≡ view_of seat ∷ []) × P seat

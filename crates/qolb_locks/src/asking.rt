@@ -1,7 +1,7 @@
 //! Requests.
 ghost use Rattle.std.specs.Prelude.{◌≡◌};
 ghost use Rattle.qolb_locks.specs.declared.ticket.State.{State};
-ghost use Rattle.qolb_locks.specs.Calls.{IsMisuse, StepsUpTo, Learns, IfDrawn, IsBehind, Looks, Tries, AsksNear};
+ghost use Rattle.qolb_locks.specs.Calls.{IsMisuse, OnlyRequest, OnlyEntry, StepsUpTo, Learns, IfDrawn, IsBehind, Looks, Tries, AsksNear};
 ghost use Rattle.qolb_locks.specs.Tickets.{Is, Has, IsFree, IsKnown};
 
 use crate::answer::Answer;
@@ -15,6 +15,7 @@ pub(crate) fn take_new_seat(lock: &Lock, ticket: &mut Ticket)
     requires { IsFree ticket.old }
     ensures free { Has State.Free lock.now ticket.new }
     ensures outer { ticket.new.outer ≡ ticket.old.outer }
+    ensures kept { OnlyEntry ticket.old ticket.new }
 {
     ticket.claim.put(lock_core::new_seat(&lock.table.shared));
     ticket.label = lock.label;
@@ -28,7 +29,7 @@ fn ask_again(lock: &Lock, ticket: &mut Ticket) -> Answer
     ensures does { Looks lock.now ticket.new result }
     ensures after { Learns ticket.old ticket.new IsBehind }
     ensures steps { StepsUpTo 2 ticket.old ticket.new }
-    ensures outer_kept { ticket.new.outer ≡ ticket.old.outer }
+    ensures kept { OnlyRequest ticket.old ticket.new }
 {
     let mut seat = ticket.claim.take();
     ticket.number = lock_core::ask(&lock.table.shared, &mut seat);
@@ -45,7 +46,7 @@ fn ask_first(lock: &Lock, ticket: &mut Ticket) -> Answer
     requires { IsFree ticket.old }
     ensures known { IsKnown lock.now ticket.new }
     ensures does { Looks lock.now ticket.new result }
-    ensures outer_kept { ticket.new.outer ≡ ticket.old.outer }
+    ensures kept { OnlyRequest ticket.old ticket.new }
 {
     take_new_seat(lock, ticket);
     ask_again(lock, ticket)
@@ -62,7 +63,7 @@ pub fn ask(lock: &Lock, ticket: &mut Ticket) -> Answer
     ensures does { IsFree ticket.old → Looks lock.now ticket.new result }
     ensures after { Is State.Free lock.now ticket.old → Learns ticket.old ticket.new IsBehind }
     ensures steps { Is State.Free lock.now ticket.old → StepsUpTo 2 ticket.old ticket.new }
-    ensures outer_kept { ticket.new.outer ≡ ticket.old.outer }
+    ensures kept { OnlyRequest ticket.old ticket.new }
 {
     if ticket.state != State::Free as u32 {
         return Answer::Misuse;
@@ -81,7 +82,7 @@ fn try_ask_again(lock: &Lock, ticket: &mut Ticket) -> Answer
     ensures does { Tries lock.now ticket.new result }
     ensures after { IfDrawn result (Learns ticket.old ticket.new IsBehind) }
     ensures steps { StepsUpTo 3 ticket.old ticket.new }
-    ensures outer_kept { ticket.new.outer ≡ ticket.old.outer }
+    ensures kept { OnlyRequest ticket.old ticket.new }
 {
     let mut seat = ticket.claim.take();
     let drawn = lock_core::try_ask(&lock.table.shared, &mut seat);
@@ -102,7 +103,7 @@ fn try_ask_first(lock: &Lock, ticket: &mut Ticket) -> Answer
     requires { IsFree ticket.old }
     ensures known { IsKnown lock.now ticket.new }
     ensures does { Tries lock.now ticket.new result }
-    ensures outer_kept { ticket.new.outer ≡ ticket.old.outer }
+    ensures kept { OnlyRequest ticket.old ticket.new }
 {
     take_new_seat(lock, ticket);
     try_ask_again(lock, ticket)
@@ -120,7 +121,7 @@ pub fn try_ask(lock: &Lock, ticket: &mut Ticket) -> Answer
     ensures after { Is State.Free lock.now ticket.old →
         IfDrawn result (Learns ticket.old ticket.new IsBehind) }
     ensures steps { Is State.Free lock.now ticket.old → StepsUpTo 3 ticket.old ticket.new }
-    ensures outer_kept { ticket.new.outer ≡ ticket.old.outer }
+    ensures kept { OnlyRequest ticket.old ticket.new }
 {
     if ticket.state != State::Free as u32 {
         return Answer::Misuse;
@@ -139,7 +140,7 @@ fn ask_near_again(lock: &Lock, ticket: &mut Ticket) -> Answer
     ensures does { AsksNear lock.now ticket.new result }
     ensures after { IfDrawn result (Learns ticket.old ticket.new IsBehind) }
     ensures steps { StepsUpTo 3 ticket.old ticket.new }
-    ensures outer_kept { ticket.new.outer ≡ ticket.old.outer }
+    ensures kept { OnlyRequest ticket.old ticket.new }
 {
     let mut seat = ticket.claim.take();
     let asked = lock_core::ask_near(&lock.table.shared, &mut seat);
@@ -175,7 +176,7 @@ fn ask_near_first(lock: &Lock, ticket: &mut Ticket) -> Answer
     requires { IsFree ticket.old }
     ensures known { IsKnown lock.now ticket.new }
     ensures does { AsksNear lock.now ticket.new result }
-    ensures outer_kept { ticket.new.outer ≡ ticket.old.outer }
+    ensures kept { OnlyRequest ticket.old ticket.new }
 {
     take_new_seat(lock, ticket);
     ask_near_again(lock, ticket)
@@ -193,7 +194,7 @@ pub fn ask_near(lock: &Lock, ticket: &mut Ticket) -> Answer
     ensures after { Is State.Free lock.now ticket.old →
         IfDrawn result (Learns ticket.old ticket.new IsBehind) }
     ensures steps { Is State.Free lock.now ticket.old → StepsUpTo 3 ticket.old ticket.new }
-    ensures outer_kept { ticket.new.outer ≡ ticket.old.outer }
+    ensures kept { OnlyRequest ticket.old ticket.new }
 {
     if ticket.state != State::Free as u32 {
         return Answer::Misuse;

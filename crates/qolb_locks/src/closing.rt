@@ -2,7 +2,7 @@
 ghost use Rattle.std.specs.Prelude.{◌≡◌, ◌≢◌, ◌+◌, ◌-◌, ◌%◌, ◌^◌, true, false};
 ghost use Rattle.lock_core.specs.Views.{HasTurnOf, ServedOpen, ServedShut};
 ghost use Rattle.qolb_locks.specs.declared.ticket.State.{State};
-ghost use Rattle.qolb_locks.specs.Calls.{IsMisuse, StepsUpTo, IsAtStrictTurn, ChecksOpen, SameTicket, IsServed, Shuts, IsToldShut, Reopens, Shows};
+ghost use Rattle.qolb_locks.specs.Calls.{IsMisuse, OnlyState, OnlyOuter, StepsUpTo, IsAtStrictTurn, ChecksOpen, SameTicket, IsServed, Shuts, IsToldShut, Reopens, Shows};
 ghost use Rattle.lock_core.specs.Layout.{tail_at};
 ghost use Rattle.lock_core.specs.Looks.{Found};
 ghost use Rattle.qolb_locks.specs.Tickets.{IsKnown, Knows, Says};
@@ -19,7 +19,7 @@ pub fn check_open(lock: &Lock, ticket: &mut Ticket) -> Answer
     ensures misuse { ¬ IsAtStrictTurn lock.now ticket.old → IsMisuse ticket.old ticket.new result }
     ensures does { IsAtStrictTurn lock.now ticket.old → ChecksOpen lock.now ticket.new result }
     ensures steps { IsAtStrictTurn lock.now ticket.old → StepsUpTo 1 ticket.old ticket.new }
-    ensures outer_kept { ticket.new.outer ≡ ticket.old.outer }
+    ensures kept { OnlyState ticket.old ticket.new }
 {
     if lock.burst > 1 || !ticket.is_at_turn(lock) {
         return Answer::Misuse;
@@ -40,6 +40,7 @@ pub fn check_open(lock: &Lock, ticket: &mut Ticket) -> Answer
 fn shut_served(lock: &Lock, ticket: &mut Ticket)
     requires { Knows lock.now ticket.old ServedOpen }
     ensures same { SameTicket ticket.old ticket.new }
+    ensures kept { OnlyOuter ticket.old ticket.new }
     ensures served { Knows lock.now ticket.old (Says State.Served ticket.old.number
         ticket.old.rounds) →
         Knows lock.now ticket.new (Says State.ServedShut ticket.new.number ticket.new.rounds) }
@@ -63,6 +64,7 @@ pub fn shut(lock: &Lock, ticket: &mut Ticket) -> Answer
     requires { IsKnown lock.now ticket.old }
     ensures known { IsKnown lock.now ticket.new }
     ensures misuse { ¬ IsServed lock.now ticket.old → IsMisuse ticket.old ticket.new result }
+    ensures kept { OnlyOuter ticket.old ticket.new }
     ensures does { IsServed lock.now ticket.old → Shuts lock.now ticket.old ticket.new result }
     ensures steps { IsServed lock.now ticket.old → StepsUpTo 1 ticket.old ticket.new }
 {
@@ -89,6 +91,7 @@ pub fn shut(lock: &Lock, ticket: &mut Ticket) -> Answer
 fn reopen_shut(lock: &Lock, ticket: &mut Ticket) -> bool
     requires turn { Knows lock.now ticket.old (λ v. HasTurnOf ticket.old.number v × ServedShut v) }
     ensures same { SameTicket ticket.old ticket.new }
+    ensures kept { OnlyOuter ticket.old ticket.new }
     ensures outer { result ≡ true → ticket.new.outer ≡ (ticket.old.outer + (2 ^ 64 - 16)) % 2 ^ 64 }
     ensures outer_kept { result ≡ false → ticket.new.outer ≡ ticket.old.outer }
     ensures steps { StepsUpTo 2 ticket.old ticket.new }
@@ -123,6 +126,7 @@ pub fn reopen(lock: &Lock, ticket: &mut Ticket) -> Answer
     requires { IsKnown lock.now ticket.old }
     ensures known { IsKnown lock.now ticket.new }
     ensures misuse { ¬ IsToldShut lock.now ticket.old → IsMisuse ticket.old ticket.new result }
+    ensures kept { OnlyOuter ticket.old ticket.new }
     ensures does { IsToldShut lock.now ticket.old → Reopens lock.now ticket.old ticket.new result }
     ensures steps { IsToldShut lock.now ticket.old → StepsUpTo 2 ticket.old ticket.new }
 {

@@ -3,7 +3,7 @@ ghost use Rattle.std.specs.Prelude.{◌≡◌, ◌+◌, ◌%◌, ◌^◌, ◌≤
 ghost use Rattle.lock_core.specs.Views.{HasEnded, HasTurnOf, IsIdle, IsNewcomersTurn, SameRequest, ServedOpen, ServedShut, KnowsShut};
 ghost use Rattle.qolb_locks.specs.declared.answer.Answer.{Answer};
 ghost use Rattle.qolb_locks.specs.declared.ticket.State.{State};
-ghost use Rattle.qolb_locks.specs.Calls.{IsMisuse, StepsUpTo, Learns, SameTicket, GrantsNext, Releases, GoesIn, IsHead, TakesOuterWord, Leaves, RequestsHandoff, SleepsAsHead};
+ghost use Rattle.qolb_locks.specs.Calls.{IsMisuse, OnlyState, OnlyGrant, OnlyOuter, OnlyEntry, OnlyExit, StepsUpTo, Learns, SameTicket, GrantsNext, Releases, GoesIn, IsHead, TakesOuterWord, Leaves, RequestsHandoff, SleepsAsHead};
 ghost use Rattle.qolb_locks.specs.Tickets.{Has, Is, IsFree, IsWithin, IsKnown, HasBursts, Knows, Says};
 
 use crate::answer::Answer;
@@ -35,7 +35,7 @@ fn pass_on(lock: &Lock, ticket: &mut Ticket) -> bool
         Knows lock.now ticket.old (Says State.HeadInsideShut ticket.old.number ticket.old.rounds) →
         Knows lock.now ticket.new (Says State.HeadInsideShut ticket.new.number ticket.new.rounds) }
     ensures steps { StepsUpTo 128 ticket.old ticket.new }
-    ensures outer_kept { ticket.new.outer ≡ ticket.old.outer }
+    ensures kept { OnlyGrant ticket.old ticket.new }
 {
     let mut seat = ticket.claim.take();
     let released = lock_core::release(&lock.table.shared, &mut seat, &mut ticket.number);
@@ -60,7 +60,7 @@ pub fn release(lock: &Lock, ticket: &mut Ticket) -> Answer
     ensures does { IsWithin 3 8 lock.now ticket.old →
         Releases lock.now ticket.old ticket.new result }
     ensures steps { IsWithin 3 8 lock.now ticket.old → StepsUpTo 128 ticket.old ticket.new }
-    ensures outer_kept { ticket.new.outer ≡ ticket.old.outer }
+    ensures kept { OnlyGrant ticket.old ticket.new }
 {
     if ticket.has_turn_outside(lock) {
         if !pass_on(lock, ticket) {
@@ -82,7 +82,7 @@ fn release_inside(lock: &Lock, ticket: &mut Ticket) -> Answer
     ensures does { IsWithin 7 8 lock.now ticket.old →
         Releases lock.now ticket.old ticket.new result }
     ensures steps { IsWithin 7 8 lock.now ticket.old → StepsUpTo 128 ticket.old ticket.new }
-    ensures outer_kept { ticket.new.outer ≡ ticket.old.outer }
+    ensures kept { OnlyGrant ticket.old ticket.new }
 {
     if ticket.has(State::HeadInside, lock) {
         if !pass_on(lock, ticket) {
@@ -107,6 +107,7 @@ fn go_in_again(lock: &Lock, ticket: &mut Ticket) -> Answer
     requires bursts { HasBursts lock.now }
     requires free { Has State.Free lock.now ticket.old }
     ensures known { IsKnown lock.now ticket.new }
+    ensures kept { OnlyEntry ticket.old ticket.new }
     ensures does { GoesIn lock.now ticket.old.outer ticket.new result }
     ensures steps { StepsUpTo 1 ticket.old ticket.new }
 {
@@ -135,6 +136,7 @@ fn go_in_first(lock: &Lock, ticket: &mut Ticket) -> Answer
     requires bursts { HasBursts lock.now }
     requires free { IsFree ticket.old }
     ensures known { IsKnown lock.now ticket.new }
+    ensures kept { OnlyEntry ticket.old ticket.new }
     ensures does { GoesIn lock.now ticket.old.outer ticket.new result }
 {
     take_new_seat(lock, ticket);
@@ -150,6 +152,7 @@ pub fn go_in(lock: &Lock, ticket: &mut Ticket) -> Answer
     ensures known { IsKnown lock.now ticket.new }
     ensures strict { ¬ HasBursts lock.now → IsMisuse ticket.old ticket.new result }
     ensures misuse { ¬ IsFree ticket.old → IsMisuse ticket.old ticket.new result }
+    ensures kept { OnlyEntry ticket.old ticket.new }
     ensures does { HasBursts lock.now → IsFree ticket.old →
         GoesIn lock.now ticket.old.outer ticket.new result }
     ensures steps { HasBursts lock.now → Is State.Free lock.now ticket.old
@@ -173,11 +176,12 @@ pub fn take_outer(lock: &Lock, ticket: &mut Ticket) -> Answer
     requires { IsKnown lock.now ticket.old }
     ensures known { IsKnown lock.now ticket.new }
     ensures misuse { ¬ IsHead lock.now ticket.old → IsMisuse ticket.old ticket.new result }
+    ensures kept { OnlyOuter ticket.old ticket.new }
     ensures does { IsHead lock.now ticket.old → TakesOuterWord lock.now ticket.new result }
     ensures same { IsHead lock.now ticket.old → Learns ticket.old ticket.new SameRequest }
     ensures steps { IsHead lock.now ticket.old → StepsUpTo 2 ticket.old ticket.new }
 {
-    if lock.burst < 2 || !ticket.has(State::AtTurn, lock) {
+    if !ticket.is_head(lock) {
         return Answer::Misuse;
     }
     let mut seat = ticket.claim.take();
@@ -209,6 +213,7 @@ pub fn leave(lock: &Lock, ticket: &mut Ticket) -> Answer
     requires { IsKnown lock.now ticket.old }
     ensures known { IsKnown lock.now ticket.new }
     ensures misuse { ¬ IsWithin 9 10 lock.now ticket.old → IsMisuse ticket.old ticket.new result }
+    ensures kept { OnlyExit ticket.old ticket.new }
     ensures does { IsWithin 9 10 lock.now ticket.old →
         Leaves lock.now ticket.old ticket.new result }
     ensures steps { IsWithin 9 10 lock.now ticket.old → StepsUpTo 1 ticket.old ticket.new }
@@ -244,9 +249,9 @@ pub fn request_handoff(lock: &Lock, ticket: &mut Ticket) -> Answer
     ensures does { IsHead lock.now ticket.old →
         RequestsHandoff lock.now ticket.new result }
     ensures steps { IsHead lock.now ticket.old → StepsUpTo 2 ticket.old ticket.new }
-    ensures outer_kept { ticket.new.outer ≡ ticket.old.outer }
+    ensures kept { OnlyState ticket.old ticket.new }
 {
-    if lock.burst < 2 || !ticket.has(State::AtTurn, lock) {
+    if !ticket.is_head(lock) {
         return Answer::Misuse;
     }
     let mut seat = ticket.claim.take();
@@ -266,10 +271,11 @@ pub fn announce_head_sleep(lock: &Lock, ticket: &mut Ticket) -> Answer
     requires { IsKnown lock.now ticket.old }
     ensures known { IsKnown lock.now ticket.new }
     ensures misuse { ¬ IsHead lock.now ticket.old → IsMisuse ticket.old ticket.new result }
+    ensures kept { OnlyOuter ticket.old ticket.new }
     ensures does { IsHead lock.now ticket.old → SleepsAsHead lock.now ticket.old ticket.new result }
     ensures steps { IsHead lock.now ticket.old → StepsUpTo 2 ticket.old ticket.new }
 {
-    if lock.burst < 2 || !ticket.has(State::AtTurn, lock) {
+    if !ticket.is_head(lock) {
         return Answer::Misuse;
     }
     let mut seat = ticket.claim.take();

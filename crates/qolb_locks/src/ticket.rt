@@ -1,6 +1,7 @@
 //! A caller's request, as C holds it.
 ghost use Rattle.std.specs.Prelude.{◌≡◌, ◌<◌, ◌≤◌, true, false};
 ghost use Rattle.qolb_locks.specs.declared.answer.Answer.{Answer};
+ghost use Rattle.qolb_locks.specs.Calls.{IsHead};
 ghost use Rattle.qolb_locks.specs.Tickets.{number_of, Is, IsWithin, Has, IsKnown, Knows};
 ghost use Rattle.lock_core.specs.Views.{IsAtTurn, HasTurnOf, IsInside};
 
@@ -80,6 +81,16 @@ impl Ticket {
         self.label == lock.label
             && self.state >= State::AtTurn as u32
             && self.state <= State::ServedShut as u32
+    }
+
+    /// Returns whether the ticket is that of the queue head, of this lock with bursts.
+    #[inline(always)]
+    pub(crate) fn is_head(&self, lock: &Lock) -> bool
+        requires { IsKnown lock.now self.now }
+        ensures yes { result ≡ true → IsHead lock.now self.now × Has State.AtTurn lock.now self.now }
+        ensures no { result ≡ false → ¬ IsHead lock.now self.now }
+    {
+        lock.burst >= 2 && self.has(State::AtTurn, lock)
     }
 
     /// Returns whether the ticket is of this lock, and has a turn of the queue, and is not in by the outer word.

@@ -1,5 +1,5 @@
 //! Each answer, by one thread.
-use super::{add, lock_of};
+use super::{add, add_within, lock_of, try_add};
 use fair_lock::{EnterError, FairLock, NewError, OpenError, TryEnterError};
 use std::time::Duration;
 
@@ -11,6 +11,17 @@ fn bursts_of_one_turn_are_refused_and_the_value_comes_back(rt: HostRuntime) {
     };
     assert_eq!(&rt; error, OpenError::ShortBurst(1));
     assert_eq!(&rt; value, 7);
+}
+
+#[test]
+fn a_free_lock_is_entered_at_once(rt: HostRuntime) {
+    for burst in [1, 2, 8] {
+        let lock = lock_of(rt.alloc(), burst, 0).expect(&rt, "memory");
+        assert_eq!(&rt; add(&rt, &lock, 2), 2, "at {burst}");
+        assert_eq!(&rt; try_add(&rt, &lock, 3), 3, "at {burst}");
+        assert_eq!(&rt; add_within(&rt, &lock, 4, Duration::ZERO), 4, "at {burst}");
+        assert_eq!(&rt; lock.into_inner(), 9, "at {burst}");
+    }
 }
 
 #[test]
@@ -27,7 +38,7 @@ fn a_held_lock_is_busy_and_late(rt: HostRuntime) {
                 panic!(&rt; "two were served, at {burst}")
             }
             Err(error) => match error {
-                TryEnterError::Busy => {}
+                TryEnterError::Busy(_busy) => {}
                 TryEnterError::Closed(_closed) => panic!(&rt; "shut, at {burst}"),
             },
         }
@@ -37,7 +48,7 @@ fn a_held_lock_is_busy_and_late(rt: HostRuntime) {
                 panic!(&rt; "two were served, at {burst}")
             }
             Err(error) => match error {
-                EnterError::Late => {}
+                EnterError::Late(_late) => {}
                 EnterError::Closed(_closed) => panic!(&rt; "shut, at {burst}"),
             },
         }
@@ -68,7 +79,7 @@ fn a_shut_lock_is_closed_to_all(rt: HostRuntime) {
                 panic!(&rt; "served after it was shut, at {burst}")
             }
             Err(TryEnterError::Closed(_)) => {}
-            Err(TryEnterError::Busy) => panic!(&rt; "busy, at {burst}"),
+            Err(TryEnterError::Busy(_)) => panic!(&rt; "busy, at {burst}"),
         }
         match lock.enter_within(&rt, Duration::from_millis(3)) {
             Ok(late) => {
@@ -76,7 +87,7 @@ fn a_shut_lock_is_closed_to_all(rt: HostRuntime) {
                 panic!(&rt; "served after it was shut, at {burst}")
             }
             Err(EnterError::Closed(_)) => {}
-            Err(EnterError::Late) => panic!(&rt; "late, at {burst}"),
+            Err(EnterError::Late(_)) => panic!(&rt; "late, at {burst}"),
         }
         assert_eq!(&rt; lock.into_inner(), 2);
     }

@@ -1,0 +1,194 @@
+//! One history of all turns, which only grows. It exists in proofs alone; threads share a word, its length.
+ghost use Rattle.std.specs.Prelude.{◌≡◌, ◌+◌, ◌==◌, ◌<◌, ◌≤◌, ◌^◌, ◌++◌, ◌∷◌, ◌⊎◌, [], length, MatchBool};
+ghost use mathlib.Core.List.{IsPrefix};
+ghost use Rattle.example_fair_lock.specs.Turns.{IsChain, IsLonger, last_left};
+ghost use Rattle.example_fair_lock.specs.Rules.{head_of};
+
+use crate::turn::Turn;
+use logbook::{Gain, Offer, Plain, Play, Rule, Seen, Start, Word};
+use std::marker::{Brand, Model, PhantomData};
+
+/// The rule of the book.
+pub struct Law;
+
+impl Rule<Turn, u64> for Law {
+    ghost use Rattle.std.specs.Prelude.{[]};
+    ghost use base.Fml.{ftrue};
+    ghost use Rattle.example_fair_lock.specs.Rules.{IsKept};
+
+    ghost holds = { λ cells log. IsKept cells log };
+
+    ghost first = { [] };
+
+    ghost hinted = { λ n log. Unit {0} };
+
+    ghost shows = { λ log. [] };
+
+    ghost keeps = { λ names log. ftrue };
+
+    ghost moves = { λ ask before after answer. Unit {0} };
+}
+
+/// Callers trade nothing.
+pub struct Nothing;
+
+impl Gain<Turn, u64> for Nothing {
+    ghost use base.Fml.{ftrue};
+
+    ghost after = { λ names about answer. ftrue };
+}
+
+/// A step that adds a turn.
+pub struct Add;
+
+impl Play<Turn, u64> for Add {
+    ghost use Rattle.example_fair_lock.specs.Rules.{Adds};
+
+    ghost then = { Adds };
+}
+
+/// What a step asks for: the turn.
+impl Plain<Turn, Turn, u64> for Add {
+    ghost use Rattle.std.specs.Prelude.{None};
+
+    ghost ask = { λ turn. turn };
+
+    ghost state = { λ turn. None };
+}
+
+/// Which book it is. Each call of a program picks it.
+pub trait Naming {
+    ghost use Rattle.logbook.specs.Pages.{Book};
+
+    ghost book: { Book };
+}
+
+impl Naming for Brand {
+    ghost book = { record { number = 0; log_name = 0; cells_name = 0 } };
+}
+
+/// A book with an empty history, which has no name yet.
+pub struct Opened {
+    head: Word<Turn, u64, Law>,
+    seen: Seen<Turn, u64, Law>,
+    pub ghost empty: { seen.log ≡ [] },
+    pub ghost head_is: { head ≡ head_of seen.book },
+}
+
+impl Opened {
+    pub fn new() -> Opened {
+        let (seen, mut first, _second) = Seen::open(Start::alone(), 0, 0);
+        Opened {
+            head: Word::tracked(0, &mut first),
+            seen,
+        }
+    }
+
+    /// The book's word under a name, and the front that has seen nothing.
+    pub fn named<J: Naming>(self) -> (Book<J>, Front<J>)
+        requires { self.seen.book ≡ J.book }
+        ensures { result.1 ≡ [] }
+    {
+        let Opened { head, seen } = self;
+        (
+            Book {
+                head,
+                of: PhantomData,
+            },
+            Front {
+                turns: 0,
+                seen,
+                of: PhantomData,
+            },
+        )
+    }
+}
+
+/// The word that all threads share: the length of the history.
+#[derive(Drop)]
+pub struct Book<J: Naming> {
+    head: Word<Turn, u64, Law>,
+    of: PhantomData<J>,
+    ghost head_is: { head ≡ head_of J.book },
+}
+
+/// A beginning of the history that was seen. Contracts see it as its turns.
+#[derive(Drop)]
+pub struct Front<J: Naming> {
+    turns: u64,
+    seen: Seen<Turn, u64, Law>,
+    of: PhantomData<J>,
+}
+
+impl<J: Naming> Model for Front<J> {
+    ghost use Rattle.std.specs.Prelude.{◌≡◌, List, length};
+    ghost use Rattle.example_fair_lock.specs.declared.turn.Turn.{Turn};
+    ghost use Rattle.example_fair_lock.specs.Turns.{IsChain};
+
+    ghost Value = { List Turn };
+
+    ghost view = { λ f. f.seen.log };
+
+    ghost invariant = { λ f. (f.turns ≡ length f.seen.log) × (f.seen.book ≡ J.book) × IsChain f.seen.log };
+}
+
+impl<J: Naming> Front<J> {
+    /// How many turns it has.
+    pub fn len(&self) -> u64
+        ensures length { result ≡ length self.now }
+        ensures chain { IsChain self.now }
+    {
+        self.turns
+    }
+
+    /// A copy.
+    pub fn again(&self) -> Front<J>
+        ensures { result ≡ self.now }
+    {
+        Front {
+            turns: self.turns,
+            seen: self.seen.again(),
+            of: PhantomData,
+        }
+    }
+
+    /// The longer of two fronts, which the other begins.
+    pub fn longer(&self, other: &Front<J>) -> Front<J>
+        ensures one { (result ≡ self.now) ⊎ (result ≡ other.now) }
+        ensures this { IsPrefix self.now result }
+        ensures that { IsPrefix other.now result }
+        ensures chain { IsChain result }
+    {
+        let mut both = self.seen.again();
+        both.learn(&other.seen);
+        if self.turns < other.turns {
+            other.again()
+        } else {
+            self.again()
+        }
+    }
+
+    /// Adds a turn to all that was seen, and says whether it did. It did not where the history is longer.
+    pub fn add(&mut self, book: &Book<J>, turn: Turn) -> bool
+        requires room { length self.old < 2 ^ 62 }
+        requires next { turn.found ≡ last_left self.old }
+        ensures { MatchBool result (self.new ≡ self.old ++ turn ∷ []) (IsLonger self.old self.new) }
+    {
+        let mut offer: Offer<Turn, u64, Law, Nothing> = self
+            .seen
+            .plain::<Nothing, Turn, Add>(&turn);
+        let mut pen = self.seen.no_pen();
+        let turns = self.turns;
+        let found = book
+            .head
+            .compare_exchange::<Add, Nothing>(
+                turns,
+                turns + 1,
+                &mut self.seen,
+                &mut offer,
+                &mut pen,
+            );
+        self.turns = if found == turns { turns + 1 } else { found };
+        found == turns
+    }
+}
