@@ -3,14 +3,14 @@
  *
  *   build/core_calls_c [SCHEDULES [SEED]]        1,000,000 schedules, seed 1
  *
- * A schedule is some calls on a new lock by some tickets, most of them such as the ticket's state allows. At the end
- * each answer of each call must have been given 1,000 times, but for those that another thread's step in the course of
- * the call brings about. */
+ * A schedule is some calls on a new lock by some tickets, most of them such as the ticket's state allows. Now and then
+ * another ticket's call is made in the course of a call, as another thread's could be: before each of its accesses to
+ * the lock's words in turn, and then the accesses are compared, too (not with the sanitizer of threads, which makes
+ * some of its own). At the end each answer of each call must have been given 1,000 times. */
+#include "accesses.h"
+
 #include "../src/core.h"
 #include "../src/gaps.h"
-#include <stdio.h>
-#include <stdlib.h>
-#include <string.h>
 
 /* The stand-in, by other names. */
 #define qolb_core_open_proved_ stand_in_open
@@ -51,7 +51,14 @@
 
 typedef uint32_t call(const struct qolb_core *core, struct qolb_ticket *ticket);
 
-/* The states that allow a call, as bits, and its answers in any schedule of one thread, as bits by their numbers. */
+/* The states that allow a call, as bits, and its answers, as bits by their numbers: some by another call in its course
+ * alone. */
+#ifdef __SANITIZE_THREAD__
+enum { WATCHES = 0 };
+#else
+enum { WATCHES = 1 };
+#endif
+#define AMID(answers) (WATCHES ? (answers) : 0)
 #define IN(state) (1u << QOLB_TICKET_##state##_)
 #define SAYS(answer) (1u << QOLB_##answer)
 #define TURNS (IN(AT_TURN) | IN(SERVED) | IN(SERVED_SHUT))
@@ -63,18 +70,18 @@ static const struct {
 #define CALL(name, allowed, answers) \
     { #name, qolb_core_##name##_proved_, stand_in_##name, allowed, (answers) | SAYS(MISUSE) }
     CALL(ask, IN(FREE), SAYS(GRANTED) | SAYS(WAITING)),
-    CALL(ask_near, IN(FREE), SAYS(GRANTED) | SAYS(WAITING) | SAYS(FAR_)),
+    CALL(ask_near, IN(FREE), SAYS(GRANTED) | SAYS(WAITING) | SAYS(FAR_) | AMID(SAYS(BUSY))),
     CALL(try_ask, IN(FREE), SAYS(GRANTED) | SAYS(BUSY)),
     CALL(poll, IN(WAITING), SAYS(GRANTED) | SAYS(WAITING)),
-    CALL(announce_sleep, IN(WAITING), SAYS(GRANTED) | SAYS(ASLEEP_)),
+    CALL(announce_sleep, IN(WAITING), SAYS(GRANTED) | SAYS(ASLEEP_) | SAYS(FULL_) | AMID(SAYS(WAITING))),
     CALL(retract_sleep, IN(ASLEEP), SAYS(GRANTED) | SAYS(WAITING)),
     CALL(withdraw, IN(WAITING), SAYS(WITHDRAWN) | SAYS(GRANTED) | SAYS(FAR_)),
-    CALL(release, TURNS | IN(HEAD_INSIDE) | IN(HEAD_INSIDE_SHUT), SAYS(DONE)),
+    CALL(release, TURNS | IN(HEAD_INSIDE) | IN(HEAD_INSIDE_SHUT), SAYS(DONE) | AMID(SAYS(UNFINISHED_))),
     CALL(check_open, TURNS, SAYS(GRANTED) | SAYS(CLOSED)),
     CALL(go_in, IN(FREE), SAYS(GRANTED) | SAYS(BUSY)),
     CALL(take_outer, IN(AT_TURN), SAYS(GRANTED) | SAYS(CLOSED) | SAYS(WAITING)),
     CALL(leave, IN(INSIDE) | IN(INSIDE_SHUT), SAYS(DONE) | SAYS(BUSY)),
-    CALL(request_handoff, IN(AT_TURN), SAYS(DONE)),
+    CALL(request_handoff, IN(AT_TURN), SAYS(DONE) | AMID(SAYS(BUSY))),
     CALL(announce_head_sleep, IN(AT_TURN), SAYS(ASLEEP_) | SAYS(WAITING)),
     CALL(shut, IN(SERVED) | IN(HEAD_INSIDE) | IN(INSIDE), SAYS(DONE)),
     CALL(reopen, IN(SERVED_SHUT) | IN(HEAD_INSIDE_SHUT), SAYS(GRANTED) | SAYS(BUSY)),
@@ -84,10 +91,12 @@ enum {
     ANSWERS = QOLB_UNFINISHED_ + 1,
     MOST_TICKETS = 96,
     OFTEN = 1000,
-    FAR_OFF = 80
+    FAR_OFF = 80,
+    BETWEEN = 500, /* one call in so many has another in its course, and more of those that seldom meet one */
+    SELDOM = 30
 };
 
-static long came[CALLS][ANSWERS], done;
+static long came[CALLS][ANSWERS], done, courses;
 static uint64_t seed;
 
 static uint64_t draw(uint64_t below) {
@@ -102,7 +111,8 @@ static uint64_t draw(uint64_t below) {
 struct side {
     struct qolb_core core;
     struct qolb_ticket tickets[MOST_TICKETS];
-    _Alignas(128) char words[256], slots[64], block[128];
+    _Alignas(PAGE) char words[PAGE];
+    _Alignas(128) char slots[64], block[128];
 };
 static struct side proved, stand_in;
 
@@ -147,6 +157,76 @@ static void calls(int k, unsigned ticket) {
     came[k][got]++;
 }
 
+/* ---- Another call in the course of a call ---- */
+
+/* A ticket's first call at a lock reads this word, which is never written; the stand-in does not. */
+enum { UNWRITTEN = 8 };
+
+/* The call and the other: which, of which ticket, and what it answered. */
+static struct course {
+    struct side *side;
+    bool is_proved;
+    unsigned at; /* the other call comes before this access; behind the last if there are fewer */
+    struct one {
+        int call;
+        unsigned ticket;
+        uint32_t got;
+    } this, other;
+} course;
+
+static void call_one(struct one *one) {
+    call *it = course.is_proved ? every[one->call].proved : every[one->call].stand_in;
+    one->got = it(&course.side->core, &course.side->tickets[one->ticket]);
+}
+
+static void calls_other(unsigned access) {
+    if (access == course.at) call_one(&course.other);
+}
+
+/* Returns the accesses of the call. */
+static struct accesses calls_in_course(struct side *side, bool is_proved) {
+    course.side = side, course.is_proved = is_proved;
+    watch_page(side->words, UNWRITTEN, calls_other);
+    call_one(&course.this);
+    watch_none();
+    if (course.at >= accesses.count) call_one(&course.other);
+    return accesses;
+}
+
+static void same_accesses(int k, const struct accesses *by, const struct accesses *wanted) {
+    if (by->count != wanted->count) differs(k, "the number of accesses", by->count, wanted->count);
+    for (unsigned a = 0; a < by->count; a++) {
+        if (by->of[a].word != wanted->of[a].word)
+            differs(k, "the word of an access", by->of[a].word, wanted->of[a].word);
+        if (by->of[a].writes != wanted->of[a].writes)
+            differs(k, "that an access writes", by->of[a].writes, wanted->of[a].writes);
+    }
+}
+
+/* Both calls of both locks, the other before the access `at`. Returns the number of accesses. */
+static unsigned plays(int k, unsigned ticket, int other, unsigned other_ticket, unsigned at) {
+    struct one wanted[2];
+    course.at = at, course.this = (struct one){k, ticket, 0}, course.other = (struct one){other, other_ticket, 0};
+    struct accesses by_stand_in = calls_in_course(&stand_in, false);
+    wanted[0] = course.this, wanted[1] = course.other;
+    struct accesses by = calls_in_course(&proved, true);
+    courses++;
+    same_accesses(k, &by, &by_stand_in);
+    if (course.this.got != wanted[0].got) differs(k, "the answer", course.this.got, wanted[0].got);
+    if (course.other.got != wanted[1].got) differs(other, "the answer in between", course.other.got, wanted[1].got);
+    compares(k, course.this.got, &proved.tickets[ticket], &stand_in.tickets[ticket]);
+    compares(other, course.other.got, &proved.tickets[other_ticket], &stand_in.tickets[other_ticket]);
+    came[k][course.this.got]++;
+    return by.count;
+}
+
+/* The same with the other call before each access, and at last behind them all. */
+static void between(int k, unsigned ticket, int other, unsigned other_ticket) {
+    static struct side was[2];
+    was[0] = proved, was[1] = stand_in;
+    for (unsigned at = 0; at < plays(k, ticket, other, other_ticket, at); at++) proved = was[0], stand_in = was[1];
+}
+
 /* A call that the ticket's state allows, mostly. */
 static int drawn_call(const struct qolb_ticket *ticket, int far_off) {
     if (draw(8) == 0) return (int)draw(CALLS);
@@ -156,6 +236,10 @@ static int drawn_call(const struct qolb_ticket *ticket, int far_off) {
         if (far_off && every[k].proved == qolb_core_withdraw_proved_ && draw(4)) continue;
         return k;
     }
+}
+
+static int seldom_meets(int k) {
+    return every[k].proved == qolb_core_announce_sleep_proved_ || every[k].proved == qolb_core_request_handoff_proved_;
 }
 
 static void schedule(uint64_t label) {
@@ -172,17 +256,69 @@ static void schedule(uint64_t label) {
             memset(&stand_in.tickets[t], 0, sizeof stand_in.tickets[t]);
         }
     for (int k = far_off ? 600 : 24; k > 0; k--) {
-        unsigned t = (unsigned)draw(tickets);
-        calls(drawn_call(&proved.tickets[t], far_off), t);
+        unsigned t = (unsigned)draw(tickets), other = (t + 1 + (unsigned)draw(tickets - 1)) % tickets;
+        int it = drawn_call(&proved.tickets[t], far_off);
+        if (WATCHES && draw(seldom_meets(it) ? SELDOM : BETWEEN) == 0)
+            between(it, t, drawn_call(&proved.tickets[other], far_off), other);
+        else calls(it, t);
     }
+}
+
+/* ---- What random calls don't come to ---- */
+
+static int number_of(call *proved_call) {
+    int k = 0;
+    while (every[k].proved != proved_call) k++;
+    return k;
+}
+
+enum { HOLDER, WITHDRAWER, PASSED = 64 };
+static int asks, asks_near, withdraws, releases;
+
+/* While a ticket releases its turn another asks and withdraws, after each grant: so there is always one to pass. */
+static void asks_and_withdraws(unsigned access) {
+    if (access % 2 == 0) return;
+    course.other.call = asks_near;
+    call_one(&course.other);
+    if (course.other.got != QOLB_WAITING) abort();
+    course.other.call = withdraws;
+    call_one(&course.other);
+    if (course.other.got != QOLB_WITHDRAWN) abort();
+}
+
+static struct accesses is_unfinished(struct side *side, bool is_proved) {
+    course = (struct course){side, is_proved, 0, {releases, HOLDER, 0}, {asks_near, WITHDRAWER, 0}};
+    watch_page(side->words, UNWRITTEN, asks_and_withdraws);
+    call_one(&course.this);
+    watch_none();
+    if (course.this.got != QOLB_UNFINISHED_) abort();
+    return accesses;
+}
+
+static void unfinished(uint64_t label, uint64_t burst) {
+    struct qolb_ticket *holder = &proved.tickets[HOLDER];
+    opens(&proved, qolb_core_open_proved_, burst, label);
+    opens(&stand_in, stand_in_open, burst, label);
+    memset(proved.tickets, 0, sizeof proved.tickets), memset(stand_in.tickets, 0, sizeof stand_in.tickets);
+    calls(asks, HOLDER);
+    if (burst > 1) calls(number_of(qolb_core_take_outer_proved_), HOLDER);
+    for (calls(asks_near, WITHDRAWER); proved.tickets[WITHDRAWER].rounds <= MOST_NEAR; calls(asks_near, WITHDRAWER))
+        calls(withdraws, WITHDRAWER);
+    struct accesses by_stand_in = is_unfinished(&stand_in, false), by = is_unfinished(&proved, true);
+    same_accesses(releases, &by, &by_stand_in);
+    compares(releases, QOLB_UNFINISHED_, holder, &stand_in.tickets[HOLDER]);
+    if (by.count != 2 * PASSED || holder->number != PASSED) abort();
+    if (holder->state != (burst > 1 ? QOLB_TICKET_HEAD_INSIDE_ : QOLB_TICKET_ENDING_)) abort();
+    came[releases][QOLB_UNFINISHED_]++;
+    calls(releases, HOLDER);
+    if (holder->state != (burst > 1 ? QOLB_TICKET_INSIDE_ : QOLB_TICKET_FREE_)) abort();
 }
 
 /* The calls, with 65,535 sleepers counted at a cell. */
 static void full(uint64_t label) {
     enum { SLEEPERS = 65535, ALL = 4 * (SLEEPERS + 1) + 1 };
     static struct qolb_ticket tickets[2][ALL];
-    int announces = 0, asks = 0;
-    while (every[announces].proved != qolb_core_announce_sleep_proved_) announces++;
+    int announces = number_of(qolb_core_announce_sleep_proved_);
     opens(&proved, qolb_core_open_proved_, 1, label);
     opens(&stand_in, stand_in_open, 1, label);
     for (int k = 0; k < ALL; k++) {
@@ -194,6 +330,7 @@ static void full(uint64_t label) {
             if (got != every[announces].stand_in(&stand_in.core, &tickets[1][k])) abort();
             if (got != (k < ALL - 1 ? QOLB_ASLEEP_ : QOLB_FULL_)) abort();
             compares(announces, got, &tickets[0][k], &tickets[1][k]);
+            came[announces][got]++;
         }
     }
 }
@@ -201,8 +338,12 @@ static void full(uint64_t label) {
 int main(int argc, char **argv) {
     uint64_t schedules = argc > 1 ? strtoull(argv[1], NULL, 10) : 1000000;
     seed = argc > 2 ? strtoull(argv[2], NULL, 10) : 1;
+    asks = number_of(qolb_core_ask_proved_), asks_near = number_of(qolb_core_ask_near_proved_);
+    withdraws = number_of(qolb_core_withdraw_proved_), releases = number_of(qolb_core_release_proved_);
+    if (WATCHES) begin_to_watch();
     for (uint64_t label = 1; label <= schedules; label++) schedule(label);
-    full(schedules + 1);
+    for (uint64_t k = 1; WATCHES && k <= OFTEN; k++) unfinished(schedules + k, k % 4);
+    full(schedules + OFTEN + 1);
     long least = done;
     for (int k = 0; k < CALLS; k++)
         for (uint32_t answer = 0; answer < ANSWERS; answer++)
@@ -216,6 +357,6 @@ int main(int argc, char **argv) {
                 printf("%s answered %u\n", every[k].name, answer);
                 return 1;
             }
-    printf("%ld calls; each answer at least %ld times\n", done, least);
+    printf("%ld calls, %ld with another in its course; each answer at least %ld times\n", done, courses, least);
     return 0;
 }

@@ -87,7 +87,8 @@ impl Ticket {
     #[inline(always)]
     pub(crate) fn is_head(&self, lock: &Lock) -> bool
         requires { IsKnown lock.now self.now }
-        ensures yes { result ≡ true → IsHead lock.now self.now × Has State.AtTurn lock.now self.now }
+        ensures yes { result ≡ true → IsHead lock.now self.now
+            × Has State.AtTurn lock.now self.now }
         ensures no { result ≡ false → ¬ IsHead lock.now self.now }
     {
         lock.burst >= 2 && self.has(State::AtTurn, lock)

@@ -1,7 +1,8 @@
 //! Each answer at the outer word, to a few callers of one thread.
 use lock_core::{
     GoInResult, HeadSleepResult, LeaveResult, LockKind, ReleaseResult, TakeResult,
-    announce_head_sleep, ask, go_in, go_in_if, leave, leave_if, new_seat, open, poll, release, request_handoff, take_outer,
+    announce_head_sleep, ask, go_in, go_in_if, leave, leave_if, new_seat, open, poll, release,
+    request_handoff, take_outer,
 };
 use std::test::Fail;
 
