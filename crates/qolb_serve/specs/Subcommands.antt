@@ -32,8 +32,7 @@ AreNotesOn (DrawSteps form) input text = text ≡ []
 
 -- they are there if they are asked for
 abbrev pub AreNotesIf : Bool → Subcommand → List ℕ → List ℕ → Type 0
-AreNotesIf true subcommand input text = AreNotesOn subcommand input text
-AreNotesIf false subcommand input text = text ≡ []
+AreNotesIf asked subcommand input text = (asked ≡ true → AreNotesOn subcommand input text) × (asked ≡ false → text ≡ [])
 
 -- the bytes are too many, or have a first fault; for a drawing the faults are those of a replay
 abbrev pub IsDenied : Subcommand → List ℕ → Type 0

@@ -1,5 +1,5 @@
 //! Does what the words ask for, and reports how that ended.
-ghost use Rattle.std.specs.Prelude.{◌≡◌, ◌≢◌, ◌≤◌, ◌++◌, [], ℕ, Bool, false, List, length, Err, Some, None, codes, map, string_bytes, IfSome, IfErr, IfOk, MatchOption};
+ghost use Rattle.std.specs.Prelude.{◌≡◌, ◌≢◌, ◌≤◌, ◌++◌, [], ℕ, Bool, true, false, List, length, Err, Some, None, codes, map, string_bytes, IfSome, IfErr, IfOk, MatchOption};
 ghost use Rattle.std.specs.Io.KnownBytes.{Appends};
 ghost use Rattle.std.specs.IoError.{error_kind};
 ghost use Rattle.std.specs.declared.io.ErrorKind.TheVariants as io_kind;
@@ -120,12 +120,27 @@ fn with_notes(
     ensures { IfOk result (λ all. (notes : List ℕ) × (all.items ≡ text.items ++ notes)
         × AreNotesIf request.explain request.subcommand script.now notes) }
 {
+    let notes = notes_if(alloc, request.explain, request.subcommand, script)?;
     let mut text = text;
-    if request.explain {
-        let notes = notes_on(alloc, request.subcommand, script)?;
-        text.extend_from_slice(&notes)?;
-    }
+    text.extend_from_slice(&notes)?;
     Ok(text)
+}
+
+/// Returns the notes on an answer if they are asked for, else none.
+fn notes_if(
+    alloc: Global,
+    asked: bool,
+    subcommand: Subcommand,
+    script: &[u8],
+) -> Result<Vec<u8>, AllocError>
+    ensures given { asked ≡ true
+        → IfOk result (λ notes. AreNotesOn subcommand script.now notes.items) }
+    ensures none { asked ≡ false → IfOk result (λ notes. notes.items ≡ []) }
+{
+    if asked {
+        return notes_on(alloc, subcommand, script);
+    }
+    Ok(Vec::new(alloc))
 }
 
 /// Returns the notes on the misuses of a replay, or on the refusals of a step script.
@@ -135,9 +150,8 @@ fn notes_on(alloc: Global, subcommand: Subcommand, script: &[u8]) -> Result<Vec<
     match subcommand {
         Subcommand::Answer(Task::Replay(_)) => notes_of_schedule(alloc, script),
         Subcommand::Answer(Task::Steps(_)) => notes_of_steps(alloc, script),
-        Subcommand::Answer(Task::Work(_, _, _)) | Subcommand::Draw(_) | Subcommand::DrawSteps(_) => {
-            Ok(Vec::new(alloc))
-        }
+        Subcommand::Answer(Task::Work(_, _, _)) | Subcommand::Draw(_) | Subcommand::DrawSteps(_) =>
+            { Ok(Vec::new(alloc)) }
     }
 }
 
