@@ -46,7 +46,7 @@ STYLE = """
     .d { stroke: #818b98; fill: none }
     %s
     @media (prefers-color-scheme: light) { text, .call { fill: #424a53 } .inside { fill: #1f2328 } .hot { fill: %s } }
-    @media (prefers-color-scheme: dark) { text, .call { fill: #b7c0ca } .inside { fill: #e6edf3 } %s }
+    @media (prefers-color-scheme: dark) { text, .call { fill: #b7c0ca } .inside { fill: #e6edf3; paint-order: stroke; stroke: #0d1117; stroke-width: 2px } %s }
 """ % (bars(LIGHT), LIGHT["arrow"], bars(DARK))
 
 MARKERS = "".join(

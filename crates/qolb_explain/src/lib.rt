@@ -5,11 +5,13 @@ mod explain;
 pub mod laws;
 mod notes;
 mod reason;
+mod step_notes;
 mod told;
 mod why_command;
 mod why_event;
 mod why_job;
 
 pub use explain::{explain_schedule, explain_steps, explain_work};
-pub use notes::{notes_of_schedule, notes_of_steps};
+pub use notes::notes_of_schedule;
 pub use reason::{Allowed, Complaint, Form, Reason, ScriptKind};
+pub use step_notes::notes_of_steps;

@@ -1,153 +1,153 @@
-//! Notes on the answers `misuse` and `refused`: the node's state or point, and what that allows.
-ghost use Rattle.std.specs.Prelude.{◌≡◌, ◌≤◌};
-ghost use Rattle.link_core.specs.State.{IsNode};
+//! Notes on the misuses of a schedule: the node's state, and which commands that allows.
+ghost use Rattle.std.specs.Prelude.{◌≡◌, ◌≤◌, ◌++◌, Ok, IfOk, OnOk};
+ghost use Rattle.qolb_model.specs.OneOwner.{OwnerState, opened};
+ghost use Rattle.qolb_model.specs.Plain.{Agrees};
 ghost use Rattle.qolb_script.specs.Commands.{node_of};
+ghost use Rattle.qolb_script.specs.Reply.{config_of};
+ghost use Rattle.qolb_shapes.specs.Marks.{is_misuse};
+ghost use Rattle.qolb_shapes.specs.Svg.{verb_of};
+ghost use Rattle.qolb_explain.specs.Notes as spec;
 
 use line_lanes::Line64;
-use link_core::{Core, Event, NotEnabled, Point};
 use qolb_model::{LineConfig, PlainLine, PortState};
 use qolb_replay::ReplayLine;
-use qolb_script::{Command, Said, Schedule, Steps, read_schedule, read_steps};
+use qolb_script::{Command, Said, Schedule, ScriptError, read_schedule};
+use qolb_shapes::svg::push_field;
 use std::alloc::{AllocError, Global};
 
 /// Returns a line of text for each command of a schedule that is misuse, by the lines of the schedule: the node's state, and which commands
 /// it allows. Empty if the script is refused.
-pub fn notes_of_schedule(alloc: Global, script: &[u8]) -> Result<String, AllocError> {
-    let mut text = String::new(alloc);
-    if let Ok(schedule) = read_schedule(alloc, script) {
-        for number in 0..schedule.lines() {
-            push_misuses(alloc, &mut text, &schedule, number)?;
-        }
+pub fn notes_of_schedule(alloc: Global, script: &[u8]) -> Result<Vec<u8>, AllocError>
+    ensures { IfOk result (λ notes. notes.items ≡ spec.schedule_notes script.now) }
+{
+    match read_schedule(alloc, script) {
+        Ok(schedule) => notes_on(alloc, &schedule),
+        Err(ScriptError::Memory) => Err(AllocError),
+        Err(_) => Ok(Vec::new(alloc)),
     }
-    Ok(text)
 }
 
-/// Appends the notes on the commands on one line of a schedule.
-fn push_misuses(
-    alloc: Global,
-    text: &mut String,
-    schedule: &Schedule,
-    number: u64,
-) -> Result<(), AllocError> {
-    let Ok(mut line) = PlainLine::with_config(LineConfig {
+/// Returns the notes on the commands of a schedule.
+fn notes_on(alloc: Global, schedule: &Schedule) -> Result<Vec<u8>, AllocError>
+    ensures { IfOk result (λ notes. notes.items ≡ spec.script_notes (Ok schedule.now)) }
+{
+    let mut notes = Vec::new(alloc);
+    for line in 0..schedule.lines() {
+        push_misuses(&mut notes, schedule, line)?;
+    }
+    Ok(notes)
+}
+
+/// Opens a line of a schedule.
+fn open(schedule: &Schedule) -> PlainLine
+    ensures nodes { result.nodes ≡ schedule.now.nodes }
+    ensures opened { Agrees result (opened (config_of schedule.now)) }
+{
+    let config = LineConfig {
         nodes: schedule.nodes(),
         opening: Line64::zero(),
         lease: schedule.lease(),
-    }) else {
-        return Ok(());
     };
-    for (before, command) in schedule.commands().iter().enumerate() {
-        if command.line() == number && is_misuse(&mut line, command) {
-            let node = command.node();
-            let verb = verb_of(command);
-            let stands = stands(ReplayLine::state(&line, node));
-            let place = before + 1;
-            let note = format!(in alloc;
-                "command {place}, {verb} {node} {number}: node {node} {stands}\n"
-            )?;
-            text.push_str(&note)?;
-        }
+    let Ok(plain) = PlainLine::with_config(config) else {
+        unreachable!();
+    };
+    plain
+}
+
+/// Appends the notes on the commands on one line of a schedule.
+fn push_misuses(notes: &mut Vec<u8>, schedule: &Schedule, line: u64) -> Result<(), AllocError>
+    ensures { OnOk result (notes.new.items ≡ notes.old.items
+        ++ spec.line_notes schedule.now line) }
+{
+    let mut plain = open(schedule);
+    let mut number = 0;
+    for command in schedule.commands() {
+        number += 1;
+        push_if_misuse(notes, &mut plain, line, number, command)?;
     }
     Ok(())
 }
 
-/// Does a command on the line, and returns `true` if it is misuse.
-fn is_misuse(line: &mut PlainLine, command: &Command) -> bool
+/// Does a command if it is on this line, and appends a note if it is misuse.
+fn push_if_misuse(
+    notes: &mut Vec<u8>,
+    plain: &mut PlainLine,
+    line: u64,
+    number: u64,
+    command: &Command,
+) -> Result<(), AllocError>
     requires first { 1 ≤ node_of command.now }
-    requires last { node_of command.now ≤ line.old.nodes }
-    ensures { line.new.nodes ≡ line.old.nodes }
+    requires last { node_of command.now ≤ plain.old.nodes }
+    ensures nodes { plain.new.nodes ≡ plain.old.nodes }
+    ensures agrees { (s : OwnerState) → Agrees plain.old s
+        → Agrees plain.new (spec.on_line line s command.now) }
+    ensures note { (s : OwnerState) → Agrees plain.old s → OnOk result
+        (notes.new.items ≡ notes.old.items ++ spec.note_on line number s command.now) }
 {
-    matches!(line.answer(command), Said::Misuse)
+    if command.line() != line {
+        return Ok(());
+    }
+    let state = PlainLine::state(plain, command.node());
+    if is_misuse(plain.answer(command)) {
+        push_misuse(notes, number, command, state)?;
+    }
+    Ok(())
+}
+
+/// Returns `true` if this answer says that a command is misuse.
+fn is_misuse(said: Said) -> bool
+    ensures { result ≡ is_misuse said }
+{
+    matches!(said, Said::Misuse)
+}
+
+/// Appends the note on a command of a node in this state.
+fn push_misuse(
+    notes: &mut Vec<u8>,
+    number: u64,
+    command: &Command,
+    state: PortState,
+) -> Result<(), AllocError>
+    ensures { OnOk result (notes.new.items ≡ notes.old.items
+        ++ spec.misuse_text number command.now state) }
+{
+    push_field(notes, b"command ", number)?;
+    notes.extend_from_slice(b", ")?;
+    notes.extend_from_slice(verb(command))?;
+    push_field(notes, b" ", command.node())?;
+    push_field(notes, b" ", command.line())?;
+    push_field(notes, b": node ", command.node())?;
+    notes.extend_from_slice(b" ")?;
+    notes.extend_from_slice(words_of_state(state))?;
+    notes.extend_from_slice(b"\n")?;
+    Ok(())
 }
 
 /// Returns the first word of a command.
-fn verb_of(command: &Command) -> &'static str {
+fn verb(command: &Command) -> &'static [u8]
+    ensures { result.now ≡ verb_of command.now }
+{
     match command {
-        Command::Enq { .. } => "enq",
-        Command::Poll { .. } => "poll",
-        Command::Show { .. } => "show",
-        Command::Deq { .. } => "deq",
-        Command::Out { .. } => "out",
-        Command::Shut { .. } => "shut",
-        Command::Write { .. } => "write",
+        Command::Enq { .. } => b"enq",
+        Command::Poll { .. } => b"poll",
+        Command::Show { .. } => b"show",
+        Command::Deq { .. } => b"deq",
+        Command::Out { .. } => b"out",
+        Command::Shut { .. } => b"shut",
+        Command::Write { .. } => b"write",
     }
 }
 
-/// Returns what a node in this state does, and which commands that allows.
-fn stands(state: PortState) -> &'static str {
+/// Returns a state in words, and which commands it allows.
+fn words_of_state(state: PortState) -> &'static [u8]
+    ensures { result.now ≡ spec.state_words state }
+{
     match state {
-        PortState::Queued => "waits, which allows poll, out",
-        PortState::Holding => "holds, which allows write, show, deq, shut",
-        _ => "neither waits nor holds, which allows enq",
-    }
-}
-
-/// Returns a line of text for each event of a step script that is refused: the node's point, and which events it allows. Empty if the
-/// script is refused.
-pub fn notes_of_steps(alloc: Global, script: &[u8]) -> Result<String, AllocError> {
-    let mut text = String::new(alloc);
-    if let Ok(steps) = read_steps(alloc, script) {
-        push_refusals(alloc, &mut text, &steps)?;
-    }
-    Ok(text)
-}
-
-/// Appends the notes on the events of a step script.
-fn push_refusals(alloc: Global, text: &mut String, steps: &Steps) -> Result<(), AllocError> {
-    let Some(mut core) = Core::with_config(LineConfig {
-        nodes: steps.nodes(),
-        opening: Line64::zero(),
-        lease: steps.lease(),
-    }) else {
-        return Ok(());
-    };
-    for (before, event) in steps.events().iter().enumerate() {
-        if core.step(*event) == Err(NotEnabled::Point) {
-            let node = event.node();
-            let verb = verb_of_event(event);
-            let point = text_of_point(alloc, core.point(node))?;
-            let place = before + 1;
-            let note = format!(in alloc;
-                "event {place}, {verb} {node}: node {node} is at {point}\n"
-            )?;
-            text.push_str(&note)?;
+        PortState::Queued => b"waits, which allows poll, out",
+        PortState::Holding => b"holds, which allows write, show, deq, shut",
+        PortState::Linking => b"asks, which allows nothing",
+        PortState::Idle | PortState::Left | PortState::Rolled | PortState::Shut => {
+            b"neither waits nor holds, which allows enq"
         }
     }
-    Ok(())
-}
-
-/// Returns the first word of an event.
-fn verb_of_event(event: &Event) -> &'static str {
-    match event {
-        Event::Reset(_) => "reset",
-        Event::Prepend(_) => "prepend",
-        Event::Link(_) => "link",
-        Event::Load(_) => "load",
-        Event::Home(_) => "home",
-        Event::Done(_) => "done",
-        Event::Grant(_) => "grant",
-        Event::Roll(_) => "roll",
-        Event::Freed(_) => "freed",
-        Event::Write(_, _, _) => "write",
-        Event::Close(_) => "close",
-    }
-}
-
-/// Returns a point by its name, and which events it allows.
-fn text_of_point(alloc: Global, point: Point) -> Result<String, AllocError> {
-    let text = match point {
-        Point::Idle => "Idle, which allows reset",
-        Point::Ready => "Ready, which allows prepend",
-        Point::Linking(n) => return format!(in alloc; "Linking to {n}, which allows link"),
-        Point::Queued => "Queued, which allows load, roll",
-        Point::Holding => "Holding, which allows write, close, home",
-        Point::Leaving(n) => return format!(in alloc; "Leaving {n}, which allows home"),
-        Point::Marking(n) => return format!(in alloc; "Marking {n}, which allows done"),
-        Point::Granting(n) => return format!(in alloc; "Granting {n}, which allows grant"),
-        Point::Freeing => "Freeing, which allows freed",
-        Point::Left => "Left, which allows load",
-        Point::Rolled => "Rolled, which allows load",
-        Point::Shut => "Shut, which allows reset",
-    };
-    text.to_string(alloc)
 }

@@ -1,9 +1,10 @@
 -- The answer of a subcommand to the bytes on standard input.
-use Rattle.std.specs.Prelude.{ℕ, List, Option}
+use Rattle.std.specs.Prelude.{◌≡◌, ℕ, Bool, true, false, List, [], Option}
 use Rattle.line_kinds.specs.declared.Lock.{Lock}
 use Rattle.qolb_script.specs.declared.report.Report.{Report}
 use Rattle.qolb_script.specs.WorkScript.{WorkScript}
 use Rattle.qolb_run.specs.declared.each_lock.AnyKind.TheVariants.{Plain}
+use Rattle.qolb_explain.specs.Notes.{AreStepNotes, schedule_notes}
 use Rattle.qolb_explain.specs.Reasons.{Complaint, schedule_complaint, steps_complaint, work_complaint}
 use Rattle.qolb_replay.specs.declared.steps.Detail.TheVariants.{Words}
 use Rattle.qolb_run.specs.declared.task.Task.{Task}
@@ -20,6 +21,18 @@ abbrev pub Performs : (Lock → WorkScript → Report → Type 0) → Subcommand
 Performs KindSpec (Answer task) input text = Answers KindSpec task input text
 Performs KindSpec (Draw form) input text = IsPicture form input text
 Performs KindSpec (DrawSteps form) input text = IsStepPicture form input text
+
+-- the text is the notes behind the answer: of a replay, the note on each misuse; of a step script, on each refused event; else there are none
+abbrev pub AreNotesOn : Subcommand → List ℕ → List ℕ → Type 0
+AreNotesOn (Answer (Replay kind)) input text = text ≡ schedule_notes input
+AreNotesOn (Answer (Steps detail)) input text = AreStepNotes input text
+AreNotesOn (Answer (Work kind lock waits)) input text = text ≡ []
+AreNotesOn (Draw form) input text = text ≡ []
+AreNotesOn (DrawSteps form) input text = text ≡ []
+
+-- they are there if they are asked for
+abbrev pub AreNotesIf : Bool → Subcommand → List ℕ → List ℕ → Type 0
+AreNotesIf asked subcommand input text = (asked ≡ true → AreNotesOn subcommand input text) × (asked ≡ false → text ≡ [])
 
 -- the bytes are too many, or have a first fault; for a drawing the faults are those of a replay
 abbrev pub IsDenied : Subcommand → List ℕ → Type 0

@@ -1,5 +1,5 @@
 //! Does what the words ask for, and reports how that ended.
-ghost use Rattle.std.specs.Prelude.{◌≡◌, ◌≢◌, ◌≤◌, ◌++◌, [], ℕ, Bool, false, List, length, Err, Some, None, codes, map, string_bytes, IfSome, IfErr, IfOk, MatchOption};
+ghost use Rattle.std.specs.Prelude.{◌≡◌, ◌≢◌, ◌≤◌, ◌++◌, [], ℕ, Bool, true, false, List, length, Err, Some, None, codes, map, string_bytes, IfSome, IfErr, IfOk, MatchOption};
 ghost use Rattle.std.specs.Io.KnownBytes.{Appends};
 ghost use Rattle.std.specs.IoError.{error_kind};
 ghost use Rattle.std.specs.declared.io.ErrorKind.TheVariants as io_kind;
@@ -7,7 +7,7 @@ ghost use Rattle.qolb_replay.specs.declared.input.TheConstants.{MAX_BYTES};
 ghost use Rattle.qolb_serve.specs.CommandLine.{NamesFlag, NamesWish, IsNotTaken};
 ghost use Rattle.qolb_serve.specs.declared.command_line.Subcommand.{Subcommand};
 ghost use Rattle.qolb_run.specs.Outcome.{IsReplyOver, HasNoReport};
-ghost use Rattle.qolb_serve.specs.Subcommands.{Performs, IsDenied, MayDeny, complaint};
+ghost use Rattle.qolb_serve.specs.Subcommands.{AreNotesIf, AreNotesOn, Performs, IsDenied, MayDeny, complaint};
 ghost use Rattle.qolb_serve.specs.Status.{status_of};
 
 use crate::command_line::{Args, Subcommand, parse_args};
@@ -47,7 +47,7 @@ pub fn serve<T: Threads + Wait + Clock + Eprint + Sync, R: Read, W: Write, E: Wr
         × NamesFlag (codes "explain") (map string_bytes words.now) explain
         × IfSome (R.remaining reader.old) (λ script.
         (text notes : List ℕ) × Performs ⟦<Locks as KindSpec>⟧.done_over subcommand script text
-        × (explain ≡ false → notes ≡ [])
+        × AreNotesIf explain subcommand script notes
         × Appends (W.contents out.old) (W.contents out.new) (text ++ notes)) }
     ensures refused { result ≡ 1 → (subcommand : Subcommand)
         × NamesWish (map string_bytes words.now) subcommand
@@ -118,22 +118,40 @@ fn with_notes(
     text: Vec<u8>,
 ) -> Result<Vec<u8>, AllocError>
     ensures { IfOk result (λ all. (notes : List ℕ) × (all.items ≡ text.items ++ notes)
-        × (request.explain ≡ false → notes ≡ [])) }
+        × AreNotesIf request.explain request.subcommand script.now notes) }
 {
+    let notes = notes_if(alloc, request.explain, request.subcommand, script)?;
     let mut text = text;
-    if request.explain {
-        let notes = notes_on(alloc, request.subcommand, script)?;
-        text.extend_from_slice(notes.as_bytes())?;
-    }
+    text.extend_from_slice(&notes)?;
     Ok(text)
 }
 
+/// Returns the notes on an answer if they are asked for, else none.
+fn notes_if(
+    alloc: Global,
+    asked: bool,
+    subcommand: Subcommand,
+    script: &[u8],
+) -> Result<Vec<u8>, AllocError>
+    ensures given { asked ≡ true
+        → IfOk result (λ notes. AreNotesOn subcommand script.now notes.items) }
+    ensures none { asked ≡ false → IfOk result (λ notes. notes.items ≡ []) }
+{
+    if asked {
+        return notes_on(alloc, subcommand, script);
+    }
+    Ok(Vec::new(alloc))
+}
+
 /// Returns the notes on the misuses of a replay, or on the refusals of a step script.
-fn notes_on(alloc: Global, subcommand: Subcommand, script: &[u8]) -> Result<String, AllocError> {
+fn notes_on(alloc: Global, subcommand: Subcommand, script: &[u8]) -> Result<Vec<u8>, AllocError>
+    ensures { IfOk result (λ notes. AreNotesOn subcommand script.now notes.items) }
+{
     match subcommand {
         Subcommand::Answer(Task::Replay(_)) => notes_of_schedule(alloc, script),
         Subcommand::Answer(Task::Steps(_)) => notes_of_steps(alloc, script),
-        _ => Ok(String::new(alloc)),
+        Subcommand::Answer(Task::Work(_, _, _)) | Subcommand::Draw(_) | Subcommand::DrawSteps(_) =>
+            { Ok(Vec::new(alloc)) }
     }
 }
 

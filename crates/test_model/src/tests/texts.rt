@@ -4,11 +4,26 @@ use qolb_explain::{Allowed, Complaint, Form, Reason, ScriptKind};
 use std::test::Fail;
 
 /// Lines, their faults, and what is said of them.
-static TEXTS: [(&str, Reason, &str); 30] = [
+static TEXTS: [(&str, Reason, &str); 35] = [
     (
         "",
         Reason::Empty(ScriptKind::Schedule),
         "no line has a word, and a script begins with `nodes N lines L`",
+    ),
+    (
+        "",
+        Reason::Empty(ScriptKind::Steps),
+        "no line has a word, and a script begins with `nodes N`",
+    ),
+    (
+        "",
+        Reason::Empty(ScriptKind::Board),
+        "no line has a word, and a script begins with `board workers W`",
+    ),
+    (
+        "",
+        Reason::Empty(ScriptKind::Bank),
+        "no line has a word, and a script begins with `bank workers W lines L`",
     ),
     (
         "enq 1 0",
@@ -107,6 +122,14 @@ static TEXTS: [(&str, Reason, &str); 30] = [
         "    nodes 2 leases 1\nword 3 is not `lease`",
     ),
     (
+        "nodes 2 lines 1 leases 1",
+        Reason::Word {
+            place: 5,
+            allowed: Allowed::Lease,
+        },
+        "    nodes 2 lines 1 leases 1\nword 5 is not `lease`",
+    ),
+    (
         "board worker 1",
         Reason::Word {
             place: 2,
@@ -123,6 +146,11 @@ static TEXTS: [(&str, Reason, &str); 30] = [
         "nodes",
         Reason::Count(Form::Header(ScriptKind::Steps)),
         "    nodes\nwrong number of words, the form is `nodes N` or `nodes N lease C`",
+    ),
+    (
+        "board workers",
+        Reason::Count(Form::Header(ScriptKind::Board)),
+        "    board workers\nwrong number of words, the form is `board workers W`",
     ),
     (
         "bank workers",

@@ -55,7 +55,7 @@ static ANSWERED: [(&[&str], Long, Long, Option<Note>); 9] = [
         ],
         Some((
             3,
-            "link 1: node 1 is at Holding, which allows write, close, home",
+            "link 1: node 1 is at Holding, which allows home, write, close",
         )),
     ),
     (

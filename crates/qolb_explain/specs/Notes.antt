@@ -1,0 +1,161 @@
+-- The notes on the answers `misuse` and `refused`: the node's state or point, and what that allows. (Of this project.)
+use Rattle.std.specs.Prelude.{◌≡◌, ℕ, ◌+◌, ◌==◌, ◌&&◌, if◌then◌else◌, List, [], ◌∷◌, ◌++◌, length, map, filter, flat_map, codes, Result, Ok, Err}
+use Rattle.std.specs.List.{range_with_len}
+use Rattle.line_lanes.specs.Line.{zeros}
+use Rattle.qolb_model.specs.declared.answer.PortState.{PortState}
+use Rattle.qolb_model.specs.declared.answer.PortState.TheVariants as port
+use Rattle.qolb_model.specs.OneOwner.{OwnerState, opened, state_of}
+use Rattle.link_core.specs.declared.event.Event.{Event}
+use Rattle.link_core.specs.declared.event.Event.TheVariants as event
+use Rattle.link_core.specs.declared.point.Point.{Point}
+use Rattle.link_core.specs.declared.point.Point.TheVariants as point
+use Rattle.link_core.specs.declared.told.Told.{Told}
+use Rattle.link_core.specs.declared.told.NotEnabled.{NotEnabled}
+use Rattle.link_core.specs.declared.told.NotEnabled.TheVariants as refusal
+use Rattle.link_core.specs.declared.state.State.{State}
+use Rattle.link_core.specs.State.{first, no_mask}
+use Rattle.link_core.specs.State as state
+use Rattle.link_core.specs.Steps.{Step, IsRefused, allows}
+use Rattle.link_core.specs.Steps as steps
+use Rattle.qolb_script.specs.declared.command.Command.{Command}
+use Rattle.qolb_script.specs.declared.command.Command.TheVariants.{Enq, Poll, Show, Deq, Out, Shut, Write}
+use Rattle.qolb_script.specs.declared.error.ScriptError.{ScriptError}
+use Rattle.qolb_script.specs.Commands.{node_of, line_of}
+use Rattle.qolb_script.specs.Reply.{is_allowed, said_of, after_command, config_of}
+use Rattle.qolb_script.specs.Script.{Script, script_of}
+use Rattle.qolb_script.specs.StepScript.{StepScript, steps_of}
+use Rattle.qolb_replay.specs.StepRuns as runs
+use Rattle.qolb_shapes.specs.Marks.{is_misuse}
+use Rattle.qolb_shapes.specs.Svg.{field, verb_of}
+
+-- some words, one behind the other
+abbrev pub listed : List (List ℕ) → List ℕ
+listed [] = codes "nothing"
+listed (word ∷ []) = word
+listed (word ∷ next ∷ rest) = word ++ codes ", " ++ listed (next ∷ rest)
+
+-- a command of each kind, in the order in which they are named
+abbrev pub each_command : List Command
+each_command = Enq 0 0 ∷ Poll 0 0 ∷ Write 0 0 no_mask (record { bytes = zeros }) ∷ Show 0 0 ∷ Deq 0 0 ∷ Out 0 0 ∷ Shut 0 0 ∷ []
+
+-- a state in words, and which commands it allows
+abbrev pub stand_words : PortState → List ℕ
+stand_words port.Linking = codes "asks"
+stand_words port.Queued = codes "waits"
+stand_words port.Holding = codes "holds"
+stand_words state = codes "neither waits nor holds"
+
+abbrev pub state_words : PortState → List ℕ
+state_words state = stand_words state ++ codes ", which allows " ++ listed (map verb_of (filter (is_allowed state) each_command))
+
+-- the note on a command of a node in this state, the `number`-th of its script
+abbrev pub misuse_text : ℕ → Command → PortState → List ℕ
+misuse_text number c state =
+    field (codes "command ") number ++ codes ", " ++ verb_of c ++ field (codes " ") (node_of c) ++ field (codes " ") (line_of c)
+    ++ field (codes ": node ") (node_of c) ++ codes " " ++ state_words state ++ codes "\n"
+
+-- the note on a command, if it is misuse of this line
+abbrev pub note_on : ℕ → ℕ → OwnerState → Command → List ℕ
+note_on line number s c =
+    if (line_of c == line) && is_misuse (said_of s c) then misuse_text number c (state_of s (node_of c)) else []
+
+-- this line after a command, which may be of another
+abbrev pub on_line : ℕ → OwnerState → Command → OwnerState
+on_line line s c = if line_of c == line then after_command s c else s
+
+-- the notes on this line's misuses among these commands, of which the first is the `number`-th of the script
+abbrev pub misuses : ℕ → ℕ → OwnerState → List Command → List ℕ
+misuses line number s [] = []
+misuses line number s (c ∷ rest) = note_on line number s c ++ misuses line (number + 1) (on_line line s c) rest
+
+abbrev pub line_notes : Script → ℕ → List ℕ
+line_notes script line = misuses line 1 (opened (config_of script)) script.commands
+
+-- the notes of a schedule, line by line; bytes that are none have no notes
+abbrev pub script_notes : Result Script ScriptError → List ℕ
+script_notes (Ok script) = flat_map (line_notes script) (range_with_len 0 script.lines)
+script_notes (Err error) = []
+
+abbrev pub schedule_notes : List ℕ → List ℕ
+schedule_notes input = script_notes (script_of input)
+
+-- the first word of an event
+abbrev pub verb_of_event : Event → List ℕ
+verb_of_event (event.Reset n) = codes "reset"
+verb_of_event (event.Prepend n) = codes "prepend"
+verb_of_event (event.Link n) = codes "link"
+verb_of_event (event.Load n) = codes "load"
+verb_of_event (event.Home n) = codes "home"
+verb_of_event (event.Done n) = codes "done"
+verb_of_event (event.Grant n) = codes "grant"
+verb_of_event (event.Roll n) = codes "roll"
+verb_of_event (event.Freed n) = codes "freed"
+verb_of_event (event.Write n mask bytes) = codes "write"
+verb_of_event (event.Close n) = codes "close"
+
+-- an event of each kind, in the order in which they are named
+abbrev pub each_event : List Event
+each_event =
+    event.Reset 0 ∷ event.Prepend 0 ∷ event.Link 0 ∷ event.Load 0 ∷ event.Home 0 ∷ event.Done 0 ∷ event.Grant 0 ∷ event.Roll 0 ∷ event.Freed 0
+    ∷ event.Write 0 no_mask (record { bytes = zeros }) ∷ event.Close 0 ∷ []
+
+-- a point by its name and the node that it names; which events it allows
+abbrev pub point_name : Point → List ℕ
+point_name point.Idle = codes "Idle"
+point_name point.Ready = codes "Ready"
+point_name (point.Linking n) = field (codes "Linking to ") n
+point_name point.Queued = codes "Queued"
+point_name point.Holding = codes "Holding"
+point_name (point.Leaving n) = field (codes "Leaving ") n
+point_name (point.Marking n) = field (codes "Marking ") n
+point_name (point.Granting n) = field (codes "Granting ") n
+point_name point.Freeing = codes "Freeing"
+point_name point.Left = codes "Left"
+point_name point.Rolled = codes "Rolled"
+point_name point.Shut = codes "Shut"
+
+abbrev pub events_at : Point → List ℕ
+events_at p = listed (map verb_of_event (filter (λ e. allows e p) each_event))
+
+-- the note on an event of a node at this point, the `number`-th of its script
+abbrev pub refusal_text : ℕ → Event → Point → List ℕ
+refusal_text number e p =
+    field (codes "event ") number ++ codes ", " ++ verb_of_event e ++ field (codes " ") (steps.node_of e) ++ field (codes ": node ") (steps.node_of e)
+    ++ codes " is at " ++ point_name p ++ codes ", which allows " ++ events_at p ++ codes "\n"
+
+-- an event of no node is in no script
+abbrev pub refusal_note : NotEnabled → ℕ → Event → Point → List ℕ
+refusal_note refusal.Node number e p = []
+refusal_note refusal.Point number e p = refusal_text number e p
+
+-- the note on an event that was tried and told this
+abbrev pub note_if : Result Told NotEnabled → ℕ → Event → Point → List ℕ
+note_if (Ok what) number e p = []
+note_if (Err why) number e p = refusal_note why number e p
+
+-- These events were tried one after another, from the core `from` to the last core. The text is the notes on those that were not enabled.
+pub data Notes (from : State) : List Event → List ℕ → State → Type 0 where
+  nothing : Notes from [] [] from
+  told : {events : List Event} {text : List ℕ} {before after : State} (event : Event) (what : Told) → Notes from events text before → Step before event what after
+      → Notes from (events ++ event ∷ []) text after
+  refused : {events : List Event} {text : List ℕ} {before : State} (event : Event) (why : NotEnabled) → Notes from events text before → IsRefused before event why
+      → Notes from (events ++ event ∷ []) (text ++ refusal_note why (length events + 1) event (state.point before (steps.node_of event))) before
+
+-- one event was tried: it was enabled and has no note, or it was not, which changes nothing
+pub data IsTried (number : ℕ) (e : Event) (before after : State) (old new : List ℕ) : Type 0 where
+  enabled : (what : Told) → Step before e what after → new ≡ old → IsTried number e before after old new
+  not_enabled : (why : NotEnabled) → IsRefused before e why → after ≡ before → new ≡ old ++ refusal_note why number e (state.point before (steps.node_of e))
+      → IsTried number e before after old new
+
+-- the text is the notes on a run of the script
+pub record AreNotesOf (script : StepScript) (text : List ℕ) : Type 0 where
+  pub last : State
+  pub runs : Notes (first (runs.line_of script)) script.events text last
+
+-- the notes of a step script; bytes that are none have no notes
+abbrev pub AreNotesIf : Result StepScript ScriptError → List ℕ → Type 0
+AreNotesIf (Ok script) text = AreNotesOf script text
+AreNotesIf (Err error) text = text ≡ []
+
+abbrev pub AreStepNotes : List ℕ → List ℕ → Type 0
+AreStepNotes input text = AreNotesIf (steps_of input) text

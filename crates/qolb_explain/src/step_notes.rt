@@ -1,0 +1,168 @@
+//! Notes on the refused events of a step script: the node's point, and which events that allows.
+ghost use Rattle.std.specs.Prelude.{◌≡◌, ◌++◌, IfErr, IfOk, OnOk};
+ghost use Rattle.link_core.specs.State.{first, point};
+ghost use Rattle.link_core.specs.Steps.{IsRefused, node_of};
+ghost use Rattle.qolb_replay.specs.StepRuns.{line_of};
+ghost use Rattle.qolb_explain.specs.Notes as spec;
+
+use line_lanes::Line64;
+use link_core::{Core, Event, NotEnabled, Point, Told};
+use qolb_model::LineConfig;
+use qolb_script::{ScriptError, Steps, read_steps};
+use qolb_shapes::svg::push_field;
+use std::alloc::{AllocError, Global};
+
+/// Returns a line of text for each event of a step script that is refused: the node's point, and which events it allows. Empty if the
+/// script is refused.
+pub fn notes_of_steps(alloc: Global, script: &[u8]) -> Result<Vec<u8>, AllocError>
+    ensures { IfOk result (λ notes. spec.AreStepNotes script.now notes.items) }
+{
+    match read_steps(alloc, script) {
+        Ok(steps) => notes_on(alloc, &steps),
+        Err(ScriptError::Memory) => Err(AllocError),
+        Err(_) => Ok(Vec::new(alloc)),
+    }
+}
+
+/// Returns the notes on the events of a step script.
+fn notes_on(alloc: Global, steps: &Steps) -> Result<Vec<u8>, AllocError>
+    ensures { IfOk result (λ notes. spec.AreNotesOf steps.now notes.items) }
+{
+    let mut notes = Vec::new(alloc);
+    let mut core = open(steps);
+    let mut number = 0;
+    for event in steps.events() {
+        number += 1;
+        push_if_refused(&mut notes, &mut core, number, event)?;
+    }
+    Ok(notes)
+}
+
+/// Opens the line of a step script.
+fn open(steps: &Steps) -> Core
+    ensures { result ≡ first (line_of steps.now) }
+{
+    let config = LineConfig {
+        nodes: steps.nodes(),
+        opening: Line64::zero(),
+        lease: steps.lease(),
+    };
+    let Some(core) = Core::with_config(config) else {
+        unreachable!();
+    };
+    core
+}
+
+/// Makes an event, and appends a note if the node's point does not allow it.
+fn push_if_refused(
+    notes: &mut Vec<u8>,
+    core: &mut Core,
+    number: u64,
+    event: &Event,
+) -> Result<(), AllocError>
+    ensures { OnOk result (spec.IsTried number event.now core.old core.new notes.old.items
+        notes.new.items) }
+{
+    let told = core.step(*event);
+    push_note(notes, core, number, event, told)?;
+    Ok(())
+}
+
+/// Appends the note on an event that was tried and told this, if it was refused.
+fn push_note(
+    notes: &mut Vec<u8>,
+    core: &Core,
+    number: u64,
+    event: &Event,
+    told: Result<Told, NotEnabled>,
+) -> Result<(), AllocError>
+    requires { IfErr told (IsRefused core.now event.now) }
+    ensures { OnOk result (notes.new.items ≡ notes.old.items
+        ++ spec.note_if told number event.now (point core.now (node_of event.now))) }
+{
+    match told {
+        Ok(_) => Ok(()),
+        Err(NotEnabled::Node) => Ok(()),
+        Err(NotEnabled::Point) => push_refusal(notes, number, event, core.point(event.node())),
+    }
+}
+
+/// Appends the note on an event of a node at this point.
+fn push_refusal(
+    notes: &mut Vec<u8>,
+    number: u64,
+    event: &Event,
+    point: Point,
+) -> Result<(), AllocError>
+    ensures { OnOk result (notes.new.items ≡ notes.old.items
+        ++ spec.refusal_text number event.now point) }
+{
+    push_field(notes, b"event ", number)?;
+    notes.extend_from_slice(b", ")?;
+    notes.extend_from_slice(verb(event))?;
+    push_field(notes, b" ", event.node())?;
+    push_field(notes, b": node ", event.node())?;
+    notes.extend_from_slice(b" is at ")?;
+    push_point(notes, point)?;
+    notes.extend_from_slice(b", which allows ")?;
+    notes.extend_from_slice(events_at(point))?;
+    notes.extend_from_slice(b"\n")?;
+    Ok(())
+}
+
+/// Returns the first word of an event.
+fn verb(event: &Event) -> &'static [u8]
+    ensures { result.now ≡ spec.verb_of_event event.now }
+{
+    match event {
+        Event::Reset(_) => b"reset",
+        Event::Prepend(_) => b"prepend",
+        Event::Link(_) => b"link",
+        Event::Load(_) => b"load",
+        Event::Home(_) => b"home",
+        Event::Done(_) => b"done",
+        Event::Grant(_) => b"grant",
+        Event::Roll(_) => b"roll",
+        Event::Freed(_) => b"freed",
+        Event::Write(_, _, _) => b"write",
+        Event::Close(_) => b"close",
+    }
+}
+
+/// Appends a point by its name, and the node that it names.
+fn push_point(notes: &mut Vec<u8>, point: Point) -> Result<(), AllocError>
+    ensures { OnOk result (notes.new.items ≡ notes.old.items ++ spec.point_name point) }
+{
+    match point {
+        Point::Idle => notes.extend_from_slice(b"Idle"),
+        Point::Ready => notes.extend_from_slice(b"Ready"),
+        Point::Linking(node) => push_field(notes, b"Linking to ", node),
+        Point::Queued => notes.extend_from_slice(b"Queued"),
+        Point::Holding => notes.extend_from_slice(b"Holding"),
+        Point::Leaving(node) => push_field(notes, b"Leaving ", node),
+        Point::Marking(node) => push_field(notes, b"Marking ", node),
+        Point::Granting(node) => push_field(notes, b"Granting ", node),
+        Point::Freeing => notes.extend_from_slice(b"Freeing"),
+        Point::Left => notes.extend_from_slice(b"Left"),
+        Point::Rolled => notes.extend_from_slice(b"Rolled"),
+        Point::Shut => notes.extend_from_slice(b"Shut"),
+    }
+}
+
+/// Returns which events a point allows.
+fn events_at(point: Point) -> &'static [u8]
+    ensures { result.now ≡ spec.events_at point }
+{
+    match point {
+        Point::Idle | Point::Shut => b"reset",
+        Point::Ready => b"prepend",
+        Point::Linking(_) => b"link",
+        Point::Queued => b"load, roll",
+        Point::Holding => b"home, write, close",
+        Point::Leaving(_) => b"home",
+        Point::Marking(_) => b"done",
+        Point::Granting(_) => b"grant",
+        Point::Freeing => b"freed",
+        Point::Left | Point::Rolled => b"load",
+    }
+}

@@ -1,0 +1,134 @@
+//! Boards and banks: reports, scripts that are none, workers that stall.
+use crate::tests::runs::expect;
+use qolb_run::TaskError;
+use qolb_serve::fail;
+use std::alloc::Global;
+use std::process::Abort;
+use std::rt::Clock;
+use std::sync::Wait;
+use std::test::Fail;
+use std::thread::Threads;
+
+/// What may follow the name of work. Work ends in the same way by each kind of lines, by workers that sleep, and with its progress
+/// reported, of which there is none within a second.
+static MANNERS: [&[&str]; 10] = [
+    &[],
+    &["--progress"],
+    &["--sleep"],
+    &["--progress", "--sleep"],
+    &["--kind", "ring"],
+    &["--kind", "link"],
+    &["--sleep", "--kind", "ring"],
+    &["--kind", "ticket", "--sleep"],
+    &["--kind", "ticket", "--progress"],
+    &["--kind", "ring", "--sleep", "--progress"],
+];
+
+/// Checks that work of this name ends so, in each manner.
+fn expect_work<T: Threads + Wait + Clock + Eprint + Abort + Sync>(
+    rt: &T,
+    alloc: Global,
+    name: &str,
+    script: &str,
+    want: (u8, &str, &str),
+) -> Result<(), Fail> {
+    for manner in &MANNERS {
+        let mut words = vec![in alloc; name]?;
+        words.extend_from_slice(*manner)?;
+        expect(rt, alloc, words.as_slice(), script, want)?;
+    }
+    Ok(())
+}
+
+/// Scripts of work, with their reports.
+static WORK: [(&str, &str, &str); 6] = [
+    (
+        "board",
+        "board workers 1\n1 put 5\n1 put 9\n1 take\n1 take\n1 take\n",
+        "stored 2\nfull 0\ntaken 2\nempty 1\nleft 0\n",
+    ),
+    (
+        "board",
+        "board workers 1\n1 put 3\n1 put 3\n1 put 3\n1 put 3\n1 put 3\n1 put 3\n1 put 3\n1 put 3",
+        "stored 7\nfull 1\ntaken 0\nempty 0\nleft 7\n",
+    ),
+    // a board without jobs, and a worker without any
+    (
+        "board",
+        "board workers 200",
+        "stored 0\nfull 0\ntaken 0\nempty 0\nleft 0\n",
+    ),
+    (
+        "bank",
+        "bank workers 1 lines 2\n1 in 0 10\n1 move 0 9 4\n1 out 9 9\n1 out 9 1\n",
+        "in 10\nout 1\ntotal 9\n",
+    ),
+    (
+        "bank",
+        "bank workers 3 lines 8\n1 in 0 1\n2 in 63 2\n",
+        "in 3\nout 0\ntotal 3\n",
+    ),
+    // no task is lost, though the order between the workers is open
+    (
+        "bank",
+        "bank workers 2 lines 1\n1 in 0 281474976710656\n2 in 1 281474976710656\n1 in 0 1\n2 in 1 1\n",
+        "in 562949953421312\nout 0\ntotal 562949953421312\n",
+    ),
+];
+
+#[test]
+fn runs_work(rt: HostRuntime) -> Result<(), Fail> {
+    for (name, script, report) in &WORK {
+        expect_work(&rt, rt.alloc(), *name, *script, (0, *report, ""))?;
+    }
+    Ok(())
+}
+
+#[test]
+fn no_payment_of_four_workers_is_lost(rt: HostRuntime) -> Result<(), Fail> {
+    let alloc = rt.alloc();
+    let mut script = String::from_str(alloc, "bank workers 4 lines 1\n")?;
+    for account in 0..100u64 {
+        for worker in 1..5u64 {
+            let account = account % 8;
+            script.push_str(format!(in alloc; "{worker} in {account} 1\n")?.as_str())?;
+        }
+    }
+    let report = "in 400\nout 0\ntotal 400\n";
+    expect_work(&rt, alloc, "bank", script.as_str(), (0, report, ""))
+}
+
+/// Scripts that are not of this work, with the complaint.
+static NO_WORK: [(&str, &str, &str); 11] = [
+    ("board", "", "bad line 1\n"),
+    ("board", "board workers 201", "bad line 1\n"),
+    ("board", "board workers 0", "bad line 1\n"),
+    ("board", "board workers 1 lines 1", "bad line 1\n"),
+    // a board's script is not a bank's, and the other way round
+    ("board", "bank workers 1 lines 1", "bad line 1\n"),
+    ("bank", "board workers 1", "bad line 1\n"),
+    ("board", "board workers 1\n\n2 take", "bad line 3\n"),
+    ("board", "board workers 1\n1 in 0 1", "bad line 2\n"),
+    ("bank", "bank workers 1 lines 1\n1 in 8 1", "bad line 2\n"),
+    ("bank", "bank workers 1 lines 9", "bad line 1\n"),
+    ("bank", "bank workers 1 lines 1\n1 put 5", "bad line 2\n"),
+];
+
+#[test]
+fn refuses_work(rt: HostRuntime) -> Result<(), Fail> {
+    for (name, script, fault) in &NO_WORK {
+        expect_work(&rt, rt.alloc(), *name, *script, (1, "", *fault))?;
+    }
+    Ok(())
+}
+
+#[test]
+fn tells_who_stalled(rt: HostRuntime) -> Result<(), Fail> {
+    let mut err: Vec<u8> = Vec::new(rt.alloc());
+    assert_eq!(rt; fail(&mut err, TaskError::Stalled(17)), 3);
+    assert_eq!(rt; err.as_slice(), b"stalled 17\n".as_slice());
+    let mut err: Vec<u8> = Vec::new(rt.alloc());
+    assert_eq!(rt; fail(&mut err, TaskError::Memory), 3);
+    assert_eq!(rt; err.as_slice(), b"out of memory\n".as_slice());
+    Ok(())
+}
