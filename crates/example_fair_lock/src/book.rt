@@ -129,7 +129,8 @@ impl<J: Naming> Model for Front<J> {
 
     ghost view = { λ f. f.seen.log };
 
-    ghost invariant = { λ f. (f.turns ≡ length f.seen.log) × (f.seen.book ≡ J.book) × IsChain f.seen.log };
+    ghost invariant = { λ f. (f.turns ≡ length f.seen.log) × (f.seen.book ≡ J.book)
+        × IsChain f.seen.log };
 }
 
 impl<J: Naming> Front<J> {
