@@ -56,17 +56,17 @@ BY_HAND hand_release(struct hand *lock, struct qolb_ticket *ticket) {
 }
 
 BY_HAND hand_go_in(struct hand *lock, struct qolb_ticket *ticket) {
-    uint64_t guess = ticket->outer, in = guess + 36;
-    if (!(guess & 28) && atomic_compare_exchange_strong(&lock->outer, &guess, in))
+    uint64_t guess = ticket->outer, was = guess, in = guess + 36;
+    if (!(guess & 28) && atomic_compare_exchange_strong(&lock->outer, &was, in))
         return ticket->outer = in, QOLB_GRANTED;
-    return ticket->outer = atomic_load(&lock->outer), QOLB_BUSY;
+    return ticket->outer = guess & 28 ? atomic_load(&lock->outer) : was, QOLB_BUSY;
 }
 
 BY_HAND hand_leave(struct hand *lock, struct qolb_ticket *ticket) {
     uint64_t guess = ticket->outer, was = guess, to = guess / 16 * 16;
     int reserves = guess & 1 || guess / 32 + 1 >= lock->burst;
     if (!atomic_compare_exchange_strong(&lock->outer, &was, reserves ? to + 8 : to))
-        return ticket->outer = atomic_load(&lock->outer), QOLB_BUSY;
+        return ticket->outer = was, QOLB_BUSY;
     ticket->head_sleeps = guess >> 1 & 1;
     return ticket->outer = to, QOLB_DONE;
 }

@@ -1,6 +1,7 @@
 /* For the library's internal files: the proved lock, as crates/qolb_c/src/core_calls.rt exports it. Many threads may
- * call with one lock at a time. No call waits; each takes at most three atomic steps, a release two more for each
- * withdrawn request that it passes, of which there are at most 64. Only opening allocates.
+ * call with one lock at a time. No call waits; each takes at most three atomic steps, a ticket's first call at a lock
+ * one more, and a release two more for each withdrawn request that it passes, of which there are at most 64. Only
+ * opening allocates.
  *
  * A lock has a queue of tickets, and an *outer word*. A strict lock (a bound of bursts of at most 1): ask, wait for the
  * ticket's turn, check_open, be served, release. With bursts: a newcomer goes in by the outer word and leaves; else it
