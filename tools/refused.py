@@ -66,20 +66,6 @@ def by_check(log, goals):
     return "names", ("gone: " if gone else "") + first[:160]
 
 
-def by_gate(text):
-    """What `rt ci` printed of an edit: the kind, and the first goal that it names."""
-    goal = next(iter(re.findall(r"`([^`]+)`", text)), "")
-    if text.startswith("NOT REFUSED"):
-        return "ALIVE", ""
-    if "only because a proof file names" in text:
-        return "names", goal
-    if "only by a limit" in text:
-        return "limit", goal
-    if not text.startswith("refused"):
-        return "BROKEN", text[:160]
-    return ("answer" if re.search(r"/(Answers|Invariants)\.antt:", text) else "goal"), goal
-
-
 def by_tests(log, test, status):
     """The outcome of a mutant with this test, from the output of `rt try --test` or `rt test`."""
     if re.search(rf"^test {re.escape(test)} \.\.\. ok$", log, re.M):
