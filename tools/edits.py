@@ -44,6 +44,7 @@ With --anchors it tries nothing: it says of each mutant whose old text does not 
 import argparse
 import collections
 import datetime
+import difflib
 import fcntl
 import hashlib
 import itertools
@@ -163,13 +164,16 @@ class Kept:
 
 
 def misplaced(folder, change, body):
-    """Why a change can't be made, if so: its old text does not stand once in its file. It may stand in another file of the crate."""
+    """Why a change can't be made, if so: its old text does not stand once in its file. It may stand in another file of the crate, or changed a little."""
     count = body.count(change.old)
     if count == 1:
         return None
     texts = {it: it.read_text() for part in PARTS for it in sorted((folder / part).rglob("*")) if it.is_file()}
     now = [f"{it.relative_to(folder)}:{text[: text.index(change.old)].count(chr(10)) + 1}" for it, text in texts.items() if text.count(change.old) == 1]
-    return f"{change.old.splitlines()[0].strip()!r} stands {count} times in {change.file}" + "".join(f", once in {it}" for it in now)
+    there = [it.strip() for it in body.splitlines()]
+    first = next((it.strip() for it in change.old.splitlines() if it.strip() not in there), change.old.splitlines()[0].strip())
+    near = [] if count or now else difflib.get_close_matches(first, there, 1)
+    return f"{first!r} stands {count} times in {change.file}" + "".join(f", once in {it}" for it in now) + "".join(f"; the nearest line there is {it!r}" for it in near)
 
 
 def changed(folder, changes):
