@@ -57,8 +57,8 @@ struct qolb_ticket {
                             number + 1 is the ticket that was granted */
     uint64_t rounds;   /* while it waits: at most so many rounds were to be granted yet when it last looked (4 tickets
                             a round; 1: at most four are before it); also after FAR */
-    uint64_t outer;    /* a guess of the outer word, for the next go_in or leave; after an ASLEEP of announce_head_sleep
-                            the word to sleep at. A wrong guess costs a call */
+    uint64_t outer;    /* a guess of the outer word, for the next go_in or leave, where no call says more. A wrong guess
+                            costs a call */
     uint64_t word;     /* after an ASLEEP of announce_sleep: the cell's word to sleep at */
     uint64_t sleepers; /* after a release: so many had announced their sleep at the granted ticket's cell */
     uint64_t label;    /* the label of its lock, 0 if none: by this it is known whether a ticket is of the lock */
@@ -102,23 +102,23 @@ uint32_t qolb_core_release_proved_(const struct qolb_core *, struct qolb_ticket 
 /* At the turn of a strict lock: GRANTED (open: SERVED) or CLOSED (SERVED_SHUT: pass the turn on by release, or
  * reopen). MISUSE unless it is AT_TURN, SERVED or SERVED_SHUT in a strict lock. */
 uint32_t qolb_core_check_open_proved_(const struct qolb_core *, struct qolb_ticket *);
-/* A newcomer takes the outer word, if that is ticket.outer, free for anyone, and open: GRANTED (INSIDE); BUSY:
- * ticket.outer has the word as a later look found it. MISUSE: the ticket has a request or is in, or the lock is
- * strict. */
+/* A newcomer takes the outer word, if that is ticket.outer, free for anyone, and open: GRANTED (INSIDE; ticket.outer
+ * is the word as it was left). BUSY: ticket.outer is the word that the step found. MISUSE: the ticket has a request or
+ * is in, or the lock is strict. */
 uint32_t qolb_core_go_in_proved_(const struct qolb_core *, struct qolb_ticket *);
-/* The queue head takes the outer word, if it is free: GRANTED (HEAD_INSIDE) or CLOSED (HEAD_INSIDE_SHUT): in;
- * release the turn of the queue next. WAITING: it is held, or changed at that moment; ticket.outer has a later look.
- * MISUSE unless it is AT_TURN in a lock with bursts. */
+/* The queue head takes the outer word, if it is free: GRANTED (HEAD_INSIDE) or CLOSED (HEAD_INSIDE_SHUT): in, and
+ * ticket.outer is the word as it was left; release the turn of the queue next. WAITING: it is held, or changed at that
+ * moment; ticket.outer is the word that the last step found. MISUSE unless it is AT_TURN in a lock with bursts. */
 uint32_t qolb_core_take_outer_proved_(const struct qolb_core *, struct qolb_ticket *);
 /* Leaves the outer word, if that is ticket.outer: DONE (FREE; ticket.head_sleeps; the lock may be gone). BUSY: the
- * word was another, and ticket.outer has a later look: call again. MISUSE unless it is INSIDE or INSIDE_SHUT. */
+ * word is another, which ticket.outer has then: call again. MISUSE unless it is INSIDE or INSIDE_SHUT. */
 uint32_t qolb_core_leave_proved_(const struct qolb_core *, struct qolb_ticket *);
 /* The queue head asks whoever is in to leave the outer word for the head alone: DONE, or BUSY (it changed at that
- * moment). MISUSE unless it is AT_TURN. */
+ * moment). MISUSE unless it is AT_TURN in a lock with bursts. */
 uint32_t qolb_core_request_handoff_proved_(const struct qolb_core *, struct qolb_ticket *);
 /* The queue head notes at the outer word that it sleeps: ASLEEP, then sleep while the lower 32 bits of the outer
- * word are those of ticket.outer. WAITING: the word is not held, or changed at that moment. MISUSE unless it is
- * AT_TURN. */
+ * word are those of ticket.outer. WAITING: the word is not held, or changed at that moment, and ticket.outer is as
+ * before. MISUSE unless it is AT_TURN in a lock with bursts. */
 uint32_t qolb_core_announce_head_sleep_proved_(const struct qolb_core *, struct qolb_ticket *);
 
 /* Who is served shuts the lock: DONE (SERVED becomes SERVED_SHUT, and so on). From then on nobody goes in by go_in,

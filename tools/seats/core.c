@@ -190,9 +190,9 @@ uint32_t qolb_core_check_open_proved_(const struct qolb_core *core, struct qolb_
                                               : in_state(ticket, QOLB_TICKET_SERVED_, QOLB_GRANTED);
 }
 
-/* Where the outer word is not as the ticket guessed: what it is. */
-static uint32_t found(const struct lock *lock, struct qolb_ticket *ticket, uint32_t answer) {
-    ticket->outer = atomic_load(outer_of(lock));
+/* Where the outer word is not as the ticket guessed: what the step found. */
+static uint32_t found(struct qolb_ticket *ticket, uint64_t outer, uint32_t answer) {
+    ticket->outer = outer;
     return answer;
 }
 
@@ -200,8 +200,8 @@ uint32_t qolb_core_go_in_proved_(const struct qolb_core *core, struct qolb_ticke
     const struct lock *lock = of(core);
     if (lock->burst <= 1 || !is(lock, ticket, BIT(FREE))) return QOLB_MISUSE;
     uint64_t guess = ticket->outer, in = guess + NEWCOMER + HELD;
-    if (guess & (STATE | SHUT) || !atomic_compare_exchange_strong(outer_of(lock), &guess, in))
-        return found(lock, ticket, QOLB_BUSY);
+    if (guess & (STATE | SHUT)) return found(ticket, atomic_load(outer_of(lock)), QOLB_BUSY);
+    if (!atomic_compare_exchange_strong(outer_of(lock), &guess, in)) return found(ticket, guess, QOLB_BUSY);
     ticket->outer = in;
     ticket->label = lock->label;
     return in_state(ticket, QOLB_TICKET_INSIDE_, QOLB_GRANTED);
@@ -211,9 +211,8 @@ uint32_t qolb_core_take_outer_proved_(const struct qolb_core *core, struct qolb_
     const struct lock *lock = of(core);
     if (lock->burst <= 1 || !is(lock, ticket, BIT(AT_TURN))) return QOLB_MISUSE;
     uint64_t was = atomic_load(outer_of(lock)), in = (was & SHUT) + HELD;
-    ticket->outer = was;
-    if ((was & STATE) == HELD) return QOLB_WAITING;
-    if (!atomic_compare_exchange_strong(outer_of(lock), &was, in)) return found(lock, ticket, QOLB_WAITING);
+    if ((was & STATE) == HELD || !atomic_compare_exchange_strong(outer_of(lock), &was, in))
+        return found(ticket, was, QOLB_WAITING);
     ticket->outer = in;
     return in & SHUT ? in_state(ticket, QOLB_TICKET_HEAD_INSIDE_SHUT_, QOLB_CLOSED)
                      : in_state(ticket, QOLB_TICKET_HEAD_INSIDE_, QOLB_GRANTED);
@@ -225,7 +224,7 @@ uint32_t qolb_core_leave_proved_(const struct qolb_core *core, struct qolb_ticke
     uint64_t guess = ticket->outer, was = guess, to = guess / SHUT * SHUT;
     int reserves = guess & HANDOFF || guess / NEWCOMER + 1 >= lock->burst;
     if (!atomic_compare_exchange_strong(outer_of(lock), &was, reserves ? to + RESERVED : to))
-        return found(lock, ticket, QOLB_BUSY);
+        return found(ticket, was, QOLB_BUSY);
     ticket->head_sleeps = (guess & HEAD_SLEEPS) != 0;
     ticket->outer = to;
     return in_state(ticket, QOLB_TICKET_FREE_, QOLB_DONE);
@@ -233,14 +232,14 @@ uint32_t qolb_core_leave_proved_(const struct qolb_core *core, struct qolb_ticke
 
 uint32_t qolb_core_request_handoff_proved_(const struct qolb_core *core, struct qolb_ticket *ticket) {
     const struct lock *lock = of(core);
-    if (!is(lock, ticket, BIT(AT_TURN))) return QOLB_MISUSE;
+    if (lock->burst <= 1 || !is(lock, ticket, BIT(AT_TURN))) return QOLB_MISUSE;
     uint64_t was = atomic_load(outer_of(lock));
     return was & HANDOFF || atomic_compare_exchange_strong(outer_of(lock), &was, was + HANDOFF) ? QOLB_DONE : QOLB_BUSY;
 }
 
 uint32_t qolb_core_announce_head_sleep_proved_(const struct qolb_core *core, struct qolb_ticket *ticket) {
     const struct lock *lock = of(core);
-    if (!is(lock, ticket, BIT(AT_TURN))) return QOLB_MISUSE;
+    if (lock->burst <= 1 || !is(lock, ticket, BIT(AT_TURN))) return QOLB_MISUSE;
     uint64_t was = atomic_load(outer_of(lock)), asleep = was | HEAD_SLEEPS;
     if ((was & STATE) != HELD || !atomic_compare_exchange_strong(outer_of(lock), &was, asleep)) return QOLB_WAITING;
     ticket->outer = asleep;

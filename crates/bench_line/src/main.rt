@@ -1,11 +1,11 @@
 //! Times a line, or puts it under stress.
 #![tactic(auto)]
 
-ghost use Rattle.std.specs.Prelude.{◌<◌, All, IsTrue};
+ghost use Rattle.std.specs.Prelude.{All, IsTrue};
 ghost use Rattle.qolb_model.specs.PortStates.{may_ask};
 
 mod enqueue;
-mod gate;
+mod fair;
 mod law;
 mod mutex;
 mod pace;
@@ -16,14 +16,14 @@ mod workers;
 
 use clap::{Arg, ArgAction, ArgMatches, Command};
 use enqueue::{AtOnce, EnqueueStrategy, TwoCalls};
-use gate::run_gate;
+use fair::run_fair;
 use law::NonDecreasing;
 use line_generic::{Discipline, Line};
 use line_kinds::{LinkLine, Lock, NAMES, for_kind};
 use line_lanes::{Line64, lane};
 use mutex::run_mutex;
 use pace::Pace;
-use qolb_model::{Free, LineSync, OpenLine, ParkingLine};
+use qolb_model::{LineSync, OpenLine};
 use rounds::Rounds;
 use run::{RunError, open, run_task};
 use std::alloc::{AllocError, Global};
@@ -38,8 +38,8 @@ static THREADS: [u64; 5] = [1, 2, 3, 4, 8];
 
 static STRESSED: [u64; 3] = [4, 8, 32];
 
-/// The limit of a burst.
-const BURST: u64 = 1024;
+/// The turns of a burst.
+const BURST: u16 = 1024;
 
 /// The rounds of each thread if `--rounds` is not given: enough to show that no addition is lost.
 const FEW_ROUNDS: u64 = 100;
@@ -60,11 +60,11 @@ enum Wanted {
 enum Way {
     /// Each thread asks by a port of its own.
     Ports,
-    /// The threads enter through a strict gate of the line.
-    Gate,
-    /// They enter through one that bursts.
+    /// The threads enter a fair lock, in the order of requests. There is no line.
+    Fair,
+    /// They enter one with bursts.
     Burst,
-    /// The threads lock the toolchain's mutex. There is no line.
+    /// They lock the toolchain's mutex.
     Mutex,
 }
 
@@ -123,14 +123,14 @@ fn command<'a>(alloc: Global) -> Result<Command<'a>, AllocError> {
     let command = with_way(
         alloc,
         command,
-        "gate",
-        "Rounds through a gate of the line, whose port keeps it between turns",
+        "fair",
+        "Rounds of a fair lock in the order of requests, in place of a line",
     )?;
     let command = with_way(
         alloc,
         command,
         "burst",
-        "Rounds through a gate that lets a burst of 1024 turns overtake those that wait",
+        "Rounds of a fair lock with bursts of 1024 turns, in place of a line",
     )?;
     let command = with_way(
         alloc,
@@ -198,12 +198,12 @@ fn with_way<'a>(
     command.arg(way)
 }
 
-/// What the timed rounds are of; of ports if none of `--gate`, `--burst` and `--mutex` is given.
+/// What the timed rounds are of; of ports if none of `--fair`, `--burst` and `--mutex` is given.
 fn way_of(matches: &ArgMatches) -> Way {
     if matches.get_flag("mutex") {
         Way::Mutex
-    } else if matches.get_flag("gate") {
-        Way::Gate
+    } else if matches.get_flag("fair") {
+        Way::Fair
     } else if matches.get_flag("burst") {
         Way::Burst
     } else {
@@ -259,15 +259,11 @@ fn run_kind<R: Threads + Wait + Clock + Print + Sync>(
 /// Runs what is asked for on a line of this discipline, whose nodes ask by one call.
 fn bench_at_once<
     R: Threads + Wait + Clock + Print + Sync,
-    Q: Discipline<NonDecreasing> + Discipline<Free> + Send + Sync,
+    Q: Discipline<NonDecreasing> + Send + Sync,
 >(rt: &R, alloc: Global, threads: u64, wanted: Wanted) -> anyhow::Result<()> {
     match wanted {
-        Wanted::Times(Way::Gate, rounds) => {
-            measure_gate::<R, Line<Free, Q>>(rt, alloc, threads, rounds, 1)
-        }
-        Wanted::Times(Way::Burst, rounds) => {
-            measure_gate::<R, Line<Free, Q>>(rt, alloc, threads, rounds, BURST)
-        }
+        Wanted::Times(Way::Fair, rounds) => measure_fair(rt, alloc, threads, rounds, None),
+        Wanted::Times(Way::Burst, rounds) => measure_fair(rt, alloc, threads, rounds, Some(BURST)),
         Wanted::Times(Way::Mutex, rounds) => measure_mutex(rt, alloc, threads, rounds),
         _ => bench::<R, AtOnce, Line<NonDecreasing, Q>>(rt, alloc, AtOnce, threads, wanted),
     }
@@ -330,17 +326,16 @@ where
     show_pace(rt, threads, rounds, start.elapsed(rt)?, &last)
 }
 
-/// Runs and prints the time of `rounds` rounds through a gate.
-fn measure_gate<
-    R: Threads + Wait + Clock + Print + Sync,
-    L: OpenLine<Free> + ParkingLine<Free> + Sync + Drop,
->(rt: &R, alloc: Global, threads: u64, rounds: u64, burst: u64) -> anyhow::Result<()>
-where
-    L::Port: Send + Drop,
-    requires { 0 < burst }
-{
+/// Runs and prints the time of `rounds` rounds of a fair lock.
+fn measure_fair<R: Threads + Wait + Clock + Print + Sync>(
+    rt: &R,
+    alloc: Global,
+    threads: u64,
+    rounds: u64,
+    burst: Option<u16>,
+) -> anyhow::Result<()> {
     let start = Instant::now(rt)?;
-    let last = run_gate::<R, L>(rt, alloc, threads, rounds, burst)?;
+    let last = run_fair(rt, alloc, threads as usize, rounds, burst)?;
     show_pace(rt, threads, rounds, start.elapsed(rt)?, &last)
 }
 

@@ -29,7 +29,7 @@ impl<R: Wait> ScopedTask<R, Mutex<Line64>, ()> for MutexRounds {
 
 /// Adds 1 to the first lane.
 #[inline]
-fn add_one(line: &mut Line64) {
+pub(crate) fn add_one(line: &mut Line64) {
     let next = lane(line, 0).wrapping_add(1);
     set_lane(line, 0, next);
 }

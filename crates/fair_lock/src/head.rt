@@ -34,8 +34,8 @@ impl<T> FairLock<T> {
             match take_outer(&self.table.shared, seat, ticket) {
                 TakeResult::Open => return true,
                 TakeResult::Shut => return false,
-                TakeResult::Changed => {}
-                TakeResult::Held => {
+                TakeResult::Changed { outer: _ } => {}
+                TakeResult::Held { outer: _ } => {
                     if looks < LOOKS {
                         looks += 1;
                         pause();

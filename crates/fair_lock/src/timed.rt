@@ -216,8 +216,8 @@ impl<T> FairLock<T> {
             match take_outer(&self.table.shared, seat, ticket) {
                 TakeResult::Open => return Some(true),
                 TakeResult::Shut => return Some(false),
-                TakeResult::Changed => {}
-                TakeResult::Held => {
+                TakeResult::Changed { outer: _ } => {}
+                TakeResult::Held { outer: _ } => {
                     if looks < LOOKS {
                         looks += 1;
                         pause();

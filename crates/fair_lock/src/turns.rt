@@ -64,7 +64,7 @@ impl<T> FairLock<T> {
         let open = match take_outer(&self.table.shared, &mut seat, ticket) {
             TakeResult::Open => true,
             TakeResult::Shut => false,
-            TakeResult::Held | TakeResult::Changed => {
+            TakeResult::Held { outer: _ } | TakeResult::Changed { outer: _ } => {
                 self.wakes
                     .wake(pass_on(rt, &self.table.shared, &mut seat, ticket));
                 return Err(TryEnterError::Busy);

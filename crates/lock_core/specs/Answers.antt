@@ -12,6 +12,8 @@ use Rattle.lock_core.specs.declared.wait.SleepResult.{SleepResult}
 use Rattle.lock_core.specs.declared.wait.SleepResult.TheVariants as sleep
 use Rattle.lock_core.specs.declared.handoff.ReleaseResult.{ReleaseResult}
 use Rattle.lock_core.specs.declared.handoff.ReleaseResult.TheVariants as release
+use Rattle.lock_core.specs.declared.outer.GoInResult.{GoInResult}
+use Rattle.lock_core.specs.declared.outer.GoInResult.TheVariants as went
 use Rattle.lock_core.specs.declared.outer.TakeResult.{TakeResult}
 use Rattle.lock_core.specs.declared.outer.TakeResult.TheVariants as taken
 use Rattle.lock_core.specs.declared.outer.LeaveResult.{LeaveResult}
@@ -161,51 +163,60 @@ abbrev pub IfUnfinished : ReleaseResult → Type 0 → Type 0
 IfUnfinished (release.Granted sleepers) P = Unit {0}
 IfUnfinished release.Unfinished P = P
 
+-- `go_in_if` went in, or found a word by which it did not
+abbrev pub IfIn : GoInResult → Type 0 → Type 0
+IfIn went.Inside P = P
+IfIn (went.Outside outer) P = Unit {0}
+
+abbrev pub IfNotIn : GoInResult → (ℕ → Type 0) → Type 0
+IfNotIn went.Inside P = Unit {0}
+IfNotIn (went.Outside outer) P = P outer
+
 -- `take_outer` took the outer word, of an open lock or of a shut one, or not
 abbrev pub IfTaken : TakeResult → Type 0 → Type 0
 IfTaken taken.Open P = P
 IfTaken taken.Shut P = P
-IfTaken taken.Held P = Unit {0}
-IfTaken taken.Changed P = Unit {0}
+IfTaken (taken.Held outer) P = Unit {0}
+IfTaken (taken.Changed outer) P = Unit {0}
 
 abbrev pub IfTakenOpen : TakeResult → Type 0 → Type 0
 IfTakenOpen taken.Open P = P
 IfTakenOpen taken.Shut P = Unit {0}
-IfTakenOpen taken.Held P = Unit {0}
-IfTakenOpen taken.Changed P = Unit {0}
+IfTakenOpen (taken.Held outer) P = Unit {0}
+IfTakenOpen (taken.Changed outer) P = Unit {0}
 
 abbrev pub IfTakenShut : TakeResult → Type 0 → Type 0
 IfTakenShut taken.Open P = Unit {0}
 IfTakenShut taken.Shut P = P
-IfTakenShut taken.Held P = Unit {0}
-IfTakenShut taken.Changed P = Unit {0}
+IfTakenShut (taken.Held outer) P = Unit {0}
+IfTakenShut (taken.Changed outer) P = Unit {0}
 
-abbrev pub IfNotTaken : TakeResult → Type 0 → Type 0
+abbrev pub IfNotTaken : TakeResult → (ℕ → Type 0) → Type 0
 IfNotTaken taken.Open P = Unit {0}
 IfNotTaken taken.Shut P = Unit {0}
-IfNotTaken taken.Held P = P
-IfNotTaken taken.Changed P = P
+IfNotTaken (taken.Held outer) P = P outer
+IfNotTaken (taken.Changed outer) P = P outer
 
-abbrev pub IfHeld : TakeResult → Type 0 → Type 0
+abbrev pub IfHeld : TakeResult → (ℕ → Type 0) → Type 0
 IfHeld taken.Open P = Unit {0}
 IfHeld taken.Shut P = Unit {0}
-IfHeld taken.Held P = P
-IfHeld taken.Changed P = Unit {0}
+IfHeld (taken.Held outer) P = P outer
+IfHeld (taken.Changed outer) P = Unit {0}
 
 abbrev pub IfTakeChanged : TakeResult → Type 0 → Type 0
 IfTakeChanged taken.Open P = Unit {0}
 IfTakeChanged taken.Shut P = Unit {0}
-IfTakeChanged taken.Held P = Unit {0}
-IfTakeChanged taken.Changed P = P
+IfTakeChanged (taken.Held outer) P = Unit {0}
+IfTakeChanged (taken.Changed outer) P = P
 
 -- `leave` left, and says whether the queue head is asleep at the outer word, or is to be called again
 abbrev pub IfLeft : LeaveResult → (Bool → Type 0) → Type 0
 IfLeft (leave.Outside head_asleep) P = P head_asleep
-IfLeft leave.Changed P = Unit {0}
+IfLeft (leave.Changed outer) P = Unit {0}
 
-abbrev pub IfNotLeft : LeaveResult → Type 0 → Type 0
+abbrev pub IfNotLeft : LeaveResult → (ℕ → Type 0) → Type 0
 IfNotLeft (leave.Outside head_asleep) P = Unit {0}
-IfNotLeft leave.Changed P = P
+IfNotLeft (leave.Changed outer) P = P outer
 
 -- `announce_head_sleep` noted the sleep, or not
 abbrev pub IfHeadAsleep : HeadSleepResult → (ℕ → Type 0) → Type 0

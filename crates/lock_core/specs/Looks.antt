@@ -19,10 +19,6 @@ StepsLater k old new = (view_of new).looks.steps ≡ (view_of old).looks.steps +
 abbrev pub LooksOnce : {T : Type 0} → Seat T View → Seat T View → Type 0
 LooksOnce old new = StepsLater 1 old new × ((view_of new).looks.word_before ≡ (view_of old).looks.word) × ((view_of new).looks.found_before ≡ (view_of old).looks.found)
 
--- no word step later
-abbrev pub LooksNoMore : {T : Type 0} → Seat T View → Seat T View → Type 0
-LooksNoMore old new = (view_of new).looks ≡ (view_of old).looks
-
 -- at most k word steps later
 abbrev pub StepsAtMost : {T : Type 0} → ℕ → Seat T View → Seat T View → Type 0
 StepsAtMost k old new = (view_of new).looks.steps ≤ (view_of old).looks.steps + k
@@ -63,10 +59,6 @@ FoundBusy old new = (StepsLater 2 old new × FoundNext (λ rounds. 0 < rounds) n
 abbrev pub IsNoEntry : ℕ → Type 0
 IsNoEntry outer = 0 < state_of outer + shut_of outer
 
--- the expected word is no entry, or the outer word is another
-abbrev pub FoundNoEntry : {T : Type 0} → ℕ → Seat T View → Seat T View → Type 0
-FoundNoEntry expected old new = (LooksNoMore old new × IsNoEntry expected) ⊎ (LooksOnce old new × Found outer_at (λ n. n ≢ expected) new)
-
 -- the outer word is no entry, or has changed
 abbrev pub FoundNotFree : {T : Type 0} → Seat T View → Seat T View → Type 0
 FoundNotFree old new = (StepsLater 1 old new × Found outer_at IsNoEntry new) ⊎ (StepsLater 2 old new × FoundChanged outer_at new)
@@ -77,7 +69,7 @@ IsHeldByNewcomer found left = left ≡ (found + 36) % 18446744073709551616
 
 -- the outer word as the queue head takes it: held, with no newcomer since and nothing requested, and shut if it was
 abbrev pub IsHeldAnew : ℕ → ℕ → Type 0
-IsHeldAnew found left = (state_of left ≡ 1) × (came_of left ≡ 0) × (handoff_of left ≡ 0) × (asleep_of left ≡ 0) × (shut_of left ≡ shut_of found)
+IsHeldAnew found left = left ≡ shut_of found * 16 + 4
 
 -- the outer word as it is left: nothing is requested and nobody asleep; shut, if it was, and with as many newcomers
 abbrev pub IsLeftClean : ℕ → ℕ → Type 0

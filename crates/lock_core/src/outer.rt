@@ -1,13 +1,22 @@
 //! Bursts: newcomers and the queue head go in and out by the outer word.
-ghost use Rattle.std.specs.Prelude.{◌≡◌, ◌≢◌, ◌+◌, ◌/◌, ◌<◌, ◌≤◌, ◌⊎◌, true, false};
+ghost use Rattle.std.specs.Prelude.{◌≡◌, ◌≢◌, ◌+◌, ◌/◌, ◌%◌, ◌<◌, ◌≤◌, ◌⊎◌, true, false};
 ghost use Rattle.lock_core.specs.Layout.{HasLockWords, outer_at, state_of, handoff_of, asleep_of};
 ghost use Rattle.lock_core.specs.Views.{view_of, InTime, InTimeFrom, LoadGrows, IsSeatOf, IsIdle, IsAtTurn, IsOvertakenInBounds, IsInside, IsOutside, IsHeadInside, IsNewcomersTurn, GoesInAfter, TakesOuter, LeftQuietly, SleepsAtOuter, ServedOpen, ServedShut, KnowsShut, Kept, SameRequest, SameNewcomerTurn, SameKnown, SameSleepAtOuter, IsLaterEpoch, LeavesSameTake, SleepsInTake, SameDoor, OnlyLooks};
-ghost use Rattle.lock_core.specs.Looks.{StepsLater, LooksOnce, Found, Changes, IsHeldByNewcomer, IsLeftClean, IsRequested, IsNotedAsleep, FoundChanged, FoundNoEntry, FoundNotFree, Leaves, LeavesAsFound, IsHeldAnew, IsLeftAs};
-ghost use Rattle.lock_core.specs.Answers.{IfTakenOpen, IfTakenShut, IfTaken, IfNotTaken, IfHeld, IfTakeChanged, IfLeft, IfNotLeft, IfHeadAsleep, IfNotHeld, IfHeadChanged};
+ghost use Rattle.lock_core.specs.Looks.{StepsLater, LooksOnce, Found, Changes, IsHeldByNewcomer, IsLeftClean, IsNoEntry, IsRequested, IsNotedAsleep, FoundChanged, FoundNotFree, Leaves, LeavesAsFound, IsHeldAnew, IsLeftAs};
+ghost use Rattle.lock_core.specs.Answers.{IfIn, IfNotIn, IfTakenOpen, IfTakenShut, IfTaken, IfNotTaken, IfHeld, IfTakeChanged, IfLeft, IfNotLeft, IfHeadAsleep, IfNotHeld, IfHeadChanged};
 
 use crate::layout::{HANDOFF, HEAD_ASLEEP, HELD, NEWCOMER, OUTER, RESERVED, SHUT, is_shut, state};
 use crate::plays::{AnnounceHeadSleep, GoIn, Leave, ReadOuter, RequestHandoff, TakeOuter};
 use crate::rule::{SharedValue, ValueSeat};
+
+/// What `go_in_if` did.
+#[derive(Clone, Copy, Debug, PartialEq, Eq)]
+pub enum GoInResult {
+    /// The newcomer is inside.
+    Inside,
+    /// It is not. Its step found this outer word.
+    Outside { outer: u64 },
+}
 
 /// What `take_outer` did.
 #[derive(Clone, Copy, Debug, PartialEq, Eq)]
@@ -16,10 +25,10 @@ pub enum TakeResult {
     Open,
     /// The queue head is inside, and the lock is shut.
     Shut,
-    /// Another caller is inside.
-    Held,
-    /// The outer word changed at that moment.
-    Changed,
+    /// Another caller is inside: the outer word says so.
+    Held { outer: u64 },
+    /// The outer word changed at that moment, and is this one.
+    Changed { outer: u64 },
 }
 
 /// What `leave` did.
@@ -27,8 +36,8 @@ pub enum TakeResult {
 pub enum LeaveResult {
     /// The caller is outside. If the queue head is asleep at the outer word, it is to be woken.
     Outside { head_asleep: bool },
-    /// The outer word changed at that moment, and the caller is inside yet: it is to call again.
-    Changed,
+    /// The outer word is this one, and the caller is inside yet: it is to call again.
+    Changed { outer: u64 },
 }
 
 /// What `announce_head_sleep` did.
@@ -42,31 +51,68 @@ pub enum HeadSleepResult {
     Changed,
 }
 
-/// A newcomer takes the outer word, if that is `expected` and free for newcomers, and the lock open: one word step, or
-/// none where `expected` says that it is not.
+/// Whether the outer word lets no newcomer in: it is held, reserved, or shut.
 #[inline(always)]
-pub fn go_in_if<T>(table: &SharedValue<T>, seat: &mut ValueSeat<T>, expected: u64) -> bool
+fn is_no_entry(outer: u64) -> bool
+    ensures no_entry { result ≡ true → IsNoEntry outer }
+    ensures free { result ≡ false → outer / 4 % 8 ≡ 0 }
+{
+    outer / HELD % 8 != 0
+}
+
+/// A newcomer takes the outer word, if it is `expected`, which lets newcomers in. Returns the word that was found: one
+/// word step.
+#[inline(always)]
+fn go_in_from<T>(table: &SharedValue<T>, seat: &mut ValueSeat<T>, expected: u64) -> u64
+    requires table { HasLockWords table.now.table_id }
+    requires bursts { 2 ≤ table.now.key }
+    requires free { expected / 4 % 8 ≡ 0 }
+    requires seat { IsSeatOf table.now.table_id table.now.key seat.old }
+    requires idle { InTime seat.old IsIdle }
+    ensures seat { IsSeatOf table.now.table_id table.now.key seat.new }
+    ensures load { LoadGrows seat.old seat.new }
+    ensures steps { LooksOnce seat.old seat.new }
+    ensures found { Found outer_at (λ n. n ≡ result) seat.new }
+    ensures inside { result ≡ expected → InTime seat.new IsInside }
+    ensures open { result ≡ expected → InTime seat.new ServedOpen }
+    ensures newcomer { result ≡ expected → InTime seat.new IsNewcomersTurn }
+    ensures order { result ≡ expected → InTimeFrom seat.old seat.new GoesInAfter }
+    ensures held { result ≡ expected → Changes outer_at IsHeldByNewcomer seat.new }
+    ensures idle { result ≢ expected → InTime seat.new IsIdle }
+{
+    let held = expected.wrapping_add(HELD + NEWCOMER);
+    table.compare_exchange::<GoIn>(seat, OUTER, expected, held)
+}
+
+/// A newcomer takes the outer word, if that is `expected` and free for newcomers, and the lock open: one word step.
+#[inline(always)]
+pub fn go_in_if<T>(table: &SharedValue<T>, seat: &mut ValueSeat<T>, expected: u64) -> GoInResult
     requires table { HasLockWords table.now.table_id }
     requires bursts { 2 ≤ table.now.key }
     requires seat { IsSeatOf table.now.table_id table.now.key seat.old }
     requires idle { InTime seat.old IsIdle }
     ensures seat { IsSeatOf table.now.table_id table.now.key seat.new }
     ensures load { LoadGrows seat.old seat.new }
-    ensures steps { result ≡ true → LooksOnce seat.old seat.new }
-    ensures inside { result ≡ true → InTime seat.new IsInside }
-    ensures open { result ≡ true → InTime seat.new ServedOpen }
-    ensures newcomer { result ≡ true → InTime seat.new IsNewcomersTurn }
-    ensures order { result ≡ true → InTimeFrom seat.old seat.new GoesInAfter }
-    ensures held { result ≡ true → Changes outer_at IsHeldByNewcomer seat.new }
-    ensures as_found { result ≡ true → Found outer_at (λ n. n ≡ expected) seat.new }
-    ensures idle { result ≡ false → InTime seat.new IsIdle }
-    ensures no_entry { result ≡ false → FoundNoEntry expected seat.old seat.new }
+    ensures steps { LooksOnce seat.old seat.new }
+    ensures inside { IfIn result (InTime seat.new IsInside) }
+    ensures open { IfIn result (InTime seat.new ServedOpen) }
+    ensures newcomer { IfIn result (InTime seat.new IsNewcomersTurn) }
+    ensures order { IfIn result (InTimeFrom seat.old seat.new GoesInAfter) }
+    ensures held { IfIn result (Changes outer_at IsHeldByNewcomer seat.new) }
+    ensures as_found { IfIn result (Found outer_at (λ n. n ≡ expected) seat.new) }
+    ensures idle { IfNotIn result (λ _. InTime seat.new IsIdle) }
+    ensures found { IfNotIn result (λ outer. Found outer_at (λ n. n ≡ outer) seat.new) }
+    ensures no_entry { IfNotIn result (λ outer. IsNoEntry expected ⊎ (outer ≢ expected)) }
 {
-    if expected / HELD % 8 != 0 {
-        return false;
+    if is_no_entry(expected) {
+        let outer = table.load::<ReadOuter>(seat, OUTER);
+        return GoInResult::Outside { outer };
     }
-    let held = expected.wrapping_add(HELD + NEWCOMER);
-    table.compare_exchange::<GoIn>(seat, OUTER, expected, held) == expected
+    let outer = go_in_from(table, seat, expected);
+    if outer != expected {
+        return GoInResult::Outside { outer };
+    }
+    GoInResult::Inside
 }
 
 /// A newcomer takes the outer word, if that is free for newcomers and the lock open: at most two word steps.
@@ -88,7 +134,10 @@ pub fn go_in<T>(table: &SharedValue<T>, seat: &mut ValueSeat<T>) -> bool
     ensures not_in { result ≡ false → FoundNotFree seat.old seat.new }
 {
     let outer = table.load::<ReadOuter>(seat, OUTER);
-    go_in_if(table, seat, outer)
+    if is_no_entry(outer) {
+        return false;
+    }
+    go_in_from(table, seat, outer) == outer
 }
 
 /// The queue head takes the outer word, free or reserved, and the count of newcomers starts anew: at most two word
@@ -110,22 +159,26 @@ pub fn take_outer<T>(table: &SharedValue<T>, seat: &mut ValueSeat<T>, ticket: u6
     ensures steps { IfTaken result (StepsLater 2 seat.old seat.new) }
     ensures held_anew { IfTaken result (Changes outer_at IsHeldAnew seat.new) }
     ensures open { IfTakenOpen result (InTime seat.new ServedOpen) }
+    ensures open_word { IfTakenOpen result (Leaves outer_at (λ n. n ≡ 4) seat.new) }
     ensures shut { IfTakenShut result (InTime seat.new ServedShut) }
+    ensures shut_word { IfTakenShut result (Leaves outer_at (λ n. n ≡ 20) seat.new) }
     ensures knows { IfTakenShut result (InTime seat.new KnowsShut) }
-    ensures at_turn { IfNotTaken result (InTime seat.new (IsAtTurn ticket)) }
-    ensures sleep { IfNotTaken result (InTimeFrom seat.old seat.new SameSleepAtOuter) }
-    ensures held { IfHeld result (StepsLater 1 seat.old seat.new
-        × Found outer_at (λ n. state_of n ≡ 1) seat.new) }
+    ensures at_turn { IfNotTaken result (λ _. InTime seat.new (IsAtTurn ticket)) }
+    ensures sleep { IfNotTaken result (λ _. InTimeFrom seat.old seat.new SameSleepAtOuter) }
+    ensures found { IfNotTaken result (λ outer. Found outer_at (λ n. n ≡ outer) seat.new) }
+    ensures held { IfHeld result (λ outer. StepsLater 1 seat.old seat.new
+        × (state_of outer ≡ 1)) }
     ensures changed { IfTakeChanged result (StepsLater 2 seat.old seat.new
         × FoundChanged outer_at seat.new) }
 {
     let outer = table.load::<ReadOuter>(seat, OUTER);
     if state(outer) == 1 {
-        return TakeResult::Held;
+        return TakeResult::Held { outer };
     }
     let held = outer / SHUT % 2 * SHUT + HELD;
-    if table.compare_exchange::<TakeOuter>(seat, OUTER, outer, held) != outer {
-        return TakeResult::Changed;
+    let found = table.compare_exchange::<TakeOuter>(seat, OUTER, outer, held);
+    if found != outer {
+        return TakeResult::Changed { outer: found };
     }
     if is_shut(outer) {
         TakeResult::Shut
@@ -134,9 +187,9 @@ pub fn take_outer<T>(table: &SharedValue<T>, seat: &mut ValueSeat<T>, ticket: u6
     }
 }
 
-/// Leaves the outer word free for newcomers, if it is `expected`.
+/// Leaves the outer word free for newcomers, if it is `expected`. Returns the word that was found.
 #[inline(always)]
-fn leave_free<T>(table: &SharedValue<T>, seat: &mut ValueSeat<T>, expected: u64) -> bool
+fn leave_free<T>(table: &SharedValue<T>, seat: &mut ValueSeat<T>, expected: u64) -> u64
     requires table { HasLockWords table.now.table_id }
     requires seat { IsSeatOf table.now.table_id table.now.key seat.old }
     requires room { expected / 32 + 2 ≤ table.now.key }
@@ -144,45 +197,43 @@ fn leave_free<T>(table: &SharedValue<T>, seat: &mut ValueSeat<T>, expected: u64)
     ensures seat { IsSeatOf table.now.table_id table.now.key seat.new }
     ensures load { LoadGrows seat.old seat.new }
     ensures steps { LooksOnce seat.old seat.new }
+    ensures found { Found outer_at (λ n. n ≡ result) seat.new }
     ensures turn { SameNewcomerTurn (view_of seat.old) (view_of seat.new) }
     ensures known { SameKnown (view_of seat.old) (view_of seat.new) }
     ensures take { LeavesSameTake seat.old seat.new }
-    ensures quiet { result ≡ true → asleep_of expected ≡ 0 → InTime seat.new LeftQuietly }
-    ensures outside { result ≡ true → InTime seat.new IsOutside }
-    ensures free { result ≡ true → Leaves outer_at (λ n. state_of n ≡ 0) seat.new }
-    ensures as_found { result ≡ true → Found outer_at (λ n. n ≡ expected) seat.new }
-    ensures clean { result ≡ true → Changes outer_at IsLeftClean seat.new }
-    ensures inside { result ≡ false → InTime seat.new IsInside }
-    ensures door { result ≡ false → InTimeFrom seat.old seat.new SameDoor }
-    ensures found { result ≡ false → Found outer_at (λ n. n ≢ expected) seat.new }
+    ensures quiet { result ≡ expected → asleep_of expected ≡ 0 → InTime seat.new LeftQuietly }
+    ensures outside { result ≡ expected → InTime seat.new IsOutside }
+    ensures free { result ≡ expected → Leaves outer_at (λ n. state_of n ≡ 0) seat.new }
+    ensures clean { result ≡ expected → Changes outer_at IsLeftClean seat.new }
+    ensures inside { result ≢ expected → InTime seat.new IsInside }
+    ensures door { result ≢ expected → InTimeFrom seat.old seat.new SameDoor }
 {
     let free = expected / SHUT * SHUT;
-    table.compare_exchange::<Leave>(seat, OUTER, expected, free) == expected
+    table.compare_exchange::<Leave>(seat, OUTER, expected, free)
 }
 
-/// Leaves the outer word reserved for the queue head, if it is `expected`.
+/// Leaves the outer word reserved for the queue head, if it is `expected`. Returns the word that was found.
 #[inline(always)]
-fn leave_reserved<T>(table: &SharedValue<T>, seat: &mut ValueSeat<T>, expected: u64) -> bool
+fn leave_reserved<T>(table: &SharedValue<T>, seat: &mut ValueSeat<T>, expected: u64) -> u64
     requires table { HasLockWords table.now.table_id }
     requires seat { IsSeatOf table.now.table_id table.now.key seat.old }
     requires inside { InTime seat.old IsInside }
     ensures seat { IsSeatOf table.now.table_id table.now.key seat.new }
     ensures load { LoadGrows seat.old seat.new }
     ensures steps { LooksOnce seat.old seat.new }
+    ensures found { Found outer_at (λ n. n ≡ result) seat.new }
     ensures turn { SameNewcomerTurn (view_of seat.old) (view_of seat.new) }
     ensures known { SameKnown (view_of seat.old) (view_of seat.new) }
     ensures take { LeavesSameTake seat.old seat.new }
-    ensures quiet { result ≡ true → asleep_of expected ≡ 0 → InTime seat.new LeftQuietly }
-    ensures outside { result ≡ true → InTime seat.new IsOutside }
-    ensures reserved { result ≡ true → Leaves outer_at (λ n. state_of n ≡ 2) seat.new }
-    ensures as_found { result ≡ true → Found outer_at (λ n. n ≡ expected) seat.new }
-    ensures clean { result ≡ true → Changes outer_at IsLeftClean seat.new }
-    ensures inside { result ≡ false → InTime seat.new IsInside }
-    ensures door { result ≡ false → InTimeFrom seat.old seat.new SameDoor }
-    ensures found { result ≡ false → Found outer_at (λ n. n ≢ expected) seat.new }
+    ensures quiet { result ≡ expected → asleep_of expected ≡ 0 → InTime seat.new LeftQuietly }
+    ensures outside { result ≡ expected → InTime seat.new IsOutside }
+    ensures reserved { result ≡ expected → Leaves outer_at (λ n. state_of n ≡ 2) seat.new }
+    ensures clean { result ≡ expected → Changes outer_at IsLeftClean seat.new }
+    ensures inside { result ≢ expected → InTime seat.new IsInside }
+    ensures door { result ≢ expected → InTimeFrom seat.old seat.new SameDoor }
 {
     let reserved = expected / SHUT * SHUT + RESERVED;
-    table.compare_exchange::<Leave>(seat, OUTER, expected, reserved) == expected
+    table.compare_exchange::<Leave>(seat, OUTER, expected, reserved)
 }
 
 /// Leaves the outer word, if it is `expected`: reserved for the queue head where a handoff is requested, or this was
@@ -210,22 +261,22 @@ pub fn leave_if<T>(
     ensures left { IfLeft result (λ _. Leaves outer_at (IsLeftAs burst expected) seat.new) }
     ensures found { IfLeft result (λ _. Found outer_at (λ n. n ≡ expected) seat.new) }
     ensures clean { IfLeft result (λ _. Changes outer_at IsLeftClean seat.new) }
-    ensures inside { IfNotLeft result (InTime seat.new IsInside) }
-    ensures door { IfNotLeft result (InTimeFrom seat.old seat.new SameDoor) }
-    ensures changed { IfNotLeft result (Found outer_at (λ n. n ≢ expected) seat.new) }
+    ensures inside { IfNotLeft result (λ _. InTime seat.new IsInside) }
+    ensures door { IfNotLeft result (λ _. InTimeFrom seat.old seat.new SameDoor) }
+    ensures changed { IfNotLeft result (λ outer. (outer ≢ expected)
+        × Found outer_at (λ n. n ≡ outer) seat.new) }
 {
     let is_last = expected / NEWCOMER + 1 >= burst;
-    let has_left = if expected % 2 == 1 || is_last {
+    let outer = if expected % 2 == 1 || is_last {
         leave_reserved(table, seat, expected)
     } else {
         leave_free(table, seat, expected)
     };
-    if has_left {
-        LeaveResult::Outside {
-            head_asleep: expected / HEAD_ASLEEP % 2 == 1,
-        }
-    } else {
-        LeaveResult::Changed
+    if outer != expected {
+        return LeaveResult::Changed { outer };
+    }
+    LeaveResult::Outside {
+        head_asleep: expected / HEAD_ASLEEP % 2 == 1,
     }
 }
 
@@ -248,9 +299,10 @@ pub fn leave<T>(table: &SharedValue<T>, seat: &mut ValueSeat<T>, burst: u64) -> 
         → Found outer_at (λ n. asleep_of n ≡ 1) seat.new) }
     ensures left { IfLeft result (λ _. LeavesAsFound burst seat.new) }
     ensures clean { IfLeft result (λ _. Changes outer_at IsLeftClean seat.new) }
-    ensures inside { IfNotLeft result (InTime seat.new IsInside) }
-    ensures door { IfNotLeft result (InTimeFrom seat.old seat.new SameDoor) }
-    ensures changed { IfNotLeft result (FoundChanged outer_at seat.new) }
+    ensures inside { IfNotLeft result (λ _. InTime seat.new IsInside) }
+    ensures door { IfNotLeft result (λ _. InTimeFrom seat.old seat.new SameDoor) }
+    ensures changed { IfNotLeft result (λ _. FoundChanged outer_at seat.new) }
+    ensures now { IfNotLeft result (λ outer. Found outer_at (λ n. n ≡ outer) seat.new) }
 {
     let outer = table.load::<ReadOuter>(seat, OUTER);
     leave_if(table, seat, burst, outer)

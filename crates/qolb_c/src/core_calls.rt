@@ -5,7 +5,7 @@ ghost use Rattle.std.specs.Prelude.{◌≡◌, ◌≢◌, true};
 ghost use Rattle.lock_core.specs.Views.{SameRequest};
 ghost use Rattle.qolb_locks.specs.declared.answer.Answer.{Answer};
 ghost use Rattle.qolb_locks.specs.declared.ticket.State.{State};
-ghost use Rattle.qolb_locks.specs.Calls.{Opens, IsMisuse, StepsUpTo, Learns, IsBehind, Looks, Tries, AsksNear, AnnouncesSleep, Withdraws, Releases, IsAtStrictTurn, ChecksOpen, GoesIn, IsHead, TakesOuterWord, Leaves, RequestsHandoff, SleepsAsHead, IsServed, Shuts, IsToldShut, Reopens};
+ghost use Rattle.qolb_locks.specs.Calls.{Opens, IsMisuse, StepsUpTo, Learns, IfDrawn, IsBehind, Looks, Tries, AsksNear, AnnouncesSleep, Withdraws, Releases, IsAtStrictTurn, ChecksOpen, GoesIn, IsHead, TakesOuterWord, Leaves, RequestsHandoff, SleepsAsHead, IsServed, Shuts, IsToldShut, Reopens};
 ghost use Rattle.qolb_locks.specs.Tickets.{HasBursts, Is, IsFree, IsKnown, IsWithin};
 ghost use Rattle.qolb_c.specs.CoreCalls.{number_of, Of, Answers};
 
@@ -62,6 +62,8 @@ pub extern "C" fn qolb_core_ask_near_proved_(lock: &LockRef, ticket: &mut Ticket
         (λ l a. ¬ IsFree ticket.old → IsMisuse ticket.old ticket.new a) }
     ensures does { Answers lock.now.lock result
         (λ l a. IsFree ticket.old → AsksNear l ticket.new a) }
+    ensures after { Answers lock.now.lock result
+        (λ l a. Is State.Free l ticket.old → IfDrawn a (Learns ticket.old ticket.new IsBehind)) }
     ensures steps { Of lock.now.lock (λ l. Is State.Free l ticket.old
         → StepsUpTo 3 ticket.old ticket.new) }
     ensures outer_kept { ticket.new.outer ≡ ticket.old.outer }
@@ -77,6 +79,8 @@ pub extern "C" fn qolb_core_try_ask_proved_(lock: &LockRef, ticket: &mut Ticket)
     ensures misuse { Answers lock.now.lock result
         (λ l a. ¬ IsFree ticket.old → IsMisuse ticket.old ticket.new a) }
     ensures does { Answers lock.now.lock result (λ l a. IsFree ticket.old → Tries l ticket.new a) }
+    ensures after { Answers lock.now.lock result
+        (λ l a. Is State.Free l ticket.old → IfDrawn a (Learns ticket.old ticket.new IsBehind)) }
     ensures steps { Of lock.now.lock (λ l. Is State.Free l ticket.old
         → StepsUpTo 3 ticket.old ticket.new) }
     ensures outer_kept { ticket.new.outer ≡ ticket.old.outer }
@@ -220,6 +224,8 @@ pub extern "C" fn qolb_core_take_outer_proved_(lock: &LockRef, ticket: &mut Tick
         (λ l a. IsHead l ticket.old → TakesOuterWord l ticket.new a) }
     ensures same { Answers lock.now.lock result
         (λ l a. IsHead l ticket.old → Learns ticket.old ticket.new SameRequest) }
+    ensures steps { Of lock.now.lock (λ l. IsHead l ticket.old
+        → StepsUpTo 2 ticket.old ticket.new) }
 {
     number(qolb_locks::take_outer(lock.get(), ticket))
 }
@@ -247,10 +253,10 @@ pub extern "C" fn qolb_core_request_handoff_proved_(lock: &LockRef, ticket: &mut
     requires { Of lock.now.lock (λ l. IsKnown l ticket.old) }
     ensures known { Of lock.now.lock (λ l. IsKnown l ticket.new) }
     ensures misuse { Answers lock.now.lock result
-        (λ l a. ¬ Is State.AtTurn l ticket.old → IsMisuse ticket.old ticket.new a) }
+        (λ l a. ¬ IsHead l ticket.old → IsMisuse ticket.old ticket.new a) }
     ensures does { Answers lock.now.lock result
-        (λ l a. Is State.AtTurn l ticket.old → RequestsHandoff l ticket.new a) }
-    ensures steps { Of lock.now.lock (λ l. Is State.AtTurn l ticket.old
+        (λ l a. IsHead l ticket.old → RequestsHandoff l ticket.new a) }
+    ensures steps { Of lock.now.lock (λ l. IsHead l ticket.old
         → StepsUpTo 2 ticket.old ticket.new) }
     ensures outer_kept { ticket.new.outer ≡ ticket.old.outer }
 {
@@ -265,9 +271,11 @@ pub extern "C" fn qolb_core_announce_head_sleep_proved_(lock: &LockRef, ticket: 
     requires { Of lock.now.lock (λ l. IsKnown l ticket.old) }
     ensures known { Of lock.now.lock (λ l. IsKnown l ticket.new) }
     ensures misuse { Answers lock.now.lock result
-        (λ l a. ¬ Is State.AtTurn l ticket.old → IsMisuse ticket.old ticket.new a) }
+        (λ l a. ¬ IsHead l ticket.old → IsMisuse ticket.old ticket.new a) }
     ensures does { Answers lock.now.lock result
-        (λ l a. Is State.AtTurn l ticket.old → SleepsAsHead l ticket.new a) }
+        (λ l a. IsHead l ticket.old → SleepsAsHead l ticket.old ticket.new a) }
+    ensures steps { Of lock.now.lock (λ l. IsHead l ticket.old
+        → StepsUpTo 2 ticket.old ticket.new) }
 {
     number(qolb_locks::announce_head_sleep(lock.get(), ticket))
 }
@@ -296,6 +304,8 @@ pub extern "C" fn qolb_core_reopen_proved_(lock: &LockRef, ticket: &mut Ticket) 
         (λ l a. ¬ IsToldShut l ticket.old → IsMisuse ticket.old ticket.new a) }
     ensures does { Answers lock.now.lock result
         (λ l a. IsToldShut l ticket.old → Reopens l ticket.old ticket.new a) }
+    ensures steps { Of lock.now.lock (λ l. IsToldShut l ticket.old
+        → StepsUpTo 2 ticket.old ticket.new) }
 {
     number(qolb_locks::reopen(lock.get(), ticket))
 }

@@ -1,13 +1,13 @@
 -- The promise of each call of a lock, by its answer. `was` and `now` are the ticket before and after. (Of this project.)
-use Rattle.std.specs.Prelude.{◌≡◌, ◌≢◌, ℕ, ◌<◌, ◌≤◌, ◌+◌, ◌%◌, ◌⊎◌, true, false, max, [], ◌∷◌}
+use Rattle.std.specs.Prelude.{◌≡◌, ◌≢◌, ℕ, ◌<◌, ◌≤◌, ◌+◌, ◌*◌, ◌/◌, ◌%◌, ◌⊎◌, true, false, max, [], ◌∷◌}
 use Rattle.std.specs.declared.option.Option.{Option}
 use Rattle.std.specs.declared.option.Option.TheVariants.{Some}
 use Rattle.atomic_table.specs.declared.shared.Seat.{Seat}
 use Rattle.lock_core.specs.declared.view.View.{View}
-use Rattle.lock_core.specs.Layout.{outer_at, tail_at, cell_at, to_go, count_of, handoff_of, asleep_of, state_of}
+use Rattle.lock_core.specs.Layout.{outer_at, tail_at, cell_at, to_go, count_of, asleep_of, state_of}
 use Rattle.lock_core.specs.Looks.{Found, FoundChanged, FoundNext, FoundTailMoved, IsHeldAnew, IsLeftAs, IsNoEntry}
 use Rattle.lock_core.specs.Looks as looks
-use Rattle.lock_core.specs.Views.{Timely, view_of, IsNewcomersTurn, IsOvertakenInBounds, GrantedToNobodyAsleep, GrantedAfter, LeftQuietly, SleepsAtOuter}
+use Rattle.lock_core.specs.Views.{Timely, view_of, HasEnded, IsNewcomersTurn, IsOvertakenInBounds, GrantedToNobodyAsleep, GrantedAfter, LeftQuietly, SleepsAtOuter}
 use Rattle.qolb_locks.specs.declared.answer.Answer.{Answer}
 use Rattle.qolb_locks.specs.declared.answer.Answer.TheVariants as answer
 use Rattle.qolb_locks.specs.declared.lock.Lock.{Lock}
@@ -42,6 +42,12 @@ Learns was now P = (v w : View) × (was.claim.views ≡ v ∷ []) × (now.claim.
 -- a request is behind the ticket's last turn, and all that it has heard of
 abbrev pub IsBehind : View → View → Type 0
 IsBehind v w = (v.ended ≤ w.first_pending) × (w.first_pending ≤ w.ticket) × (v.newcomers_seen ≤ w.newcomers_at_ask)
+
+-- where a call drew a ticket
+abbrev pub IfDrawn : Answer → Type 0 → Type 0
+IfDrawn answer.Granted P = P
+IfDrawn answer.Waiting P = P
+IfDrawn _ P = Unit {0}
 
 -- no more newcomers overtook the request than the bound allows
 abbrev pub InBounds : Lock → Ticket → Type 0
@@ -95,9 +101,9 @@ abbrev pub GrantsNext : Lock → Ticket → Type 0
 GrantsNext lock now = Knows lock now (λ v. GrantedAfter now.number v × (now.sleepers ≡ 0 → GrantedToNobodyAsleep v))
     × Shows now (Found (cell_at (now.number + 1)) (λ n. count_of n ≡ now.sleepers))
 
--- `release`: a head that is in stays in
+-- `release`: the ticket's request has ended; a head that is in stays in
 abbrev pub Releases : Lock → Ticket → Ticket → Answer → Type 0
-Releases lock was now answer.Done = GrantsNext lock now
+Releases lock was now answer.Done = GrantsNext lock now × Learns was now HasEnded
     × (Is state.HeadInside lock was → Has state.Inside lock now)
     × (Is state.HeadInsideShut lock was → Has state.InsideShut lock now)
     × (was.state < 7 → Has state.Free lock now)
@@ -117,12 +123,20 @@ ChecksOpen lock now answer.Granted = Has state.Served lock now
 ChecksOpen lock now answer.Closed = Has state.ServedShut lock now
 ChecksOpen lock now _ = ⊥
 
+-- the last step found the outer word that the ticket has; or left that there
+abbrev pub HasFoundOuter : Ticket → Type 0
+HasFoundOuter t = Shows t (Found outer_at (λ n. n ≡ t.outer))
+
+abbrev pub HasLeftOuter : Ticket → Type 0
+HasLeftOuter t = Shows t (looks.Leaves outer_at (λ n. n ≡ t.outer))
+
 -- `go_in`, with this guess of the outer word
 abbrev pub GoesIn : Lock → ℕ → Ticket → Answer → Type 0
 GoesIn lock guess now answer.Granted = Has state.Inside lock now × Knows lock now IsNewcomersTurn
     × Shows now (looks.Changes outer_at looks.IsHeldByNewcomer)
+    × Shows now (Found outer_at (λ n. n ≡ guess)) × HasLeftOuter now
 GoesIn lock guess now answer.Busy = Has state.Free lock now
-    × (IsNoEntry guess ⊎ Shows now (Found outer_at (λ n. n ≢ guess)))
+    × (IsNoEntry guess ⊎ (now.outer ≢ guess)) × HasFoundOuter now
 GoesIn lock guess now _ = ⊥
 
 -- the queue head of a lock with bursts
@@ -131,19 +145,22 @@ IsHead lock t = HasBursts lock × Is state.AtTurn lock t
 
 -- `take_outer`: the head is in, and is to release its turn of the queue
 abbrev pub TakesOuterWord : Lock → Ticket → Answer → Type 0
-TakesOuterWord lock now answer.Granted = Has state.HeadInside lock now × InBounds lock now × Shows now (looks.Changes outer_at IsHeldAnew)
-TakesOuterWord lock now answer.Closed = Has state.HeadInsideShut lock now × InBounds lock now × Shows now (looks.Changes outer_at IsHeldAnew)
-TakesOuterWord lock now answer.Waiting = Has state.AtTurn lock now
+TakesOuterWord lock now answer.Granted = Has state.HeadInside lock now × InBounds lock now
+    × Shows now (looks.Changes outer_at IsHeldAnew) × HasLeftOuter now
+TakesOuterWord lock now answer.Closed = Has state.HeadInsideShut lock now × InBounds lock now
+    × Shows now (looks.Changes outer_at IsHeldAnew) × HasLeftOuter now
+TakesOuterWord lock now answer.Waiting = Has state.AtTurn lock now × HasFoundOuter now
     × Shows now (λ seat. Found outer_at (λ n. state_of n ≡ 1) seat ⊎ FoundChanged outer_at seat)
 TakesOuterWord lock now _ = ⊥
 
 -- `leave`: where it says that no head sleeps, none does
 abbrev pub Leaves : Lock → Ticket → Ticket → Answer → Type 0
 Leaves lock was now answer.Done = Has state.Free lock now × Knows lock now (λ v. (v.inside ≡ 0) × (now.head_sleeps ≡ false → LeftQuietly v))
-    × Shows now (looks.Leaves outer_at (IsLeftAs lock.burst was.outer))
+    × Shows now (Found outer_at (λ n. n ≡ was.outer)) × Shows now (looks.Leaves outer_at (IsLeftAs lock.burst was.outer))
     × Shows now (looks.Changes outer_at looks.IsLeftClean) × (now.head_sleeps ≡ true → asleep_of was.outer ≡ 1)
+    × (now.outer ≡ was.outer / 16 * 16)
 Leaves lock was now answer.Busy = (Is state.Inside lock was → Has state.Inside lock now) × (Is state.InsideShut lock was → Has state.InsideShut lock now)
-    × Shows now (Found outer_at (λ n. n ≢ was.outer))
+    × (now.outer ≢ was.outer) × HasFoundOuter now
 Leaves lock was now _ = ⊥
 
 -- `shut`: of a ticket that is served
@@ -151,7 +168,8 @@ abbrev pub IsServed : Lock → Ticket → Type 0
 IsServed lock t = Is state.Served lock t ⊎ Is state.HeadInside lock t ⊎ Is state.Inside lock t
 
 abbrev pub Shuts : Lock → Ticket → Ticket → Answer → Type 0
-Shuts lock was now answer.Done = (Is state.Served lock was → Has state.ServedShut lock now)
+Shuts lock was now answer.Done = (now.outer ≡ (was.outer + 16) % 18446744073709551616)
+    × (Is state.Served lock was → Has state.ServedShut lock now)
     × (Is state.HeadInside lock was → Has state.HeadInsideShut lock now)
     × (Is state.Inside lock was → Has state.InsideShut lock now)
 Shuts lock was now _ = ⊥
@@ -161,9 +179,11 @@ abbrev pub IsToldShut : Lock → Ticket → Type 0
 IsToldShut lock t = Is state.ServedShut lock t ⊎ Is state.HeadInsideShut lock t
 
 abbrev pub Reopens : Lock → Ticket → Ticket → Answer → Type 0
-Reopens lock was now answer.Granted = (Is state.ServedShut lock was → Has state.Served lock now)
+Reopens lock was now answer.Granted = (now.outer ≡ (was.outer + 18446744073709551600) % 18446744073709551616)
+    × (Is state.ServedShut lock was → Has state.Served lock now)
     × (Is state.HeadInsideShut lock was → Has state.HeadInside lock now)
-Reopens lock was now answer.Busy = (Is state.ServedShut lock was → Has state.ServedShut lock now)
+Reopens lock was now answer.Busy = (now.outer ≡ was.outer)
+    × (Is state.ServedShut lock was → Has state.ServedShut lock now)
     × (Is state.HeadInsideShut lock was → Has state.HeadInsideShut lock now)
     × Shows now (Found tail_at (λ n. n ≢ (was.number + 1) % 18446744073709551616))
 Reopens lock was now _ = ⊥
@@ -183,12 +203,12 @@ abbrev pub HeldWithSleeper : ℕ → Type 0
 HeldWithSleeper outer = (asleep_of outer ≡ 1) × (state_of outer ≡ 1)
 
 -- `announce_head_sleep`: with the word at which to sleep
-abbrev pub SleepsAsHead : Lock → Ticket → Answer → Type 0
-SleepsAsHead lock now answer.Asleep = Has state.AtTurn lock now × Knows lock now SleepsAtOuter × HeldWithSleeper now.outer
-    × Shows now (looks.Leaves outer_at (λ n. n ≡ now.outer)) × Shows now (looks.Changes outer_at looks.IsNotedAsleep)
-SleepsAsHead lock now answer.Waiting = Has state.AtTurn lock now
+abbrev pub SleepsAsHead : Lock → Ticket → Ticket → Answer → Type 0
+SleepsAsHead lock was now answer.Asleep = Has state.AtTurn lock now × Knows lock now SleepsAtOuter × HeldWithSleeper now.outer
+    × HasLeftOuter now × Shows now (looks.Changes outer_at looks.IsNotedAsleep)
+SleepsAsHead lock was now answer.Waiting = Has state.AtTurn lock now × (now.outer ≡ was.outer)
     × Shows now (λ seat. Found outer_at (λ n. state_of n ≢ 1) seat ⊎ FoundChanged outer_at seat)
-SleepsAsHead lock now _ = ⊥
+SleepsAsHead lock was now _ = ⊥
 
 -- the ticket keeps its seat, and its caller makes at most k word steps
 abbrev pub StepsUpTo : ℕ → Ticket → Ticket → Type 0

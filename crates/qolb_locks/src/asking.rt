@@ -1,7 +1,7 @@
 //! Requests.
 ghost use Rattle.std.specs.Prelude.{◌≡◌};
 ghost use Rattle.qolb_locks.specs.declared.ticket.State.{State};
-ghost use Rattle.qolb_locks.specs.Calls.{IsMisuse, StepsUpTo, Learns, IsBehind, Looks, Tries, AsksNear};
+ghost use Rattle.qolb_locks.specs.Calls.{IsMisuse, StepsUpTo, Learns, IfDrawn, IsBehind, Looks, Tries, AsksNear};
 ghost use Rattle.qolb_locks.specs.Tickets.{Is, Has, IsFree, IsKnown};
 
 use crate::answer::Answer;
@@ -79,6 +79,7 @@ fn try_ask_again(lock: &Lock, ticket: &mut Ticket) -> Answer
     requires { Has State.Free lock.now ticket.old }
     ensures known { IsKnown lock.now ticket.new }
     ensures does { Tries lock.now ticket.new result }
+    ensures after { IfDrawn result (Learns ticket.old ticket.new IsBehind) }
     ensures steps { StepsUpTo 3 ticket.old ticket.new }
     ensures outer_kept { ticket.new.outer ≡ ticket.old.outer }
 {
@@ -107,7 +108,7 @@ fn try_ask_first(lock: &Lock, ticket: &mut Ticket) -> Answer
     try_ask_again(lock, ticket)
 }
 
-/// Requests the lock if nobody has it and nobody waits.
+/// Requests the lock if nobody has it and nobody waits. The request is behind the ticket's last turn at this lock.
 ///
 /// Else leaves nothing behind.
 #[inline(always)]
@@ -116,6 +117,8 @@ pub fn try_ask(lock: &Lock, ticket: &mut Ticket) -> Answer
     ensures known { IsKnown lock.now ticket.new }
     ensures misuse { ¬ IsFree ticket.old → IsMisuse ticket.old ticket.new result }
     ensures does { IsFree ticket.old → Tries lock.now ticket.new result }
+    ensures after { Is State.Free lock.now ticket.old →
+        IfDrawn result (Learns ticket.old ticket.new IsBehind) }
     ensures steps { Is State.Free lock.now ticket.old → StepsUpTo 3 ticket.old ticket.new }
     ensures outer_kept { ticket.new.outer ≡ ticket.old.outer }
 {
@@ -134,6 +137,7 @@ fn ask_near_again(lock: &Lock, ticket: &mut Ticket) -> Answer
     requires { Has State.Free lock.now ticket.old }
     ensures known { IsKnown lock.now ticket.new }
     ensures does { AsksNear lock.now ticket.new result }
+    ensures after { IfDrawn result (Learns ticket.old ticket.new IsBehind) }
     ensures steps { StepsUpTo 3 ticket.old ticket.new }
     ensures outer_kept { ticket.new.outer ≡ ticket.old.outer }
 {
@@ -177,7 +181,7 @@ fn ask_near_first(lock: &Lock, ticket: &mut Ticket) -> Answer
     ask_near_again(lock, ticket)
 }
 
-/// Requests the lock if the request could be withdrawn.
+/// Requests the lock if the request could be withdrawn. The request is behind the ticket's last turn at this lock.
 ///
 /// Else leaves nothing behind: `Far` if too many are before it, and `Busy` if another drew a ticket at that moment.
 #[inline(always)]
@@ -186,6 +190,8 @@ pub fn ask_near(lock: &Lock, ticket: &mut Ticket) -> Answer
     ensures known { IsKnown lock.now ticket.new }
     ensures misuse { ¬ IsFree ticket.old → IsMisuse ticket.old ticket.new result }
     ensures does { IsFree ticket.old → AsksNear lock.now ticket.new result }
+    ensures after { Is State.Free lock.now ticket.old →
+        IfDrawn result (Learns ticket.old ticket.new IsBehind) }
     ensures steps { Is State.Free lock.now ticket.old → StepsUpTo 3 ticket.old ticket.new }
     ensures outer_kept { ticket.new.outer ≡ ticket.old.outer }
 {

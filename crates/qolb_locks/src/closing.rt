@@ -1,5 +1,5 @@
 //! A lock is shut, and opened again.
-ghost use Rattle.std.specs.Prelude.{◌≡◌, ◌≢◌, ◌+◌, ◌%◌, ◌^◌, true, false};
+ghost use Rattle.std.specs.Prelude.{◌≡◌, ◌≢◌, ◌+◌, ◌-◌, ◌%◌, ◌^◌, true, false};
 ghost use Rattle.lock_core.specs.Views.{HasTurnOf, ServedOpen, ServedShut};
 ghost use Rattle.qolb_locks.specs.declared.ticket.State.{State};
 ghost use Rattle.qolb_locks.specs.Calls.{IsMisuse, StepsUpTo, IsAtStrictTurn, ChecksOpen, SameTicket, IsServed, Shuts, IsToldShut, Reopens, Shows};
@@ -49,6 +49,7 @@ fn shut_served(lock: &Lock, ticket: &mut Ticket)
     ensures inside { Knows lock.now ticket.old (Says State.Inside ticket.old.number
         ticket.old.rounds) →
         Knows lock.now ticket.new (Says State.InsideShut ticket.new.number ticket.new.rounds) }
+    ensures outer { ticket.new.outer ≡ (ticket.old.outer + 16) % 2 ^ 64 }
     ensures steps { StepsUpTo 1 ticket.old ticket.new }
 {
     let mut seat = ticket.claim.take();
@@ -88,6 +89,9 @@ pub fn shut(lock: &Lock, ticket: &mut Ticket) -> Answer
 fn reopen_shut(lock: &Lock, ticket: &mut Ticket) -> bool
     requires turn { Knows lock.now ticket.old (λ v. HasTurnOf ticket.old.number v × ServedShut v) }
     ensures same { SameTicket ticket.old ticket.new }
+    ensures outer { result ≡ true → ticket.new.outer ≡ (ticket.old.outer + (2 ^ 64 - 16)) % 2 ^ 64 }
+    ensures outer_kept { result ≡ false → ticket.new.outer ≡ ticket.old.outer }
+    ensures steps { StepsUpTo 2 ticket.old ticket.new }
     ensures served { result ≡ true →
         Knows lock.now ticket.old (Says State.ServedShut ticket.old.number ticket.old.rounds) →
         Knows lock.now ticket.new (Says State.Served ticket.new.number ticket.new.rounds) }
@@ -120,6 +124,7 @@ pub fn reopen(lock: &Lock, ticket: &mut Ticket) -> Answer
     ensures known { IsKnown lock.now ticket.new }
     ensures misuse { ¬ IsToldShut lock.now ticket.old → IsMisuse ticket.old ticket.new result }
     ensures does { IsToldShut lock.now ticket.old → Reopens lock.now ticket.old ticket.new result }
+    ensures steps { IsToldShut lock.now ticket.old → StepsUpTo 2 ticket.old ticket.new }
 {
     if ticket.has(State::ServedShut, lock) {
         if !reopen_shut(lock, ticket) {

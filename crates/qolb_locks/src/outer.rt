@@ -1,6 +1,6 @@
 //! The outer word, and the end of a turn.
 ghost use Rattle.std.specs.Prelude.{◌≡◌, ◌+◌, ◌%◌, ◌^◌, ◌≤◌, true, false};
-ghost use Rattle.lock_core.specs.Views.{HasTurnOf, IsIdle, IsNewcomersTurn, SameRequest, ServedOpen, ServedShut, KnowsShut};
+ghost use Rattle.lock_core.specs.Views.{HasEnded, HasTurnOf, IsIdle, IsNewcomersTurn, SameRequest, ServedOpen, ServedShut, KnowsShut};
 ghost use Rattle.qolb_locks.specs.declared.answer.Answer.{Answer};
 ghost use Rattle.qolb_locks.specs.declared.ticket.State.{State};
 ghost use Rattle.qolb_locks.specs.Calls.{IsMisuse, StepsUpTo, Learns, SameTicket, GrantsNext, Releases, GoesIn, IsHead, TakesOuterWord, Leaves, RequestsHandoff, SleepsAsHead};
@@ -10,7 +10,7 @@ use crate::answer::Answer;
 use crate::asking::take_new_seat;
 use crate::lock::Lock;
 use crate::ticket::{State, Ticket};
-use lock_core::{HeadSleepResult, LeaveResult, ReleaseResult, TakeResult};
+use lock_core::{GoInResult, HeadSleepResult, LeaveResult, ReleaseResult, TakeResult};
 
 /// Passes a turn of the queue on. Returns `false` if it is not at its end.
 #[inline(always)]
@@ -18,6 +18,7 @@ fn pass_on(lock: &Lock, ticket: &mut Ticket) -> bool
     requires { Knows lock.now ticket.old (HasTurnOf ticket.old.number) }
     ensures label { (ticket.new.label ≡ ticket.old.label) × (ticket.new.state ≡ ticket.old.state) }
     ensures granted { result ≡ true → GrantsNext lock.now ticket.new }
+    ensures ended { result ≡ true → Learns ticket.old ticket.new HasEnded }
     ensures free { result ≡ true → Knows lock.now ticket.new IsIdle }
     ensures inside { result ≡ true →
         Knows lock.now ticket.old (Says State.HeadInside ticket.old.number ticket.old.rounds) →
@@ -111,15 +112,19 @@ fn go_in_again(lock: &Lock, ticket: &mut Ticket) -> Answer
 {
     let guess = ticket.outer;
     let mut seat = ticket.claim.take();
-    let inside = lock_core::go_in_if(&lock.table.shared, &mut seat, guess);
+    let went = lock_core::go_in_if(&lock.table.shared, &mut seat, guess);
     ticket.claim.put(seat);
-    if !inside {
-        ticket.outer = lock.table.shared.peek(0);
-        return Answer::Busy;
+    match went {
+        GoInResult::Inside => {
+            ticket.outer = guess.wrapping_add(36);
+            ticket.state = State::Inside as u32;
+            Answer::Granted
+        }
+        GoInResult::Outside { outer } => {
+            ticket.outer = outer;
+            Answer::Busy
+        }
     }
-    ticket.outer = guess.wrapping_add(36);
-    ticket.state = State::Inside as u32;
-    Answer::Granted
 }
 
 /// A newcomer goes in with a ticket that is not of the lock yet.
@@ -161,7 +166,8 @@ pub fn go_in(lock: &Lock, ticket: &mut Ticket) -> Answer
 
 /// The queue head takes the outer word, if that is free. Then it is to release its turn of the queue, and is in.
 ///
-/// `Closed` if it is in a lock that is shut; `Waiting` if the outer word is held, or changed at that moment.
+/// `Closed` if it is in a lock that is shut; `Waiting` if the outer word is held, or changed at that moment: the ticket has the word that was
+/// found.
 #[inline(always)]
 pub fn take_outer(lock: &Lock, ticket: &mut Ticket) -> Answer
     requires { IsKnown lock.now ticket.old }
@@ -169,6 +175,7 @@ pub fn take_outer(lock: &Lock, ticket: &mut Ticket) -> Answer
     ensures misuse { ¬ IsHead lock.now ticket.old → IsMisuse ticket.old ticket.new result }
     ensures does { IsHead lock.now ticket.old → TakesOuterWord lock.now ticket.new result }
     ensures same { IsHead lock.now ticket.old → Learns ticket.old ticket.new SameRequest }
+    ensures steps { IsHead lock.now ticket.old → StepsUpTo 2 ticket.old ticket.new }
 {
     if lock.burst < 2 || !ticket.has(State::AtTurn, lock) {
         return Answer::Misuse;
@@ -187,8 +194,8 @@ pub fn take_outer(lock: &Lock, ticket: &mut Ticket) -> Answer
             ticket.state = State::HeadInsideShut as u32;
             Answer::Closed
         }
-        TakeResult::Held | TakeResult::Changed => {
-            ticket.outer = lock.table.shared.peek(0);
+        TakeResult::Held { outer } | TakeResult::Changed { outer } => {
+            ticket.outer = outer;
             Answer::Waiting
         }
     }
@@ -220,8 +227,8 @@ pub fn leave(lock: &Lock, ticket: &mut Ticket) -> Answer
             ticket.state = State::Free as u32;
             Answer::Done
         }
-        LeaveResult::Changed => {
-            ticket.outer = lock.table.shared.peek(0);
+        LeaveResult::Changed { outer } => {
+            ticket.outer = outer;
             Answer::Busy
         }
     }
@@ -233,13 +240,13 @@ pub fn leave(lock: &Lock, ticket: &mut Ticket) -> Answer
 pub fn request_handoff(lock: &Lock, ticket: &mut Ticket) -> Answer
     requires { IsKnown lock.now ticket.old }
     ensures known { IsKnown lock.now ticket.new }
-    ensures misuse { ¬ Is State.AtTurn lock.now ticket.old → IsMisuse ticket.old ticket.new result }
-    ensures does { Is State.AtTurn lock.now ticket.old →
+    ensures misuse { ¬ IsHead lock.now ticket.old → IsMisuse ticket.old ticket.new result }
+    ensures does { IsHead lock.now ticket.old →
         RequestsHandoff lock.now ticket.new result }
-    ensures steps { Is State.AtTurn lock.now ticket.old → StepsUpTo 2 ticket.old ticket.new }
+    ensures steps { IsHead lock.now ticket.old → StepsUpTo 2 ticket.old ticket.new }
     ensures outer_kept { ticket.new.outer ≡ ticket.old.outer }
 {
-    if !ticket.has(State::AtTurn, lock) {
+    if lock.burst < 2 || !ticket.has(State::AtTurn, lock) {
         return Answer::Misuse;
     }
     let mut seat = ticket.claim.take();
@@ -258,10 +265,11 @@ pub fn request_handoff(lock: &Lock, ticket: &mut Ticket) -> Answer
 pub fn announce_head_sleep(lock: &Lock, ticket: &mut Ticket) -> Answer
     requires { IsKnown lock.now ticket.old }
     ensures known { IsKnown lock.now ticket.new }
-    ensures misuse { ¬ Is State.AtTurn lock.now ticket.old → IsMisuse ticket.old ticket.new result }
-    ensures does { Is State.AtTurn lock.now ticket.old → SleepsAsHead lock.now ticket.new result }
+    ensures misuse { ¬ IsHead lock.now ticket.old → IsMisuse ticket.old ticket.new result }
+    ensures does { IsHead lock.now ticket.old → SleepsAsHead lock.now ticket.old ticket.new result }
+    ensures steps { IsHead lock.now ticket.old → StepsUpTo 2 ticket.old ticket.new }
 {
-    if !ticket.has(State::AtTurn, lock) {
+    if lock.burst < 2 || !ticket.has(State::AtTurn, lock) {
         return Answer::Misuse;
     }
     let mut seat = ticket.claim.take();

@@ -1,4 +1,4 @@
-//! Tests of parking, wake-ups, timeouts and fairness: the examples, and ports that are lent, over each lock.
+//! Tests of parking, wake-ups, timeouts and fairness: the examples, over each lock.
 //!
 //! The crate is read for its tests alone, so that it is proved once.
 #![tactic(auto)]

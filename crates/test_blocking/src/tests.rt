@@ -1,5 +1,5 @@
-//! The examples, waiters and ports that are lent, over all lines. The tests are generic over the line, and the locks are named in one place,
-//! because the prover needs some seconds to see that a lock is a line, wherever it is named.
+//! The examples and waiters, over all lines. The tests are generic over the line, and the locks are named in one place, because the prover
+//! needs some seconds to see that a lock is a line, wherever it is named.
 ghost use Rattle.std.specs.Prelude.{◌≡◌, IsTrue};
 ghost use Rattle.qolb_model.specs.PortStates.{may_ask};
 
@@ -7,13 +7,11 @@ mod again;
 mod ahead;
 mod asleep;
 mod counted;
-mod gated;
 mod held;
 mod kept;
 mod noted;
 mod parked;
 mod passing;
-mod pool;
 mod strategies;
 mod together;
 
@@ -24,7 +22,7 @@ use example_line::{capacity, counter, fair, mailbox};
 use held::{expect, expect_at, open_one, open_two};
 use line_blocking::{Got, acquire};
 use line_generic::{Discipline, Line};
-use line_kinds::{ALL, LinkLine, LinkQueue, for_kind};
+use line_kinds::{ALL, LinkQueue, for_kind};
 use line_lanes::Line64;
 use parked::NoHooks;
 use qolb_model::{Free, LineSync, OpenLine, PortState};
@@ -56,11 +54,6 @@ enum Row {
     Parking,
     Ahead,
     Busy,
-    LentPorts,
-    BusyPort,
-    OneThread,
-    PoolRim,
-    Gate,
 }
 
 /// Runs `row` over lines of this type.
@@ -118,11 +111,6 @@ where
         }
         Row::Ahead => ahead::each_release_wakes_one_ahead::<R, L>(rt, alloc),
         Row::Busy => again::each_manner::<R, L>(rt, alloc),
-        Row::LentPorts => pool::no_addition_is_lost::<R, L>(rt, alloc),
-        Row::BusyPort => pool::a_busy_port_is_passed_over::<R, L>(rt, alloc),
-        Row::OneThread => pool::one_thread_is_granted_late_and_told::<R, L>(rt, alloc),
-        Row::PoolRim => pool::the_rim_is_seen::<R, L>(rt, alloc),
-        Row::Gate => gated::no_addition_is_lost::<R, L>(rt, alloc),
     }
     Ok(())
 }
@@ -372,41 +360,6 @@ fn a_release_wakes_one_turn_ahead(rt: HostRuntime) -> Result<(), Fail> {
 #[test]
 fn whoever_is_busy_asks_again(rt: HostRuntime) -> Result<(), Fail> {
     over_each(&rt, rt.alloc(), Row::Busy)
-}
-
-#[test]
-fn no_addition_by_lent_ports_is_lost(rt: HostRuntime) -> Result<(), Fail> {
-    over_each(&rt, rt.alloc(), Row::LentPorts)
-}
-
-#[test]
-fn a_busy_port_is_passed_over(rt: HostRuntime) -> Result<(), Fail> {
-    over_each(&rt, rt.alloc(), Row::BusyPort)
-}
-
-#[test]
-fn one_thread_is_granted_late_and_told(rt: HostRuntime) -> Result<(), Fail> {
-    over_each(&rt, rt.alloc(), Row::OneThread)
-}
-
-#[test]
-fn lent_ports_keep_to_time_and_lease(rt: HostRuntime) -> Result<(), Fail> {
-    over_each(&rt, rt.alloc(), Row::PoolRim)
-}
-
-#[test]
-fn callers_at_a_gate_sleep(rt: HostRuntime) {
-    gated::asleep::eight_waiters_sleep::<HostRuntime, LinkLine<Free>>(&rt, rt.alloc());
-}
-
-#[test]
-fn nobody_is_left_at_a_gate(rt: HostRuntime) {
-    gated::rounds::nobody_is_left::<HostRuntime, LinkLine<Free>>(&rt, rt.alloc());
-}
-
-#[test]
-fn no_addition_at_a_gate_is_lost(rt: HostRuntime) -> Result<(), Fail> {
-    over_each(&rt, rt.alloc(), Row::Gate)
 }
 
 #[test]

@@ -27,8 +27,8 @@ fn look_a_while(field: &Field, seat: &mut TicketSeat, ticket: u64) -> bool
         match take_outer(&field.table.shared, seat, ticket) {
             TakeResult::Open => return true,
             TakeResult::Shut => return true,
-            TakeResult::Held => spin_loop(),
-            TakeResult::Changed => spin_loop(),
+            TakeResult::Held { .. } => spin_loop(),
+            TakeResult::Changed { .. } => spin_loop(),
         }
     }
     false
@@ -83,7 +83,7 @@ fn go_out<R: Wait>(rt: &R, field: &Field, seat: &mut TicketSeat, burst: u64)
                 }
                 return;
             }
-            LeaveResult::Changed => {}
+            LeaveResult::Changed { .. } => {}
         }
     }
     unreachable!()

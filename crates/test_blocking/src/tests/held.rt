@@ -2,7 +2,7 @@
 ghost use Rattle.std.specs.Prelude.{◌≡◌, All, IfSome, IsTrue, None};
 ghost use Rattle.qolb_model.specs.PortStates.{may_ask};
 ghost use Rattle.line_blocking.specs.Places.{AllAt};
-ghost use Rattle.line_pool.specs.Lending.{MayAsk};
+ghost use Rattle.test_blocking.specs.Ports.{MayAsk};
 
 use line_blocking::scoped::{ScopedTask, run_scoped};
 use line_lanes::Line64;

@@ -1,7 +1,7 @@
 //! Each answer at the outer word, to a few callers of one thread.
 use lock_core::{
-    HeadSleepResult, LeaveResult, LockKind, ReleaseResult, TakeResult, announce_head_sleep, ask,
-    go_in, go_in_if, leave, leave_if, new_seat, open, poll, release, request_handoff, take_outer,
+    GoInResult, HeadSleepResult, LeaveResult, LockKind, ReleaseResult, TakeResult,
+    announce_head_sleep, ask, go_in, go_in_if, leave, leave_if, new_seat, open, poll, release, request_handoff, take_outer,
 };
 use std::test::Fail;
 
@@ -21,7 +21,9 @@ fn a_queue_head_is_told_of(rt: HostRuntime) -> Result<(), Fail> {
     if poll(lock, &mut head, ticket) != 0 {
         return Err("head".into());
     }
-    assert_eq!(rt; take_outer(lock, &mut head, ticket), TakeResult::Held);
+    // Held (4), one newcomer (32).
+    let held = take_outer(lock, &mut head, ticket);
+    assert_eq!(rt; held, TakeResult::Held { outer: 36 });
     if !request_handoff(lock, &mut head) {
         return Err("requested".into());
     }
@@ -52,10 +54,15 @@ fn a_burst_ends(rt: HostRuntime) -> Result<(), Fail> {
     };
     let lock = &table.shared;
     let mut caller = new_seat(lock);
-    if go_in_if(lock, &mut caller, 32) || !go_in_if(lock, &mut caller, 0) {
-        return Err("in by the word that is".into());
-    }
+    // The word is 0: free. 32 is free after one newcomer, 4 is held.
+    let stale = go_in_if(lock, &mut caller, 32);
+    assert_eq!(rt; stale, GoInResult::Outside { outer: 0 });
+    let no_entry = go_in_if(lock, &mut caller, 4);
+    assert_eq!(rt; no_entry, GoInResult::Outside { outer: 0 });
+    assert_eq!(rt; go_in_if(lock, &mut caller, 0), GoInResult::Inside);
     // Held, one newcomer.
+    let stale = leave_if(lock, &mut caller, 3, 68);
+    assert_eq!(rt; stale, LeaveResult::Changed { outer: 36 });
     let left = leave_if(lock, &mut caller, 3, 36);
     assert_eq!(rt; left, LeaveResult::Outside { head_asleep: false });
     if !go_in(lock, &mut caller) {

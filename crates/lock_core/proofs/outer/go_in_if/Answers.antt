@@ -1,6 +1,6 @@
-use Rattle.std.proofs.Common.{rules, arith, refl}
-use Rattle.lock_core.proofs.Slots.{go_in_slotted}
+use Rattle.std.proofs.Common.{rules, arith}
+use Rattle.lock_core.proofs.Slots.{read_outer_slotted}
 use Rattle.lock_core.proofs.outer.go_in_if.Goals as goal
 
-pub compare_exchange-requires : goal.compare_exchange-requires
-compare_exchange-requires g c = (search rules, (let e = c.requires.table in omega arith), go_in_slotted _ _ _ _ c.args.seat.now.me c.requires.seat.1 (let n = c.requires.bursts in omega arith) c.requires.seat.2 (let n = c.if-expected-ne0.false in omega arith) refl c.requires.idle)
+pub load-outer-requires : goal.load-outer-requires
+load-outer-requires g c = (search rules, (let e = c.requires.table in omega arith), read_outer_slotted _ _ c.args.seat.now.me c.requires.seat.1)

@@ -6,8 +6,8 @@ use Rattle.lock_core.proofs.outer.take_outer.Goals as goal
 pub load-outer-requires : goal.load-outer-requires
 load-outer-requires g c = (search rules, (let e = c.requires.table in omega arith), read_outer_slotted _ _ c.args.seat.now.me c.requires.seat.1)
 
-pub compare_exchange-requires : goal.compare_exchange-requires
-compare_exchange-requires g c =
+pub compare_exchange-found-requires : goal.compare_exchange-found-requires
+compare_exchange-found-requires g c =
     let e = c.load-outer.ensures.2.0.1 in (
       search rules,
       (let k = c.requires.table in omega arith),

@@ -8,3 +8,6 @@ returns-clause-misuse c = (c.get.result.now, c.ask_near.result, c.get.ensures, c
 
 pub returns-clause-does : goal.returns-clause-does
 returns-clause-does c = (c.get.result.now, c.ask_near.result, c.get.ensures, c.number.ensures, c.ask_near.ensures.does)
+
+pub returns-clause-after : goal.returns-clause-after
+returns-clause-after c = (c.get.result.now, c.ask_near.result, c.get.ensures, c.number.ensures, c.ask_near.ensures.after)

@@ -8,3 +8,6 @@ returns-clause-misuse c = (c.get.result.now, c.try_ask.result, c.get.ensures, c.
 
 pub returns-clause-does : goal.returns-clause-does
 returns-clause-does c = (c.get.result.now, c.try_ask.result, c.get.ensures, c.number.ensures, c.try_ask.ensures.does)
+
+pub returns-clause-after : goal.returns-clause-after
+returns-clause-after c = (c.get.result.now, c.try_ask.result, c.get.ensures, c.number.ensures, c.try_ask.ensures.after)
