@@ -1,107 +1,132 @@
 #!/usr/bin/env python3
-"""Tries each mutant and prints what refused it: the edits of the named crates (all, if none is named), in must-fail/ of the crate and in
-tools/mutants/CRATE.edits, which a goal must refuse; and the patches in tools/mutants/CRATE.patches, which a test of that crate must refuse, if the
-patch changes a named crate or runs its tests. In both files a line `== NAME` is above each mutant. The gate tries only those in must-fail/.
+"""Tries each mutant of the named crates (of all, if none is named), and prints what refused it.
 
-An edit shows something only if the prover refuses it by a goal: what the changed function promises, what a call in it requires, or what a
-caller of it relies on. An edit that only renames goals is refused because answers name goals that no longer exist, and a harmless rewrite of the
-same place would be refused, too; such an edit shows nothing. A patch is for a test to refuse, most often because no clause can state it (for example
-that threads run at the same time): its head has what it shows, the crate whose tests are run, and the test that must not pass. Only that test is run,
-without a proof, by `rt try --test`. A test that takes all memory fails there for any body, so such a patch is judged by `rt test`, and only with
---proved: that proves all crates from the changed one on.
+A mutant changes a crate. Those in its must-fail/, which the gate tries too, and in its mutants.edits have one form:
 
-Edits are tried over the work that `tools/prove` keeps, which is called first. For each mutant it prints a line:
+  == NAME                   (in mutants.edits, above each mutant)
+  file: PATH                in the folder of the crate; further changes follow, and other files
+  old: TEXT                 it stands once in the file; in mutants.edits lines in a row are one text of several lines
+  new: TEXT
+  harmless: TEXT            if it is there: a text in the place of `new` with which the crate must be proved
+  shows: WHAT               for a test to refuse: what it shows, and the test that must not pass
+  test: CRATE::PATH::NAME
 
-  answer  CRATE/EDIT  FUNCTION: GOAL    an answer that is written in proofs/ no longer proves the goal of that name
-  search  CRATE/EDIT  FUNCTION: GOAL    the tactics no longer prove a goal of that name, which they proved before
-  false   CRATE/EDIT  FUNCTION: GOAL    the goal is false: the prover found values
-  meant   CRATE/EDIT  FUNCTION: GOAL    the same edit made harmless is proved: a condition that it adds is what is refused
-  test    PATCH       TEST              the test failed, or did not end
-  new     CRATE/EDIT  FUNCTION: GOAL    only goals are open, or answers refused, that have a new name: find out whether a harmless rewrite is refused alike
-  shape   CRATE/EDIT  FUNCTION: GOAL    the same edit made harmless is refused alike: it shows nothing, rewrite it
-  names   CRATE/EDIT  FUNCTION          only names of the proof are missing: it shows nothing, rewrite it
+A mutant without a test shows something only if the prover refuses it by a goal: what the changed function promises, what a call in it requires, or
+what a caller of it relies on. One that only renames goals is refused because answers name goals that no longer exist, and a harmless change of the
+same place would be refused, too: it shows nothing. A mutant is for a test to refuse most often because no clause can state what it breaks (for example
+that threads run at the same time). Only that test is run, without a proof, by `rt try --test`. A test that takes all memory fails there for any body,
+so such a mutant is judged by `rt test`, and only with --proved: that proves all crates from the changed one on.
+
+Mutants without a test are tried over the work that `tools/prove` keeps, which is called first. For each mutant it prints a line:
+
+  answer  CRATE/NAME  FUNCTION: GOAL    an answer that is written in proofs/ no longer proves the goal of that name
+  search  CRATE/NAME  FUNCTION: GOAL    the tactics no longer prove a goal of that name, which they proved before
+  false   CRATE/NAME  FUNCTION: GOAL    the goal is false: the prover found values
+  meant   CRATE/NAME  FUNCTION: GOAL    the same change made harmless is proved: a condition that it adds is what is refused
+  test    CRATE/NAME  TEST              the test failed, or did not end
+  new     CRATE/NAME  FUNCTION: GOAL    only goals are open, or answers refused, that have a new name: find out whether a harmless rewrite is refused alike
+  shape   CRATE/NAME  FUNCTION: GOAL    the same change made harmless is refused alike: it shows nothing, rewrite it
+  names   CRATE/NAME  FUNCTION          only names of the proof are missing: it shows nothing, rewrite it
   ALIVE   ..                            the contracts accept it, or the test passed
-  BROKEN  ..          WHY               it can't be applied, the compiler refuses it, or the check gave no verdict
-  NOT JUDGED  PATCH   TEST              it needs --proved
+  BROKEN  ..          WHY               its text is not there, the compiler refuses it, or the check gave no verdict
+  NOT JUDGED ..       TEST              it needs --proved
 
-The lines are kept in tools/mutants/RECORD, each with a sum of what it was tried on, the commit and the day. A mutant that has a line there with the
-same sum is not tried again, unless it was BROKEN, or with --anew. The program ends with 1 if a mutant is `new`, `shape`, `names`, ALIVE or BROKEN.
+The lines are kept in out/mutants.tsv, each with a sum of what it was tried on, and the day. A mutant that has a line there with the same sum is not
+tried again, unless it was BROKEN, or with --anew: `kept from` that day is printed behind its line. The program ends with 1 if a mutant is `new`,
+`shape`, `names`, ALIVE or BROKEN.
 
-With --log it tries nothing: it reads what a run of `rt ci` or `rt must-fail` printed of each edit, which is only the first error. Then an edit is
-`answer`, `goal` (one that the tactics no longer prove, by whatever name), `names`, `limit` (the prover gave up), ALIVE or BROKEN. With --record, too,
-the lines go to RECORD, for edits that have no line there with the same sum: the run must have been one of this very checkout.
+With --anchors it tries nothing: it says of each mutant whose old text does not stand once in its file where that text is now. `tools/gate` calls it.
 
-  tools/edits.py [--jobs N] [--only WORD] [--anew] [--proved] [--not-in-gate] [--keep FOLDER] [CRATE ..]
-  tools/edits.py --log FILE [--record] [--only WORD] [CRATE ..]
+  tools/edits.py [--jobs N] [--only WORD] [--anew] [--proved] [--keep FOLDER] [CRATE ..]
+  tools/edits.py --anchors
 """
 
 import argparse
 import collections
 import datetime
+import difflib
 import fcntl
 import hashlib
+import itertools
 import os
 import pathlib
 import re
-import shutil
 import subprocess
 import sys
 import tempfile
 
 from crates import PARTS, ROOT, below, copy_sources, lay_out, named, read_crates, run_main, say, side_by_side, spawn, take_kept
-from refused import by_check, by_gate, by_tests, goals_of, is_proved
 from tests import leave_out, left_out, tests_of
 
-BODIES = ROOT / "tools" / "mutants"
-RECORD = BODIES / "RECORD"
-HEAD = "# What refused each mutant: its name, how, by what; a sum of what it was tried on, the commit, the day (tools/edits.py).\n"
+KEPT = ROOT / "out" / "mutants.tsv"
+HEAD = "# What refused each mutant: its name, how, by what; a sum of what it was tried on, the day (tools/edits.py).\n"
 NOTHING_SHOWN = ("new", "shape", "names", "ALIVE", "BROKEN")
 MINUTES = 120
 
+# An answer that is refused for this reason names what the edit removed: it shows nothing of the goal.
+NAMES_ALONE = re.compile(r"is not in scope|has no field|has no `|was not admitted")
+# The compiler refused the text, before any goal.
+NO_CODE = re.compile(r"^.*\berror\[[\w-]+\].*$", re.M)
+# Declarations that rest on other refused ones: these, and those.
+UNCHECKED = re.compile(r"^\./proofs/(\S+)/Answers\.antt:\d+:\d+: error: \d+ declarations? that depends? on (.*?), which \w+ rejected, \w+ not checked: (.*)$", re.M)
+VERDICT = re.compile(r"^logic=", re.M)
 
-class Body:
-    """A mutant: an edit of a crate, or a patch for one of its tests."""
+# A change of a mutant: the file, the old text, the new one, and a harmless one or None.
+Change = collections.namedtuple("Change", "file old new harmless")
 
-    def __init__(self, crates, crate, name, text, is_patch=False, in_gate=False):
-        self.crate, self.text, self.is_patch, self.in_gate = crates[crate], text, is_patch, in_gate
-        self.name = name if is_patch else f"{crate}/{name}"
-        self.touches = {crate}
-        if is_patch:
-            self.head = dict(line.split(": ", 1) for line in text.partition("\n\n")[0].splitlines())
-            self.touches |= set(re.findall(r"^\+\+\+ b/crates/(\w+)", text, re.M))
-            self.test = self.head["Test"].rpartition("::")[2]
-        # Mutants of one batch are tried one after another.
-        self.batch = name if is_patch else crate
+
+class Mutant:
+    def __init__(self, crates, crate, name, text):
+        self.crate, self.name, self.text = crate, f"{crate.name}/{name}", text
+        said, self.changes = read(text)
+        self.test = said.get("test")
+        self.tested = crates[self.test.partition("::")[0]] if self.test else None
+        # Those of one batch are tried one after another.
+        self.batch = self.name if self.test else crate.name
 
     def takes_all_memory(self):
-        return self.is_patch and self.test in left_out(self.crate)
+        return bool(self.test) and self.test.rpartition("::")[2] in left_out(self.tested)
+
+    def concerns(self, names):
+        return not names or self.crate.name in names or (self.test and self.tested.name in names)
+
+
+def read(text):
+    """What a mutant says of itself, and its changes. Lines of one kind in a row are one text."""
+    rows = [it.groups() for it in map(re.compile(r"(\w+):(?: (.*))?$").match, text.splitlines()) if it]
+    said, changes = {}, []
+    for key, group in itertools.groupby(rows, key=lambda it: it[0]):
+        value = "\n".join(it or "" for _, it in group)
+        if key == "new":
+            changes.append(Change(said["file"], said["old"], value, None))
+        elif key == "harmless":
+            changes[-1] = changes[-1]._replace(harmless=value)
+        else:
+            said[key] = value
+    return said, changes
 
 
 def packed(file):
     """The mutants of a file, each with its name, which the line `== NAME` above it has."""
     _, *parts = re.split(r"^== (\S+)\n", file.read_text() if file.is_file() else "", flags=re.M)
-    return [(name, text.rstrip("\n") + "\n") for name, text in zip(parts[::2], parts[1::2])]
+    return zip(parts[::2], parts[1::2])
 
 
-def bodies_of(crates, names, only):
+def mutants_of(crates, names=(), only=""):
     found = []
     for it in crates.values():
-        gate = sorted((it.folder / "must-fail").glob("*.edit"))
-        found += [Body(crates, it.name, file.stem, file.read_text(), in_gate=True) for file in gate]
-        found += [Body(crates, it.name, *mutant) for mutant in packed(BODIES / f"{it.name}.edits")]
-        found += [Body(crates, it.name, *mutant, is_patch=True) for mutant in packed(BODIES / f"{it.name}.patches")]
-    return [it for it in found if only in it.name and (not names or it.touches & set(names))]
+        gate = [(file.stem, file.read_text()) for file in sorted((it.folder / "must-fail").glob("*.edit"))]
+        found += [Mutant(crates, it, *mutant) for mutant in [*gate, *packed(it.folder / "mutants.edits")]]
+    return [it for it in found if only in it.name and it.concerns(names)]
 
 
-class Record:
-    """What is known of each mutant, by its name: how it was refused, by what, the sum of what it was tried on, the commit, the day."""
+class Kept:
+    """What is known of each mutant, by its name: how it was refused, by what, the sum of what it was tried on, the day."""
 
     def __init__(self, crates):
         self.crates, self.sums = crates, {}
         # The kit's own name is left out: kits of one logic prove alike.
         self.logic = subprocess.run(["rt", "version"], capture_output=True, text=True).stdout.partition("logic ")[2]
-        git = lambda *words: subprocess.run(["git", *words], cwd=ROOT, capture_output=True, text=True).stdout.strip()
-        self.commit = git("rev-parse", "--short", "HEAD") + ("+" if git("status", "--porcelain", "crates") else "")
 
     def of_crate(self, name):
         """A sum of what a check of the crate reads, without the crates below."""
@@ -111,65 +136,151 @@ class Record:
             self.sums[name] = crate.line + files
         return self.sums[name]
 
-    def sum(self, body):
-        parts = [self.logic, body.text, *(self.of_crate(it) for it in [*below(self.crates, body.crate.name), body.crate.name])]
+    def sum(self, mutant):
+        top = (mutant.tested or mutant.crate).name
+        parts = [self.logic, mutant.text, *(self.of_crate(it) for it in [*below(self.crates, top), top])]
         return hashlib.sha256("\n".join(parts).encode()).hexdigest()[:12]
 
     def read(self):
-        lines = RECORD.read_text().splitlines() if RECORD.is_file() else []
+        lines = KEPT.read_text().splitlines() if KEPT.is_file() else []
         return {it.split("\t")[0]: it.split("\t")[1:] for it in lines if not it.startswith("#")}
 
-    def known(self, body):
-        """How the mutant was refused, and by what, if it was tried as it is now."""
-        kind, where, made_of, *_ = self.read().get(body.name, ["", "", ""])
-        return (kind, where) if made_of == self.sum(body) else None
+    def known(self, mutant):
+        """How the mutant was refused, by what, and the day, if it was tried as it is now."""
+        kind, where, made_of, day = self.read().get(mutant.name, ["", "", "", ""])
+        return (kind, where, day) if made_of == self.sum(mutant) else None
 
-    def write(self, body, kind, where):
-        here = os.open(BODIES, os.O_RDONLY)
+    def write(self, mutant, kind, where):
+        here = os.open(KEPT.parent, os.O_RDONLY)
         fcntl.flock(here, fcntl.LOCK_EX)
         try:
             rows = self.read()
-            rows[body.name] = [kind, " ".join(where.split()), self.sum(body), self.commit, f"{datetime.date.today()}"]
-            fresh = RECORD.with_suffix(".new")
+            rows[mutant.name] = [kind, " ".join(where.split()), self.sum(mutant), f"{datetime.date.today()}"]
+            fresh = KEPT.with_suffix(".new")
             fresh.write_text(HEAD + "".join("\t".join([name, *row]) + "\n" for name, row in sorted(rows.items())))
-            fresh.replace(RECORD)
+            fresh.replace(KEPT)
         finally:
             os.close(here)
 
 
-def apply_edit(crate, text):
-    """Applies an edit's changes in the folder of a crate, where each old text must occur once in its file; returns why it can't, if so."""
-    path = old = None
-    for line in text.splitlines():
-        key, _, rest = line.partition(":")
-        rest = rest.removeprefix(" ")
-        if key == "file":
-            path = crate / rest.strip()
-        elif key == "old":
-            old = rest
-        elif key == "new":
-            body = path.read_text() if path.is_file() else ""
-            if body.count(old) != 1:
-                return f"{old!r} stands {body.count(old)} times in {path.name}"
-            path.write_text(body.replace(old, rest))
+def misplaced(folder, change, body):
+    """Why a change can't be made, if so: its old text does not stand once in its file. It may stand in another file of the crate, or changed a little."""
+    count = body.count(change.old)
+    if count == 1:
+        return None
+    texts = {it: it.read_text() for part in PARTS for it in sorted((folder / part).rglob("*")) if it.is_file()}
+    now = [f"{it.relative_to(folder)}:{text[: text.index(change.old)].count(chr(10)) + 1}" for it, text in texts.items() if text.count(change.old) == 1]
+    there = [it.strip() for it in body.splitlines()]
+    first = next((it.strip() for it in change.old.splitlines() if it.strip() not in there), change.old.splitlines()[0].strip())
+    near = [] if count or now else difflib.get_close_matches(first, there, 1)
+    return f"{first!r} stands {count} times in {change.file}" + "".join(f", once in {it}" for it in now) + "".join(f"; the nearest line there is {it!r}" for it in near)
+
+
+def changed(folder, changes):
+    """The files in the folder of a crate as the changes make them; or why they can't be made."""
+    bodies = {}
+    for it in changes:
+        path = folder / it.file
+        body = bodies.get(path) or (path.read_text() if path.is_file() else "")
+        why = misplaced(folder, it, body)
+        if why:
+            return {}, why
+        bodies[path] = body.replace(it.old, it.new)
+    return bodies, None
+
+
+def with_condition(change):
+    """A change that adds a condition to a line, with a condition that never or always holds in its place; None if it adds none."""
+    found = re.fullmatch(r"(.*?) (\|\||&&) (.+?)( \{|;|)", change.new)
+    if not found or change.old.split() != (found[1] + found[4]).split():
+        return None
+    head, joint, added, tail = found.groups()
+    if any(added.count(a) != added.count(b) for a, b in ("()", "{}", "[]")) or added.endswith("=>"):
+        return None
+    never = f"({added}) && !({added})" if joint == "||" else f"({added}) || !({added})"
+    return change._replace(new=f"{head} {joint} ({never}){tail}")
+
+
+def harmless(changes):
+    """The same changes made harmless: by what they say themselves, or, if one adds a condition, with one that never or always holds. Or None."""
+    if any(it.harmless is not None for it in changes):
+        return [it if it.harmless is None else it._replace(new=it.harmless) for it in changes]
+    for place, it in enumerate(changes):
+        other = with_condition(it)
+        if other:
+            return [*changes[:place], other, *changes[place + 1 :]]
     return None
 
 
-def harmless(text):
-    """The same edit made harmless: by its own `harmless: TEXT` below `new:`, or, if it adds a condition, with a condition that never or always holds."""
-    said = re.sub(r"^new: .*\nharmless: (.*)$", r"new: \1", text, flags=re.M)
-    if said != text:
-        return said
-    lines = text.splitlines()
-    for place, line in enumerate(lines):
-        found = re.match(r"(new: .*?) (\|\||&&) (.+?)( \{|;|)$", line)
-        if found and place > 0 and lines[place - 1][5:].split() == (found[1][5:] + found[4]).split():
-            head, joint, added, tail = found.groups()
-            if any(added.count(a) != added.count(b) for a, b in ("()", "{}", "[]")) or added.endswith("=>"):
-                continue
-            never = f"({added}) && !({added})" if joint == "||" else f"({added}) || !({added})"
-            return "\n".join(lines[:place] + [f"{head} {joint} ({never}){tail}"] + lines[place + 1 :]) + "\n"
-    return None
+# ---- What refused a mutant, from the output of a check or of a run of tests ----
+
+
+def is_proved(log):
+    return bool(re.search(r"^logic=proved", log, re.M))
+
+
+def goals_of(generated):
+    """The goals of each function of a check, answered or found by the tactics, by the path of its folder of proofs."""
+    goals = {}
+    for path in pathlib.Path(generated).glob("*-proofs/**/*.antt"):
+        folder = str(path.parent.relative_to(next(p for p in path.parents if p.name.endswith("-proofs"))))
+        if path.name in ("Goals.antt", "Proof.antt"):
+            names = re.findall(r"^\s*(?:abbrev )?(?:pub )?(?:the-asks-)?(\S+) :", path.read_text(), re.M)
+            goals.setdefault(folder, set()).update(names)
+    return goals
+
+
+def last_line(log):
+    return (log.strip().splitlines() or ["nothing was said"])[-1][:160]
+
+
+def two(goals):
+    return "; ".join(f"{folder}: {goal}" for folder, goal in goals[:2])
+
+
+def by_check(log, goals):
+    """What refused an edit: the kind, and the function with its goal."""
+    if is_proved(log):
+        return "ALIVE", ""
+    if not VERDICT.search(log):
+        why = NO_CODE.search(log)
+        return "BROKEN", why[0][:160] if why else last_line(log)
+    log = re.sub(r"^so far: ", "", log, flags=re.M)
+    refused = re.findall(r"^\./proofs/(\S+)/(?:Answers|Invariants)\.antt:\d+:\d+: error: `([^`]+)`(.*)$", log, re.M)
+    answers = {(folder, goal) for folder, goal, why in refused if not NAMES_ALONE.search(why)}
+    # An answer rests on a lemma beside it that no longer holds.
+    for folder, lemmas, rest in UNCHECKED.findall(log):
+        if any((folder, lemma) in answers for lemma in re.findall(r"`([^`]+)`", lemmas)):
+            answers |= {(folder, goal) for goal in re.split(r",\s*", rest.strip())}
+    gone = "no longer" in log or re.search(r"Answers\.antt:\d+:\d+: error: .*(is not in scope|has no `)", log)
+    held = sorted((folder, goal) for folder, goal in answers if goal in goals.get(folder, set()))
+    if held:
+        return "answer", two(held)
+    missing = re.findall(r"^fn (\S+): no proof: expected answers in \./proofs/(\S+)/Answers\.antt; `search` did not prove (.*)$", log, re.M)
+    open_goals = [(folder, goal) for _, folder, names in missing for goal in re.findall(r"`([^`]+)`", names)]
+    if "may be false:" in log or "the facts known there allow values" in log:
+        return "false", two(open_goals)
+    same = [(folder, goal) for folder, goal in open_goals if goal in goals.get(folder, set())]
+    if same:
+        return "search", two(same)
+    if open_goals or answers:
+        return "new", two(open_goals or sorted(answers))
+    first = next((line for line in log.splitlines() if ": error" in line or ": no proof" in line or ": not proved" in line), "")
+    return "names", ("gone: " if gone else "") + first[:160]
+
+
+def by_tests(log, test, status):
+    """The outcome of a mutant with this test, from the output of `rt try --test` or `rt test`."""
+    if re.search(rf"^test {re.escape(test)} \.\.\. ok$", log, re.M):
+        return "ALIVE", test
+    if f"test {test} ... FAILED" in log or re.search(r"had not ended|run=(?!ended|none)", log) or status == 124:
+        return "test", test
+    if re.search(r"^logic=not-proved", log, re.M):
+        return "goal", next((it for it in log.splitlines() if ": no proof" in it or "error: `" in it), "")[:160]
+    return "BROKEN", last_line(log)
+
+
+# ---- Trying ----
 
 
 def ran(words, folder):
@@ -178,18 +289,19 @@ def ran(words, folder):
     return run.stdout + run.stderr, run.returncode
 
 
-def is_of_tests(crate, text):
-    """Returns True if an edit changes only what the root of its crate reads for its tests."""
+def is_of_tests(crate, mutant):
+    """Returns True if a mutant changes only what the root of its crate reads for its tests."""
     root = next(it for it in crate.files() if it.name in ("lib.rt", "main.rt") and it.parent.name == "src")
-    read = re.findall(r"^#\[cfg\(test\)\]\nmod (\w+);", root.read_text(), re.M)
-    return any(it in read for it in re.findall(r"^file: src/(\w+)", text, re.M))
+    read_for_tests = re.findall(r"^#\[cfg\(test\)\]\nmod (\w+);", root.read_text(), re.M)
+    return any(it.file.startswith(f"src/{module}") for it in mutant.changes for module in read_for_tests)
 
 
-class Edits:
-    """The edits of one crate, each tried in a copy of the crate over the work that was kept; with its tests if an edit is of what is read only for these."""
+class Checks:
+    """The mutants of one crate that a goal must refuse, each tried in a copy of the crate over the work that was kept; with its tests if one is of
+    what is read only for these."""
 
-    def __init__(self, crates, crate, texts, room):
-        self.with_tests = ["--test"] * any(is_of_tests(crate, it) for it in texts)
+    def __init__(self, crates, crate, mutants, room):
+        self.with_tests = ["--test"] * any(is_of_tests(crate, it) for it in mutants)
         self.folder = lay_out(crates, crate.name, room / "repository")
         take_kept(crate, self.folder)
         if not is_proved(self.check()):
@@ -202,22 +314,23 @@ class Edits:
     def check(self, *more):
         return ran(["rt", "check", "--jobs", "1", *self.with_tests, *more], self.folder)[0]
 
-    def check_with(self, text):
-        """The output of a check of the crate with the edit; afterwards the crate is as it was."""
-        kept = {path: path.read_bytes() for part in PARTS for path in (self.folder / part).rglob("*") if path.is_file()}
-        why = apply_edit(self.folder, text)
+    def check_with(self, changes):
+        """The output of a check of the crate with the changes, or why they can't be made; afterwards the crate is as it was."""
+        bodies, why = changed(self.folder, changes)
+        was = {path: path.read_bytes() for path in bodies}
+        for path, body in bodies.items():
+            path.write_text(body)
         log = "" if why else self.check()
-        for path, body in kept.items():
-            if path.read_bytes() != body:
-                path.write_bytes(body)
+        for path, body in was.items():
+            path.write_bytes(body)
         return log, why
 
-    def tried(self, body):
-        log, why = self.check_with(body.text)
+    def tried(self, mutant):
+        log, why = self.check_with(mutant.changes)
         if why:
             return "BROKEN", why, ""
         kind, where = by_check(log, self.goals)
-        control = harmless(body.text) if kind in ("search", "new") else None
+        control = harmless(mutant.changes) if kind in ("search", "new") else None
         if control:
             said, _ = self.check_with(control)
             if re.search(r"^logic=", said, re.M):
@@ -225,70 +338,56 @@ class Edits:
         return kind, where, log
 
 
-def tried_by_test(crates, body, room):
-    """The outcome of a patch: how it was refused, by what, and the output."""
-    words = ["rt", "try", "--test"]
-    if body.takes_all_memory():
+def tried_by_test(crates, mutant, room):
+    """The outcome of a mutant with its test: how it was refused, by what, and the output."""
+    words, tested, test = ["rt", "try", "--test"], mutant.tested, mutant.test.partition("::")[2]
+    if mutant.takes_all_memory():
         words = ["rt", "test"]
-        lay_out(crates, body.crate.name, room)
-        for name in [*below(crates, body.crate.name), body.crate.name]:
+        lay_out(crates, tested.name, room)
+        for name in [*below(crates, tested.name), tested.name]:
             take_kept(crates[name], room / "crates" / name)
     else:
         copy_sources(crates.values(), room)
         # The other tests show nothing of this mutant, and take most of the time.
-        leave_out(room / "crates" / body.crate.name, [it for it in tests_of(body.crate) if it != body.test])
-    fits = subprocess.run(["patch", "-p1", "--silent", "--force"], cwd=room, input=body.text, capture_output=True, text=True)
-    if fits.returncode:
-        return "BROKEN", fits.stdout.strip()[:200], ""
-    log, status = ran(words, room / "crates" / body.crate.name)
-    return *by_tests(log, body.head["Test"], status), log
+        leave_out(room / "crates" / tested.name, [it for it in tests_of(tested) if it != test.rpartition("::")[2]])
+    bodies, why = changed(room / "crates" / mutant.crate.name, mutant.changes)
+    if why:
+        return "BROKEN", why, ""
+    for path, body in bodies.items():
+        path.write_text(body)
+    log, status = ran(words, room / "crates" / tested.name)
+    return *by_tests(log, test, status), log
 
 
-def try_batch(crates, bodies, record, args):
-    """Tries the mutants of one batch, prints each, and records the outcomes."""
+def try_batch(crates, mutants, kept, args):
+    """Tries the mutants of one batch, prints each, and keeps the outcomes."""
     with tempfile.TemporaryDirectory(prefix="mutants-") as room:
-        edits = None
-        for body in bodies:
-            if body.is_patch:
-                kind, where, log = tried_by_test(crates, body, pathlib.Path(room))
+        checks = None
+        for it in mutants:
+            if it.test:
+                kind, where, log = tried_by_test(crates, it, pathlib.Path(room))
             else:
-                edits = edits or Edits(crates, body.crate, [it.text for it in bodies], pathlib.Path(room))
-                kind, where, log = edits.tried(body)
-            record.write(body, kind, where)
-            print(f"{kind:7} {body.name}  {where}", flush=True)
+                checks = checks or Checks(crates, it.crate, mutants, pathlib.Path(room))
+                kind, where, log = checks.tried(it)
+            kept.write(it, kind, where)
+            print(f"{kind:7} {it.name}  {where}", flush=True)
             if args.keep:
-                file = pathlib.Path(args.keep) / f"{body.name}.log"
+                file = pathlib.Path(args.keep) / f"{it.name}.log"
                 file.parent.mkdir(parents=True, exist_ok=True)
                 file.write_text(log)
     return 0
 
 
-def by_log(args):
-    """Prints of each edit what the log of a run of the gate says of it, and records it if asked to."""
-    bad, crates = 0, read_crates()
-    record = Record(crates)
-    bodies = {it.name: it for it in bodies_of(crates, args.names, args.only)}
-    for crate, edit, text in re.findall(r"^(?:rt: )?must-fail ([a-z0-9_]+)/(\S+)\.edit: (.*)$", pathlib.Path(args.log).read_text(), re.M):
-        if args.only in edit and (not args.names or crate in args.names):
-            kind, goal = by_gate(text)
-            bad += kind in NOTHING_SHOWN
-            print(f"{kind:7} {crate}/{edit}  {goal}")
-            body = bodies.get(f"{crate}/{edit}") if args.record else None
-            if body and (record.known(body) or ["BROKEN"])[0] == "BROKEN":
-                record.write(body, kind, goal)
-    return 1 if bad else 0
-
-
-def try_all(crates, bodies, record, args):
+def try_all(mutants, args):
     """Tries these mutants, each batch in its own process, this many side by side; returns True if all processes ended well."""
-    batches = collections.Counter(it.batch for it in bodies)
-    proofs = sorted({it.crate.name for it in bodies if not it.is_patch or it.takes_all_memory()})
+    batches = collections.Counter(it.batch for it in mutants)
+    proofs = sorted({(it.tested or it.crate).name for it in mutants if not it.test or it.takes_all_memory()})
     if proofs and subprocess.run([ROOT / "tools" / "prove", *proofs]).returncode:
         return False
     lost = []
 
     def start(name, _jobs):
-        more = ["--anew"] * args.anew + ["--proved"] * args.proved + ["--not-in-gate"] * args.not_in_gate + (["--keep", args.keep] if args.keep else [])
+        more = ["--anew"] * args.anew + ["--proved"] * args.proved + (["--keep", args.keep] if args.keep else [])
         return spawn([sys.executable, __file__, "--batch", name, "--only", args.only, *more], ROOT)
 
     def ended(name, status, _seconds):
@@ -302,37 +401,44 @@ def try_all(crates, bodies, record, args):
     return not lost
 
 
+def compare_anchors(crates):
+    """Prints each mutant that can't be made as the crates are now, and why; returns the status."""
+    mutants = mutants_of(crates)
+    lost = [f"{it.name}: {why}" for it in mutants for _, why in [changed(it.crate.folder, it.changes)] if why]
+    lost += [f"{it.name}: {it.tested.name} has no such test: {it.test}" for it in mutants if it.test and it.test.rpartition("::")[2] not in tests_of(it.tested)]
+    print(*lost, f"{len(mutants)} mutants, {len(lost)} out of place", sep="\n")
+    return 1 if lost else 0
+
+
 def main():
     parser = argparse.ArgumentParser(description=__doc__, formatter_class=argparse.RawDescriptionHelpFormatter)
     parser.add_argument("--jobs", type=int, default=1, help="how many are tried side by side")
-    parser.add_argument("--only", default="", help="only bodies whose names contain this")
+    parser.add_argument("--only", default="", help="only mutants whose names contain this")
     parser.add_argument("--anew", action="store_true", help="also those that were tried as they are")
     parser.add_argument("--proved", action="store_true", help="also those whose tests must be proved to be run")
-    parser.add_argument("--not-in-gate", action="store_true", help="not those of must-fail/, which a run of the gate tries (--log)")
-    parser.add_argument("--keep", type=os.path.abspath, help="where to keep what was said, a file a body")
-    parser.add_argument("--log", help="the log of a run of rt ci or rt must-fail")
-    parser.add_argument("--record", action="store_true", help="keep what the log says of edits that are not known")
+    parser.add_argument("--keep", type=os.path.abspath, help="where to keep what was said, a file a mutant")
+    parser.add_argument("--anchors", action="store_true", help="only say which are out of place")
     parser.add_argument("--batch", help=argparse.SUPPRESS)
     parser.add_argument("names", nargs="*", metavar="CRATE")
     args = parser.parse_args()
-    if args.log:
-        return by_log(args)
     crates = read_crates()
+    if args.anchors:
+        return compare_anchors(crates)
     named(crates, args.names)
-    record = Record(crates)
-    bodies = [it for it in bodies_of(crates, args.names, args.only) if not args.batch or it.batch == args.batch]
-    is_known = lambda body: not args.anew and (record.known(body) or ["BROKEN"])[0] != "BROKEN"
-    is_meant = lambda body: (args.proved or not body.takes_all_memory()) and not (args.not_in_gate and body.in_gate)
-    left = [it for it in bodies if is_meant(it) and not is_known(it)]
+    KEPT.parent.mkdir(exist_ok=True)
+    kept = Kept(crates)
+    mutants = [it for it in mutants_of(crates, args.names, args.only) if not args.batch or it.batch == args.batch]
+    is_known = lambda it: not args.anew and (kept.known(it) or ["BROKEN"])[0] != "BROKEN"
+    left = [it for it in mutants if (args.proved or not it.takes_all_memory()) and not is_known(it)]
     if args.batch:
-        return try_batch(crates, left, record, args)
-    done = not left or try_all(crates, left, record, args)
+        return try_batch(crates, left, kept, args)
+    done = not left or try_all(left, args)
     counts = collections.Counter()
-    for body in bodies:
-        kind, where = record.known(body) or ("NOT JUDGED", body.head["Test"] if body.is_patch else "")
+    for it in mutants:
+        kind, where, day = kept.known(it) or ("NOT JUDGED", it.test or "", "")
         counts["not judged" if kind == "NOT JUDGED" else "to be looked at" if kind in NOTHING_SHOWN else "refused"] += 1
-        if body not in left:
-            print(f"{kind:7} {body.name}  {where}", flush=True)
+        if it not in left:
+            print(f"{kind:7} {it.name}  {where}" + (f"  (kept from {day})" if day else ""), flush=True)
     print(", ".join(f"{counts[it]} {it}" for it in ("refused", "to be looked at", "not judged")))
     return 1 if counts["to be looked at"] or not done else 0
 

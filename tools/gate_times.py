@@ -2,7 +2,7 @@
 """Runs the gate and prints its cost: processor minutes and the peak of memory by crate and kind of work, as the rows of tools/gate_times.tsv.
 
     tools/gate_times.py [--anew] [--folder CHECKOUT] [--log FILE] [NAME ..]
-    tools/gate_times.py --functions [--jobs N] [NAME ..]
+    tools/gate_times.py --functions|--modules [--jobs N] [NAME ..]
 
 It starts `rt ci` (with the names, if given) in the checkout, with RT_JOBS as tools/gate sets it, and samples its processes in /proc twice a second.
 With `--anew` it reuses nothing of earlier runs: a toolchain that keeps what passed is told so, and any other keeps nothing. The kinds are the crate's
@@ -11,8 +11,14 @@ what it took since the last sample; the total is the system's own count. The lon
 processor minutes, which are minutes by the clock if each check has one job. The output of `rt ci` goes to the log. It ends as `rt ci` does.
 
 With --functions it checks each named crate (all, if none is) at one job, without kept work, with its tests, and prints which twenty functions
-take the prover longest, as tools/times.py does, but by processor time: so other work may run, and `--jobs` crates are checked side by side.
-Crates below must be proved (tools/prove).
+take the prover longest, by processor time: so other work may run, and `--jobs` crates are checked side by side. Crates below must be proved
+(tools/prove). With --modules it prints which twenty modules: the check writes a file for each that it makes of a function, one after another,
+so the time between two files is what the second one took. Of a function F these are mostly
+
+  F.Lts       the shape of its code: grows faster than its branches, `?`, patterns and assert macros do; split it, or make a table of it
+  F.Tie       its calls: a call at a named lock takes some seconds; name each lock once
+  F.Proof     what the tactics search: write an answer for the goal that they find last, or not at all
+  F.Answers   the answers: a tactic reads all that is known; move the reasoning into a lemma over plain variables
 """
 
 import argparse
@@ -27,11 +33,12 @@ import subprocess
 import tempfile
 import time
 
-import times
 from crates import ROOT, below, end_all, lanes, named, read_crates, run_main, say, show, spawn
 from tests import count_of_tests
 
 KINDS = ("proof", "tests", "seed", "edits")
+# The modules that the prover makes of a function F: F.WORD, or F.WORD.MORE, for each of these words.
+OF_FUNCTION = re.compile(r"\.(?:Lts|Tie|Proof|Answers|Invariants|Code|Given|Goals|Kinds|Layout|Met|Named|Reads|Statement|Symbol|TheLink)(?:\..*)?$")
 TICK = os.sysconf("SC_CLK_TCK")
 PAGE = os.sysconf("SC_PAGE_SIZE")
 EVERY = 0.5
@@ -207,23 +214,46 @@ def new_files(folder, seen):
     return [path for _, path in sorted(found)]
 
 
+def module_of(path):
+    """The module of a kept file, without the crate's name."""
+    name = path.name.removesuffix(".oantt").removesuffix(".decls")
+    return re.sub(r"^Rattle-[a-z0-9_]+-(proofs|specs)\.", r"\1 ", name)
+
+
+def between(files):
+    """The seconds of each module, by the times at which the files were written, in their order."""
+    seconds, before = collections.Counter(), files[0][0] if files else 0.0
+    for at, module in files:
+        seconds[module] += at - before
+        before = at
+    return seconds
+
+
+def by_function(seconds):
+    """The seconds of each function, over all its modules."""
+    functions = collections.Counter()
+    for module, much in seconds.items():
+        functions[OF_FUNCTION.sub("", module.removeprefix("proofs "))] += much
+    return functions
+
+
 def took_of(crate, crates):
-    """The processor seconds that the prover took for each function of a crate, and its output if the crate is not proved."""
+    """The processor seconds that the prover took for each module of a crate, and its output if the crate is not proved."""
     with tempfile.TemporaryDirectory(prefix="gate-times-") as kept, tempfile.TemporaryFile("w+") as log:
         running = subprocess.Popen(words_of(crate, crates, kept), cwd=crate.folder, stdout=log, stderr=subprocess.STDOUT)
         seen = {}
         while running.poll() is None:
             now = spent(running.pid)
-            seen |= {it: (now, times.module_of(pathlib.Path(it))) for it in new_files(kept, seen)}
+            seen |= {it: (now, module_of(pathlib.Path(it))) for it in new_files(kept, seen)}
             time.sleep(EVERY)
         if running.returncode:
             log.seek(0)
             return {}, log.read()[-2000:]
-        return times.by_function(times.between(list(seen.values()))), ""
+        return between(list(seen.values())), ""
 
 
 def functions(args, crates):
-    """Prints the functions for which the prover takes longest."""
+    """Prints the functions, or their modules, for which the prover takes longest."""
     took = collections.Counter()
     names = named(crates, args.names)
     with concurrent.futures.ThreadPoolExecutor(args.jobs) as pool:
@@ -231,8 +261,8 @@ def functions(args, crates):
             if why:
                 say(f"{name}: not proved\n{why}")
                 return 1
-            took.update({f"{name}::{function}": much for function, much in seconds.items()})
-    print("| Function | Seconds |\n|---|---|")
+            took.update({f"{name}::{it}": much for it, much in (seconds if args.modules else by_function(seconds)).items()})
+    print(f"| {'Module' if args.modules else 'Function'} | Seconds |\n|---|---|")
     for function, seconds in took.most_common(MOST):
         print(f"| `{function}` | {seconds:.0f} |")
     return 0
@@ -244,10 +274,11 @@ def main():
     parser.add_argument("--folder", default=ROOT)
     parser.add_argument("--log", default=os.path.join(tempfile.gettempdir(), "gate_times.log"))
     parser.add_argument("--functions", action="store_true")
+    parser.add_argument("--modules", action="store_true")
     parser.add_argument("--jobs", type=int, default=1)
     parser.add_argument("names", nargs="*", metavar="NAME")
     args = parser.parse_args()
-    return (functions if args.functions else gate)(args, read_crates())
+    return (functions if args.functions or args.modules else gate)(args, read_crates())
 
 
 if __name__ == "__main__":

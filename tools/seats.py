@@ -194,6 +194,32 @@ FAULTS |= {
     "notices: who is told that it is closed makes no call": ("    return told(node, got);\n}\n\nuint32_t qolb_notify_off", "    return got;\n}\n\nuint32_t qolb_notify_off"),
 }
 
+# Nodes and notices, in steps of their own: when a count is read, where a sleeper sleeps, what a look decides.
+TOLLS = "    atomic_fetch_add(&bell->word, 1);\n    qolb_wake_at_(&bell->word, INT32_MAX);\n"
+RELEASES = "    return let_go(node, qolb_deqolb_proved_(node));\n"
+AFTER_LOOK = "    if (got != QOLB_WAITING) take_out(notice);\n"
+COUNTED_EARLY = "    unsigned early = atomic_load(&anywhere.waiting);\n    uint32_t got = qolb_deqolb_proved_(node);\n    return early && rings(node, got) ? rung(node, got) : got;\n"
+COUNTED_EARLY_IN_LINE = "    unsigned early = atomic_load(waiting_in_line(node));\n    uint32_t got = qolb_deqolb_proved_(node);\n    return atomic_load(&anywhere.waiting) && early ? rung(node, got) : got;\n"
+FAULTS |= {
+    "nodes: who rings wakes nobody": (TOLLS, TOLLS.splitlines(True)[0]),
+    "nodes: who rings adds nothing": (TOLLS, TOLLS.splitlines(True)[1]),
+    "nodes: the wake comes before the addition": (TOLLS, "".join(reversed(TOLLS.splitlines(True)))),
+    "nodes: who releases reads the count of all before the release": (RELEASES, COUNTED_EARLY),
+    "nodes: who releases reads the count of the line before the release": (RELEASES, COUNTED_EARLY_IN_LINE),
+    "nodes: each node of a line has a count of its own": ("&qolb_bells_[bell % BELLS].in_line", "&qolb_bells_[(bell + k) % BELLS].in_line"),
+    "nodes: a sleeper sleeps at another's bell": ("    struct bell *bell = bell_at(node, qolb_waits_at_proved_(node));\n", "    struct bell *bell = bell_at(node, qolb_waits_at_proved_(node) + PLACE_WORDS);\n"),
+    "nodes: a sleeper does not take itself off": ("    atomic_fetch_sub(&anywhere.waiting, 1);\n    atomic_fetch_sub(waiting_in_line(node), 1);\n    atomic_fetch_sub(&bell->sleepers, 1);\n", ""),
+    "nodes: who releases rings at its own place": ("qolb_went_to_proved_(node)", "qolb_waits_at_proved_(node)"),
+    "nodes: the one behind the next holder is rung for alone": (NEXT, NEXT.splitlines(True)[1]),
+    "notices: who releases reads the count of all before the release": (RELEASES, COUNTED_EARLY),
+    "notices: who releases reads the count of the line before the release": (RELEASES, COUNTED_EARLY_IN_LINE),
+    "notices: who releases calls for its own place": ("qolb_went_to_proved_(node)", "qolb_waits_at_proved_(node)"),
+    "notices: a notice is counted before the look, and listed after it": (LISTED, LISTED.splitlines(True)[0], LISTENS + AFTER_LOOK, "    add_to_counts(notice, 1);\n    uint32_t got = qolb_poll_proved_(node);\n    if (got == QOLB_WAITING) put_in(notice, bell);\n    else add_to_counts(notice, -1u);\n"),
+    "notices: the look comes after the guard": (LISTENS + AFTER_LOOK, "    put_in(notice, bell);\n    return_guard(&bell->guard);\n    uint32_t got = qolb_poll_proved_(node);\n    take_guard(&bell->guard);\n    if (got != QOLB_WAITING && notice->before) take_out(notice);\n"),
+    "notices: who is granted the line by its look stays in the list": (LISTENS + AFTER_LOOK, LISTENS),
+    "notices: a call is noted no longer when it begins": ("    call(arg);\n    qolb_notify_done();\n", "    qolb_notify_done();\n    call(arg);\n"),
+}
+
 # The gate.
 KEEPS = "    if (is_alone(hall, kept)) qolb_leave_gate_(hall, atomic_load(&hall->gate), qolb_deqolb_proved_);\n    else end_kept(hall, qolb_deqolb_proved_);\n"
 BEFORE_GATE = "    go_in_by(hall, kept);\n" + KEEPS
@@ -380,6 +406,7 @@ IN_TWO_TURNS = {
     "nodes: who shuts the line rings no bell": "nodes: one shuts",
     "nodes: who is late does not withdraw": "nodes: one is late and comes again",
     "notices: the look comes before the notice": "notices",
+    "notices: a notice is counted before the look, and listed after it": "notices",
     "notices: a notice is counted after the look": "notices",
     "notices: who releases takes no guard": "notices",
     "notices: the call is noted after the guard": "notices",
@@ -417,6 +444,7 @@ IN_TWO_TURNS = {
 
 # The same of faults that take three turns.
 IN_THREE_TURNS = {
+    "nodes: the wake comes before the addition": "nodes: three acquire",
     "who closes the lock looks for guests before it looks at the door": "one closes, and there is one seat",
     "who goes from the door without a seat is a guest after that": "one closes, and there is one seat",
 }
@@ -435,6 +463,11 @@ HARMLESS = {
     "behind a task that got a seat nobody is served": (SERVES, "    if (hall->first && hall->first->is_task) {\n        told.met = qolb_seat_first_(hall, &told.due) == MEETS;\n        return told;\n    }\n"),
     # Until it is, who frees its seat waits for the guard, and so does who closes the lock after that.
     "a task is told before it is counted out": (COUNTED_OUT, COUNTED_OUT.splitlines(True)[1] + COUNTED_OUT.splitlines(True)[0] + COUNTED_OUT.splitlines(True)[2]),
+    # A ring at which nobody sleeps wakes nobody.
+    "nodes: who releases rings whether any sleeps or not": (RELEASES, "    uint32_t got = qolb_deqolb_proved_(node);\n    return got == QOLB_DONE ? rung(node, got) : got;\n"),
+    # Being woken a turn ahead saves time alone.
+    "nodes: nobody is woken a turn ahead": (NEXT, NEXT.splitlines(True)[0]),
+    "notices: the count comes before the list": (LISTED, "".join(reversed(LISTED.splitlines(True)))),
     # Of what it was told, a seat is free, or its new thread tells the next when it leaves.
     "who goes from the door does not tell what it was told": (GOES, GOES.replace("(is_told(my) || has_free_seat(hall))", "has_free_seat(hall)")),
 }

@@ -7,8 +7,8 @@
  * turn or seat, and sleeps while the word is unchanged. A waker first makes its change, and then loads those counts,
  * the one of most first; if none is 0, the waker loads the sleepers of the few bells that it has to ring. Each step is
  * sequentially consistent, but for those of qolb_end_turn_, in lock.c. So one of the two sees the other: a Dekker
- * handshake. tools/spin goes through all orders of these steps, and through those of protocols that differ by one step;
- * tools/seats.py runs these files themselves, on a model of the processor's memory.
+ * handshake. tools/seats.py runs these files themselves, as they are and with each step changed, on a model of the
+ * processor's memory.
  *
  * A waiter without a thread has a notice in the bell's list in place of a sleeper: the waker makes its call (notify.c).
  *

@@ -6,7 +6,7 @@
  * request, leaves the notice at the place, and goes on with the next. A task that got the lock with its seat, or was told that it is shut, has a notice
  * that is due: who served it calls it, behind the guard. Who meets a seat that is about to be free looks again.
  *
- * That a notice and a sleeper at a bell are not lost is another model's matter (notices.pml, bells.pml). Here a poll and what it leaves are one step, and so
+ * That a notice and a sleeper at a bell are not lost is explored elsewhere (tools/seats.py). Here a poll and what it leaves are one step, and so
  * are a load of a bell and what it wakes. The gate and the kept turn of the lock are left out: while a task waits no turn is kept (tools/seats.py).
  *
  * No order may end while somebody waits, or with a seat taken, a count or a notice left. Nobody may get a seat before one that stood at the door when it
