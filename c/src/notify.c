@@ -8,7 +8,12 @@
  * the guard. Once the call has begun the notice is not touched: its node may be gone. */
 #define _GNU_SOURCE
 #include "bells.h"
+#include <errno.h>
 #include <pthread.h>
+#include <unistd.h>
+#ifdef __linux__
+#include <sys/syscall.h>
+#endif
 
 /* The sanitizer of threads, if the program has it, sees nothing inside this library. It is told what a wish for a call
  * hands over, and what a call does. */
@@ -88,6 +93,7 @@ static struct running *running_elsewhere(const struct notice *notice, struct bel
 
 /* ---- Wanting a call ---- */
 
+#ifndef WITHOUT_NODES /* as where the proved lock is a stand-in */
 uint32_t qolb_listen_(struct notice *notice, qolb_node *node) {
     uint64_t word = qolb_waits_at_proved_(node);
     struct bell *bell = bell_at(node, word);
@@ -100,6 +106,7 @@ uint32_t qolb_listen_(struct notice *notice, qolb_node *node) {
     return_guard(&bell->guard);
     return got;
 }
+#endif
 
 void qolb_list_(struct notice *notice, uint64_t key) {
     struct bell *bell = bell_of_key(key);
@@ -132,6 +139,18 @@ uint32_t qolb_unlist_(struct notice *notice) {
 }
 
 /* ---- Making a call ---- */
+
+/* By syscall, which is no cancellation point, as write is. The thread that releases the line keeps its errno. */
+void qolb_add_to_descriptor_(void *fd) {
+    uint64_t one = 1;
+    int error = errno;
+#ifdef __linux__
+    syscall(SYS_write, (int)(intptr_t)fd, &one, sizeof one);
+#else
+    (void)!write((int)(intptr_t)fd, &one, sizeof one);
+#endif
+    errno = error;
+}
 
 void qolb_notify_done(void) {
     struct running *me = in_call ? in_call->running : NULL;
