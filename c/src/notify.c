@@ -20,7 +20,7 @@
 void __tsan_acquire(void *address) __attribute__((weak));
 void __tsan_release(void *address) __attribute__((weak));
 
-static void tell_acquire(const void *at) {
+void qolb_tell_acquire_(const void *at) {
     if (__tsan_acquire) __tsan_acquire((void *)(uintptr_t)at);
 }
 
@@ -134,7 +134,7 @@ uint32_t qolb_unlist_(struct notice *notice) {
     if (notice->before) take_out(notice);
     while ((call = running_elsewhere(notice, bell))) await_end(bell, call);
     return_guard(&bell->guard);
-    tell_acquire(notice);
+    qolb_tell_acquire_(notice);
     return got;
 }
 
@@ -184,7 +184,7 @@ static void make_noted_call(struct bell *bell, uint64_t key) {
     return_guard(&bell->guard);
     in_call->running = &me;
     in_call->bell = bell;
-    tell_acquire(notice);
+    qolb_tell_acquire_(notice);
     call(arg);
     qolb_notify_done();
 }

@@ -70,6 +70,7 @@ static void put_in(struct entry *e) {
     e->next = last ? last->next : e;
     if (last) last->next = e;
     set_last(list, e);
+    qolb_tell_release_(e); /* another thread may free it */
 }
 
 /* The entry before that of this ticket, the oldest of the list first; NULL if there is none. */
@@ -91,6 +92,11 @@ static void take_out(struct entry *e) {
 static struct entry *find(const struct lock *lock, uint64_t number) {
     struct entry *before = find_before(lock, number);
     return before ? before->next : NULL;
+}
+
+static void free_entry(struct entry *e) {
+    qolb_tell_acquire_(e);
+    free(e);
 }
 
 /* ---- Entering the registry ---- */
@@ -148,7 +154,7 @@ static uint64_t make_due(struct entry *e, const struct qolb_ticket *ticket) {
     task->turn = ticket->state;
     atomic_store(&task->state, DUE);
     qolb_list_(&task->notice, key);
-    free(e);
+    free_entry(e);
     return key;
 }
 
@@ -186,7 +192,7 @@ enum found qolb_find_granted_(struct lock *lock, uint64_t number, struct qolb_ti
         take_out(e);
         *ticket = kept_ticket(lock, number, QOLB_TICKET_ASLEEP_);
         qolb_core_retract_sleep_proved_(&lock->core, ticket);
-        if (!e->task) free(e);
+        if (!e->task) free_entry(e);
         else if (!waits_on(e, ticket)) *key = make_due(e, ticket);
     }
     return_row(row);
@@ -225,7 +231,7 @@ static struct qolb_ticket withdraw(struct task *task) {
         if (qolb_core_retract_sleep_proved_(&lock->core, &ticket) == QOLB_WAITING)
             qolb_core_withdraw_proved_(&lock->core, &ticket);
     }
-    free(e);
+    free_entry(e);
     return ticket;
 }
 
