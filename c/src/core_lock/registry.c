@@ -11,8 +11,8 @@
  *   the lock may go. An abandoned turn is passed on. A task's is the task's, which is *due*: its call is made, and its
  *   poll, or whoever cancels, goes on from there.
  * - A task at its turn of the queue of a lock with bursts is the queue head, and watches nothing. If the outer word is
- *   held, its entry goes to the list of heads, and then requests the handoff and announces the head's sleep, until one
- *   look finds both. So who leaves reserves the word and is told; that one looks there, and takes the word for the task.
+ *   held, its entry goes to the list of heads, and then requests the handoff, so that no newcomer follows who is in, and
+ *   announces the head's sleep. Who leaves is told of that, looks there, and takes the word for the task.
  *
  * All lists of a lock have one guard, which sleeps. No call of a task is made under it. A list is whole after each
  * store, for the child of a fork. */
@@ -139,7 +139,7 @@ static int stands_as_head(struct entry *e, struct qolb_ticket *ticket) {
     put_in(e);
     do {
         if (qolb_core_request_handoff_proved_(core, ticket) == QOLB_DONE &&
-            qolb_core_announce_head_sleep_proved_(core, ticket) == QOLB_ASLEEP_ && ticket->outer & HANDOFF_REQUESTED)
+            qolb_core_announce_head_sleep_proved_(core, ticket) == QOLB_ASLEEP_)
             return 1;
     } while (qolb_core_take_outer_proved_(core, ticket) == QOLB_WAITING);
     take_out(e);
