@@ -2,6 +2,7 @@
  * files, or those that differ by a fault, and the stand-in for the proved calls are built with -fsanitize=thread, by
  * which the compiler reports each access to memory by a call, and explorer.c answers those calls. */
 #include <core_lock/lock.h>
+#include <errno.h>
 #include <sched.h>
 #include "explorer.h"
 
@@ -594,7 +595,7 @@ void check_end(const struct scene *scene) {
 
 int is_own(uintptr_t at) {
     return at - (uintptr_t)&qolb_own_ < sizeof qolb_own_ || at - (uintptr_t)&qolb_core_room_ < sizeof qolb_core_room_ ||
-           at - (uintptr_t)&qolb_learned_ < sizeof qolb_learned_;
+           at - (uintptr_t)&qolb_learned_ < sizeof qolb_learned_ || at - (uintptr_t)&errno < sizeof errno;
 }
 
 UNSEEN void change_thread(struct own_data *from, const struct own_data *to) {
