@@ -33,7 +33,7 @@ SOURCE = ROOT / "c/src"
 MODEL = ROOT / "tools/seats"
 # What is built, in a copy of c/src; those of tools/seats beside it.
 LIBRARY = ("bells.c", *(f"core_lock/{name}.c" for name in ("conditions", "lock", "opens", "parks", "turns", "waits")))
-RENAMED = [f"-D{name}=model_{short}" for name, short in (("malloc", "malloc"), ("free", "free"), ("syscall", "syscall"), ("sched_yield", "yield"), ("clock_gettime", "clock"))]
+RENAMED = [f"-D{name}=model_{short}" for name, short in (("malloc", "malloc"), ("free", "free"), ("syscall", "syscall"), ("sched_yield", "yield"), ("clock_gettime", "clock"), ("pthread_once", "once"), ("pthread_key_create", "key"), ("pthread_setspecific", "set"), ("pthread_atfork", "atfork"))]
 BY_MODEL = ["-w", "-O1", "-DQOLB_LOCK_CORE", "-DEXPLORED", "-fsanitize=thread", "-U__SANITIZE_THREAD__", "-DQOLB_NO_PROBES", *RENAMED]
 
 

@@ -3,6 +3,7 @@
  * which the compiler reports each access to memory by a call, and explorer.c answers those calls. */
 #include <core_lock/lock.h>
 #include <errno.h>
+#include <pthread.h>
 #include <sched.h>
 #include "explorer.h"
 
@@ -35,6 +36,68 @@ UNSEEN void *qolb_malloc_(size_t size) {
     return block;
 }
 void qolb_free_(void *block) { (void)block; }
+
+/* ---- A thread's own data, and its end ---- */
+
+static struct own *owns[THREADS + 1];
+static int are_looked_at; /* by other threads; else each access to them is the thread's own */
+
+struct own *model_own(void);
+UNSEEN struct own *model_own(void) { return owns[self_number()]; }
+
+/* The library has one key. */
+static struct {
+    void (*destructor)(void *);
+    void *value[THREADS + 1];
+    int has_begun;
+    struct clock begun;
+} key;
+
+void model_clear_tables(void);
+UNSEEN int model_once(pthread_once_t *once, void (*call)(void)) {
+    if (!key.has_begun) call();
+    if (!key.has_begun) releases(&key.begun);
+    else acquires(&key.begun);
+    return (void)once, key.has_begun = 1, 0;
+}
+UNSEEN int model_key(pthread_key_t *out, void (*destructor)(void *)) {
+    return *out = 0, key.destructor = destructor, 0;
+}
+UNSEEN int model_set(pthread_key_t at, const void *value) {
+    return (void)at, key.value[self_number()] = (void *)(uintptr_t)value, 0;
+}
+int model_atfork(void (*prepare)(void), void (*parent)(void), void (*child)(void)) {
+    return (void)prepare, (void)parent, (void)child, 0;
+}
+
+UNSEEN static void run_destructor(void) {
+    void *value = key.value[self_number()];
+    key.value[self_number()] = NULL;
+    if (value) key.destructor(value);
+}
+
+void end_thread(void) {
+    run_destructor();
+    if (are_looked_at) model_free(owns[self_number()]);
+}
+
+/* Unless they are looked at, the tables are in no list. */
+static void new_data_of_threads(int looked_at) {
+    memset(&key, 0, sizeof key);
+    are_looked_at = 0;
+    model_clear_tables();
+    for (int k = 0; k <= THREADS; k++) {
+        owns[k] = model_malloc(sizeof(struct own));
+        *owns[k] = (struct own){.known = looked_at && k < THREADS ? UNKNOWN : KNOWN};
+    }
+    are_looked_at = looked_at;
+}
+
+UNSEEN static int is_in_table(uintptr_t at) {
+    int is = 0;
+    for (int k = 0; k <= THREADS; k++) is |= owns[k] && at - (uintptr_t)owns[k] < sizeof *owns[k];
+    return is && !are_looked_at;
+}
 
 /* ---- Who may be served before whom ----
  *
@@ -467,6 +530,63 @@ static void waits_beyond(int self) {
     if (self == 0) MUST(qolb_cond_signal(&it.cond) == QOLB_DONE);
 }
 
+/* ---- Who holds the lock ---- */
+
+/* As the system numbers them. */
+enum { FIRST_NUMBER = 100 };
+
+static void is_held_by(int self) { MUST(qolb_lock_holder(it.lock) == (uint64_t)(FIRST_NUMBER + self)); }
+
+/* Others come, and end; one asks meanwhile. */
+static void holder_comes_and_ends(int self) {
+    if (self < it.users - 1) {
+        MUST(qolb_lock_enter(it.lock) == QOLB_GRANTED);
+        turn();
+        is_held_by(self);
+        leave();
+        return;
+    }
+    uint64_t number = qolb_lock_holder(it.lock);
+    MUST(number == 0 || (number >= FIRST_NUMBER && number < (uint64_t)(FIRST_NUMBER + self)));
+}
+
+/* One ends as the holder, and another asks meanwhile. */
+static void ends_as_holder(int self) {
+    if (self == 0) {
+        MUST(qolb_lock_enter(it.lock) == QOLB_GRANTED);
+        atomic_store(&it.over, 1);
+        return;
+    }
+    while (!atomic_fetch_add(&it.over, 0)) sched_yield();
+    for (int k = 0; k < 2; k++) is_held_by(0);
+}
+
+/* In a destructor behind the library's one leaves, or enters, while another asks. */
+static void in_a_destructor(int self, int holds) {
+    if (self) {
+        uint64_t number = qolb_lock_holder(it.lock);
+        MUST(number == 0 || number == FIRST_NUMBER);
+        return;
+    }
+    MUST(qolb_lock_enter(it.lock) == QOLB_GRANTED);
+    if (!holds) leave();
+    run_destructor();
+    if (!holds) MUST(qolb_lock_enter(it.lock) == QOLB_GRANTED);
+    MUST(qolb_lock_enter(it.lock) == QOLB_MISUSE);
+    is_held_by(0);
+    leave();
+    MUST(qolb_lock_holder(it.lock) == 0);
+}
+
+static void leaves_in_a_destructor(int self) { in_a_destructor(self, 1); }
+
+static void enters_in_a_destructor(int self) { in_a_destructor(self, 0); }
+
+UNSEEN static int asks_for_holder(void (*does)(int)) {
+    return does == holder_comes_and_ends || does == ends_as_holder || does == leaves_in_a_destructor ||
+           does == enters_in_a_destructor;
+}
+
 /* ---- All scenes ---- */
 
 #define ROOMY 15, 65535
@@ -511,6 +631,11 @@ const struct scene scenes[] = {
     {"one signals and frees", signals_and_frees, 2, 0, 0, ROOMY},
     {"one closes beside a waiter", one_closes_beside_a_waiter, 2, 0, 0, ROOMY},
     {"enters again", enters_again, 2, 0, 0, ROOMY},
+    {"holder: one comes and ends", holder_comes_and_ends, 2, 0, 0, ROOMY},
+    {"holder: two come and end", holder_comes_and_ends, 3, 0, 0, ROOMY},
+    {"holder: one ends with it", ends_as_holder, 2, 0, 0, ROOMY},
+    {"holder: one leaves in a destructor", leaves_in_a_destructor, 2, 0, 0, ROOMY},
+    {"holder: one enters in a destructor", enters_in_a_destructor, 2, 0, 0, ROOMY},
     {"holds three", holds_three, 2, 0, 1, ROOMY},
     {"waits beyond the table", waits_beyond, 2, 0, 0, ROOMY},
     {"bursts: each enters, at the first use", enters, 2, 2, 1, ROOMY},
@@ -559,7 +684,8 @@ static qolb_lock *unopened(const struct scene *scene, int k) {
 
 void set_up(const struct scene *scene) {
     qolb_bytes zeros = {{0}};
-    memset(&it, 0, sizeof it), memset(order, 0, sizeof order), memset(&qolb_own_, 0, sizeof qolb_own_);
+    memset(&it, 0, sizeof it), memset(order, 0, sizeof order);
+    new_data_of_threads(asks_for_holder(scene->does));
     time_of_order = 0, it.users = scene->threads, model_near = scene->near, model_sleepers = scene->sleepers;
     for (int k = 0; k < LOCKS; k++) {
         it.locks[k] = unopened(scene, k);
@@ -585,6 +711,11 @@ void check_end(const struct scene *scene) {
         MUST(scene->does != each[k].does || it.turns == each[k].turns * scene->threads);
     MUST(scene->does != one_stays || it.turns == 6);
     MUST(it.inside == 0 && it.cond.own == NULL);
+    if (scene->does == ends_as_holder) {
+        is_held_by(0);
+        MUST(qolb_lock_close(it.lock) == QOLB_MISUSE);
+        return;
+    }
     for (int k = 0; k < LOCKS; k++) {
         qolb_lock *lock = k ? it.locks[k] : it.lock;
         if (!lock) continue;
@@ -594,12 +725,8 @@ void check_end(const struct scene *scene) {
 }
 
 int is_own(uintptr_t at) {
-    return at - (uintptr_t)&qolb_own_ < sizeof qolb_own_ || at - (uintptr_t)&qolb_core_room_ < sizeof qolb_core_room_ ||
+    return is_in_table(at) || at - (uintptr_t)&qolb_core_room_ < sizeof qolb_core_room_ ||
            at - (uintptr_t)&qolb_learned_ < sizeof qolb_learned_ || at - (uintptr_t)&errno < sizeof errno;
 }
 
-UNSEEN void change_thread(struct own_data *from, const struct own_data *to) {
-    memcpy(from, &qolb_own_, sizeof qolb_own_);
-    memcpy(&qolb_own_, to, sizeof qolb_own_);
-}
-_Static_assert(sizeof(struct own) <= sizeof(struct own_data), "a thread's data have room");
+void change_thread(struct own_data *from, const struct own_data *to) { (void)from, (void)to; }
