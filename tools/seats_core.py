@@ -32,9 +32,10 @@ ROOT = pathlib.Path(__file__).resolve().parent.parent
 SOURCE = ROOT / "c/src"
 MODEL = ROOT / "tools/seats"
 # What is built, in a copy of c/src; those of tools/seats beside it.
-LIBRARY = ("bells.c", *(f"core_lock/{name}.c" for name in ("conditions", "lock", "opens", "parks", "turns", "waits")))
+LIBRARY = ("bells.c", "notify.c", *(f"core_lock/{name}.c" for name in ("conditions", "lock", "opens", "parks", "registry", "tasks", "turns", "waits")))
+SCENES = ("core.c", "core_scenes.c", "core_holders.c", "core_tasks.c", "explorer.c")
 RENAMED = [f"-D{name}=model_{short}" for name, short in (("malloc", "malloc"), ("free", "free"), ("syscall", "syscall"), ("sched_yield", "yield"), ("clock_gettime", "clock"), ("pthread_once", "once"), ("pthread_key_create", "key"), ("pthread_setspecific", "set"), ("pthread_atfork", "atfork"))]
-BY_MODEL = ["-w", "-O1", "-DQOLB_LOCK_CORE", "-DEXPLORED", "-fsanitize=thread", "-U__SANITIZE_THREAD__", "-DQOLB_NO_PROBES", *RENAMED]
+BY_MODEL = ["-w", "-O1", "-DQOLB_LOCK_CORE", "-DWITHOUT_NODES", "-DEXPLORED", "-fsanitize=thread", "-U__SANITIZE_THREAD__", "-DQOLB_NO_PROBES", *RENAMED]
 
 
 def functions(text):
@@ -69,12 +70,12 @@ def edit(folder, name, where, old, new):
 def built(folder, edits, width):
     """The explorer, built over the library with these edits, with so many tickets in a round."""
     shutil.copytree(SOURCE, folder, dirs_exist_ok=True)
-    for name in ("core.c", "core_scenes.c", "explorer.c", "explorer.h"):
+    for name in (*SCENES, "core_scenes.h", "explorer.h"):
         shutil.copy(MODEL / name, folder)
     for change in (*edits, *HOOKED, ("core.c", "", "IN_ROUND = 4", f"IN_ROUND = {width}"), ("core_lock/lock.h", "", "TICKETS_IN_ROUND = 4", f"TICKETS_IN_ROUND = {width}")):
         edit(folder, *change)
     objects = []
-    for name in (*LIBRARY, "core.c", "core_scenes.c", "explorer.c"):
+    for name in (*LIBRARY, *SCENES):
         objects.append(folder / f"{name.replace('/', '_')}.o")
         told = ["-O2", "-DQOLB_LOCK_CORE"] if name == "explorer.c" else BY_MODEL
         subprocess.run(["cc", "-std=c11", "-I", folder, "-I", ROOT / "c/include", *told, "-c", folder / name, "-o", objects[-1]], check=True)

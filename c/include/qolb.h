@@ -590,7 +590,6 @@ uint32_t qolb_cond_wait_within(qolb_cond *cond, qolb_lock *lock, uint64_t nanose
 uint32_t qolb_cond_signal(qolb_cond *cond);
 uint32_t qolb_cond_broadcast(qolb_cond *cond);
 
-#ifndef QOLB_LOCK_CORE
 /* clang-format off */
 
 /* A task that enters locks: nobody waits in it. It starts as QOLB_TASK_INIT. It stays where it is while it waits. Once
@@ -626,9 +625,13 @@ uint32_t qolb_task_leave(qolb_task *task);
 /* Leaves for a task, and closes the lock, as qolb_lock_shut does. DONE; MISUSE as of qolb_task_leave. */
 uint32_t qolb_task_shut(qolb_task *task);
 
+#ifndef QOLB_LOCK_CORE
 /* The node of a task that holds a lock, lent until it leaves, as qolb_lock_turn lends a thread's: to whoever makes the
  * calls for the task. Else NULL. */
 qolb_node *qolb_task_turn(qolb_task *task);
+#else
+/* 1 if the task holds a lock, else 0. */
+int qolb_task_holds(const qolb_task *task);
 #endif
 
 /* The version of the library, as QOLB_VERSION is that of the header. */
@@ -727,7 +730,6 @@ QOLB_LOOK static inline uint32_t qolb_cond_wait_within_(qolb_cond *cond, qolb_lo
     return qolb_leaves_(lock), qolb_entered_(lock, qolb_cond_wait_within(cond, lock, nanoseconds));
 }
 
-#ifndef QOLB_LOCK_CORE
 /* A task's lock is its first word. */
 static inline uint32_t qolb_tasked_(qolb_task *task, uint32_t got) {
     if (got == QOLB_GRANTED || got == QOLB_CLOSED) QOLB_TOOK_(task->own[0]);
@@ -735,7 +737,11 @@ static inline uint32_t qolb_tasked_(qolb_task *task, uint32_t got) {
 }
 
 static inline void qolb_task_leaves_(qolb_task *task) {
+#ifdef QOLB_LOCK_CORE
+    if (qolb_task_holds(task)) QOLB_GIVES_(task->own[0]);
+#else
     if (qolb_task_turn(task)) QOLB_GIVES_(task->own[0]);
+#endif
 }
 
 QOLB_LOOK static inline uint32_t qolb_task_enter_(qolb_task *task, qolb_lock *lock, void (*call)(void *arg),
@@ -753,7 +759,6 @@ static inline uint32_t qolb_task_shut_(qolb_task *task) { return qolb_task_leave
 #define qolb_task_poll qolb_task_poll_
 #define qolb_task_leave qolb_task_leave_
 #define qolb_task_shut qolb_task_shut_
-#endif
 #define qolb_lock_enter qolb_lock_enter_
 #define qolb_lock_try qolb_lock_try_
 #define qolb_lock_enter_within qolb_lock_enter_within_

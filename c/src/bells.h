@@ -139,8 +139,10 @@ static inline struct bell *bell_of_key(uint64_t key) {
  * any other answer, and it will not. */
 HIDDEN uint32_t qolb_listen_(struct notice *notice, qolb_node *node);
 
-/* For the sanitizer of threads: what was done until now comes before the call of the notice at this address. */
+/* For the sanitizer of threads: what was done until now comes before what follows an acquire of this address, as the
+ * call of the notice there. */
 HIDDEN void qolb_tell_release_(const void *at);
+HIDDEN void qolb_tell_acquire_(const void *at);
 
 /* Puts the notice into the list of this key's bell. */
 HIDDEN void qolb_list_(struct notice *notice, uint64_t key);

@@ -10,11 +10,6 @@
 #include "bells.h"
 #include "probes.h"
 #include "spin.h"
-#include <errno.h>
-#include <unistd.h>
-#ifdef __linux__
-#include <sys/syscall.h>
-#endif
 
 /* The longest sleep of a busy node in nanoseconds: no call rings for it. */
 enum { NAP = 200000 };
@@ -243,18 +238,6 @@ uint32_t qolb_notify_off(qolb_node *node) {
     uint32_t got = qolb_unlist_(notice);
     notice->call = NULL;
     return got;
-}
-
-/* By syscall, which is no cancellation point, as write is. The thread that releases the line keeps its errno. */
-void qolb_add_to_descriptor_(void *fd) {
-    uint64_t one = 1;
-    int error = errno;
-#ifdef __linux__
-    syscall(SYS_write, (int)(intptr_t)fd, &one, sizeof one);
-#else
-    (void)!write((int)(intptr_t)fd, &one, sizeof one);
-#endif
-    errno = error;
 }
 
 uint32_t qolb_notify_fd(qolb_node *node, int fd) {

@@ -24,6 +24,15 @@ static void begin(uint32_t kind, uint32_t seats) {
 
 static uint32_t enters(int k) { return qolb_task_enter(&task[k], &lock, count, &task[k]); }
 
+/* Whether a task holds the lock, and whether this thread does. */
+#ifdef QOLB_LOCK_CORE
+static int holds(int k) { return qolb_task_holds(&task[k]); }
+static int is_mine(void) { return qolb_lock_is_mine(&lock); }
+#else
+static int holds(int k) { return qolb_task_turn(&task[k]) != NULL; }
+static int is_mine(void) { return qolb_lock_turn(&lock) != NULL; }
+#endif
+
 static int is_called(int k, int times) {
     WANT(calls, times);
     WANT(last == &task[k], 1);
@@ -39,7 +48,7 @@ static int refuses(uint32_t kind, uint32_t seats) {
     WANT(qolb_task_leave(&task[0]), QOLB_MISUSE);
     WANT(qolb_task_shut(&task[0]), QOLB_MISUSE);
     WANT(qolb_task_cancel(&task[0]), QOLB_DONE);
-    WANT(qolb_task_turn(&task[0]) == NULL, 1);
+    WANT(holds(0), 0);
     WANT(qolb_task_enter(&task[0], &lock, NULL, NULL), QOLB_MISUSE);
     WANT(qolb_task_enter_fd(&task[0], &lock, -1), QOLB_MISUSE);
     WANT(enters(0), QOLB_GRANTED);
@@ -49,13 +58,14 @@ static int refuses(uint32_t kind, uint32_t seats) {
     WANT(qolb_lock_leave(&lock), QOLB_MISUSE);
     WANT(qolb_lock_shut(&lock), QOLB_MISUSE);
     WANT(qolb_lock_try(&lock), QOLB_BUSY);
-    WANT(qolb_lock_turn(&lock) == NULL, 1);
+    WANT(holds(0), 1);
+    WANT(is_mine(), 0);
     WANT(qolb_lock_holder(&lock), UINT64_MAX);
     WANT(qolb_lock_close(&lock), QOLB_MISUSE);
     WANT(enters(1), QOLB_WAITING);
     WANT(enters(1), QOLB_MISUSE);
     WANT(qolb_task_leave(&task[1]), QOLB_MISUSE);
-    WANT(qolb_task_turn(&task[1]) == NULL, 1);
+    WANT(holds(1), 0);
     WANT(qolb_task_cancel(&task[1]), QOLB_WITHDRAWN);
     WANT(qolb_task_leave(&task[0]), QOLB_DONE);
     WANT(qolb_task_leave(&task[0]), QOLB_MISUSE);
@@ -92,6 +102,7 @@ static int in_order(uint32_t kind, uint32_t seats) {
     return 0;
 }
 
+#ifndef QOLB_LOCK_CORE
 /* The bytes of the line, by a task and by a thread; a task by a seat, and by the gate once the line is kept. */
 static int has_the_bytes(uint32_t kind, uint32_t seats) {
     uint64_t was = 0;
@@ -112,6 +123,10 @@ static int has_the_bytes(uint32_t kind, uint32_t seats) {
     WANT(qolb_lock_close(&lock), QOLB_DONE);
     return 0;
 }
+#else
+/* A lock on the core has none. */
+static int has_the_bytes(uint32_t kind, uint32_t seats) { return kind > QOLB_KINDS && seats; }
+#endif
 
 static int shuts(uint32_t kind, uint32_t seats, int by_task) {
     begin(kind, seats);

@@ -1,8 +1,11 @@
 """Edits of the lock on the core, for ../seats_core.py: file, function (empty: the file's other text), its text, and what stands in its place."""
 
-LOCK, WAITS, TURNS, OPENS, CONDITIONS, HEADER = (f"core_lock/{name}" for name in ("lock.c", "waits.c", "turns.c", "opens.c", "conditions.c", "lock.h"))
+LOCK, WAITS, TURNS, OPENS, CONDITIONS, REGISTRY, TASKS, HEADER = (
+    f"core_lock/{name}" for name in ("lock.c", "waits.c", "turns.c", "opens.c", "conditions.c", "registry.c", "tasks.c", "lock.h")
+)
 
-# Less room and fewer looks before the same decisions; no clock in pauses, and each thread's data where core_scenes.c has them.
+# Less room and fewer looks before the same decisions; no clock in pauses, and each thread's data where core_holders.c has them. What limits tickets is by scenes,
+# and so is the memory for entries. The model has several threads in one, so what a thread keeps while it makes calls is its.
 HOOKED = [
     (HEADER, "", "MOST_HELD = 8", "MOST_HELD = 1"),
     (HEADER, "", "CLASSES_OF_SLEEPERS = 32", "CLASSES_OF_SLEEPERS = 2"),
@@ -15,7 +18,13 @@ HOOKED = [
     ("spin.h", "", "SPIN_FAR = 2000", "SPIN_FAR = 90"),
     ("spin.h", "", "SPIN_WOKEN = 10000", "SPIN_WOKEN = 90"),
     ("spin.h", "qolb_pause_", "unsigned each = pauses_in_1024();", "unsigned each = 1;"),
-    ("core_lock/parks.c", "", "NAP = 1000000", "NAP = 1000"),
+    (HEADER, "", "enum { NAP = 1000000 };", "enum { NAP = 1000 };"),
+    (HEADER, "", "enum { MOST_ROUNDS_NEAR = 15, MOST_OPEN = 16384 };", "extern unsigned model_near, model_open;\nenum { MOST_OPEN = 1 };\n#define MOST_ROUNDS_NEAR (int)model_near"),
+    (HEADER, "has_room", "MOST_OPEN / TICKETS_IN_ROUND", "(int)model_open"),
+    (REGISTRY, "qolb_new_entry_", "struct entry *e = malloc(sizeof *e);", "void *model_entry(size_t size);\n    struct entry *e = model_entry(sizeof *e);"),
+    (REGISTRY, "", "ROWS = 64, COLUMNS = 64", "ROWS = 1, COLUMNS = 2"),
+    ("notify.c", "", "static BY_THREAD struct caller_of_notices *in_call;", "void **model_in_call(void);\n#define in_call (*(struct caller_of_notices **)model_in_call())"),
+    ("bells.h", "", "enum { BELLS = 1024 };", "enum { BELLS = 2 };"),
     ("bells.h", "", "GUARD_LOOKS = 64", "GUARD_LOOKS = 1"),
 ]
 

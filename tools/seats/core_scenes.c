@@ -1,32 +1,20 @@
 /* The actions of threads with a lock on the core, in the runs that explorer.c makes (../seats_core.py). The lock's own
  * files, or those that differ by a fault, and the stand-in for the proved calls are built with -fsanitize=thread, by
  * which the compiler reports each access to memory by a call, and explorer.c answers those calls. */
-#include <core_lock/lock.h>
+#include "core_scenes.h"
 #include <errno.h>
-#include <pthread.h>
-#include <sched.h>
-#include "explorer.h"
 
-enum { LOCKS = 3 };
-
-static struct {
-    qolb_lock *lock; /* the first is `locks[0]`, unless it is freed */
-    qolb_lock *locks[LOCKS];
-    void *block; /* of the first */
-    qolb_cond cond;
-    int turns, inside, users, has, shut;
-    atomic_int over;
-} it;
+struct it it;
 
 BY_THREAD struct room qolb_room_;
 BY_THREAD struct core_room qolb_core_room_;
 BY_THREAD unsigned qolb_learned_[2];
-unsigned model_near, model_sleepers;
+unsigned model_near, model_sleepers, model_open;
+static int model_memory;
 
 /* As gaps.c, which is not explored. */
 void *qolb_malloc_(size_t size);
 void qolb_free_(void *block);
-#define UNSEEN __attribute__((no_sanitize("thread")))
 UNSEEN void *qolb_malloc_(size_t size) {
     struct core_room *room = &qolb_core_room_;
     void **place = size == CORE_WORDS_BYTES ? &room->words : size == CORE_SLOTS_BYTES ? &room->slots : &room->block;
@@ -37,101 +25,47 @@ UNSEEN void *qolb_malloc_(size_t size) {
 }
 void qolb_free_(void *block) { (void)block; }
 
-/* ---- A thread's own data, and its end ---- */
-
-static struct own *owns[THREADS + 1];
-static int are_looked_at; /* by other threads; else each access to them is the thread's own */
-
-struct own *model_own(void);
-UNSEEN struct own *model_own(void) { return owns[self_number()]; }
-
-/* The library has one key. */
-static struct {
-    void (*destructor)(void *);
-    void *value[THREADS + 1];
-    int has_begun;
-    struct clock begun;
-} key;
-
-void model_clear_tables(void);
-UNSEEN int model_once(pthread_once_t *once, void (*call)(void)) {
-    if (!key.has_begun) call();
-    if (!key.has_begun) releases(&key.begun);
-    else acquires(&key.begun);
-    return (void)once, key.has_begun = 1, 0;
-}
-UNSEEN int model_key(pthread_key_t *out, void (*destructor)(void *)) {
-    return *out = 0, key.destructor = destructor, 0;
-}
-UNSEEN int model_set(pthread_key_t at, const void *value) {
-    return (void)at, key.value[self_number()] = (void *)(uintptr_t)value, 0;
-}
-int model_atfork(void (*prepare)(void), void (*parent)(void), void (*child)(void)) {
-    return (void)prepare, (void)parent, (void)child, 0;
-}
-
-UNSEEN static void run_destructor(void) {
-    void *value = key.value[self_number()];
-    key.value[self_number()] = NULL;
-    if (value) key.destructor(value);
-}
-
-void end_thread(void) {
-    run_destructor();
-    if (are_looked_at) model_free(owns[self_number()]);
-}
-
-/* Unless they are looked at, the tables are in no list. */
-static void new_data_of_threads(int looked_at) {
-    memset(&key, 0, sizeof key);
-    are_looked_at = 0;
-    model_clear_tables();
-    for (int k = 0; k <= THREADS; k++) {
-        owns[k] = model_malloc(sizeof(struct own));
-        *owns[k] = (struct own){.known = looked_at && k < THREADS ? UNKNOWN : KNOWN};
-    }
-    are_looked_at = looked_at;
-}
-
-UNSEEN static int is_in_table(uintptr_t at) {
-    int is = 0;
-    for (int k = 0; k <= THREADS; k++) is |= owns[k] && at - (uintptr_t)owns[k] < sizeof *owns[k];
-    return is && !are_looked_at;
-}
+/* For an entry of the registry, where the scene has memory for it. */
+void *model_entry(size_t size);
+void *model_entry(size_t size) { return model_memory ? model_malloc(size) : NULL; }
 
 /* ---- Who may be served before whom ----
  *
  * Of each thread in a call: since when; from the step that drew its ticket on, how many turns of calls that began later
- * it has seen, and how many threads have gone that were in their calls then. */
+ * it has seen, and how many threads have gone that were in their calls then. A task counts as the thread that makes its
+ * calls. */
 static struct {
     int in_call, waits, passed, gone;
     long began, since;
-} order[THREADS];
+} order[THREADS + 1];
+static int for_second;
 static long time_of_order;
 void hook_draws(void);
 void hook_withdraws(void);
 
-UNSEEN static void begins_call(void) {
-    int me = self_number();
+UNSEEN static int who(void) { return for_second && self_number() == 0 ? THREADS : self_number(); }
+UNSEEN void is_second(int self, int so) { for_second = self == 0 && so; }
+UNSEEN void begins_call(void) {
+    int me = who();
     order[me].in_call = 1, order[me].waits = 0, order[me].began = ++time_of_order;
 }
 UNSEEN void hook_draws(void) {
-    int me = self_number();
-    if (me < THREADS && order[me].in_call)
+    int me = who();
+    if (self_number() < THREADS && order[me].in_call)
         order[me].waits = 1, order[me].since = ++time_of_order, order[me].passed = order[me].gone = 0;
 }
-UNSEEN void hook_withdraws(void) { order[self_number()].waits = 0; }
-UNSEEN static void ends_call(void) {
-    int me = self_number();
-    for (int k = 0; k < THREADS; k++) order[k].gone += order[me].in_call && order[me].began < order[k].since;
+UNSEEN void hook_withdraws(void) { order[who()].waits = 0; }
+UNSEEN void ends_call(void) {
+    int me = who();
+    for (int k = 0; k <= THREADS; k++) order[k].gone += order[me].in_call && order[me].began < order[k].since;
     order[me].in_call = order[me].waits = 0;
 }
 
 /* A burst of B turns has at most B - 1 turns of later calls, which drew no ticket. One ends when a thread goes that was
  * there before. */
 UNSEEN static void enters_turn(void) {
-    int me = self_number(), burst = (int)burst_of(lock_of(it.lock)), later = burst ? burst - 1 : 0;
-    for (int k = 0; k < THREADS; k++) {
+    int me = who(), burst = (int)burst_of(lock_of(it.lock)), later = burst ? burst - 1 : 0;
+    for (int k = 0; k <= THREADS; k++) {
         if (!order[k].waits || !order[me].in_call || order[me].began < order[k].since) continue;
         must(++order[k].passed <= (order[k].gone + 1) * later, "a thread that waits is overtaken too often");
         must(!order[me].waits, "a thread that waits is overtaken by one behind it");
@@ -148,18 +82,18 @@ static void turn_with(int yields) {
     MUST(--it.inside == 0);
 }
 
-static void turn(void) { turn_with(0); }
+void turn(void) { turn_with(0); }
 
-static void leave(void) { MUST(qolb_lock_leave(it.lock) == QOLB_DONE); }
+void leave(void) { MUST(qolb_lock_leave(it.lock) == QOLB_DONE); }
 
-static void enters_with(int yields) {
+void enters_with(int yields) {
     begins_call();
     MUST(qolb_lock_enter(it.lock) == QOLB_GRANTED);
     turn_with(yields);
     leave();
 }
 
-static void enters(int self) {
+void enters(int self) {
     (void)self;
     enters_with(0);
 }
@@ -175,7 +109,7 @@ static void two_yield(int self) { enters_with(self != 1); }
 static void one_yields(int self) { enters_with(self == 0 ? 3 : 0); }
 
 /* One enters four times, and the others once. */
-static void one_stays(int self) {
+void one_stays(int self) {
     if (self == 0) enters_thrice(self);
     enters(self);
 }
@@ -206,7 +140,7 @@ static void within(int self, uint64_t nanoseconds) {
     leave();
 }
 
-static void is_late(int self) { within(self, MS); }
+void is_late(int self) { within(self, MS); }
 
 static void one_is_late(int self) { within(self == 1, MS); }
 
@@ -219,7 +153,7 @@ static void is_late_and_comes_again(int self) { is_late(self), enters(self); }
 /* At once, or not at all. */
 static void looks_in(int self) { within(self, 0); }
 
-static void tries(int self) {
+void tries(int self) {
     begins_call();
     uint32_t got = self == 1 ? qolb_lock_try(it.lock) : qolb_lock_enter(it.lock);
     if (got == QOLB_BUSY) ends_call();
@@ -244,7 +178,7 @@ static void last_tries(int self) {
 
 /* ---- Shutting and closing ---- */
 
-static int enters_to_shut(int self) {
+int enters_to_shut(int self) {
     uint32_t got = self == 2 ? qolb_lock_enter_within(it.lock, MS) : qolb_lock_enter(it.lock);
     if (got == QOLB_LATE) MUST(self == 2);
     if (got == QOLB_CLOSED || got == QOLB_LATE) return 0;
@@ -271,7 +205,7 @@ UNSEEN static int is_known(int other) {
     struct lock *lock = lock_of(it.lock);
     return order[other].waits || *(unsigned *)&lock->guests;
 }
-static void await_other(int other) {
+void await_other(int other) {
     while (!is_known(other) && !atomic_fetch_add(&it.over, 0)) sched_yield();
 }
 
@@ -294,6 +228,11 @@ static void shuts_and_closes(int self) {
     if (atomic_fetch_add(&it.over, 0)) MUST(qolb_lock_close(it.lock) == QOLB_DONE);
 }
 
+void free_lock(void) {
+    model_free(it.block);
+    it.lock = NULL;
+}
+
 static void frees_if_last(int yields) {
     begins_call();
     MUST(qolb_lock_enter(it.lock) == QOLB_GRANTED);
@@ -302,11 +241,10 @@ static void frees_if_last(int yields) {
     leave();
     if (!last) return;
     MUST(qolb_lock_close(it.lock) == QOLB_DONE && it.lock->own == NULL);
-    model_free(it.block);
-    it.lock = NULL;
+    free_lock();
 }
 
-static void last_frees(int self) {
+void last_frees(int self) {
     if (self == 2) enters(self);
     frees_if_last(0);
 }
@@ -333,8 +271,7 @@ static void last_frees_beside_one_that_is_late(int self) {
     }
     if (!last) return;
     MUST(qolb_lock_close(it.lock) == QOLB_DONE);
-    model_free(it.block);
-    it.lock = NULL;
+    free_lock();
 }
 
 /* One closes the lock behind its turn, while another waits, is late, or leaves. */
@@ -363,8 +300,7 @@ static void one_frees(int self) {
     await_other(1);
     leave();
     while (qolb_lock_close(it.lock) != QOLB_DONE) sched_yield();
-    model_free(it.block);
-    it.lock = NULL;
+    free_lock();
 }
 
 /* One is in, and another closes. */
@@ -379,6 +315,31 @@ static void one_closes_beside_a_holder(int self) {
     while (!atomic_fetch_add(&it.over, 0)) sched_yield();
     MUST(qolb_lock_close(it.lock) == QOLB_MISUSE);
     atomic_store(&it.over, 2);
+}
+
+UNSEEN int had_turns(int turns) { return it.turns >= turns; }
+
+/* The lock is closed as soon as it may be, and used again at the same address, where another's ticket is abandoned. Who
+ * left the first lock may be in that call still. */
+static void late_at_a_younger_lock(int self) {
+    if (self == 0) return enters(self);
+    if (self == 2) {
+        while (!atomic_fetch_add(&it.over, 0)) sched_yield();
+        begins_call();
+        uint32_t got = qolb_lock_enter_within(it.lock, MS);
+        ends_call();
+        if (got == QOLB_LATE) got = (atomic_store(&it.over, 2), qolb_lock_enter(it.lock));
+        MUST(got == QOLB_GRANTED);
+        atomic_store(&it.over, 2);
+        return leave();
+    }
+    enters(self);
+    while (!had_turns(2) || qolb_lock_close(it.lock) != QOLB_DONE) sched_yield();
+    MUST(qolb_lock_enter(it.lock) == QOLB_GRANTED);
+    atomic_store(&it.over, 1);
+    while (atomic_fetch_add(&it.over, 0) < 2 && !is_known(2)) sched_yield();
+    sched_yield();
+    leave();
 }
 
 /* ---- Conditions ---- */
@@ -437,8 +398,7 @@ static void waits_until_shut(int self) {
     }
     if (atomic_fetch_add(&it.over, 1) + 1 < it.users) return;
     MUST(qolb_lock_close(it.lock) == QOLB_DONE);
-    model_free(it.block);
-    it.lock = NULL;
+    free_lock();
 }
 
 /* One waits at the condition, and is signalled, or told of a shut, by one that frees the lock as soon as it may. */
@@ -459,8 +419,7 @@ static void shuts_and_frees(int self) {
         if (!waits) sched_yield();
     }
     while (qolb_lock_close(it.lock) != QOLB_DONE) sched_yield();
-    model_free(it.block);
-    it.lock = NULL;
+    free_lock();
 }
 
 /* The same of a lock that stays open. */
@@ -481,8 +440,7 @@ static void signals_and_frees(int self) {
         if (!waits) sched_yield();
     }
     while (qolb_lock_close(it.lock) != QOLB_DONE) sched_yield();
-    model_free(it.block);
-    it.lock = NULL;
+    free_lock();
 }
 
 /* One closes the lock while another waits at its condition. */
@@ -530,66 +488,19 @@ static void waits_beyond(int self) {
     if (self == 0) MUST(qolb_cond_signal(&it.cond) == QOLB_DONE);
 }
 
-/* ---- Who holds the lock ---- */
-
-/* As the system numbers them. */
-enum { FIRST_NUMBER = 100 };
-
-static void is_held_by(int self) { MUST(qolb_lock_holder(it.lock) == (uint64_t)(FIRST_NUMBER + self)); }
-
-/* Others come, and end; one asks meanwhile. */
-static void holder_comes_and_ends(int self) {
-    if (self < it.users - 1) {
-        MUST(qolb_lock_enter(it.lock) == QOLB_GRANTED);
-        turn();
-        is_held_by(self);
-        leave();
-        return;
-    }
-    uint64_t number = qolb_lock_holder(it.lock);
-    MUST(number == 0 || (number >= FIRST_NUMBER && number < (uint64_t)(FIRST_NUMBER + self)));
-}
-
-/* One ends as the holder, and another asks meanwhile. */
-static void ends_as_holder(int self) {
-    if (self == 0) {
-        MUST(qolb_lock_enter(it.lock) == QOLB_GRANTED);
-        atomic_store(&it.over, 1);
-        return;
-    }
-    while (!atomic_fetch_add(&it.over, 0)) sched_yield();
-    for (int k = 0; k < 2; k++) is_held_by(0);
-}
-
-/* In a destructor behind the library's one leaves, or enters, while another asks. */
-static void in_a_destructor(int self, int holds) {
-    if (self) {
-        uint64_t number = qolb_lock_holder(it.lock);
-        MUST(number == 0 || number == FIRST_NUMBER);
-        return;
-    }
-    MUST(qolb_lock_enter(it.lock) == QOLB_GRANTED);
-    if (!holds) leave();
-    run_destructor();
-    if (!holds) MUST(qolb_lock_enter(it.lock) == QOLB_GRANTED);
-    MUST(qolb_lock_enter(it.lock) == QOLB_MISUSE);
-    is_held_by(0);
-    leave();
-    MUST(qolb_lock_holder(it.lock) == 0);
-}
-
-static void leaves_in_a_destructor(int self) { in_a_destructor(self, 1); }
-
-static void enters_in_a_destructor(int self) { in_a_destructor(self, 0); }
-
 UNSEEN static int asks_for_holder(void (*does)(int)) {
-    return does == holder_comes_and_ends || does == ends_as_holder || does == leaves_in_a_destructor ||
-           does == enters_in_a_destructor;
+#define IS(name) is |= does == name;
+    int is = 0;
+    HOLDER_SCENES(IS)
+    return is;
 }
 
 /* ---- All scenes ---- */
 
-#define ROOMY 15, 65535
+enum { MANY = 65535, NO_MEMORY = 1 };
+#define ROOMY 15, MANY, MANY, 0
+#define FAR 0, MANY, MANY, 0
+#define CROWDED 15, MANY, 1, 0
 const struct scene scenes[] = {
     {"each enters, at the first use", enters, 3, 0, 1, ROOMY},
     {"three enter", enters, 3, 0, 0, ROOMY},
@@ -597,8 +508,8 @@ const struct scene scenes[] = {
     {"two enter thrice", enters_thrice, 2, 0, 0, ROOMY},
     {"one stays", one_stays, 3, 0, 0, ROOMY},
     {"two of three yield", two_yield, 3, 0, 0, ROOMY},
-    {"no room for a sleeper", two_yield, 3, 0, 0, 15, 0},
-    {"room for one sleeper", two_yield, 3, 0, 0, 15, 1},
+    {"no room for a sleeper", two_yield, 3, 0, 0, 15, 0, MANY, 0},
+    {"room for one sleeper", two_yield, 3, 0, 0, 15, 1, MANY, 0},
     {"two are late", is_late, 3, 0, 0, ROOMY},
     {"one is late", one_is_late, 3, 0, 0, ROOMY},
     {"two are late and come again", is_late_and_comes_again, 3, 0, 0, ROOMY},
@@ -606,23 +517,34 @@ const struct scene scenes[] = {
     {"one is late beside one that yields", one_late_beside_one_that_yields, 3, 0, 0, ROOMY},
     {"two are late beside one that yields", two_late_beside_one_that_yields, 3, 0, 0, ROOMY},
     {"two look in", looks_in, 3, 0, 0, ROOMY},
-    {"far: two are late", is_late, 3, 0, 0, 0, 65535},
-    {"far: two are late beside one that yields", two_late_beside_one_that_yields, 3, 0, 0, 0, 65535},
-    {"far: two look in", looks_in, 3, 0, 0, 0, 65535},
+    {"far: two are late", is_late, 3, 0, 0, FAR},
+    {"far: two are late beside one that yields", two_late_beside_one_that_yields, 3, 0, 0, FAR},
+    {"far: two look in", looks_in, 3, 0, 0, FAR},
+    {"far: two are late and come again", is_late_and_comes_again, 3, 0, 0, FAR},
+    {"far: no room for a sleeper", two_late_beside_one_that_yields, 3, 0, 0, 0, 0, MANY, 0},
+    {"far: room for one sleeper", two_late_beside_one_that_yields, 3, 0, 0, 0, 1, MANY, 0},
+    {"far: no memory", two_late_beside_one_that_yields, 3, 0, 0, 0, MANY, MANY, NO_MEMORY},
+    {"far: a younger lock", late_at_a_younger_lock, 3, 0, 0, FAR},
+    {"crowded: two are late", is_late, 3, 0, 0, CROWDED},
+    {"crowded: two are late beside one that yields", two_late_beside_one_that_yields, 3, 0, 0, CROWDED},
+    {"crowded: one shuts", shuts, 3, 0, 0, CROWDED},
+    {"crowded: one closes", one_closes, 2, 0, 0, CROWDED},
+    {"crowded: one frees", one_frees, 2, 0, 0, CROWDED},
+    {"crowded: the last frees beside one that is late", last_frees_beside_one_that_is_late, 3, 0, 0, CROWDED},
     {"one tries", tries, 3, 0, 0, ROOMY},
     {"the last tries", last_tries, 3, 0, 0, ROOMY},
     {"one shuts", shuts, 3, 0, 0, ROOMY},
     {"one shuts and asks", shuts_and_asks, 3, 0, 0, ROOMY},
     {"one shuts and closes", shuts_and_closes, 2, 0, 0, ROOMY},
-    {"far: one shuts", shuts, 3, 0, 0, 0, 65535},
+    {"far: one shuts", shuts, 3, 0, 0, FAR},
     {"the last frees", last_frees, 3, 0, 0, ROOMY},
     {"the last frees, and each yields", last_frees_and_yields, 3, 0, 0, ROOMY},
     {"the last frees beside one that is late", last_frees_beside_one_that_is_late, 3, 0, 0, ROOMY},
-    {"far: the last frees beside one that is late", last_frees_beside_one_that_is_late, 3, 0, 0, 0, 65535},
+    {"far: the last frees beside one that is late", last_frees_beside_one_that_is_late, 3, 0, 0, FAR},
     {"one closes", one_closes, 2, 0, 0, ROOMY},
-    {"far: one closes", one_closes, 2, 0, 0, 0, 65535},
+    {"far: one closes", one_closes, 2, 0, 0, FAR},
     {"one frees", one_frees, 2, 0, 0, ROOMY},
-    {"far: one frees", one_frees, 2, 0, 0, 0, 65535},
+    {"far: one frees", one_frees, 2, 0, 0, FAR},
     {"one closes beside a holder", one_closes_beside_a_holder, 2, 0, 0, ROOMY},
     {"two wait at a condition, one not for ever", waits, 3, 0, 0, ROOMY},
     {"one waits at a condition while one stays", waits_while_one_stays, 2, 0, 0, ROOMY},
@@ -649,7 +571,7 @@ const struct scene scenes[] = {
     {"bursts: two are late", is_late, 3, 2, 0, ROOMY},
     {"bursts: one is late and comes again", is_late_and_comes_again, 2, 2, 0, ROOMY},
     {"bursts: two are late beside one that yields", two_late_beside_one_that_yields, 3, 3, 0, ROOMY},
-    {"bursts: far: two are late", is_late, 3, 2, 0, 0, 65535},
+    {"bursts: far: two are late", is_late, 3, 2, 0, FAR},
     {"bursts: one tries", tries, 3, 2, 0, ROOMY},
     {"bursts: the last tries", last_tries, 3, 2, 0, ROOMY},
     {"bursts: one shuts", shuts, 3, 2, 0, ROOMY},
@@ -660,7 +582,10 @@ const struct scene scenes[] = {
     {"bursts: the last frees beside one that is late", last_frees_beside_one_that_is_late, 3, 2, 0, ROOMY},
     {"bursts: one closes", one_closes, 2, 2, 0, ROOMY},
     {"bursts: one frees", one_frees, 2, 2, 0, ROOMY},
-    {"bursts: far: one frees", one_frees, 2, 2, 0, 0, 65535},
+    {"bursts: far: two are late beside one that yields", two_late_beside_one_that_yields, 3, 3, 0, FAR},
+    {"bursts: far: two are late and come again", is_late_and_comes_again, 3, 2, 0, FAR},
+    {"bursts: crowded: one frees", one_frees, 2, 2, 0, CROWDED},
+    {"bursts: far: one frees", one_frees, 2, 2, 0, FAR},
     {"bursts: one closes beside a holder", one_closes_beside_a_holder, 2, 2, 0, ROOMY},
     {"bursts: two wait at a condition, one not for ever", waits, 3, 2, 0, ROOMY},
     {"bursts: two wait at a condition until one shuts", waits_until_shut, 3, 2, 0, ROOMY},
@@ -669,7 +594,117 @@ const struct scene scenes[] = {
     {"bursts: one closes beside a waiter", one_closes_beside_a_waiter, 2, 2, 0, ROOMY},
     {"bursts: enters again", enters_again, 2, 2, 0, ROOMY},
     {"bursts: holds three", holds_three, 2, 2, 0, ROOMY},
-    {NULL, NULL, 0, 0, 0, 0, 0},
+    {"tasks: a task each", by_task, 3, 0, 0, ROOMY},
+    {"tasks: a task each, twice", by_task_twice, 2, 0, 0, ROOMY},
+    {"tasks: three tasks, twice", by_task_twice, 3, 0, 0, ROOMY},
+    {"tasks: one task gives up", one_task_gives_up, 3, 0, 0, ROOMY},
+    {"far: tasks: one task gives up", one_task_gives_up, 3, 0, 0, FAR},
+    {"tasks: a task beside threads", a_task_beside_threads, 3, 0, 0, ROOMY},
+    {"tasks: tasks beside a thread", tasks_beside_a_thread, 3, 0, 0, ROOMY},
+    {"tasks: a task beside threads, twice", a_task_beside_threads_twice, 2, 0, 0, ROOMY},
+    {"tasks: tasks beside a thread, twice", tasks_beside_a_thread_twice, 3, 0, 0, ROOMY},
+    {"tasks: a task beside one that yields", a_task_beside_one_that_yields, 3, 0, 0, ROOMY},
+    {"tasks: tasks beside one that yields", tasks_beside_one_that_yields, 3, 0, 0, ROOMY},
+    {"tasks: a task beside one that stays", a_task_beside_one_that_stays, 3, 0, 0, ROOMY},
+    {"tasks: a task gives up between threads", a_task_gives_up_between_threads, 3, 0, 0, ROOMY},
+    {"far: tasks: a task gives up between threads", a_task_gives_up_between_threads, 3, 0, 0, FAR},
+    {"tasks: a task gives up beside one that yields", a_task_gives_up_beside_one_that_yields, 3, 0, 0, ROOMY},
+    {"far: tasks: a task gives up beside one that yields", a_task_gives_up_beside_one_that_yields, 3, 0, 0, FAR},
+    {"tasks: a task gives up before one", a_task_gives_up_before_one_beside_one_that_yields, 3, 0, 0, ROOMY},
+    {"far: tasks: a task gives up before one", a_task_gives_up_before_one_beside_one_that_yields, 3, 0, 0, FAR},
+    {"tasks: a task gives up and asks again", a_task_gives_up_and_asks_again, 2, 0, 0, ROOMY},
+    {"far: tasks: a task gives up and asks again", a_task_gives_up_and_asks_again, 2, 0, 0, FAR},
+    {"tasks: a thread is late between tasks", a_thread_is_late_between_tasks, 3, 0, 0, ROOMY},
+    {"far: tasks: a thread is late between tasks", a_thread_is_late_between_tasks, 3, 0, 0, FAR},
+    {"tasks: a thread is late before a task", a_thread_is_late_before_a_task, 3, 0, 0, ROOMY},
+    {"far: tasks: a thread is late before a task", a_thread_is_late_before_a_task, 3, 0, 0, FAR},
+    {"tasks: a thread is late or a task waits", a_thread_is_late_or_a_task_waits, 3, 0, 0, ROOMY},
+    {"tasks: a task and a thread give up", both_give_up, 3, 0, 0, ROOMY},
+    {"far: tasks: a task and a thread give up", both_give_up, 3, 0, 0, FAR},
+    {"tasks: one tries beside a task", one_tries_beside_a_task, 3, 0, 0, ROOMY},
+    {"tasks: two tasks of one", two_tasks_of_one, 2, 0, 0, ROOMY},
+    {"tasks: the first of two tasks gives up", first_of_two_gives_up, 2, 0, 0, ROOMY},
+    {"far: tasks: the first of two tasks gives up", first_of_two_gives_up, 2, 0, 0, FAR},
+    {"tasks: the second of two tasks gives up", second_of_two_gives_up, 2, 0, 0, ROOMY},
+    {"far: tasks: the second of two tasks gives up", second_of_two_gives_up, 2, 0, 0, FAR},
+    {"tasks: both of two tasks give up", both_of_two_give_up, 2, 0, 0, ROOMY},
+    {"far: tasks: both of two tasks give up", both_of_two_give_up, 2, 0, 0, FAR},
+    {"tasks: tasks until one shuts", tasks_until_shut, 3, 0, 0, ROOMY},
+    {"far: tasks: tasks until one shuts", tasks_until_shut, 3, 0, 0, FAR},
+    {"tasks: a task until one shuts", a_task_until_shut, 3, 0, 0, ROOMY},
+    {"tasks: a task shuts", a_task_shuts, 3, 0, 0, ROOMY},
+    {"tasks: the last task frees", last_task_frees, 2, 0, 0, ROOMY},
+    {"tasks: the last of three tasks frees", last_task_frees, 3, 0, 0, ROOMY},
+    {"tasks: the last of both frees", last_of_both_frees, 3, 0, 0, ROOMY},
+    {"far: tasks: the last of both frees", last_of_both_frees, 3, 0, 0, FAR},
+    {"tasks: the last that polls frees", last_that_polls_frees, 2, 0, 0, ROOMY},
+    {"tasks: a task polls early", a_task_polls_early, 3, 0, 0, ROOMY},
+    {"tasks: one closes beside a task", one_closes_beside_a_task, 3, 0, 0, ROOMY},
+    {"tasks: one closes while both wait", closes_while_both_wait, 3, 0, 0, ROOMY},
+    {"tasks: a task signals", a_task_signals, 3, 0, 0, ROOMY},
+    {"tasks: turns in calls", has_task_turn_in_call, 3, 0, 0, ROOMY},
+    {"tasks: turns in calls, and again", task_asks_again_in_call, 3, 0, 0, ROOMY},
+    {"tasks: a call enters another lock", enters_another_in_call, 3, 0, 0, ROOMY},
+    {"tasks: one waits while a call enters", waits_while_a_call_enters, 2, 0, 0, ROOMY},
+    {"tasks: a task comes to a younger lock", a_task_comes_to_a_younger_lock, 3, 0, 0, ROOMY},
+    {"bursts: tasks: a task each", by_task, 3, 2, 0, ROOMY},
+    {"bursts: tasks: a task each, twice", by_task_twice, 2, 2, 0, ROOMY},
+    {"bursts: tasks: three tasks, twice", by_task_twice, 3, 2, 0, ROOMY},
+    {"bursts: tasks: one task gives up", one_task_gives_up, 3, 2, 0, ROOMY},
+    {"bursts: far: tasks: one task gives up", one_task_gives_up, 3, 2, 0, FAR},
+    {"bursts: tasks: a task beside threads", a_task_beside_threads, 3, 2, 0, ROOMY},
+    {"bursts: tasks: tasks beside a thread", tasks_beside_a_thread, 3, 2, 0, ROOMY},
+    {"bursts: tasks: a task beside threads, twice", a_task_beside_threads_twice, 2, 2, 0, ROOMY},
+    {"bursts: tasks: tasks beside a thread, twice", tasks_beside_a_thread_twice, 3, 2, 0, ROOMY},
+    {"bursts: tasks: a task beside one that yields", a_task_beside_one_that_yields, 3, 2, 0, ROOMY},
+    {"bursts: tasks: tasks beside one that yields", tasks_beside_one_that_yields, 3, 2, 0, ROOMY},
+    {"bursts: tasks: a task beside one that stays", a_task_beside_one_that_stays, 3, 2, 0, ROOMY},
+    {"bursts: tasks: a task gives up between threads", a_task_gives_up_between_threads, 3, 2, 0, ROOMY},
+    {"bursts: far: tasks: a task gives up between threads", a_task_gives_up_between_threads, 3, 2, 0, FAR},
+    {"bursts: tasks: a task gives up beside one that yields", a_task_gives_up_beside_one_that_yields, 3, 2, 0, ROOMY},
+    {"bursts: far: tasks: a task gives up beside one that yields", a_task_gives_up_beside_one_that_yields, 3, 2, 0,
+     FAR},
+    {"bursts: tasks: a task gives up before one", a_task_gives_up_before_one_beside_one_that_yields, 3, 2, 0, ROOMY},
+    {"bursts: far: tasks: a task gives up before one", a_task_gives_up_before_one_beside_one_that_yields, 3, 2, 0, FAR},
+    {"bursts: tasks: a task gives up and asks again", a_task_gives_up_and_asks_again, 2, 2, 0, ROOMY},
+    {"bursts: far: tasks: a task gives up and asks again", a_task_gives_up_and_asks_again, 2, 2, 0, FAR},
+    {"bursts: tasks: a thread is late between tasks", a_thread_is_late_between_tasks, 3, 2, 0, ROOMY},
+    {"bursts: far: tasks: a thread is late between tasks", a_thread_is_late_between_tasks, 3, 2, 0, FAR},
+    {"bursts: tasks: a thread is late before a task", a_thread_is_late_before_a_task, 3, 2, 0, ROOMY},
+    {"bursts: far: tasks: a thread is late before a task", a_thread_is_late_before_a_task, 3, 2, 0, FAR},
+    {"bursts: tasks: a thread is late or a task waits", a_thread_is_late_or_a_task_waits, 3, 2, 0, ROOMY},
+    {"bursts: tasks: a task and a thread give up", both_give_up, 3, 2, 0, ROOMY},
+    {"bursts: far: tasks: a task and a thread give up", both_give_up, 3, 2, 0, FAR},
+    {"bursts: tasks: one tries beside a task", one_tries_beside_a_task, 3, 2, 0, ROOMY},
+    {"bursts: tasks: two tasks of one", two_tasks_of_one, 2, 2, 0, ROOMY},
+    {"bursts: tasks: the first of two tasks gives up", first_of_two_gives_up, 2, 2, 0, ROOMY},
+    {"bursts: far: tasks: the first of two tasks gives up", first_of_two_gives_up, 2, 2, 0, FAR},
+    {"bursts: tasks: the second of two tasks gives up", second_of_two_gives_up, 2, 2, 0, ROOMY},
+    {"bursts: far: tasks: the second of two tasks gives up", second_of_two_gives_up, 2, 2, 0, FAR},
+    {"bursts: tasks: both of two tasks give up", both_of_two_give_up, 2, 2, 0, ROOMY},
+    {"bursts: far: tasks: both of two tasks give up", both_of_two_give_up, 2, 2, 0, FAR},
+    {"bursts: tasks: tasks until one shuts", tasks_until_shut, 3, 2, 0, ROOMY},
+    {"bursts: far: tasks: tasks until one shuts", tasks_until_shut, 3, 2, 0, FAR},
+    {"bursts: tasks: a task until one shuts", a_task_until_shut, 3, 2, 0, ROOMY},
+    {"bursts: tasks: a task shuts", a_task_shuts, 3, 2, 0, ROOMY},
+    {"bursts: tasks: the last task frees", last_task_frees, 2, 2, 0, ROOMY},
+    {"bursts: tasks: the last of three tasks frees", last_task_frees, 3, 2, 0, ROOMY},
+    {"bursts: tasks: the last of both frees", last_of_both_frees, 3, 2, 0, ROOMY},
+    {"bursts: far: tasks: the last of both frees", last_of_both_frees, 3, 2, 0, FAR},
+    {"bursts: tasks: the last that polls frees", last_that_polls_frees, 2, 2, 0, ROOMY},
+    {"bursts: tasks: a task polls early", a_task_polls_early, 3, 2, 0, ROOMY},
+    {"bursts: tasks: one closes beside a task", one_closes_beside_a_task, 3, 2, 0, ROOMY},
+    {"bursts: tasks: one closes while both wait", closes_while_both_wait, 3, 2, 0, ROOMY},
+    {"bursts: tasks: a task signals", a_task_signals, 3, 2, 0, ROOMY},
+    {"bursts: tasks: turns in calls", has_task_turn_in_call, 3, 2, 0, ROOMY},
+    {"bursts: tasks: turns in calls, and again", task_asks_again_in_call, 3, 2, 0, ROOMY},
+    {"bursts: tasks: a call enters another lock", enters_another_in_call, 3, 2, 0, ROOMY},
+    {"bursts: tasks: one waits while a call enters", waits_while_a_call_enters, 2, 2, 0, ROOMY},
+    {"bursts: tasks: a task comes to a younger lock", a_task_comes_to_a_younger_lock, 3, 2, 0, ROOMY},
+    {"tasks: no memory", a_task_finds_no_memory, 2, 0, 0, 15, MANY, MANY, NO_MEMORY},
+    {"tasks: crowded", a_task_finds_no_memory, 2, 0, 0, 15, MANY, 0, 0},
+    {"tasks: room for one sleeper", a_task_beside_one_that_yields, 3, 0, 0, 15, 1, MANY, 0},
+    {NULL, NULL, 0, 0, 0, 0, 0, 0, 0},
 };
 
 /* A lock begins at any multiple of 16: each in another place of its cache lines, and the first of each scene, too. */
@@ -686,7 +721,9 @@ void set_up(const struct scene *scene) {
     qolb_bytes zeros = {{0}};
     memset(&it, 0, sizeof it), memset(order, 0, sizeof order);
     new_data_of_threads(asks_for_holder(scene->does));
-    time_of_order = 0, it.users = scene->threads, model_near = scene->near, model_sleepers = scene->sleepers;
+    time_of_order = 0, it.users = scene->threads, model_near = scene->near, model_sleepers = scene->sleepers,
+    model_open = scene->open;
+    model_memory = !scene->no_memory, for_second = 0;
     for (int k = 0; k < LOCKS; k++) {
         it.locks[k] = unopened(scene, k);
         if (!scene->at_first_use)

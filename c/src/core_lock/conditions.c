@@ -34,6 +34,7 @@ static void unguard(struct guard *guard) { return_guard(&guard->word); }
 
 void qolb_free_guards_(void) {
     for (int k = 0; k < GUARDS; k++) atomic_store(&guards[k].word, 0);
+    qolb_free_rows_();
 }
 
 /* ---- The lists ---- */
@@ -127,8 +128,12 @@ uint32_t qolb_cond_wait_within(qolb_cond *cond, qolb_lock *of, uint64_t nanoseco
     struct lock *lock = lock_of(of);
     struct turn beyond, *at = qolb_take_turn_(lock, &beyond);
     if (!at) return QOLB_MISUSE;
-    uint32_t got = qolb_cond_wait_at_(cond, lock, at, nanoseconds);
-    if (got == QOLB_GRANTED || got == QOLB_LATE) qolb_keep_turn_(lock, at, &beyond);
+    struct turn turn = *at; /* not in the table: a call of a task may enter other locks */
+    at->ticket = (struct qolb_ticket){0};
+    uint32_t got = qolb_cond_wait_at_(cond, lock, &turn, nanoseconds);
+    if (got != QOLB_GRANTED && got != QOLB_LATE) return got;
+    *(at = qolb_place_for_(lock, &beyond)) = turn;
+    qolb_keep_turn_(lock, at, &beyond);
     return got;
 }
 

@@ -7,8 +7,8 @@
  * wait for its turn, take the outer word as the queue head, and release the turn of the queue. Leaving: leave the outer
  * word, which is the last access.
  *
- * A call with a limit draws a ticket only if that could still be withdrawn: until then it waits without one, as a
- * guest, and looks every millisecond.
+ * A call that may not wait draws a ticket only if that can be withdrawn. While 16,384 requests are open no call with a
+ * limit draws one: it waits without, as a guest, and looks every millisecond.
  *
  * Who is told that the lock is shut passes its turn on. Closing is a try that finds nobody: no holder, no waiter, no
  * guest. */
@@ -57,10 +57,12 @@ static uint32_t ask_near(const struct request *my) {
 /* Goes in, or draws a ticket: GRANTED and it is in or at its turn, WAITING, or, with a limit, FAR. */
 static uint32_t ask(struct request *my) {
     if (has_bursts(my->lock) && goes_in(my->lock, my->at)) return QOLB_GRANTED;
-    return my->until == FOR_EVER ? qolb_core_ask_proved_(&my->lock->core, &my->at->ticket) : ask_near(my);
+    if (my->until != FOR_EVER && is_over(my->until)) return ask_near(my);
+    if (my->until != FOR_EVER && !has_room(my->lock)) return QOLB_FAR_;
+    return qolb_core_ask_proved_(&my->lock->core, &my->at->ticket);
 }
 
-/* For a request that could not be withdrawn yet. LATE and CLOSED: it has no ticket. */
+/* Where too many requests are open. LATE and CLOSED: it has no ticket. */
 static uint32_t ask_later(struct request *my) {
     uint32_t got = QOLB_FAR_;
     while (got == QOLB_FAR_ && !is_over(my->until)) {
@@ -72,13 +74,18 @@ static uint32_t ask_later(struct request *my) {
     return outer_word(my->lock) & OUTER_SHUT ? QOLB_CLOSED : QOLB_LATE;
 }
 
+/* Who comes by CLOSED to the outer word of a shut lock is in by it, and leaves it. */
+void qolb_settle_(struct lock *lock, struct turn *at, uint32_t got) {
+    int is_in = at->ticket.state == QOLB_TICKET_HEAD_INSIDE_SHUT_;
+    if (has_bursts(lock) || got != QOLB_GRANTED) qolb_pass_on_(lock, at);
+    if (is_in) qolb_leave_outer_(lock, at);
+}
+
 /* Who is at its turn of the queue enters: GRANTED, CLOSED, or LATE at the outer word. */
 static uint32_t enter_at_turn(struct request *my) {
-    struct lock *lock = my->lock;
-    int bursts = has_bursts(lock);
-    uint32_t got = bursts ? qolb_await_outer_(my) : qolb_core_check_open_proved_(&lock->core, &my->at->ticket);
-    if (bursts || got != QOLB_GRANTED) qolb_pass_on_(lock, my->at);
-    if (my->at->ticket.state == QOLB_TICKET_INSIDE_SHUT_) qolb_leave_outer_(lock, my->at);
+    const struct qolb_core *core = &my->lock->core;
+    uint32_t got = has_bursts(my->lock) ? qolb_await_outer_(my) : qolb_core_check_open_proved_(core, &my->at->ticket);
+    qolb_settle_(my->lock, my->at, got);
     return got;
 }
 
@@ -159,8 +166,7 @@ static uint32_t busy_or_closed(const struct lock *lock) {
 static uint32_t try_outer(struct lock *lock, struct turn *at) {
     uint32_t got = qolb_core_take_outer_proved_(&lock->core, &at->ticket);
     if (got == QOLB_WAITING) got = busy_or_closed(lock);
-    qolb_pass_on_(lock, at);
-    if (at->ticket.state == QOLB_TICKET_INSIDE_SHUT_) qolb_leave_outer_(lock, at);
+    qolb_settle_(lock, at, got);
     return got;
 }
 

@@ -5,12 +5,14 @@
  * core.h, by the lock and a ticket. The files here find the ticket, spin, sleep and wake. They call downwards only:
  *
  *   conditions.c   waiting at a condition, and telling all that wait there of a shut
+ *   tasks.c        tasks, which enter and leave without a thread that waits
  *   lock.c         entering, trying, leaving, shutting, closing
  *   waits.c        waiting for a turn of the queue, and for the outer word; passing a turn on; whom to wake
+ *   registry.c     the tickets for which no thread waits: of tasks, and of calls that gave up
  *   turns.c        the thread's table of the locks that it holds; who holds a lock
  *   opens.c        opening a lock in its own bytes, at its first use
  *   parks.c        sleeping at a word, and waking
- *   ../core.h      the proved calls; ../spin.h how long to spin; ../bells.h the clock and guards
+ *   ../core.h      the proved calls; ../spin.h how long to spin; ../bells.h the clock, guards, and calls of notices
  *
  * Tested and explored (tools/seats.py), not proved. */
 #ifndef QOLB_CORE_LOCK_H
@@ -35,7 +37,7 @@ struct __attribute__((may_alias)) lock {
     char block[CORE_BLOCK_BYTES]; /* the core's: never written after opening */
     uint64_t label;               /* by who opens it: no other opening of the process has it */
     struct waiter *waits;         /* by the holder: those that wait at a condition */
-    /* By the holder: its number, if its thread's table has no room for this turn (`struct beyond`); else 0. */
+    /* By the holder: its number, if its thread's table has no room for this turn (`struct beyond`); BY_TASK; else 0. */
     _Atomic uint64_t beyond_by;
     char words[CORE_WORDS_BYTES + WORDS_SLACK]; /* the core's, a `struct beyond`, and the core's slots */
     /* The number of threads in a call that have no ticket yet or any more: they wait at a condition, or until a request
@@ -45,6 +47,9 @@ struct __attribute__((may_alias)) lock {
 };
 
 _Static_assert(sizeof(struct lock) == LOCK_BYTES && sizeof(qolb_lock) == LOCK_BYTES, "the size that qolb.h says");
+
+/* A task holds the lock. */
+#define BY_TASK UINT64_MAX
 
 /* The part of a ticket that is kept in the lock. */
 struct beyond {
@@ -78,7 +83,7 @@ static inline void *slots_of(struct lock *lock) {
 
 /* ---- Looks at the words: hints for waiting, CLOSED for who gives up, and whether who closes is alone ---- */
 
-enum { TICKETS_IN_ROUND = 4, TAIL = 16, FIRST_CELL = 17, CLASSES_OF_SLEEPERS = 32 };
+enum { TICKETS_IN_ROUND = 4, TAIL = 16, FIRST_CELL = 17, CLASSES_OF_SLEEPERS = 32, GRANTED_ROUNDS = 34 };
 enum { HANDOFF_REQUESTED = 1, HEAD_ASLEEP = 2, OUTER_HELD = 4, OUTER_RESERVED = 8, OUTER_STATE = 12, OUTER_SHUT = 16 };
 enum { NEWCOMER = 32 };
 
@@ -93,6 +98,27 @@ static inline uint64_t tail_word(const struct lock *lock) {
 static inline uint32_t *outer_half(uint64_t *words) { return (uint32_t *)words; }
 static inline uint32_t *cell_half(uint64_t *words, uint64_t number) {
     return (uint32_t *)(words + FIRST_CELL + number % TICKETS_IN_ROUND) + 1;
+}
+
+/* The rounds that are to be granted before this ticket is at its turn. Of a number that was read before its cell: less
+ * than 0, if it was at its turn long ago. */
+static inline int32_t rounds_to_go(const struct lock *lock, uint64_t number) {
+    uint64_t cell = __atomic_load_n(words_of(lock) + FIRST_CELL + number % TICKETS_IN_ROUND, __ATOMIC_SEQ_CST);
+    uint64_t rounds = number / TICKETS_IN_ROUND + 1 - (cell >> GRANTED_ROUNDS);
+    return (int32_t)((uint32_t)rounds << (GRANTED_ROUNDS - 32)) >> (GRANTED_ROUNDS - 32);
+}
+
+/* The most rounds from which a request can be withdrawn; and the most requests that are open before a call with a limit,
+ * or a task, draws a ticket. So the abandoned ones are few enough to be passed in 2 ms. */
+enum { MOST_ROUNDS_NEAR = 15, MOST_OPEN = 16384 };
+
+static inline int has_room(const struct lock *lock) {
+    return rounds_to_go(lock, tail_word(lock)) < MOST_OPEN / TICKETS_IN_ROUND;
+}
+
+/* Of a ticket that is asleep or at a turn no more is read than is kept of it. */
+static inline struct qolb_ticket kept_ticket(const struct lock *lock, uint64_t number, uint32_t state) {
+    return (struct qolb_ticket){.number = number, .label = lock->label, .state = state};
 }
 
 /* The waiters of one cell sleep in 32 classes, by their round: so a wake reaches few in excess. */
@@ -118,6 +144,7 @@ HIDDEN void qolb_park_(uint32_t *half, uint32_t value, uint32_t classes, uint64_
 HIDDEN void qolb_unpark_(uint32_t *half, uint32_t classes);
 
 /* Sleeps for a millisecond, or until then if that is sooner: nobody wakes it. */
+enum { NAP = 1000000 };
 HIDDEN void qolb_nap_(uint64_t until);
 
 /* ---- opens.c ---- */
@@ -194,6 +221,49 @@ HIDDEN struct turn *qolb_place_for_(const struct lock *lock, struct turn *beyond
 /* The thread holds by this turn from now on. One that is in no place of the table is moved into the lock. */
 HIDDEN void qolb_keep_turn_(struct lock *lock, struct turn *at, const struct turn *beyond);
 
+/* ---- registry.c ---- */
+
+struct entry;
+
+/* A task waits from before its ticket's entry is in until it is due: then it has its turn, and its poll or its cancel
+ * goes on. */
+enum task_state { IDLE, WAITS, DUE, HOLDS };
+
+/* What a qolb_task has. While it waits it is written under the registry's guard, else by its caller. */
+struct task {
+    struct lock *lock; /* the first, which qolb.h reads */
+    struct entry *entry;
+    uint64_t number; /* of its ticket */
+    uint32_t turn;   /* the state of its ticket, at its turn */
+    atomic_uint state;
+    struct notice notice; /* in a list from when it is due until its call is made or it is polled */
+};
+
+_Static_assert(sizeof(struct task) <= sizeof(qolb_task), "a task has room");
+
+/* NULL if there is no memory. */
+HIDDEN struct entry *qolb_new_entry_(struct lock *lock, struct task *task);
+
+/* For a call that gives up with a ticket that WAITS: ASLEEP, and the ticket is the registry's; GRANTED; WAITING, and
+ * nothing changed, if there is no memory or no room at its cell. */
+HIDDEN uint32_t qolb_abandon_(struct lock *lock, struct qolb_ticket *ticket);
+
+/* For a task, whose ticket WAITS or is AT_TURN: WAITING, and it will be due, if it is not already; or GRANTED: at its
+ * turn, with bursts in by the outer word. */
+HIDDEN uint32_t qolb_stand_for_(struct entry *e, struct qolb_ticket *ticket);
+
+/* Whom a granted ticket is of, or the queue head that sleeps: of a thread; abandoned, and here it is at its turn; of a
+ * task. The key is that of a call to make, or 0. The lock may be gone. */
+enum found { NOBODY, ABANDONED, A_TASK };
+HIDDEN enum found qolb_find_granted_(struct lock *lock, uint64_t number, struct qolb_ticket *ticket, uint64_t *key);
+HIDDEN enum found qolb_find_head_(struct lock *lock, uint64_t *key);
+
+/* The state of a task. With a ticket, a task that WAITS gives up, and is IDLE: the ticket is FREE, or AT_TURN. */
+HIDDEN unsigned qolb_state_of_(struct task *task, struct qolb_ticket *withdrawn);
+
+/* In the child of a fork: frees the registry's guards. */
+HIDDEN void qolb_free_rows_(void);
+
 /* ---- waits.c ---- */
 
 /* A call that enters. */
@@ -210,18 +280,19 @@ static inline struct probed of_request(const struct request *my) {
     return (struct probed){(uintptr_t)my->lock, ticket->state ? ticket->number + 1 : 0, (uintptr_t)my->lock};
 }
 
-/* Waits for the turn of a request that WAITS: GRANTED; LATE, or CLOSED of a lock that is shut: withdrawn. */
+/* Waits for the turn of a request that WAITS: GRANTED; LATE, or CLOSED of a lock that is shut: it has no ticket. */
 HIDDEN uint32_t qolb_await_turn_(struct request *my);
 
 /* The queue head waits for the outer word: GRANTED or CLOSED, and it is in; LATE: it still has its turn of the queue.
  */
 HIDDEN uint32_t qolb_await_outer_(struct request *my);
 
-/* Ends a turn of the queue, and wakes the next, and one ahead after a sleep. The lock may be gone afterwards, unless
- * the ticket is in by the outer word. */
+/* Ends a turn of the queue, and wakes the next, and one ahead after a sleep; makes the call of a task that is due, in
+ * which this thread may enter and leave locks. The lock may be gone afterwards, unless the ticket is in by the outer
+ * word: then no task is due. */
 HIDDEN void qolb_pass_on_(struct lock *lock, struct turn *at);
 
-/* Leaves the outer word, and wakes the queue head. The lock may be gone afterwards. */
+/* Leaves the outer word, and wakes the queue head, or makes its call. The lock may be gone afterwards. */
 HIDDEN void qolb_leave_outer_(struct lock *lock, struct turn *at);
 
 /* ---- lock.c ---- */
@@ -231,6 +302,10 @@ HIDDEN uint32_t qolb_enter_at_(struct lock *lock, struct turn *at, uint64_t nano
 
 /* The same, without waiting: GRANTED, BUSY, CLOSED. */
 HIDDEN uint32_t qolb_try_at_(struct lock *lock, struct turn *at);
+
+/* Of a ticket at its turn, and in by the outer word if the lock has bursts, GRANTED or CLOSED: passes on what it is not
+ * to keep. The lock may be gone after CLOSED. */
+HIDDEN void qolb_settle_(struct lock *lock, struct turn *at, uint32_t got);
 
 /* Leaves. The lock may be gone afterwards. */
 HIDDEN void qolb_leave_at_(struct lock *lock, struct turn *at);

@@ -14,7 +14,7 @@
 #include <pthread.h>
 #endif
 
-enum { NAP = 1000000, IN_SECOND = 1000000000 };
+enum { IN_SECOND = 1000000000 };
 
 #ifdef __linux__
 

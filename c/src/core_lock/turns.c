@@ -145,7 +145,7 @@ struct turn *qolb_take_turn_(struct lock *lock, struct turn *beyond) {
     if (at) return set_lock(at, (uintptr_t)lock), at;
     if (!is_open(lock) || !holds_beyond(lock)) return NULL;
     const struct beyond *kept = beyond_of(lock);
-    *beyond = (struct turn){.ticket = {.number = kept->number, .state = (uint32_t)kept->state, .label = lock->label}};
+    *beyond = (struct turn){.ticket = kept_ticket(lock, kept->number, (uint32_t)kept->state)};
     atomic_store_explicit(&lock->beyond_by, 0, memory_order_relaxed);
     this_thread()->beyond--;
     return beyond;
@@ -196,7 +196,7 @@ uint64_t qolb_lock_holder(const qolb_lock *of) {
         number = number_in_tables(lock);
         return_guard(&tables.guard);
     }
-    return number % ((uint64_t)1 << SYSTEM_BITS);
+    return number == BY_TASK ? number : number % ((uint64_t)1 << SYSTEM_BITS);
 }
 
 int qolb_lock_is_mine(const qolb_lock *lock) { return qolb_holds_(lock_of(lock)); }

@@ -2,7 +2,9 @@
  *
  * A waiter polls, spins by spin.h, and then announces its sleep by a proved call, whose answer has the value to sleep
  * at; it sleeps while the word has that, retracts, and looks again. Who grants is told by the same step how many sleep
- * there, and wakes them by address. There is no other handshake.
+ * there, and wakes them by address, unless the registry has the ticket. There is no other handshake.
+ *
+ * Who gives up withdraws, or abandons its ticket to the registry if its turn is too far for that.
  *
  * The queue head waits at the outer word in the same way: it announces its sleep there, and who leaves is told. It
  * takes the word when that is reserved for it, or when it finds it free twice with no turn in between: so newcomers
@@ -26,24 +28,27 @@ static uint32_t late_or_closed(const struct lock *lock) {
 
 /* ---- A turn of the queue ---- */
 
-static uint32_t sleep_for_turn(const struct request *my) {
+static uint32_t sleep_for_turn(const struct request *my, uint64_t until) {
     struct qolb_ticket *ticket = ticket_of(my);
     uint32_t got = qolb_core_announce_sleep_proved_(core_of(my), ticket);
     if (got != QOLB_ASLEEP_ && got != QOLB_FULL_) return got;
     my->at->slept = 1;
     PROBE(sleep, of_request(my));
-    if (got == QOLB_FULL_) qolb_nap_(my->until);
+    if (got == QOLB_FULL_) qolb_nap_(until);
     else
         qolb_park_(cell_half(words_of(my->lock), ticket->number), (uint32_t)(ticket->word >> 32),
-                   class_of(ticket->number), my->until);
+                   class_of(ticket->number), until);
     PROBE(wake, of_request(my));
     return got == QOLB_FULL_ ? qolb_core_poll_proved_(core_of(my), ticket)
                              : qolb_core_retract_sleep_proved_(core_of(my), ticket);
 }
 
+/* Where the registry can't have the ticket it waits for a millisecond more. */
 static uint32_t give_up(const struct request *my) {
     uint32_t told = late_or_closed(my->lock), got = qolb_core_withdraw_proved_(core_of(my), ticket_of(my));
-    return got == QOLB_WITHDRAWN ? told : got;
+    if (got == QOLB_FAR_) got = qolb_abandon_(my->lock, ticket_of(my));
+    if (got == QOLB_WAITING) return sleep_for_turn(my, end_of(NAP));
+    return got == QOLB_GRANTED ? got : told;
 }
 
 uint32_t qolb_await_turn_(struct request *my) {
@@ -55,10 +60,34 @@ uint32_t qolb_await_turn_(struct request *my) {
         } else if (qolb_spin_once_(&spin, ticket_of(my)->rounds * TICKETS_IN_ROUND)) {
             got = qolb_core_poll_proved_(core_of(my), ticket_of(my));
         } else {
-            got = sleep_for_turn(my);
+            got = sleep_for_turn(my, my->until);
         }
     }
     return got;
+}
+
+/* ---- Passing a turn on ---- */
+
+static void release(struct lock *lock, struct qolb_ticket *ticket) {
+    while (qolb_core_release_proved_(&lock->core, ticket) == QOLB_UNFINISHED_) continue;
+}
+
+/* A ticket was granted at whose cell somebody sleeps: passes it on while it is an abandoned one, and wakes its thread.
+ * The key of a call to make, or 0. */
+__attribute__((noinline)) static uint64_t tell(struct lock *lock, uint64_t number) {
+    struct qolb_ticket ticket;
+    uint64_t key;
+    for (;; number = ticket.number + 1) {
+        enum found found = qolb_find_granted_(lock, number, &ticket, &key);
+        if (found == NOBODY) qolb_unpark_(cell_half(words_of(lock), number), class_of(number));
+        if (found != ABANDONED) return key;
+        release(lock, &ticket);
+        if (!ticket.sleepers) return 0;
+    }
+}
+
+static void make_call(uint64_t key) {
+    if (key) qolb_make_call_(bell_of_key(key), key);
 }
 
 /* Whether somebody sleeps at the cell of the ticket behind the next, if this one slept. */
@@ -68,13 +97,13 @@ static int sleeps_ahead(struct lock *lock, const struct turn *at) {
 }
 
 void qolb_pass_on_(struct lock *lock, struct turn *at) {
-    uint64_t *words = words_of(lock), ahead = at->ticket.number + 2;
+    uint64_t *words = words_of(lock), ahead = at->ticket.number + 2, key = 0;
     int wakes_ahead = __builtin_expect(at->slept != 0, 0) && sleeps_ahead(lock, at);
     at->slept = 0;
-    while (qolb_core_release_proved_(&lock->core, &at->ticket) == QOLB_UNFINISHED_) continue;
-    uint64_t next = at->ticket.number + 1;
-    if (at->ticket.sleepers) qolb_unpark_(cell_half(words, next), class_of(next));
+    release(lock, &at->ticket);
+    if (at->ticket.sleepers) key = tell(lock, at->ticket.number + 1);
     if (wakes_ahead) qolb_unpark_(cell_half(words, ahead), class_of(ahead));
+    make_call(key);
 }
 
 /* ---- The outer word ---- */
@@ -139,7 +168,9 @@ uint32_t qolb_await_outer_(struct request *my) {
 }
 
 void qolb_leave_outer_(struct lock *lock, struct turn *at) {
-    uint64_t *words = words_of(lock);
+    uint64_t key = 0;
     while (qolb_core_leave_proved_(&lock->core, &at->ticket) == QOLB_BUSY) continue;
-    if (at->ticket.head_sleeps) qolb_unpark_(outer_half(words), UINT32_MAX);
+    if (at->ticket.head_sleeps && qolb_find_head_(lock, &key) == NOBODY)
+        qolb_unpark_(outer_half(words_of(lock)), UINT32_MAX);
+    make_call(key);
 }
