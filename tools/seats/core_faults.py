@@ -4,12 +4,13 @@ LOCK, WAITS, TURNS, OPENS, CONDITIONS, REGISTRY, TASKS, HEADER = (
     f"core_lock/{name}" for name in ("lock.c", "waits.c", "turns.c", "opens.c", "conditions.c", "registry.c", "tasks.c", "lock.h")
 )
 
-# Less room and fewer looks before the same decisions; no clock in pauses, and no list of tables. What limits tickets is by scenes, and so is the memory for
-# entries. The model has several threads in one, so what a thread keeps while it makes calls is its.
+# Less room and fewer looks before the same decisions; no clock in pauses, and each thread's data where core_holders.c has them. What limits tickets is by scenes,
+# and so is the memory for entries. The model has several threads in one, so what a thread keeps while it makes calls is its.
 HOOKED = [
     (HEADER, "", "MOST_HELD = 8", "MOST_HELD = 1"),
     (HEADER, "", "CLASSES_OF_SLEEPERS = 32", "CLASSES_OF_SLEEPERS = 2"),
-    (TURNS, "qolb_place_for_", "own_number(), know_table(this_thread());", "own_number();"),
+    (HEADER, "", "static inline struct own *this_thread(void) { return &qolb_own_; }", "struct own *model_own(void);\nstatic inline struct own *this_thread(void) { return model_own(); }"),
+    (TURNS, "", "} tables;\n", "} tables;\nvoid model_clear_tables(void) { tables.first = NULL, tables.notes = NULL; }\n"),
     (LOCK, "", "TRIES = 4", "TRIES = 2"),
     (WAITS, "", "WATCH_PAUSE = 300", "WATCH_PAUSE = 90"),
     (WAITS, "", "REQUEST_PART = 16", "REQUEST_PART = 2"),
@@ -150,6 +151,19 @@ FAULTS = {
     "a task's shut is told to nobody at a condition": (1, "tasks", (TASKS, "leave", "        qolb_tell_shut_(lock);\n", "")),
     "a task shuts nothing": (1, "tasks", (TASKS, "leave", "        qolb_core_shut_proved_(&lock->core, &at.ticket);\n", "")),
     "who waits at a condition keeps its place while calls are made": (1, "tasks: one waits while a call enters", (CONDITIONS, "qolb_cond_wait_within", "    struct turn turn = *at; /* not in the table: a call of a task may enter other locks */\n    at->ticket = (struct qolb_ticket){0};\n", ""), (CONDITIONS, "qolb_cond_wait_within", "qolb_cond_wait_at_(cond, lock, &turn, nanoseconds)", "qolb_cond_wait_at_(cond, lock, at, nanoseconds)"), (CONDITIONS, "qolb_cond_wait_within", "    *(at = qolb_place_for_(lock, &beyond)) = turn;\n", "")),
+    # Who holds a lock.
+    "the tables are looked through without the guard": (2, "holder: ", (TURNS, "qolb_lock_holder", "        take_guard(&tables.guard);\n", "")),
+    "a table comes into the list without the guard": (2, "holder: ", (TURNS, "know_table", "    take_guard(&tables.guard);\n", "")),
+    "a table goes out of the list without the guard": (2, "holder: ", (TURNS, "forget_table", "    take_guard(&tables.guard);\n", "")),
+    "a table stays in the list at its thread's end": (1, "holder: ", (TURNS, "forget_table", "    *it->before = it->next;\n    if (it->next) it->next->before = it->before;\n", "")),
+    "a table behind one that goes keeps its address": (2, "holder: two", (TURNS, "forget_table", "    if (it->next) it->next->before = it->before;\n", "")),
+    "a thread that ends notes nothing": (1, "holder: ", (TURNS, "forget_table", "        if (lock_at(&it->table[k]) & HELD) note_turn(it, &it->table[k]);\n", "        continue;\n")),
+    "a thread that ends notes its turns after its table has gone": (1, "holder: ", (TURNS, "forget_table", "        if (lock_at(&it->table[k]) & HELD) note_turn(it, &it->table[k]);\n", "        continue;\n"), (TURNS, "forget_table", "        if (!(lock_at(&it->table[k]) & HELD)) set_lock(&it->table[k], 0);\n", "        if (lock_at(&it->table[k]) & HELD) note_turn(it, &it->table[k]);\n")),
+    "a note stays when its thread leaves": (1, "holder: ", (TURNS, "qolb_take_turn_", "return take_note_back(at), at;", "return set_lock(at, 0), at;")),
+    "a note comes without the guard": (2, "holder: ", (TURNS, "note_turn", "    take_guard(&tables.guard);\n", "")),
+    "a note goes without the guard": (2, "holder: ", (TURNS, "take_note_back", "    take_guard(&tables.guard);\n", "")),
+    "who enters after its end is not noted": (1, "holder: ", (TURNS, "qolb_keep_turn_", "        if (this_thread()->known == ENDED) note_turn(this_thread(), at);\n", "")),
+    "who enters after its end may take the quick way": (1, "holder: ", (TURNS, "forget_table", "        if (!(lock_at(&it->table[k]) & HELD)) set_lock(&it->table[k], 0);\n", "        continue;\n")),
     # Conditions.
     "who waits stands in the list after it has left": (1, "", (CONDITIONS, "qolb_cond_wait_at_", "    stand(cond, lock, &me);\n", ""), (CONDITIONS, "qolb_cond_wait_at_", "    qolb_leave_at_(lock, at);\n", "    qolb_leave_at_(lock, at);\n    stand(cond, lock, &me);\n")),
     "who waits at a condition is no guest": (1, "one closes beside", (CONDITIONS, "qolb_cond_wait_at_", "    atomic_fetch_add(&lock->guests, 1);\n", ""), (CONDITIONS, "qolb_cond_wait_at_", "        atomic_fetch_sub(&lock->guests, 1); /* its last access to the lock */\n", ""), (CONDITIONS, "qolb_cond_wait_at_", "qolb_enter_at_(lock, at, FOR_EVER, 1)", "qolb_enter_at_(lock, at, FOR_EVER, 0)")),

@@ -45,21 +45,35 @@ int enters_to_shut(int self);
 void last_frees(int self);
 void free_lock(void);
 
+/* ---- core_holders.c ---- */
+
+/* New tables of all threads. Unless other threads look at them they are in no list, and no access to them is shared. */
+void new_data_of_threads(int looked_at);
+int is_in_table(uintptr_t at);
+void is_held_by(int self);
+
+#define HOLDER_SCENES(of) \
+    of(holder_comes_and_ends) of(ends_as_holder) of(leaves_in_a_destructor) of(enters_in_a_destructor)
+#define DECLARED(name) void name(int self);
+HOLDER_SCENES(DECLARED)
+
 /* ---- core_tasks.c ---- */
 
-#define TASK_SCENES(of)                                                                                              \
+#define TASK_SCENES(of)                                                                                               \
     of(by_task) of(by_task_twice) of(one_task_gives_up) of(a_task_beside_threads) of(tasks_beside_a_thread)           \
-    of(a_task_beside_threads_twice) of(tasks_beside_a_thread_twice) of(a_task_beside_one_that_yields)                 \
-    of(tasks_beside_one_that_yields) of(a_task_beside_one_that_stays) of(a_task_gives_up_between_threads)             \
-    of(a_task_gives_up_beside_one_that_yields) of(a_task_gives_up_before_one_beside_one_that_yields)                  \
-    of(a_task_gives_up_and_asks_again) of(a_thread_is_late_between_tasks) of(a_thread_is_late_before_a_task)          \
-    of(a_thread_is_late_or_a_task_waits) of(both_give_up) of(one_tries_beside_a_task) of(two_tasks_of_one)            \
-    of(first_of_two_gives_up) of(second_of_two_gives_up) of(both_of_two_give_up) of(tasks_until_shut)                 \
-    of(a_task_until_shut) of(a_task_shuts) of(last_task_frees) of(last_of_both_frees) of(last_that_polls_frees)       \
-    of(a_task_polls_early) of(one_closes_beside_a_task) of(closes_while_both_wait) of(a_task_signals)                 \
-    of(has_task_turn_in_call) of(task_asks_again_in_call) of(enters_another_in_call) of(waits_while_a_call_enters)    \
-    of(a_task_comes_to_a_younger_lock) of(a_task_finds_no_memory)
-#define DECLARED(name) void name(int self);
+        of(a_task_beside_threads_twice) of(tasks_beside_a_thread_twice) of(a_task_beside_one_that_yields)             \
+            of(tasks_beside_one_that_yields) of(a_task_beside_one_that_stays) of(a_task_gives_up_between_threads)     \
+                of(a_task_gives_up_beside_one_that_yields) of(a_task_gives_up_before_one_beside_one_that_yields)      \
+                    of(a_task_gives_up_and_asks_again) of(a_thread_is_late_between_tasks)                             \
+                        of(a_thread_is_late_before_a_task) of(a_thread_is_late_or_a_task_waits) of(both_give_up)      \
+                            of(one_tries_beside_a_task) of(two_tasks_of_one) of(first_of_two_gives_up)                \
+                                of(second_of_two_gives_up) of(both_of_two_give_up) of(tasks_until_shut)               \
+                                    of(a_task_until_shut) of(a_task_shuts) of(last_task_frees) of(last_of_both_frees) \
+                                        of(last_that_polls_frees) of(a_task_polls_early) of(one_closes_beside_a_task) \
+                                            of(closes_while_both_wait) of(a_task_signals) of(has_task_turn_in_call)   \
+                                                of(task_asks_again_in_call) of(enters_another_in_call)                \
+                                                    of(waits_while_a_call_enters) of(a_task_comes_to_a_younger_lock)  \
+                                                        of(a_task_finds_no_memory)
 TASK_SCENES(DECLARED)
 
 #endif
