@@ -1,12 +1,11 @@
-/* The actions of threads with a lock on the core, in the runs that explorer.c makes (../seats_core.py). The lock's own
+/* The actions of threads with a lock, in the runs that explorer.c makes (../explore_lock.py). The lock's own
  * files, or those that differ by a fault, and the stand-in for the proved calls are built with -fsanitize=thread, by
  * which the compiler reports each access to memory by a call, and explorer.c answers those calls. */
-#include "core_scenes.h"
+#include "lock_scenes.h"
 #include <errno.h>
 
 struct it it;
 
-BY_THREAD struct room qolb_room_;
 BY_THREAD struct core_room qolb_core_room_;
 BY_THREAD unsigned qolb_learned_[2];
 unsigned model_near, model_sleepers, model_open;
@@ -713,7 +712,7 @@ static qolb_lock *unopened(const struct scene *scene, int k) {
     char *block = model_malloc(sizeof(qolb_lock) + PLACES * PLACE);
     qolb_lock *lock = (qolb_lock *)(block + PLACE * ((scene - scenes + k) % PLACES));
     if (k == 0) it.block = block;
-    *lock = (qolb_lock)QOLB_LOCK_INIT_BURSTS(QOLB_LINK, 4, scene->burst);
+    *lock = (qolb_lock)QOLB_LOCK_INIT_BURSTS(scene->burst);
     return lock;
 }
 
@@ -727,7 +726,7 @@ void set_up(const struct scene *scene) {
     for (int k = 0; k < LOCKS; k++) {
         it.locks[k] = unopened(scene, k);
         if (!scene->at_first_use)
-            MUST(qolb_lock_open(it.locks[k], QOLB_LINK, 0, QOLB_SEATS(4, scene->burst), &zeros) == QOLB_DONE);
+            MUST(qolb_lock_open(it.locks[k], scene->burst) == QOLB_DONE);
     }
     it.lock = it.locks[0];
 }
