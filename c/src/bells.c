@@ -1,7 +1,8 @@
-/* The bells, how long a waiter polls, and the system calls of sleeping: Linux's futex. On other systems a sleeper polls
- * again after 200 us (bells.h). Tested, not proved. */
+/* The bells, the clock, and the system calls of sleeping: Linux's futex. On other systems a sleeper polls again after
+ * 200 us (bells.h). Tested, not proved. */
 #define _GNU_SOURCE
 #include "bells.h"
+#include <errno.h>
 #include <time.h>
 #ifdef __linux__
 #include <sys/syscall.h>
@@ -18,44 +19,19 @@ uint64_t qolb_now_(void) {
     return (uint64_t)time.tv_sec * 1000000000 + (uint64_t)time.tv_nsec;
 }
 
-enum { LOOK_NANOSECONDS = 1500, LEAST_LOOKS = 16, MOST_LOOKS = 512 };
-
-/* The time of 64 pauses, by the quickest of five runs: in another one the thread may have lost the processor. */
-static uint64_t time_pauses(void) {
-    uint64_t least = UINT64_MAX;
-    for (int run = 0; run < 5; run++) {
-        uint64_t since = qolb_now_();
-        for (int k = 0; k < 64; k++) __builtin_ia32_pause();
-        uint64_t took = qolb_now_() - since;
-        if (took < least) least = took;
-    }
-    return least;
-}
-
-static unsigned count_looks(void) {
-    uint64_t took = time_pauses();
-    if (took <= 64 * LOOK_NANOSECONDS / MOST_LOOKS) return MOST_LOOKS;
-    uint64_t looks = 64 * LOOK_NANOSECONDS / took;
-    return looks > LEAST_LOOKS ? (unsigned)looks : LEAST_LOOKS;
-}
-
-/* Threads that count at the same time count nearly the same. */
-unsigned qolb_looks_(void) {
-    static atomic_uint counted;
-    unsigned looks = atomic_load_explicit(&counted, memory_order_relaxed);
-    if (looks == 0) atomic_store_explicit(&counted, looks = count_looks(), memory_order_relaxed);
-    return looks;
-}
-
 #ifdef __linux__
 
 void qolb_sleep_at_(atomic_uint *word, unsigned value, uint64_t nanoseconds) {
     struct timespec most = {(time_t)(nanoseconds / 1000000000), (long)(nanoseconds % 1000000000)};
+    int kept = errno;
     syscall(SYS_futex, word, 128 /* FUTEX_WAIT_PRIVATE */, value, nanoseconds == FOR_EVER ? NULL : &most, NULL, 0);
+    errno = kept;
 }
 
 void qolb_wake_at_(atomic_uint *word, int most) {
+    int kept = errno;
     syscall(SYS_futex, word, 129 /* FUTEX_WAKE_PRIVATE */, most, NULL, NULL, 0);
+    errno = kept;
 }
 
 #else
@@ -63,11 +39,12 @@ void qolb_wake_at_(atomic_uint *word, int most) {
 /* A thread that is cancelled meanwhile sleeps on: else its request would stay in the queue. */
 void qolb_sleep_at_(atomic_uint *word, unsigned value, uint64_t nanoseconds) {
     struct timespec nap = {0, nanoseconds < 200000 ? (long)nanoseconds : 200000};
-    int cancels;
+    int cancels, kept = errno;
     if (atomic_load(word) != value) return;
     pthread_setcancelstate(PTHREAD_CANCEL_DISABLE, &cancels);
     nanosleep(&nap, NULL);
     pthread_setcancelstate(cancels, &cancels);
+    errno = kept;
 }
 
 void qolb_wake_at_(atomic_uint *word, int most) { (void)word, (void)most; }

@@ -8,14 +8,19 @@
  * the guard. Once the call has begun the notice is not touched: its node may be gone. */
 #define _GNU_SOURCE
 #include "bells.h"
+#include <errno.h>
 #include <pthread.h>
+#include <unistd.h>
+#ifdef __linux__
+#include <sys/syscall.h>
+#endif
 
 /* The sanitizer of threads, if the program has it, sees nothing inside this library. It is told what a wish for a call
  * hands over, and what a call does. */
 void __tsan_acquire(void *address) __attribute__((weak));
 void __tsan_release(void *address) __attribute__((weak));
 
-static void tell_acquire(const void *at) {
+void qolb_tell_acquire_(const void *at) {
     if (__tsan_acquire) __tsan_acquire((void *)(uintptr_t)at);
 }
 
@@ -88,6 +93,7 @@ static struct running *running_elsewhere(const struct notice *notice, struct bel
 
 /* ---- Wanting a call ---- */
 
+#ifndef WITHOUT_NODES /* as where the proved lock is a stand-in */
 uint32_t qolb_listen_(struct notice *notice, qolb_node *node) {
     uint64_t word = qolb_waits_at_proved_(node);
     struct bell *bell = bell_at(node, word);
@@ -100,6 +106,7 @@ uint32_t qolb_listen_(struct notice *notice, qolb_node *node) {
     return_guard(&bell->guard);
     return got;
 }
+#endif
 
 void qolb_list_(struct notice *notice, uint64_t key) {
     struct bell *bell = bell_of_key(key);
@@ -127,11 +134,23 @@ uint32_t qolb_unlist_(struct notice *notice) {
     if (notice->before) take_out(notice);
     while ((call = running_elsewhere(notice, bell))) await_end(bell, call);
     return_guard(&bell->guard);
-    tell_acquire(notice);
+    qolb_tell_acquire_(notice);
     return got;
 }
 
 /* ---- Making a call ---- */
+
+/* By syscall, which is no cancellation point, as write is. The thread that releases the line keeps its errno. */
+void qolb_add_to_descriptor_(void *fd) {
+    uint64_t one = 1;
+    int error = errno;
+#ifdef __linux__
+    syscall(SYS_write, (int)(intptr_t)fd, &one, sizeof one);
+#else
+    (void)!write((int)(intptr_t)fd, &one, sizeof one);
+#endif
+    errno = error;
+}
 
 void qolb_notify_done(void) {
     struct running *me = in_call ? in_call->running : NULL;
@@ -165,7 +184,7 @@ static void make_noted_call(struct bell *bell, uint64_t key) {
     return_guard(&bell->guard);
     in_call->running = &me;
     in_call->bell = bell;
-    tell_acquire(notice);
+    qolb_tell_acquire_(notice);
     call(arg);
     qolb_notify_done();
 }

@@ -14,7 +14,7 @@
 
 enum { GUARDED, BY_A_TASK, BY_A_NODE, BY_TWO_LOCKS, AFTER_LEAVING, AFTER_BUSY, AFTER_LATE, AFTER_A_SIGNAL, WAYS };
 
-static qolb_lock lock = QOLB_LOCK_INIT(4), other = QOLB_LOCK_INIT(4);
+static qolb_lock lock = QOLB_LOCK_INIT, other = QOLB_LOCK_INIT;
 static qolb_cond cond = QOLB_COND_INIT;
 static qolb_node nodes[2];
 static int way, is_ready, data;
@@ -52,13 +52,7 @@ static void *first(void *unused) {
     return unused;
 }
 
-/* Both wait at an eventfd, by which the tools are told nothing. No task enters a lock on the core. */
-#ifdef QOLB_LOCK_CORE
-static void task_adds(int fd) {
-    close(fd);
-    exit(2);
-}
-#else
+/* Both wait at an eventfd, by which the tools are told nothing. */
 static void task_adds(int fd) {
     static qolb_task task;
     eventfd_t count;
@@ -71,7 +65,6 @@ static void task_adds(int fd) {
     data++;
     MUST(qolb_task_leave(&task), QOLB_DONE);
 }
-#endif
 
 static void node_adds(int fd) {
     eventfd_t count;
@@ -133,6 +126,22 @@ static void *second(void *unused) {
     return unused;
 }
 
+/* Threads that end, one of them with a lock, while others do: nothing is used in a wrong way. */
+static void *ends(void *with) {
+    static qolb_lock kept = QOLB_LOCK_INIT(4);
+    enter(&other);
+    leave(&other);
+    if (with) enter(&kept);
+    return with;
+}
+
+static void end_together(void) {
+    enum { MANY = 6 };
+    pthread_t ids[MANY];
+    for (int k = 0; k < MANY; k++) MUST(pthread_create(&ids[k], NULL, ends, k == 0 ? &way : NULL), 0);
+    for (int k = 0; k < MANY; k++) pthread_join(ids[k], NULL);
+}
+
 int main(int argc, char **argv) {
     static const qolb_bytes zeros;
     pthread_t ids[2];
@@ -146,6 +155,7 @@ int main(int argc, char **argv) {
     MUST(pthread_create(&ids[0], NULL, second, NULL), 0);
     MUST(pthread_create(&ids[1], NULL, first, NULL), 0);
     for (int k = 0; k < 2; k++) pthread_join(ids[k], NULL);
+    end_together();
     WANT(data, 2);
     WANT(qolb_lock_close(&lock), QOLB_DONE);
     WANT(qolb_lock_close(&other), QOLB_DONE);

@@ -1,0 +1,324 @@
+/* The lock: what it has, and what its files call of each other (qolb.h, LOCKS). One of the library's internal files.
+ *
+ * What decides is proved: each step on a shared word that grants, passes, withdraws, shuts or counts is a call of
+ * core.h, by the lock and a ticket. The files here find the ticket, spin, sleep and wake. They call downwards only:
+ *
+ *   conditions.c   waiting at a condition, and telling all that wait there of a shut
+ *   tasks.c        tasks, which enter and leave without a thread that waits
+ *   lock.c         entering, trying, leaving, shutting, closing
+ *   waits.c        waiting for a turn of the queue, and for the outer word; passing a turn on; whom to wake
+ *   registry.c     the tickets for which no thread waits: of tasks, and of calls that gave up
+ *   turns.c        the thread's table of the locks that it holds; who holds a lock
+ *   opens.c        opening a lock in its own bytes, at its first use
+ *   parks.c        sleeping at a word, and waking
+ *   ../core.h      the proved calls; ../spin.h how long to spin; ../bells.h the clock, guards, and calls of notices
+ *
+ * Tested and explored (tools/explore_lock.py), not proved. */
+#ifndef QOLB_LOCK_H
+#define QOLB_LOCK_H
+
+#include "../bells.h"
+#include "../core.h"
+#include "../probes.h"
+#include "../spin.h"
+
+/* ---- A lock's bytes ---- */
+
+enum { MAX_BURST = 65535, LOCK_BYTES = 320, LINE = 64, WORDS_SLACK = 24 };
+
+/* How a qolb_lock's bytes are used. The first part is written once, when it is opened; what the holder writes lies
+ * behind it; and the core's words begin where the outer word shares no cache line with the first part, and the tail and
+ * the cells, words 16 to 20, are in one line. */
+struct __attribute__((may_alias)) lock {
+    /* By who opens it: NULL, OPENING, AWAITED, and then the address of `block`. */
+    struct qolb_core core;
+    uint64_t turns;               /* of its bursts, by the initialiser; 0 and 1: it is strict */
+    char block[CORE_BLOCK_BYTES]; /* the core's: never written after opening */
+    uint64_t label;               /* by who opens it: no other opening of the process has it */
+    struct waiter *waits;         /* by the holder: those that wait at a condition */
+    /* By the holder: its number, if its thread's table has no room for this turn (`struct beyond`); BY_TASK; else 0. */
+    _Atomic uint64_t beyond_by;
+    char words[CORE_WORDS_BYTES + WORDS_SLACK]; /* the core's, a `struct beyond`, and the core's slots */
+    /* The number of threads in a call that have no ticket yet or any more: they wait at a condition, or until a request
+     * could be withdrawn. By each of them. A lock is not closed meanwhile. */
+    atomic_uint guests;
+    uint32_t unused;
+};
+
+_Static_assert(sizeof(struct lock) == LOCK_BYTES && sizeof(qolb_lock) == LOCK_BYTES, "the size that qolb.h says");
+
+/* A task holds the lock. */
+#define BY_TASK UINT64_MAX
+
+/* The part of a ticket that is kept in the lock. */
+struct beyond {
+    uint64_t number, state;
+};
+
+static inline struct lock *lock_of(const qolb_lock *lock) { return (struct lock *)(uintptr_t)lock; }
+
+/* The bound of bursts; 0 and 1: the lock is strict. */
+static inline uint64_t burst_of(const struct lock *lock) { return lock->turns < MAX_BURST ? lock->turns : MAX_BURST; }
+
+/* The core's words. A function of the lock's address alone: so it can be used when the lock is gone. */
+static inline uint64_t *words_of(const struct lock *lock) {
+    uintptr_t at = (uintptr_t)lock->words;
+    return (uint64_t *)(at % LINE <= WORDS_SLACK ? at : (at + LINE - 1) / LINE * LINE);
+}
+
+/* The rest of `words`: 24 bytes before the core's, 8 before and 16 behind them, or 24 behind. So there is one place for
+ * 16 bytes, and one for 8. */
+static inline size_t bytes_before_words(const struct lock *lock) {
+    return (size_t)((char *)words_of(lock) - lock->words);
+}
+
+static inline struct beyond *beyond_of(struct lock *lock) {
+    int before = bytes_before_words(lock) >= sizeof(struct beyond);
+    return (struct beyond *)(before ? lock->words : (char *)words_of(lock) + CORE_WORDS_BYTES);
+}
+
+static inline void *slots_of(struct lock *lock) {
+    return bytes_before_words(lock) == CORE_SLOTS_BYTES ? (void *)lock->words : beyond_of(lock) + 1;
+}
+
+/* ---- Looks at the words: hints for waiting, CLOSED for who gives up, and whether who closes is alone ---- */
+
+enum { TICKETS_IN_ROUND = 4, TAIL = 16, FIRST_CELL = 17, CLASSES_OF_SLEEPERS = 32, GRANTED_ROUNDS = 34 };
+enum { HANDOFF_REQUESTED = 1, HEAD_ASLEEP = 2, OUTER_HELD = 4, OUTER_RESERVED = 8, OUTER_STATE = 12, OUTER_SHUT = 16 };
+enum { NEWCOMER = 32 };
+
+static inline uint64_t outer_word(const struct lock *lock) { return __atomic_load_n(words_of(lock), __ATOMIC_SEQ_CST); }
+
+/* The next ticket's number. */
+static inline uint64_t tail_word(const struct lock *lock) {
+    return __atomic_load_n(words_of(lock) + TAIL, __ATOMIC_SEQ_CST);
+}
+
+/* The 32 bits at which the queue head sleeps, and those of a ticket's cell at which a waiter sleeps. */
+static inline uint32_t *outer_half(uint64_t *words) { return (uint32_t *)words; }
+static inline uint32_t *cell_half(uint64_t *words, uint64_t number) {
+    return (uint32_t *)(words + FIRST_CELL + number % TICKETS_IN_ROUND) + 1;
+}
+
+/* The rounds that are to be granted before this ticket is at its turn. Of a number that was read before its cell: less
+ * than 0, if it was at its turn long ago. */
+static inline int32_t rounds_to_go(const struct lock *lock, uint64_t number) {
+    uint64_t cell = __atomic_load_n(words_of(lock) + FIRST_CELL + number % TICKETS_IN_ROUND, __ATOMIC_SEQ_CST);
+    uint64_t rounds = number / TICKETS_IN_ROUND + 1 - (cell >> GRANTED_ROUNDS);
+    return (int32_t)((uint32_t)rounds << (GRANTED_ROUNDS - 32)) >> (GRANTED_ROUNDS - 32);
+}
+
+/* The most rounds from which a request can be withdrawn; and the most requests that are open before a call with a limit,
+ * or a task, draws a ticket. So the abandoned ones are few enough to be passed in 2 ms. */
+enum { MOST_ROUNDS_NEAR = 15, MOST_OPEN = 16384 };
+
+static inline int has_room(const struct lock *lock) {
+    return rounds_to_go(lock, tail_word(lock)) < MOST_OPEN / TICKETS_IN_ROUND;
+}
+
+/* Of a ticket that is asleep or at a turn no more is read than is kept of it. */
+static inline struct qolb_ticket kept_ticket(const struct lock *lock, uint64_t number, uint32_t state) {
+    return (struct qolb_ticket){.number = number, .label = lock->label, .state = state};
+}
+
+/* The waiters of one cell sleep in 32 classes, by their round: so a wake reaches few in excess. */
+static inline uint32_t class_of(uint64_t number) {
+    return (uint32_t)1 << number / TICKETS_IN_ROUND % CLASSES_OF_SLEEPERS;
+}
+
+/* ---- parks.c ---- */
+
+/* So far is the time at which a call gives up; FOR_EVER if it does not. */
+static inline uint64_t end_of(uint64_t nanoseconds) {
+    uint64_t now = nanoseconds == FOR_EVER ? 0 : qolb_now_();
+    return nanoseconds < FOR_EVER - now ? now + nanoseconds : FOR_EVER;
+}
+
+static inline int is_over(uint64_t until) { return until != FOR_EVER && qolb_now_() >= until; }
+
+/* Sleeps while these 32 bits have this value, until then, in these classes; may return for no reason. No cancellation
+ * point. */
+HIDDEN void qolb_park_(uint32_t *half, uint32_t value, uint32_t classes, uint64_t until);
+
+/* Wakes all sleepers of these classes. The 32 bits need not exist any more: only their address is used. */
+HIDDEN void qolb_unpark_(uint32_t *half, uint32_t classes);
+
+/* Sleeps for a millisecond, or until then if that is sooner: nobody wakes it. */
+enum { NAP = 1000000 };
+HIDDEN void qolb_nap_(uint64_t until);
+
+/* ---- opens.c ---- */
+
+enum { OPENING = 1, AWAITED = 2 };
+
+static inline uintptr_t own_of(const struct lock *lock) {
+    return (uintptr_t)__atomic_load_n(&lock->core.at, __ATOMIC_ACQUIRE);
+}
+
+static inline int is_open(const struct lock *lock) { return own_of(lock) > AWAITED; }
+
+/* Opens the lock, unless it is open. A thread that meets another which opens it sleeps until that has. */
+HIDDEN void qolb_open_(struct lock *lock);
+
+/* ---- turns.c ---- */
+
+/* A thread's turn at a lock, or its wait for one. */
+struct turn {
+    /* The lock's address, with HELD while the thread holds it, and NOTED at its end. It stays when the turn has ended:
+     * so one comparison says that this thread does not hold that lock. */
+    _Atomic uintptr_t lock;
+    uintptr_t slept; /* it slept while it waited */
+    struct qolb_ticket ticket;
+};
+
+enum { MOST_HELD = 8, HELD = 1, NOTED = 2 };
+
+/* The number of a thread: the system's, 22 bits of it, and above them 22 bits of a count of the threads of this
+ * process that have drawn one. A thread keeps it over a fork. So a thread of the child that the system gives the
+ * parent's number has another one here. */
+enum { SYSTEM_BITS = 22 };
+
+struct own {
+    struct turn table[MOST_HELD];
+    uint64_t number;                      /* 0 until it is drawn */
+    unsigned beyond;                      /* the number of locks that it holds, for which the table has no room */
+    enum { UNKNOWN, KNOWN, ENDED } known; /* to qolb_lock_holder: from the first use to the thread's end */
+    struct own *next, **before;           /* of those that are */
+};
+
+extern HIDDEN BY_THREAD struct own qolb_own_;
+
+static inline struct own *this_thread(void) { return &qolb_own_; }
+
+static inline struct turn *home_of(const struct lock *lock) {
+    return &this_thread()->table[(uintptr_t)lock / LINE % MOST_HELD];
+}
+
+static inline uintptr_t lock_at(const struct turn *at) { return atomic_load_explicit(&at->lock, memory_order_relaxed); }
+
+static inline void set_lock(struct turn *at, uintptr_t lock) {
+    atomic_store_explicit(&at->lock, lock, memory_order_relaxed);
+}
+
+static inline int last_had(const struct turn *at, const struct lock *lock) { return lock_at(at) == (uintptr_t)lock; }
+static inline int holds_by(const struct turn *at, const struct lock *lock) {
+    return lock_at(at) == (uintptr_t)lock + HELD;
+}
+
+HIDDEN uint64_t qolb_draw_number_(void);
+static inline uint64_t own_number(void) { return this_thread()->number ? this_thread()->number : qolb_draw_number_(); }
+
+HIDDEN int qolb_holds_(const struct lock *lock);
+
+/* Takes the turn by which the calling thread holds the lock from it: one of its table, or `beyond`, to which it is
+ * moved from the lock. NULL if it does not hold it. */
+HIDDEN struct turn *qolb_take_turn_(struct lock *lock, struct turn *beyond);
+
+/* Where the calling thread's turn at this lock goes: a place of its table, or `beyond`. It must not hold it. */
+HIDDEN struct turn *qolb_place_for_(const struct lock *lock, struct turn *beyond);
+
+/* The thread holds by this turn from now on. One that is in no place of the table is moved into the lock. */
+HIDDEN void qolb_keep_turn_(struct lock *lock, struct turn *at, const struct turn *beyond);
+
+/* ---- registry.c ---- */
+
+struct entry;
+
+/* A task waits from before its ticket's entry is in until it is due: then it has its turn, and its poll or its cancel
+ * goes on. */
+enum task_state { IDLE, WAITS, DUE, HOLDS };
+
+/* What a qolb_task has. While it waits it is written under the registry's guard, else by its caller. */
+struct task {
+    struct lock *lock; /* the first, which qolb.h reads */
+    struct entry *entry;
+    uint64_t number; /* of its ticket */
+    uint32_t turn;   /* the state of its ticket, at its turn */
+    atomic_uint state;
+    struct notice notice; /* in a list from when it is due until its call is made or it is polled */
+};
+
+_Static_assert(sizeof(struct task) <= sizeof(qolb_task), "a task has room");
+
+/* NULL if there is no memory. */
+HIDDEN struct entry *qolb_new_entry_(struct lock *lock, struct task *task);
+
+/* For a call that gives up with a ticket that WAITS: ASLEEP, and the ticket is the registry's; GRANTED; WAITING, and
+ * nothing changed, if there is no memory or no room at its cell. */
+HIDDEN uint32_t qolb_abandon_(struct lock *lock, struct qolb_ticket *ticket);
+
+/* For a task, whose ticket WAITS or is AT_TURN: WAITING, and it will be due, if it is not already; or GRANTED: at its
+ * turn, with bursts in by the outer word. */
+HIDDEN uint32_t qolb_stand_for_(struct entry *e, struct qolb_ticket *ticket);
+
+/* Whom a granted ticket is of, or the queue head that sleeps: of a thread; abandoned, and here it is at its turn; of a
+ * task. The key is that of a call to make, or 0. The lock may be gone. */
+enum found { NOBODY, ABANDONED, A_TASK };
+HIDDEN enum found qolb_find_granted_(struct lock *lock, uint64_t number, struct qolb_ticket *ticket, uint64_t *key);
+HIDDEN enum found qolb_find_head_(struct lock *lock, uint64_t *key);
+
+/* The state of a task. With a ticket, a task that WAITS gives up, and is IDLE: the ticket is FREE, or AT_TURN. */
+HIDDEN unsigned qolb_state_of_(struct task *task, struct qolb_ticket *withdrawn);
+
+/* In the child of a fork: frees the registry's guards. */
+HIDDEN void qolb_free_rows_(void);
+
+/* ---- waits.c ---- */
+
+/* A call that enters. */
+struct request {
+    struct lock *lock;
+    struct turn *at;
+    uint64_t until;
+    int is_guest; /* it is counted among the lock's guests */
+};
+
+/* For the probes: the lock's address, and the ticket's number from 1 on; 0 while it has none. */
+static inline struct probed of_request(const struct request *my) {
+    const struct qolb_ticket *ticket = &my->at->ticket;
+    return (struct probed){(uintptr_t)my->lock, ticket->state ? ticket->number + 1 : 0, (uintptr_t)my->lock};
+}
+
+/* Waits for the turn of a request that WAITS: GRANTED; LATE, or CLOSED of a lock that is shut: it has no ticket. */
+HIDDEN uint32_t qolb_await_turn_(struct request *my);
+
+/* The queue head waits for the outer word: GRANTED or CLOSED, and it is in; LATE: it still has its turn of the queue.
+ */
+HIDDEN uint32_t qolb_await_outer_(struct request *my);
+
+/* Ends a turn of the queue, and wakes the next, and one ahead after a sleep; makes the call of a task that is due, in
+ * which this thread may enter and leave locks. The lock may be gone afterwards, unless the ticket is in by the outer
+ * word: then no task is due. */
+HIDDEN void qolb_pass_on_(struct lock *lock, struct turn *at);
+
+/* Leaves the outer word, and wakes the queue head, or makes its call. The lock may be gone afterwards. */
+HIDDEN void qolb_leave_outer_(struct lock *lock, struct turn *at);
+
+/* ---- lock.c ---- */
+
+/* Enters by a turn that has no request, which may be in no table: GRANTED, LATE, CLOSED. */
+HIDDEN uint32_t qolb_enter_at_(struct lock *lock, struct turn *at, uint64_t nanoseconds, int is_guest);
+
+/* The same, without waiting: GRANTED, BUSY, CLOSED. */
+HIDDEN uint32_t qolb_try_at_(struct lock *lock, struct turn *at);
+
+/* Of a ticket at its turn, and in by the outer word if the lock has bursts, GRANTED or CLOSED: passes on what it is not
+ * to keep. The lock may be gone after CLOSED. */
+HIDDEN void qolb_settle_(struct lock *lock, struct turn *at, uint32_t got);
+
+/* Leaves. The lock may be gone afterwards. */
+HIDDEN void qolb_leave_at_(struct lock *lock, struct turn *at);
+
+/* ---- conditions.c ---- */
+
+/* For the holder, tells all that wait at a condition that the lock is shut. */
+HIDDEN void qolb_tell_shut_(struct lock *lock);
+
+/* As qolb_cond_wait_within, by a turn that is in no table. */
+HIDDEN uint32_t qolb_cond_wait_at_(qolb_cond *cond, struct lock *lock, struct turn *at, uint64_t nanoseconds);
+
+/* Frees the guards of conditions, in the child of a fork: threads of the parent that were in a call on a condition are
+ * not there. */
+HIDDEN void qolb_free_guards_(void);
+
+#endif

@@ -1,0 +1,46 @@
+/* Opening a lock in its own bytes, at its first use (lock.h). Tested, not proved; the opening of the core is a proved
+ * call.
+ *
+ * The first that finds `core.at` NULL writes OPENING there, opens, and writes the core's address. Who finds OPENING
+ * writes AWAITED and sleeps at that value; who has opened wakes if it found that. So the lock is opened once, and
+ * nobody waits for it without a sleep.
+ *
+ * The core's blocks, its words, its slots and what refers to them, are bytes of the lock: the proved part asks for
+ * memory by gaps.c, and gets these (qolb_core_room_). So opening can't fail, and nothing has to be freed. */
+#include "lock.h"
+
+/* By who has written OPENING. */
+static void open_core(struct lock *lock) {
+    static _Atomic uint64_t labels;
+    struct qolb_core core;
+    lock->label = atomic_fetch_add(&labels, 1) + 1;
+    lock->waits = NULL;
+    atomic_init(&lock->beyond_by, 0);
+    atomic_init(&lock->guests, 0);
+    qolb_core_room_ = (struct core_room){words_of(lock), slots_of(lock), lock->block};
+    if (qolb_core_open_proved_(burst_of(lock), lock->label, &core) != QOLB_DONE) __builtin_trap();
+    qolb_core_room_ = (struct core_room){NULL, NULL, NULL};
+    uintptr_t was = (uintptr_t)__atomic_exchange_n(&lock->core.at, core.at, __ATOMIC_SEQ_CST);
+    if (was == AWAITED) qolb_unpark_((uint32_t *)&lock->core.at, 1);
+}
+
+/* From NULL or OPENING to the other: whether it was so. */
+static int claims(struct lock *lock, uintptr_t from, uintptr_t to) {
+    return __atomic_compare_exchange_n((uintptr_t *)&lock->core.at, &from, to, 0, __ATOMIC_SEQ_CST, __ATOMIC_SEQ_CST);
+}
+
+void qolb_open_(struct lock *lock) {
+    while (!is_open(lock)) {
+        if (claims(lock, 0, OPENING)) open_core(lock);
+        else if (own_of(lock) == AWAITED || claims(lock, OPENING, AWAITED))
+            qolb_park_((uint32_t *)&lock->core.at, AWAITED, 1, FOR_EVER);
+    }
+}
+
+uint32_t qolb_lock_open(qolb_lock *of, uint64_t turns) {
+    struct lock *lock = lock_of(of);
+    if (!claims(lock, 0, OPENING)) return QOLB_OCCUPIED;
+    lock->turns = turns;
+    open_core(lock);
+    return QOLB_DONE;
+}

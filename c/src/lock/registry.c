@@ -1,0 +1,247 @@
+/* The registry: whom to tell of a ticket for which no thread waits (lock.h). Tested and explored, not proved.
+ *
+ * There are two such tickets. One is *abandoned*: its call gave up too far from its turn to withdraw it. The other is a
+ * task's. Each has an entry, in a list by the lock's address and the ticket's number. The registry decides nothing:
+ *
+ * - An entry is put into its list, and then announces its ticket's sleep by the proved call. So who grants the ticket is
+ *   told of a sleeper, looks, and finds the entry. If the ticket is at its turn already, the entry is taken out.
+ * - Who grants has the lock's address alone: the lock may be gone. While an entry is in, its lock lives. Who finds one
+ *   looks at its ticket's cell first, as it may be of a younger lock at that address, and wait.
+ * - Who takes an entry out retracts its sleep, and only then passes its turn on, withdraws or tells: with any of these
+ *   the lock may go. An abandoned turn is passed on. A task's is the task's, which is *due*: its call is made, and its
+ *   poll, or whoever cancels, goes on from there.
+ * - A task at its turn of the queue of a lock with bursts is the queue head, and watches nothing. If the outer word is
+ *   held, its entry goes to the list of heads, and then requests the handoff, so that no newcomer follows who is in, and
+ *   announces the head's sleep. Who leaves is told of that, looks there, and takes the word for the task.
+ *
+ * All lists of a lock have one guard, which sleeps. No call of a task is made under it. A list is whole after each
+ * store, for the child of a fork. */
+#include "lock.h"
+#include <stdlib.h>
+
+enum { ROWS = 64, COLUMNS = 64 };
+
+/* The number of a queue head's entry. */
+#define HEAD UINT64_MAX
+
+struct entry {
+    struct entry *next; /* in its list; of the last, the first */
+    struct lock *lock;
+    uint64_t number;   /* its ticket's, or HEAD */
+    struct task *task; /* NULL: it is abandoned */
+};
+
+/* The lists of a lock are in one row. */
+static struct row {
+    _Alignas(APART) atomic_uint guard;
+    struct entry *last[COLUMNS];
+} rows[ROWS];
+
+static struct row *row_of(const struct lock *lock) {
+    return &rows[(uintptr_t)lock / 16 * 0x9e3779b97f4a7c15 >> 32 & (ROWS - 1)];
+}
+
+static struct row *take_row(const struct lock *lock) {
+    struct row *row = row_of(lock);
+    take_guard(&row->guard);
+    return row;
+}
+
+static void return_row(struct row *row) { return_guard(&row->guard); }
+
+void qolb_free_rows_(void) {
+    for (int k = 0; k < ROWS; k++) atomic_store(&rows[k].guard, 0);
+}
+
+/* ---- The lists ---- */
+
+static struct entry **list_of(const struct lock *lock, uint64_t number) {
+    return &row_of(lock)->last[number % COLUMNS];
+}
+
+static struct entry *last_of(const struct lock *lock, uint64_t number) {
+    return __atomic_load_n(list_of(lock, number), __ATOMIC_SEQ_CST);
+}
+
+static void set_last(struct entry **list, struct entry *last) { __atomic_store_n(list, last, __ATOMIC_SEQ_CST); }
+
+static void put_in(struct entry *e) {
+    struct entry **list = list_of(e->lock, e->number), *last = *list;
+    e->next = last ? last->next : e;
+    if (last) last->next = e;
+    set_last(list, e);
+    qolb_tell_release_(e); /* another thread may free it */
+}
+
+/* The entry before that of this ticket, the oldest of the list first; NULL if there is none. */
+static struct entry *find_before(const struct lock *lock, uint64_t number) {
+    struct entry *last = last_of(lock, number), *it = last;
+    if (it) do {
+            if (it->next->lock == lock && it->next->number == number) return it;
+            it = it->next;
+        } while (it != last);
+    return NULL;
+}
+
+static void take_out(struct entry *e) {
+    struct entry **list = list_of(e->lock, e->number), *before = find_before(e->lock, e->number);
+    if (*list == e) set_last(list, before == e ? NULL : before);
+    before->next = e->next;
+}
+
+static struct entry *find(const struct lock *lock, uint64_t number) {
+    struct entry *before = find_before(lock, number);
+    return before ? before->next : NULL;
+}
+
+static void free_entry(struct entry *e) {
+    qolb_tell_acquire_(e);
+    free(e);
+}
+
+/* ---- Entering the registry ---- */
+
+struct entry *qolb_new_entry_(struct lock *lock, struct task *task) {
+    struct entry *e = malloc(sizeof *e);
+    if (e) *e = (struct entry){.lock = lock, .task = task};
+    return e;
+}
+
+/* ASLEEP, and the entry is in; GRANTED or FULL, and it is not. */
+static uint32_t stand(struct entry *e, struct qolb_ticket *ticket) {
+    uint32_t got;
+    e->number = ticket->number;
+    put_in(e);
+    do got = qolb_core_announce_sleep_proved_(&e->lock->core, ticket);
+    while (got == QOLB_WAITING);
+    if (got != QOLB_ASLEEP_) take_out(e);
+    return got;
+}
+
+uint32_t qolb_abandon_(struct lock *lock, struct qolb_ticket *ticket) {
+    struct entry *e = qolb_new_entry_(lock, NULL);
+    if (!e) return QOLB_WAITING;
+    struct row *row = take_row(lock);
+    uint32_t got = stand(e, ticket);
+    return_row(row);
+    if (got != QOLB_ASLEEP_) free(e);
+    if (got == QOLB_ASLEEP_) *ticket = (struct qolb_ticket){.outer = ticket->outer};
+    return got == QOLB_FULL_ ? (uint32_t)QOLB_WAITING : got;
+}
+
+/* ---- A task's turn ---- */
+
+/* A task as the queue head: takes the outer word, or stands in the list of heads. Whether it stands there. */
+static int stands_as_head(struct entry *e, struct qolb_ticket *ticket) {
+    const struct qolb_core *core = &e->lock->core;
+    if (qolb_core_take_outer_proved_(core, ticket) != QOLB_WAITING) return 0;
+    e->number = HEAD;
+    put_in(e);
+    do {
+        if (qolb_core_request_handoff_proved_(core, ticket) == QOLB_DONE &&
+            qolb_core_announce_head_sleep_proved_(core, ticket) == QOLB_ASLEEP_)
+            return 1;
+    } while (qolb_core_take_outer_proved_(core, ticket) == QOLB_WAITING);
+    take_out(e);
+    return 0;
+}
+
+/* The task of an entry that is out is due: the key of its call. Once the row is returned the task may be gone. */
+static uint64_t make_due(struct entry *e, const struct qolb_ticket *ticket) {
+    struct task *task = e->task;
+    uint64_t key = task->notice.key;
+    task->entry = NULL;
+    task->turn = ticket->state;
+    atomic_store(&task->state, DUE);
+    qolb_list_(&task->notice, key);
+    free_entry(e);
+    return key;
+}
+
+/* Whether a task's ticket at its turn of the queue, whose entry is out, waits on as the queue head. */
+static int waits_on(struct entry *e, struct qolb_ticket *ticket) {
+    return burst_of(e->lock) > 1 && stands_as_head(e, ticket);
+}
+
+uint32_t qolb_stand_for_(struct entry *e, struct qolb_ticket *ticket) {
+    struct row *row = take_row(e->lock);
+    uint32_t got = ticket->state == QOLB_TICKET_WAITING_ ? stand(e, ticket) : (uint32_t)QOLB_GRANTED;
+    while (got == QOLB_FULL_) { /* 65,535 threads sleep at its cell */
+        return_row(row);
+        qolb_nap_(FOR_EVER);
+        row = take_row(e->lock);
+        got = stand(e, ticket);
+    }
+    if (got == QOLB_GRANTED && waits_on(e, ticket)) got = QOLB_ASLEEP_;
+    return_row(row);
+    if (got == QOLB_ASLEEP_) return QOLB_WAITING;
+    free(e);
+    return QOLB_GRANTED;
+}
+
+/* ---- Who is granted, and who is told ---- */
+
+enum found qolb_find_granted_(struct lock *lock, uint64_t number, struct qolb_ticket *ticket, uint64_t *key) {
+    enum found found = NOBODY;
+    *key = 0;
+    if (!last_of(lock, number)) return NOBODY;
+    struct row *row = take_row(lock);
+    struct entry *e = find(lock, number);
+    if (e && rounds_to_go(lock, number) == 0) {
+        found = e->task ? A_TASK : ABANDONED;
+        take_out(e);
+        *ticket = kept_ticket(lock, number, QOLB_TICKET_ASLEEP_);
+        qolb_core_retract_sleep_proved_(&lock->core, ticket);
+        if (!e->task) free_entry(e);
+        else if (!waits_on(e, ticket)) *key = make_due(e, ticket);
+    }
+    return_row(row);
+    return found;
+}
+
+enum found qolb_find_head_(struct lock *lock, uint64_t *key) {
+    *key = 0;
+    if (!last_of(lock, HEAD)) return NOBODY;
+    struct row *row = take_row(lock);
+    struct entry *e = find(lock, HEAD);
+    if (e) {
+        struct qolb_ticket ticket = kept_ticket(lock, e->task->number, QOLB_TICKET_AT_TURN_);
+        if (qolb_core_take_outer_proved_(&lock->core, &ticket) != QOLB_WAITING) take_out(e), *key = make_due(e, &ticket);
+    }
+    return_row(row);
+    return e ? A_TASK : NOBODY;
+}
+
+/* ---- A task gives up ---- */
+
+/* Of a task that waits. The ticket of one that is near is FREE afterwards, or AT_TURN, to be passed on; of one that is
+ * far the entry stays, abandoned. */
+static struct qolb_ticket withdraw(struct task *task) {
+    struct entry *e = task->entry;
+    struct lock *lock = e->lock;
+    struct qolb_ticket ticket = kept_ticket(lock, task->number, QOLB_TICKET_AT_TURN_);
+    task->entry = NULL;
+    if (e->number != HEAD && rounds_to_go(lock, task->number) > MOST_ROUNDS_NEAR) {
+        e->task = NULL;
+        return (struct qolb_ticket){.state = QOLB_TICKET_FREE_};
+    }
+    take_out(e);
+    if (e->number != HEAD) {
+        ticket.state = QOLB_TICKET_ASLEEP_;
+        if (qolb_core_retract_sleep_proved_(&lock->core, &ticket) == QOLB_WAITING)
+            qolb_core_withdraw_proved_(&lock->core, &ticket);
+    }
+    free_entry(e);
+    return ticket;
+}
+
+unsigned qolb_state_of_(struct task *task, struct qolb_ticket *withdrawn) {
+    struct row *row = take_row(task->lock);
+    unsigned state = atomic_load(&task->state);
+    if (withdrawn && state == WAITS) {
+        atomic_store(&task->state, IDLE);
+        *withdrawn = withdraw(task);
+    }
+    return_row(row);
+    return state;
+}

@@ -1,0 +1,176 @@
+/* Waiting for a turn of the queue and for the outer word, and whom to wake (lock.h). Tested and explored, not proved.
+ *
+ * A waiter polls, spins by spin.h, and then announces its sleep by a proved call, whose answer has the value to sleep
+ * at; it sleeps while the word has that, retracts, and looks again. Who grants is told by the same step how many sleep
+ * there, and wakes them by address, unless the registry has the ticket. There is no other handshake.
+ *
+ * Who gives up withdraws, or abandons its ticket to the registry if its turn is too far for that.
+ *
+ * The queue head waits at the outer word in the same way: it announces its sleep there, and who leaves is told. It
+ * takes the word when that is reserved for it, or when it finds it free twice with no turn in between: so newcomers
+ * have their burst. It requests the handoff after a sixteenth of the bound, or a millisecond.
+ *
+ * Who slept for its turn wakes the waiter behind the one that it grants as well, while others sleep there: that one's
+ * thread gets up during the turn before its own. */
+#include "lock.h"
+
+/* Between two looks of the queue head at the outer word, in nanoseconds; once it has requested the handoff POLL_PAUSE.
+ * It requests it after so long, or after that part of the bound. */
+enum { WATCH_PAUSE = 300, PATIENCE = 1000000, REQUEST_PART = 16 };
+
+static inline const struct qolb_core *core_of(const struct request *my) { return &my->lock->core; }
+static inline struct qolb_ticket *ticket_of(const struct request *my) { return &my->at->ticket; }
+
+/* The answer to who gives up. It looks while it may use the lock. */
+static uint32_t late_or_closed(const struct lock *lock) {
+    return outer_word(lock) & OUTER_SHUT ? QOLB_CLOSED : QOLB_LATE;
+}
+
+/* ---- A turn of the queue ---- */
+
+static uint32_t sleep_for_turn(const struct request *my, uint64_t until) {
+    struct qolb_ticket *ticket = ticket_of(my);
+    uint32_t got = qolb_core_announce_sleep_proved_(core_of(my), ticket);
+    if (got != QOLB_ASLEEP_ && got != QOLB_FULL_) return got;
+    my->at->slept = 1;
+    PROBE(sleep, of_request(my));
+    if (got == QOLB_FULL_) qolb_nap_(until);
+    else
+        qolb_park_(cell_half(words_of(my->lock), ticket->number), (uint32_t)(ticket->word >> 32),
+                   class_of(ticket->number), until);
+    PROBE(wake, of_request(my));
+    return got == QOLB_FULL_ ? qolb_core_poll_proved_(core_of(my), ticket)
+                             : qolb_core_retract_sleep_proved_(core_of(my), ticket);
+}
+
+/* Where the registry can't have the ticket it waits for a millisecond more. */
+static uint32_t give_up(const struct request *my) {
+    uint32_t told = late_or_closed(my->lock), got = qolb_core_withdraw_proved_(core_of(my), ticket_of(my));
+    if (got == QOLB_FAR_) got = qolb_abandon_(my->lock, ticket_of(my));
+    if (got == QOLB_WAITING) return sleep_for_turn(my, end_of(NAP));
+    return got == QOLB_GRANTED ? got : told;
+}
+
+uint32_t qolb_await_turn_(struct request *my) {
+    struct spin spin = {0};
+    uint32_t got = QOLB_WAITING;
+    while (got == QOLB_WAITING) {
+        if (is_over(my->until)) {
+            got = give_up(my);
+        } else if (qolb_spin_once_(&spin, ticket_of(my)->rounds * TICKETS_IN_ROUND)) {
+            got = qolb_core_poll_proved_(core_of(my), ticket_of(my));
+        } else {
+            got = sleep_for_turn(my, my->until);
+        }
+    }
+    return got;
+}
+
+/* ---- Passing a turn on ---- */
+
+static void release(struct lock *lock, struct qolb_ticket *ticket) {
+    while (qolb_core_release_proved_(&lock->core, ticket) == QOLB_UNFINISHED_) continue;
+}
+
+/* A ticket was granted at whose cell somebody sleeps: passes it on while it is an abandoned one, and wakes its thread.
+ * The key of a call to make, or 0. */
+__attribute__((noinline)) static uint64_t tell(struct lock *lock, uint64_t number) {
+    struct qolb_ticket ticket;
+    uint64_t key;
+    for (;; number = ticket.number + 1) {
+        enum found found = qolb_find_granted_(lock, number, &ticket, &key);
+        if (found == NOBODY) qolb_unpark_(cell_half(words_of(lock), number), class_of(number));
+        if (found != ABANDONED) return key;
+        release(lock, &ticket);
+        if (!ticket.sleepers) return 0;
+    }
+}
+
+static void make_call(uint64_t key) {
+    if (key) qolb_make_call_(bell_of_key(key), key);
+}
+
+/* Whether somebody sleeps at the cell of the ticket behind the next, if this one slept. */
+static int sleeps_ahead(struct lock *lock, const struct turn *at) {
+    const uint64_t *cell = words_of(lock) + FIRST_CELL + (at->ticket.number + 2) % TICKETS_IN_ROUND;
+    return at->slept && __atomic_load_n(cell, __ATOMIC_SEQ_CST) >> 16 & 0xffff;
+}
+
+void qolb_pass_on_(struct lock *lock, struct turn *at) {
+    uint64_t *words = words_of(lock), ahead = at->ticket.number + 2, key = 0;
+    int wakes_ahead = __builtin_expect(at->slept != 0, 0) && sleeps_ahead(lock, at);
+    at->slept = 0;
+    release(lock, &at->ticket);
+    if (at->ticket.sleepers) key = tell(lock, at->ticket.number + 1);
+    if (wakes_ahead) qolb_unpark_(cell_half(words, ahead), class_of(ahead));
+    make_call(key);
+}
+
+/* ---- The outer word ---- */
+
+/* How the queue head has watched the outer word. */
+struct watch {
+    uint64_t first, had; /* the newcomers since the last head when it began, and at its last look */
+    uint64_t since;      /* when it first slept, or 0 */
+    unsigned spun;       /* nanoseconds since it began, or slept */
+};
+
+static int is_long(const struct request *my, const struct watch *watch, uint64_t outer) {
+    if (outer / NEWCOMER - watch->first >= burst_of(my->lock) / REQUEST_PART + 1) return 1;
+    return watch->since && qolb_now_() - watch->since >= PATIENCE;
+}
+
+/* At each look: whether the head may take the word. A shut one it may, to be told. */
+static int may_take(struct watch *watch, uint64_t outer) {
+    uint64_t had = watch->had;
+    watch->had = outer / NEWCOMER;
+    if ((outer & OUTER_STATE) == OUTER_HELD) return 0;
+    return outer & (OUTER_RESERVED | OUTER_SHUT) || had == watch->had;
+}
+
+static void sleep_as_head(struct request *my, struct watch *watch) {
+    if (!watch->since) watch->since = qolb_now_();
+    if (qolb_core_announce_head_sleep_proved_(core_of(my), ticket_of(my)) != QOLB_ASLEEP_) return;
+    my->at->slept = 1;
+    PROBE(sleep, of_request(my));
+    qolb_park_(outer_half(words_of(my->lock)), (uint32_t)ticket_of(my)->outer, UINT32_MAX, my->until);
+    PROBE(wake, of_request(my));
+}
+
+static void watch_held(struct request *my, struct watch *watch, uint64_t outer) {
+    int requested = outer & HANDOFF_REQUESTED;
+    if (!requested && is_long(my, watch, outer))
+        requested = qolb_core_request_handoff_proved_(core_of(my), ticket_of(my)) == QOLB_DONE;
+    unsigned pause = requested ? POLL_PAUSE : WATCH_PAUSE;
+    if (watch->spun < SPIN_NEAR && qolb_pause_(pause)) {
+        watch->spun += pause;
+    } else {
+        sleep_as_head(my, watch);
+        watch->spun = 0;
+    }
+}
+
+uint32_t qolb_await_outer_(struct request *my) {
+    uint64_t outer = outer_word(my->lock);
+    struct watch watch = {.first = outer / NEWCOMER, .had = UINT64_MAX};
+    for (;; outer = outer_word(my->lock)) {
+        if (may_take(&watch, outer)) {
+            uint32_t got = qolb_core_take_outer_proved_(core_of(my), ticket_of(my));
+            if (got != QOLB_WAITING) return got;
+        } else if (is_over(my->until)) {
+            return late_or_closed(my->lock);
+        } else if ((outer & OUTER_STATE) == OUTER_HELD) {
+            watch_held(my, &watch, outer);
+        } else {
+            qolb_pause_(WATCH_PAUSE);
+        }
+    }
+}
+
+void qolb_leave_outer_(struct lock *lock, struct turn *at) {
+    uint64_t key = 0;
+    while (qolb_core_leave_proved_(&lock->core, &at->ticket) == QOLB_BUSY) continue;
+    if (at->ticket.head_sleeps && qolb_find_head_(lock, &key) == NOBODY)
+        qolb_unpark_(outer_half(words_of(lock)), UINT32_MAX);
+    make_call(key);
+}

@@ -1,0 +1,149 @@
+#!/usr/bin/env python3
+"""Explores runs of the lock (c/src/lock), with two and three threads, over the stand-in for its proved calls (tools/explorer/core.c), on the model
+of the processor's memory that tools/explore_nodes.py says.
+
+tools/explore_lock.py [MOST] [--scene BEGINNING ..] [--fault WORDS | --no-faults] [--jobs 2]
+    all runs of at most MOST turns of the schedule, 2, of the library as it is, where four tickets and where one ticket are in a round; and of each library
+    with a fault, as many turns as it says. It needs GCC
+
+In no run may a thread sleep without being woken, two threads have the lock at once, freed memory be touched, two accesses race, an answer be wrong, a shut lock
+be entered, or a thread that has a ticket be overtaken by a call that began later; with bursts, by more of them than they allow. Each library with a fault must fail in some
+run, and after each change that is harmless none may fail. It ends with 1 if this is not so.
+
+A fault is an edit of one function, or of a file's other text: where that does not have the edit's text once, the program says what it has and where the text
+is now, and ends.
+"""
+
+import argparse
+import concurrent.futures
+import difflib
+import pathlib
+import re
+import shutil
+import subprocess
+import sys
+import tempfile
+import time
+
+sys.path.insert(0, str(pathlib.Path(__file__).resolve().parent / "explorer"))
+from lock_faults import FAULTS, HARMLESS, HOOKED  # noqa: E402
+
+ROOT = pathlib.Path(__file__).resolve().parent.parent
+SOURCE = ROOT / "c/src"
+MODEL = ROOT / "tools/explorer"
+# What is built, in a copy of c/src; those of tools/explorer beside it.
+LIBRARY = ("bells.c", "notify.c", *(f"lock/{name}.c" for name in ("conditions", "lock", "opens", "parks", "registry", "tasks", "turns", "waits")))
+SCENES = ("core.c", "lock_scenes.c", "holder_scenes.c", "task_scenes.c", "explorer.c")
+RENAMED = [f"-D{name}=model_{short}" for name, short in (("malloc", "malloc"), ("free", "free"), ("syscall", "syscall"), ("sched_yield", "yield"), ("clock_gettime", "clock"), ("pthread_once", "once"), ("pthread_key_create", "key"), ("pthread_setspecific", "set"), ("pthread_atfork", "atfork"))]
+BY_MODEL = ["-w", "-O1", "-DOF_LOCKS", "-DWITHOUT_NODES", "-DEXPLORED", "-fsanitize=thread", "-U__SANITIZE_THREAD__", "-DQOLB_NO_PROBES", *RENAMED]
+
+
+def functions(text):
+    """The functions of a C file: name, and where its text begins and ends."""
+    for found in re.finditer(r"^[a-zA-Z_][^\n;={}]*?\b([a-z_][a-z0-9_]*)\([^;{}]*\) \{", text, re.M):
+        end = text.find("\n", found.start()) if re.match(r"[^\n]*\}\n", text[found.start():]) else text.find("\n}\n", found.start()) + 2
+        yield found.group(1), found.start(), end
+
+
+def moved(folder, name, where, old):
+    """Says what an edit does not find, and where that is now."""
+    places = [f"{path.relative_to(folder)}: {function}" for path in sorted(folder.rglob("*.[ch]")) for function, begin, end in functions(path.read_text()) if old in path.read_text()[begin:end]]
+    text = (folder / name).read_text()
+    inside = [text[begin:end] for function, begin, end in functions(text) if function == where]
+    lines = (inside[0] if inside else text).splitlines()
+    near = difflib.get_close_matches(old.strip().splitlines()[0], lines, 3, 0.3)
+    found = f"it is in {', '.join(places)}" if places else f"nearest there: {near}" if inside or not where else f"there is no function {where}"
+    sys.exit(f"{name}, {where or 'outside of functions'}: not once there: {old!r}; {found}")
+
+
+def edit(folder, name, where, old, new):
+    """Replaces text of one function, or of a file if `where` is empty, which must be there once."""
+    path = folder / name
+    text = path.read_text()
+    spans = [(begin, end) for function, begin, end in functions(text) if function == where] if where else [(0, len(text))]
+    if len(spans) != 1 or text[spans[0][0]:spans[0][1]].count(old) != 1:
+        moved(folder, name, where, old)
+    begin, end = spans[0]
+    path.write_text(text[:begin] + text[begin:end].replace(old, new) + text[end:])
+
+
+def built(folder, edits, width):
+    """The explorer, built over the library with these edits, with so many tickets in a round."""
+    shutil.copytree(SOURCE, folder, dirs_exist_ok=True)
+    for name in (*SCENES, "lock_scenes.h", "explorer.h"):
+        shutil.copy(MODEL / name, folder)
+    for change in (*edits, *HOOKED, ("core.c", "", "IN_ROUND = 4", f"IN_ROUND = {width}"), ("lock/lock.h", "", "TICKETS_IN_ROUND = 4", f"TICKETS_IN_ROUND = {width}")):
+        edit(folder, *change)
+    objects = []
+    for name in (*LIBRARY, *SCENES):
+        objects.append(folder / f"{name.replace('/', '_')}.o")
+        told = ["-O2", "-DOF_LOCKS"] if name == "explorer.c" else BY_MODEL
+        subprocess.run(["cc", "-std=c11", "-I", folder, "-I", ROOT / "c/include", *told, "-c", folder / name, "-o", objects[-1]], check=True)
+    subprocess.run(["cc", *objects, "-pthread", "-o", folder / "explorer"], check=True)
+    return folder / "explorer"
+
+
+def run(edits, width, most, scene):
+    """The output of the runs, and whether all of them passed."""
+    with tempfile.TemporaryDirectory() as name:
+        done = subprocess.run([built(pathlib.Path(name), edits, width), str(most), scene], capture_output=True, text=True, check=False)
+    return done.stdout.splitlines(), done.returncode == 0
+
+
+def last_of(told):
+    return told[-1] if told else "it ended by a signal"
+
+
+def goes_well(most, scene, width):
+    """Prints how many runs there are of the library as it is; False if one fails."""
+    told, well = run((), width, most, scene)
+    if not well:
+        print(f"as it is, {width} in a round: {last_of(told)}", flush=True)
+        return False
+    runs = sum(int(line.rsplit(" ", 2)[1]) for line in told)
+    print(f"as it is, {width} in a round: {runs:,} runs of at most {most} turns of {len(told)} scenes go well", flush=True)
+    return True
+
+
+def is_found(name):
+    """Prints where a library with this fault fails; False if it does not."""
+    most, scene, *edits = FAULTS[name]
+    for width in (1, 4):
+        told, well = run(edits, width, most, scene)
+        if not well:
+            print(f"{name}: at {most}, {last_of(told)}", flush=True)
+            return True
+    print(f"{name}: all runs go well", flush=True)
+    return False
+
+
+def is_harmless(name):
+    """Prints whether all runs of at most one turn go well after this change."""
+    told, well = run(HARMLESS[name], 1, 1, "")
+    print(f"harmless: {name}: all runs go well" if well else f"harmless: {name}: {last_of(told)}", flush=True)
+    return well
+
+
+def main():
+    words = argparse.ArgumentParser()
+    words.add_argument("most", type=int, nargs="?", default=2)
+    words.add_argument("--scene", action="append", default=[])
+    words.add_argument("--fault", default="")
+    words.add_argument("--no-faults", action="store_true")
+    words.add_argument("--jobs", type=int, default=2)
+    asked = words.parse_args()
+    since = time.monotonic()
+    faults = [name for name in FAULTS if asked.fault in name and not asked.no_faults]
+    changes = [name for name in HARMLESS if asked.fault in name and not asked.no_faults]
+    whole = [(asked.most, scene, width) for scene in asked.scene or [""] for width in (4, 1)] if not asked.fault else []
+    with concurrent.futures.ThreadPoolExecutor(asked.jobs) as pool:
+        well = list(pool.map(lambda it: goes_well(*it), whole))
+        found = list(pool.map(is_found, faults))
+        harmless = list(pool.map(is_harmless, changes))
+    if faults or changes:
+        print(f"{sum(found)} of {len(faults)} faults are found, and {sum(harmless)} of {len(changes)} other changes are harmless")
+    print(f"{time.monotonic() - since:.0f} seconds")
+    sys.exit(0 if all(well) and all(found) and all(harmless) else 1)
+
+
+main()

@@ -1,0 +1,264 @@
+/* A stand-in in C for the proved lock: it answers as the calls of c/src/core.h do, which crates/qolb_c exports, by the
+ * same atomic steps on the same words. Nothing of it is in the library: ../explore_lock.py explores the lock's C over it, and
+ * c/tests/core_calls.c compares the two.
+ *
+ * Words of 8 bytes: 0 the outer word, 16 the tail, 17 to 20 the cells; the others are never written. A cell: sixteen
+ * bits of withdrawn tickets, from bit 16 the count of sleepers, from bit 34 the granted rounds modulo 2^30. The outer
+ * word: as at the end of core.h. */
+#include "core.h"
+#include <stdatomic.h>
+#include <stdbool.h>
+#include <stddef.h>
+
+/* ../explore_lock.py: told of each drawn ticket, and of each withdrawn one, by the same step; and what is otherwise the
+ * width of a cell's fields, by scenes. */
+#ifdef EXPLORED
+extern unsigned model_near, model_sleepers;
+void hook_draws(void);
+void hook_withdraws(void);
+#define MOST_NEAR model_near
+#define MOST_SLEEPERS model_sleepers
+enum { MOST_PASSED = 1 };
+#else
+#define hook_draws() ((void)0)
+#define hook_withdraws() ((void)0)
+enum { MOST_NEAR = 15, MOST_SLEEPERS = 65535, MOST_PASSED = 64 };
+#endif
+
+void *qolb_malloc_(size_t size);
+void qolb_free_(void *block);
+
+enum { OUTER = 0, TAIL = 16, CELLS = 17, WORDS = 21, IN_ROUND = 4 };
+enum { HANDOFF = 1, HEAD_SLEEPS = 2, HELD = 4, RESERVED = 8, STATE = 12, SHUT = 16, NEWCOMER = 32 };
+#define ROUND ((uint64_t)1 << 34)
+#define SLEEPER ((uint64_t)1 << 16)
+#define MOST_BURST ((uint64_t)65535)
+
+struct lock {
+    _Atomic uint64_t *words;
+    void *slots;      /* none: as of the proved table */
+    uint64_t more[6]; /* of that, too: the block has the same size */
+    uint64_t burst, label;
+};
+
+static const struct lock *of(const struct qolb_core *core) { return core->at; }
+static _Atomic uint64_t *outer_of(const struct lock *lock) { return &lock->words[OUTER]; }
+static _Atomic uint64_t *cell_of(const struct lock *lock, uint64_t number) {
+    return &lock->words[CELLS + number % IN_ROUND];
+}
+static uint64_t bit_of(uint64_t number) { return (uint64_t)1 << (number / IN_ROUND % 16); }
+static uint64_t to_go(uint64_t cell, uint64_t number) { return (number / IN_ROUND + 1 - cell / ROUND) % (ROUND >> 4); }
+static uint64_t sleepers_in(uint64_t cell) { return cell / SLEEPER % 65536; }
+
+/* Whether the ticket is of this lock and in one of these states, which are bits. */
+static bool is(const struct lock *lock, const struct qolb_ticket *ticket, unsigned states) {
+    return (states >> ticket->state & 1) && (ticket->state == QOLB_TICKET_FREE_ || ticket->label == lock->label);
+}
+static uint32_t in_state(struct qolb_ticket *ticket, uint32_t state, uint32_t answer) {
+    ticket->state = state;
+    return answer;
+}
+#define BIT(name) (1u << QOLB_TICKET_##name##_)
+
+/* ---- Opening ---- */
+
+uint32_t qolb_core_open_proved_(uint64_t burst, uint64_t label, struct qolb_core *out) {
+    if (burst > MOST_BURST) return QOLB_BAD_NODES;
+    if (label == 0) return QOLB_MISUSE;
+    _Atomic uint64_t *words = qolb_malloc_(WORDS * sizeof *words);
+    void *slots = words ? qolb_malloc_(sizeof(uint64_t)) : NULL;
+    struct lock *lock = slots ? qolb_malloc_(sizeof *lock) : NULL;
+    if (!lock) return qolb_free_(words), qolb_free_(slots), QOLB_NO_MEMORY;
+    for (int k = 0; k < WORDS; k++) atomic_init(&words[k], k == CELLS ? ROUND : 0);
+    *lock = (struct lock){.words = words, .slots = slots, .burst = burst, .label = label};
+    out->at = lock;
+    return QOLB_DONE;
+}
+
+/* ---- The queue ---- */
+
+/* What the ticket is told by its cell's word. */
+static uint32_t looks(struct qolb_ticket *ticket, uint64_t cell) {
+    ticket->rounds = to_go(cell, ticket->number);
+    return ticket->rounds ? in_state(ticket, QOLB_TICKET_WAITING_, QOLB_WAITING)
+                          : in_state(ticket, QOLB_TICKET_AT_TURN_, QOLB_GRANTED);
+}
+
+static void draws(const struct lock *lock, struct qolb_ticket *ticket, uint64_t number) {
+    hook_draws();
+    ticket->number = number;
+    ticket->label = lock->label;
+}
+
+uint32_t qolb_core_ask_proved_(const struct qolb_core *core, struct qolb_ticket *ticket) {
+    const struct lock *lock = of(core);
+    if (!is(lock, ticket, BIT(FREE))) return QOLB_MISUSE;
+    draws(lock, ticket, atomic_fetch_add(&lock->words[TAIL], 1));
+    return looks(ticket, atomic_load(cell_of(lock, ticket->number)));
+}
+
+uint32_t qolb_core_ask_near_proved_(const struct qolb_core *core, struct qolb_ticket *ticket) {
+    const struct lock *lock = of(core);
+    if (!is(lock, ticket, BIT(FREE))) return QOLB_MISUSE;
+    uint64_t number = atomic_load(&lock->words[TAIL]), cell = atomic_load(cell_of(lock, number));
+    ticket->rounds = to_go(cell, number);
+    if (ticket->rounds > MOST_NEAR) return QOLB_FAR_;
+    uint64_t tail = number;
+    if (!atomic_compare_exchange_strong(&lock->words[TAIL], &tail, number + 1)) return QOLB_BUSY;
+    draws(lock, ticket, number);
+    return looks(ticket, cell);
+}
+
+uint32_t qolb_core_try_ask_proved_(const struct qolb_core *core, struct qolb_ticket *ticket) {
+    const struct lock *lock = of(core);
+    if (!is(lock, ticket, BIT(FREE))) return QOLB_MISUSE;
+    uint64_t number = atomic_load(&lock->words[TAIL]), cell = atomic_load(cell_of(lock, number)), tail = number;
+    if (to_go(cell, number) || !atomic_compare_exchange_strong(&lock->words[TAIL], &tail, number + 1)) return QOLB_BUSY;
+    draws(lock, ticket, number);
+    return looks(ticket, cell);
+}
+
+uint32_t qolb_core_poll_proved_(const struct qolb_core *core, struct qolb_ticket *ticket) {
+    const struct lock *lock = of(core);
+    if (!is(lock, ticket, BIT(WAITING))) return QOLB_MISUSE;
+    return looks(ticket, atomic_load(cell_of(lock, ticket->number)));
+}
+
+uint32_t qolb_core_announce_sleep_proved_(const struct qolb_core *core, struct qolb_ticket *ticket) {
+    const struct lock *lock = of(core);
+    if (!is(lock, ticket, BIT(WAITING))) return QOLB_MISUSE;
+    _Atomic uint64_t *cell = cell_of(lock, ticket->number);
+    uint64_t found = atomic_load(cell), word = found;
+    if (looks(ticket, found) == QOLB_GRANTED) return QOLB_GRANTED;
+    if (sleepers_in(found) >= MOST_SLEEPERS) return QOLB_FULL_;
+    if (!atomic_compare_exchange_strong(cell, &word, found + SLEEPER)) return looks(ticket, word);
+    ticket->word = found + SLEEPER;
+    return in_state(ticket, QOLB_TICKET_ASLEEP_, QOLB_ASLEEP_);
+}
+
+uint32_t qolb_core_retract_sleep_proved_(const struct qolb_core *core, struct qolb_ticket *ticket) {
+    const struct lock *lock = of(core);
+    if (!is(lock, ticket, BIT(ASLEEP))) return QOLB_MISUSE;
+    return looks(ticket, atomic_fetch_sub(cell_of(lock, ticket->number), SLEEPER));
+}
+
+uint32_t qolb_core_withdraw_proved_(const struct qolb_core *core, struct qolb_ticket *ticket) {
+    const struct lock *lock = of(core);
+    if (!is(lock, ticket, BIT(WAITING))) return QOLB_MISUSE;
+    if (ticket->rounds > MOST_NEAR) return QOLB_FAR_;
+    _Atomic uint64_t *cell = cell_of(lock, ticket->number);
+    if (to_go(atomic_fetch_add(cell, bit_of(ticket->number)), ticket->number)) {
+        hook_withdraws();
+        return in_state(ticket, QOLB_TICKET_FREE_, QOLB_WITHDRAWN);
+    }
+    atomic_fetch_sub(cell, bit_of(ticket->number));
+    return in_state(ticket, QOLB_TICKET_AT_TURN_, QOLB_GRANTED);
+}
+
+/* The state of a ticket whose turn of the queue was passed on. */
+static uint32_t passed(uint32_t state) {
+    return state == QOLB_TICKET_HEAD_INSIDE_        ? QOLB_TICKET_INSIDE_
+           : state == QOLB_TICKET_HEAD_INSIDE_SHUT_ ? QOLB_TICKET_INSIDE_SHUT_
+                                                    : QOLB_TICKET_FREE_;
+}
+
+uint32_t qolb_core_release_proved_(const struct qolb_core *core, struct qolb_ticket *ticket) {
+    const struct lock *lock = of(core);
+    if (!is(lock, ticket,
+            BIT(AT_TURN) | BIT(SERVED) | BIT(SERVED_SHUT) | BIT(ENDING) | BIT(HEAD_INSIDE) | BIT(HEAD_INSIDE_SHUT)))
+        return QOLB_MISUSE;
+    if (is(lock, ticket, BIT(AT_TURN))) hook_withdraws(); /* it is passed on without being served */
+    for (int k = 0; k < MOST_PASSED; k++) {
+        uint64_t next = ticket->number + 1, found = atomic_fetch_add(cell_of(lock, next), ROUND);
+        if (!(found & bit_of(next))) {
+            ticket->sleepers = sleepers_in(found);
+            return in_state(ticket, passed(ticket->state), QOLB_DONE);
+        }
+        ticket->number = next;
+        atomic_fetch_sub(cell_of(lock, next), bit_of(next));
+    }
+    int is_in = is(lock, ticket, BIT(HEAD_INSIDE) | BIT(HEAD_INSIDE_SHUT));
+    return in_state(ticket, is_in ? ticket->state : QOLB_TICKET_ENDING_, QOLB_UNFINISHED_);
+}
+
+/* ---- The outer word ---- */
+
+uint32_t qolb_core_check_open_proved_(const struct qolb_core *core, struct qolb_ticket *ticket) {
+    const struct lock *lock = of(core);
+    if (lock->burst > 1 || !is(lock, ticket, BIT(AT_TURN) | BIT(SERVED) | BIT(SERVED_SHUT))) return QOLB_MISUSE;
+    return atomic_load(outer_of(lock)) & SHUT ? in_state(ticket, QOLB_TICKET_SERVED_SHUT_, QOLB_CLOSED)
+                                              : in_state(ticket, QOLB_TICKET_SERVED_, QOLB_GRANTED);
+}
+
+/* Where the outer word is not as the ticket guessed: what the step found. */
+static uint32_t found(struct qolb_ticket *ticket, uint64_t outer, uint32_t answer) {
+    ticket->outer = outer;
+    return answer;
+}
+
+uint32_t qolb_core_go_in_proved_(const struct qolb_core *core, struct qolb_ticket *ticket) {
+    const struct lock *lock = of(core);
+    if (lock->burst <= 1 || !is(lock, ticket, BIT(FREE))) return QOLB_MISUSE;
+    uint64_t guess = ticket->outer, in = guess + NEWCOMER + HELD;
+    if (guess & (STATE | SHUT)) return found(ticket, atomic_load(outer_of(lock)), QOLB_BUSY);
+    if (!atomic_compare_exchange_strong(outer_of(lock), &guess, in)) return found(ticket, guess, QOLB_BUSY);
+    ticket->outer = in;
+    ticket->label = lock->label;
+    return in_state(ticket, QOLB_TICKET_INSIDE_, QOLB_GRANTED);
+}
+
+uint32_t qolb_core_take_outer_proved_(const struct qolb_core *core, struct qolb_ticket *ticket) {
+    const struct lock *lock = of(core);
+    if (lock->burst <= 1 || !is(lock, ticket, BIT(AT_TURN))) return QOLB_MISUSE;
+    uint64_t was = atomic_load(outer_of(lock)), in = (was & SHUT) + HELD;
+    if ((was & STATE) == HELD || !atomic_compare_exchange_strong(outer_of(lock), &was, in))
+        return found(ticket, was, QOLB_WAITING);
+    ticket->outer = in;
+    return in & SHUT ? in_state(ticket, QOLB_TICKET_HEAD_INSIDE_SHUT_, QOLB_CLOSED)
+                     : in_state(ticket, QOLB_TICKET_HEAD_INSIDE_, QOLB_GRANTED);
+}
+
+uint32_t qolb_core_leave_proved_(const struct qolb_core *core, struct qolb_ticket *ticket) {
+    const struct lock *lock = of(core);
+    if (!is(lock, ticket, BIT(INSIDE) | BIT(INSIDE_SHUT))) return QOLB_MISUSE;
+    uint64_t guess = ticket->outer, was = guess, to = guess / SHUT * SHUT;
+    int reserves = guess & HANDOFF || guess / NEWCOMER + 1 >= lock->burst;
+    if (!atomic_compare_exchange_strong(outer_of(lock), &was, reserves ? to + RESERVED : to))
+        return found(ticket, was, QOLB_BUSY);
+    ticket->head_sleeps = (guess & HEAD_SLEEPS) != 0;
+    ticket->outer = to;
+    return in_state(ticket, QOLB_TICKET_FREE_, QOLB_DONE);
+}
+
+uint32_t qolb_core_request_handoff_proved_(const struct qolb_core *core, struct qolb_ticket *ticket) {
+    const struct lock *lock = of(core);
+    if (lock->burst <= 1 || !is(lock, ticket, BIT(AT_TURN))) return QOLB_MISUSE;
+    uint64_t was = atomic_load(outer_of(lock));
+    return was & HANDOFF || atomic_compare_exchange_strong(outer_of(lock), &was, was + HANDOFF) ? QOLB_DONE : QOLB_BUSY;
+}
+
+uint32_t qolb_core_announce_head_sleep_proved_(const struct qolb_core *core, struct qolb_ticket *ticket) {
+    const struct lock *lock = of(core);
+    if (lock->burst <= 1 || !is(lock, ticket, BIT(AT_TURN))) return QOLB_MISUSE;
+    uint64_t was = atomic_load(outer_of(lock)), asleep = was | HEAD_SLEEPS;
+    if ((was & STATE) != HELD || !atomic_compare_exchange_strong(outer_of(lock), &was, asleep)) return QOLB_WAITING;
+    ticket->outer = asleep;
+    return QOLB_ASLEEP_;
+}
+
+uint32_t qolb_core_shut_proved_(const struct qolb_core *core, struct qolb_ticket *ticket) {
+    const struct lock *lock = of(core);
+    if (!is(lock, ticket, BIT(SERVED) | BIT(HEAD_INSIDE) | BIT(INSIDE))) return QOLB_MISUSE;
+    atomic_fetch_add(outer_of(lock), SHUT);
+    ticket->outer += SHUT;
+    return in_state(ticket, ticket->state + 1, QOLB_DONE);
+}
+
+uint32_t qolb_core_reopen_proved_(const struct qolb_core *core, struct qolb_ticket *ticket) {
+    const struct lock *lock = of(core);
+    if (!is(lock, ticket, BIT(SERVED_SHUT) | BIT(HEAD_INSIDE_SHUT))) return QOLB_MISUSE;
+    if (atomic_load(&lock->words[TAIL]) != ticket->number + 1) return QOLB_BUSY;
+    atomic_fetch_sub(outer_of(lock), SHUT);
+    ticket->outer -= SHUT;
+    return in_state(ticket, ticket->state - 1, QOLB_GRANTED);
+}

@@ -1,0 +1,72 @@
+#include <stddef.h>
+#include <stdint.h>
+#include <string.h>
+
+enum { THREADS = 3, MS = 1000000 };
+enum { PLAIN_READ, PLAIN_WRITE, READ, WRITE };
+
+/* How far each thread was when it was last heard of. Thread THREADS starts the others and joins them. */
+struct clock {
+    unsigned at[THREADS + 1];
+};
+
+#ifdef OF_LOCKS
+/* What these threads do at the same time, each by its number, over a lock with these bursts, which is opened before or
+ * at its first use. A request can be withdrawn with at most so many rounds to go, so many threads may announce a sleep
+ * at one cell, and with fewer rounds to go than so many a call with a limit draws a ticket. There may be no memory. */
+struct scene {
+    const char *name;
+    void (*does)(int self);
+    int threads;
+    unsigned burst;
+    int at_first_use;
+    unsigned near, sleepers, open;
+    int no_memory;
+};
+
+/* Each thread's data have a place of their own (lock_scenes.c). */
+struct own_data {
+    char none;
+};
+
+/* The thread ends: destructors of its keys run, and its data are freed. */
+void end_thread(void);
+#else
+/* What these threads do at the same time, each by its number, with a node each of a line of this kind. The places of a
+ * line share one bell or none; of two lines the places share their bells. */
+enum { EACH_ITS_BELL, AT_ONE_BELL, TWO_LINES };
+struct scene {
+    const char *name;
+    void (*does)(int self);
+    uint32_t kind;
+    int threads, bells;
+};
+
+/* The data of a thread in the library's files, which is in one place here: none. */
+struct own_data {
+    char none;
+};
+#endif
+
+/* In lock_scenes.c or node_scenes.c: all scenes, and a last one without a name. */
+extern const struct scene scenes[];
+void set_up(const struct scene *scene);
+void check_end(const struct scene *scene);
+void change_thread(struct own_data *from, const struct own_data *to);
+int is_own(uintptr_t at);
+
+/* In explorer.c: ends the program if it is not so. */
+void must(int is_so, const char *what);
+#define MUST(it) must(it, #it)
+void __tsan_write_range(void *at, size_t size);
+void *model_malloc(size_t size);
+void model_free(void *block);
+
+/* For line.c: another thread may be next; an access, which must follow all that it races with; all stores of this
+ * thread are seen; what happened before, as a call takes it over or hands it on. */
+void step(int yields);
+void touch(const volatile void *where, unsigned size, int how);
+void show_all(void);
+void acquires(const struct clock *clock);
+void releases(struct clock *clock);
+int self_number(void);

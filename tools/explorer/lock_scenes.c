@@ -1,0 +1,768 @@
+/* The actions of threads with a lock, in the runs that explorer.c makes (../explore_lock.py). The lock's own
+ * files, or those that differ by a fault, and the stand-in for the proved calls are built with -fsanitize=thread, by
+ * which the compiler reports each access to memory by a call, and explorer.c answers those calls. */
+#include "lock_scenes.h"
+#include <errno.h>
+
+struct it it;
+
+BY_THREAD struct core_room qolb_core_room_;
+BY_THREAD unsigned qolb_learned_[2];
+unsigned model_near, model_sleepers, model_open;
+static int model_memory;
+
+/* As gaps.c, which is not explored. */
+void *qolb_malloc_(size_t size);
+void qolb_free_(void *block);
+UNSEEN void *qolb_malloc_(size_t size) {
+    struct core_room *room = &qolb_core_room_;
+    void **place = size == CORE_WORDS_BYTES ? &room->words : size == CORE_SLOTS_BYTES ? &room->slots : &room->block;
+    void *block = *place;
+    *place = NULL;
+    MUST(block && (place != &room->block || size == CORE_BLOCK_BYTES));
+    return block;
+}
+void qolb_free_(void *block) { (void)block; }
+
+/* For an entry of the registry, where the scene has memory for it. */
+void *model_entry(size_t size);
+void *model_entry(size_t size) { return model_memory ? model_malloc(size) : NULL; }
+
+/* ---- Who may be served before whom ----
+ *
+ * Of each thread in a call: since when; from the step that drew its ticket on, how many turns of calls that began later
+ * it has seen, and how many threads have gone that were in their calls then. A task counts as the thread that makes its
+ * calls. */
+static struct {
+    int in_call, waits, passed, gone;
+    long began, since;
+} order[THREADS + 1];
+static int for_second;
+static long time_of_order;
+void hook_draws(void);
+void hook_withdraws(void);
+
+UNSEEN static int who(void) { return for_second && self_number() == 0 ? THREADS : self_number(); }
+UNSEEN void is_second(int self, int so) { for_second = self == 0 && so; }
+UNSEEN void begins_call(void) {
+    int me = who();
+    order[me].in_call = 1, order[me].waits = 0, order[me].began = ++time_of_order;
+}
+UNSEEN void hook_draws(void) {
+    int me = who();
+    if (self_number() < THREADS && order[me].in_call)
+        order[me].waits = 1, order[me].since = ++time_of_order, order[me].passed = order[me].gone = 0;
+}
+UNSEEN void hook_withdraws(void) { order[who()].waits = 0; }
+UNSEEN void ends_call(void) {
+    int me = who();
+    for (int k = 0; k <= THREADS; k++) order[k].gone += order[me].in_call && order[me].began < order[k].since;
+    order[me].in_call = order[me].waits = 0;
+}
+
+/* A burst of B turns has at most B - 1 turns of later calls, which drew no ticket. One ends when a thread goes that was
+ * there before. */
+UNSEEN static void enters_turn(void) {
+    int me = who(), burst = (int)burst_of(lock_of(it.lock)), later = burst ? burst - 1 : 0;
+    for (int k = 0; k <= THREADS; k++) {
+        if (!order[k].waits || !order[me].in_call || order[me].began < order[k].since) continue;
+        must(++order[k].passed <= (order[k].gone + 1) * later, "a thread that waits is overtaken too often");
+        must(!order[me].waits, "a thread that waits is overtaken by one behind it");
+    }
+    ends_call();
+}
+
+static void turn_with(int yields) {
+    enters_turn();
+    MUST(it.inside++ == 0);
+    it.turns++;
+    MUST(!it.shut);
+    while (yields-- > 0) sched_yield();
+    MUST(--it.inside == 0);
+}
+
+void turn(void) { turn_with(0); }
+
+void leave(void) { MUST(qolb_lock_leave(it.lock) == QOLB_DONE); }
+
+void enters_with(int yields) {
+    begins_call();
+    MUST(qolb_lock_enter(it.lock) == QOLB_GRANTED);
+    turn_with(yields);
+    leave();
+}
+
+void enters(int self) {
+    (void)self;
+    enters_with(0);
+}
+
+static void enters_twice(int self) { enters(self), enters(self); }
+
+static void enters_thrice(int self) { enters_twice(self), enters(self); }
+
+/* Two let the others go on in their turns. */
+static void two_yield(int self) { enters_with(self != 1); }
+
+/* One lets the others go on in its turn, at length. */
+static void one_yields(int self) { enters_with(self == 0 ? 3 : 0); }
+
+/* One enters four times, and the others once. */
+void one_stays(int self) {
+    if (self == 0) enters_thrice(self);
+    enters(self);
+}
+
+static void enters_again(int self) {
+    MUST(qolb_cond_wait(&it.cond, it.lock) == QOLB_MISUSE);
+    for (int k = 0; k < 2; k++) {
+        MUST(qolb_lock_enter(it.lock) == QOLB_GRANTED);
+        MUST(qolb_lock_enter(it.lock) == QOLB_MISUSE && qolb_lock_enter_within(it.lock, MS) == QOLB_MISUSE &&
+             qolb_lock_try(it.lock) == QOLB_BUSY && qolb_lock_is_mine(it.lock));
+        MUST(qolb_lock_close(it.lock) == QOLB_MISUSE);
+        turn();
+        leave();
+    }
+    MUST(qolb_lock_leave(it.lock) == QOLB_MISUSE && qolb_cond_wait(&it.cond, it.lock) == QOLB_MISUSE);
+    (void)self;
+}
+
+/* ---- Limits ---- */
+
+static void within(int self, uint64_t nanoseconds) {
+    begins_call();
+    uint32_t got = self ? qolb_lock_enter_within(it.lock, nanoseconds) : qolb_lock_enter(it.lock);
+    if (got != QOLB_GRANTED) ends_call();
+    if (got == QOLB_LATE) return;
+    MUST(got == QOLB_GRANTED);
+    turn();
+    leave();
+}
+
+void is_late(int self) { within(self, MS); }
+
+static void one_is_late(int self) { within(self == 1, MS); }
+
+static void one_late_beside_one_that_yields(int self) { self == 0 ? enters_with(3) : one_is_late(self); }
+
+static void two_late_beside_one_that_yields(int self) { self == 0 ? enters_with(3) : is_late(self); }
+
+static void is_late_and_comes_again(int self) { is_late(self), enters(self); }
+
+/* At once, or not at all. */
+static void looks_in(int self) { within(self, 0); }
+
+void tries(int self) {
+    begins_call();
+    uint32_t got = self == 1 ? qolb_lock_try(it.lock) : qolb_lock_enter(it.lock);
+    if (got == QOLB_BUSY) ends_call();
+    if (got == QOLB_BUSY) return;
+    MUST(got == QOLB_GRANTED);
+    turn();
+    leave();
+}
+
+/* The last that had a turn tries behind it: nobody has the lock. */
+static void last_tries(int self) {
+    (void)self;
+    begins_call();
+    MUST(qolb_lock_enter(it.lock) == QOLB_GRANTED);
+    turn();
+    int last = --it.users == 0;
+    leave();
+    if (!last) return;
+    MUST(qolb_lock_try(it.lock) == QOLB_GRANTED);
+    leave();
+}
+
+/* ---- Shutting and closing ---- */
+
+int enters_to_shut(int self) {
+    uint32_t got = self == 2 ? qolb_lock_enter_within(it.lock, MS) : qolb_lock_enter(it.lock);
+    if (got == QOLB_LATE) MUST(self == 2);
+    if (got == QOLB_CLOSED || got == QOLB_LATE) return 0;
+    MUST(got == QOLB_GRANTED);
+    turn();
+    it.shut = self == 0;
+    MUST((self ? qolb_lock_leave : qolb_lock_shut)(it.lock) == QOLB_DONE);
+    return 1;
+}
+
+static void shuts(int self) { enters_to_shut(self); }
+
+/* Once a shut has returned, each call is told so at once. */
+static void shuts_and_asks(int self) {
+    if (!enters_to_shut(self) || self) return;
+    MUST(qolb_lock_try(it.lock) == QOLB_CLOSED);
+    MUST(qolb_lock_enter_within(it.lock, 0) == QOLB_CLOSED);
+    for (int k = 0; k < 2; k++) MUST(qolb_lock_enter(it.lock) == QOLB_CLOSED);
+}
+
+/* The lock is closed only once no thread is about to call: so the other waits, without a ticket or with one, or is in a
+ * call no more. */
+UNSEEN static int is_known(int other) {
+    struct lock *lock = lock_of(it.lock);
+    return order[other].waits || *(unsigned *)&lock->guests;
+}
+void await_other(int other) {
+    while (!is_known(other) && !atomic_fetch_add(&it.over, 0)) sched_yield();
+}
+
+/* Another is on its way to be told. */
+static void shuts_and_closes(int self) {
+    if (self) {
+        begins_call();
+        uint32_t got = qolb_lock_enter(it.lock);
+        MUST(got == QOLB_CLOSED || (got == QOLB_GRANTED && qolb_lock_leave(it.lock) == QOLB_DONE));
+        ends_call();
+        atomic_store(&it.over, 1);
+        return;
+    }
+    MUST(qolb_lock_enter(it.lock) == QOLB_GRANTED);
+    await_other(1);
+    it.shut = 1;
+    MUST(qolb_lock_shut(it.lock) == QOLB_DONE);
+    uint32_t got = qolb_lock_close(it.lock);
+    MUST(got == QOLB_DONE || got == QOLB_MISUSE);
+    if (atomic_fetch_add(&it.over, 0)) MUST(qolb_lock_close(it.lock) == QOLB_DONE);
+}
+
+void free_lock(void) {
+    model_free(it.block);
+    it.lock = NULL;
+}
+
+static void frees_if_last(int yields) {
+    begins_call();
+    MUST(qolb_lock_enter(it.lock) == QOLB_GRANTED);
+    turn_with(yields);
+    int last = --it.users == 0;
+    leave();
+    if (!last) return;
+    MUST(qolb_lock_close(it.lock) == QOLB_DONE && it.lock->own == NULL);
+    free_lock();
+}
+
+void last_frees(int self) {
+    if (self == 2) enters(self);
+    frees_if_last(0);
+}
+
+static void last_frees_and_yields(int self) {
+    (void)self;
+    frees_if_last(2);
+}
+
+/* One gives up, and says so before: the last of the others frees the lock then. */
+static void last_frees_beside_one_that_is_late(int self) {
+    if (self != 2) return frees_if_last(self == 0);
+    uint32_t got = qolb_lock_enter_within(it.lock, MS);
+    int last = 0;
+    if (got == QOLB_GRANTED) {
+        turn();
+        last = --it.users == 0;
+        leave();
+    } else {
+        MUST(got == QOLB_LATE);
+        MUST(qolb_lock_enter(it.lock) == QOLB_GRANTED);
+        last = --it.users == 0;
+        leave();
+    }
+    if (!last) return;
+    MUST(qolb_lock_close(it.lock) == QOLB_DONE);
+    free_lock();
+}
+
+/* One closes the lock behind its turn, while another waits, is late, or leaves. */
+static void one_closes(int self) {
+    if (self) {
+        is_late(self);
+        atomic_store(&it.over, 1);
+        return;
+    }
+    MUST(qolb_lock_enter(it.lock) == QOLB_GRANTED);
+    await_other(1);
+    leave();
+    uint32_t got = qolb_lock_close(it.lock);
+    MUST(got == QOLB_DONE || got == QOLB_MISUSE);
+    if (atomic_fetch_add(&it.over, 0)) MUST(qolb_lock_close(it.lock) == QOLB_DONE);
+}
+
+/* One frees the lock as soon as it may, while another waits, is late, or leaves, and then makes no call any more. */
+static void one_frees(int self) {
+    if (self) {
+        is_late(self);
+        atomic_store(&it.over, 1);
+        return;
+    }
+    MUST(qolb_lock_enter(it.lock) == QOLB_GRANTED);
+    await_other(1);
+    leave();
+    while (qolb_lock_close(it.lock) != QOLB_DONE) sched_yield();
+    free_lock();
+}
+
+/* One is in, and another closes. */
+static void one_closes_beside_a_holder(int self) {
+    if (self) {
+        MUST(qolb_lock_enter(it.lock) == QOLB_GRANTED);
+        atomic_store(&it.over, 1);
+        while (atomic_fetch_add(&it.over, 0) == 1) sched_yield();
+        leave();
+        return;
+    }
+    while (!atomic_fetch_add(&it.over, 0)) sched_yield();
+    MUST(qolb_lock_close(it.lock) == QOLB_MISUSE);
+    atomic_store(&it.over, 2);
+}
+
+UNSEEN int had_turns(int turns) { return it.turns >= turns; }
+
+/* The lock is closed as soon as it may be, and used again at the same address, where another's ticket is abandoned. Who
+ * left the first lock may be in that call still. */
+static void late_at_a_younger_lock(int self) {
+    if (self == 0) return enters(self);
+    if (self == 2) {
+        while (!atomic_fetch_add(&it.over, 0)) sched_yield();
+        begins_call();
+        uint32_t got = qolb_lock_enter_within(it.lock, MS);
+        ends_call();
+        if (got == QOLB_LATE) got = (atomic_store(&it.over, 2), qolb_lock_enter(it.lock));
+        MUST(got == QOLB_GRANTED);
+        atomic_store(&it.over, 2);
+        return leave();
+    }
+    enters(self);
+    while (!had_turns(2) || qolb_lock_close(it.lock) != QOLB_DONE) sched_yield();
+    MUST(qolb_lock_enter(it.lock) == QOLB_GRANTED);
+    atomic_store(&it.over, 1);
+    while (atomic_fetch_add(&it.over, 0) < 2 && !is_known(2)) sched_yield();
+    sched_yield();
+    leave();
+}
+
+/* ---- Conditions ---- */
+
+/* Writes where the frames of its caller's last calls were. */
+__attribute__((noinline)) static void use_stack(void) {
+    volatile uint64_t bytes[128];
+    for (int k = 0; k < 128; k++) bytes[k] = 1;
+}
+
+static void waits(int self) {
+    MUST(qolb_lock_enter(it.lock) == QOLB_GRANTED);
+    if (self == 0) it.has += 2;
+    while (self && !it.has) {
+        uint32_t got = self == 1 ? qolb_cond_wait(&it.cond, it.lock) : qolb_cond_wait_within(&it.cond, it.lock, MS);
+        MUST(got == QOLB_GRANTED || (got == QOLB_LATE && self == 2));
+        if (got == QOLB_LATE) break;
+    }
+    turn();
+    if (self && it.has) it.has--;
+    leave();
+    if (self == 0) qolb_cond_signal(&it.cond), qolb_cond_signal(&it.cond);
+}
+
+/* One waits at the condition while another enters again and again, and signals in its last turn. */
+static void waits_while_one_stays(int self) {
+    if (self == 0) {
+        MUST(qolb_lock_enter(it.lock) == QOLB_GRANTED);
+        while (!it.has) MUST(qolb_cond_wait(&it.cond, it.lock) == QOLB_GRANTED);
+        turn();
+        leave();
+        return;
+    }
+    enters_twice(self);
+    MUST(qolb_lock_enter(it.lock) == QOLB_GRANTED);
+    it.has = 1;
+    turn();
+    MUST(qolb_cond_signal(&it.cond) == QOLB_DONE);
+    leave();
+}
+
+/* Two wait until one shuts; one of them is late or signalled before. All make no access to the lock once they are told:
+ * so the last of them may free it. */
+static void waits_until_shut(int self) {
+    uint32_t got = qolb_lock_enter(it.lock);
+    if (got != QOLB_CLOSED) MUST(got == QOLB_GRANTED);
+    if (got == QOLB_GRANTED && self == 0) {
+        it.shut = 1;
+        qolb_cond_signal(&it.cond);
+        MUST(qolb_lock_shut(it.lock) == QOLB_DONE);
+    } else if (got == QOLB_GRANTED) {
+        do got = self == 1 ? qolb_cond_wait(&it.cond, it.lock) : qolb_cond_wait_within(&it.cond, it.lock, MS);
+        while (got == QOLB_GRANTED || got == QOLB_LATE);
+        MUST(got == QOLB_CLOSED && it.shut);
+        use_stack();
+    }
+    if (atomic_fetch_add(&it.over, 1) + 1 < it.users) return;
+    MUST(qolb_lock_close(it.lock) == QOLB_DONE);
+    free_lock();
+}
+
+/* One waits at the condition, and is signalled, or told of a shut, by one that frees the lock as soon as it may. */
+static void shuts_and_frees(int self) {
+    uint32_t got = QOLB_GRANTED;
+    if (self) {
+        MUST(qolb_lock_enter(it.lock) == QOLB_GRANTED);
+        it.has = 1;
+        while (got == QOLB_GRANTED) got = qolb_cond_wait(&it.cond, it.lock);
+        MUST(got == QOLB_CLOSED);
+        return;
+    }
+    for (int waits = 0; !waits;) {
+        MUST(qolb_lock_enter(it.lock) == QOLB_GRANTED);
+        waits = it.has;
+        if (waits) MUST(qolb_cond_signal(&it.cond) == QOLB_DONE);
+        MUST((waits ? qolb_lock_shut : qolb_lock_leave)(it.lock) == QOLB_DONE);
+        if (!waits) sched_yield();
+    }
+    while (qolb_lock_close(it.lock) != QOLB_DONE) sched_yield();
+    free_lock();
+}
+
+/* The same of a lock that stays open. */
+static void signals_and_frees(int self) {
+    if (self) {
+        MUST(qolb_lock_enter(it.lock) == QOLB_GRANTED);
+        it.has = 1;
+        while (it.has == 1) MUST(qolb_cond_wait(&it.cond, it.lock) == QOLB_GRANTED);
+        leave();
+        return;
+    }
+    for (int waits = 0; !waits;) {
+        MUST(qolb_lock_enter(it.lock) == QOLB_GRANTED);
+        waits = it.has;
+        if (waits) it.has = 2;
+        if (waits) MUST(qolb_cond_signal(&it.cond) == QOLB_DONE);
+        leave();
+        if (!waits) sched_yield();
+    }
+    while (qolb_lock_close(it.lock) != QOLB_DONE) sched_yield();
+    free_lock();
+}
+
+/* One closes the lock while another waits at its condition. */
+static void one_closes_beside_a_waiter(int self) {
+    int waits = 0;
+    if (self) {
+        MUST(qolb_lock_enter(it.lock) == QOLB_GRANTED);
+        it.has = 1;
+        while (it.has == 1) MUST(qolb_cond_wait(&it.cond, it.lock) == QOLB_GRANTED);
+        leave();
+        return;
+    }
+    while (!waits) {
+        MUST(qolb_lock_enter(it.lock) == QOLB_GRANTED);
+        waits = it.has;
+        if (waits) it.has = 2;
+        leave();
+        if (waits) MUST(qolb_lock_close(it.lock) == QOLB_MISUSE);
+        if (!waits) sched_yield();
+    }
+    qolb_cond_signal(&it.cond);
+}
+
+/* ---- Several locks ---- */
+
+/* In one order, though the table has room for one turn; and left in another. */
+static void holds_three(int self) {
+    for (int k = 0; k < LOCKS; k++) MUST(qolb_lock_enter(it.locks[k]) == QOLB_GRANTED);
+    for (int k = 0; k < LOCKS; k++) MUST(qolb_lock_enter(it.locks[k]) == QOLB_MISUSE && qolb_lock_is_mine(it.locks[k]));
+    turn();
+    for (int k = 0; k < LOCKS; k++) MUST(qolb_lock_leave(it.locks[(k + self + 1) % LOCKS]) == QOLB_DONE);
+    for (int k = 0; k < LOCKS; k++)
+        MUST(qolb_lock_leave(it.locks[k]) == QOLB_MISUSE && !qolb_lock_is_mine(it.locks[k]));
+}
+
+/* One waits at a condition of a lock that it holds beyond its table, and another shuts that. */
+static void waits_beyond(int self) {
+    MUST(qolb_lock_enter(it.locks[1 + self]) == QOLB_GRANTED);
+    MUST(qolb_lock_enter(it.lock) == QOLB_GRANTED);
+    if (self == 0) it.has = 1;
+    while (self && !it.has) MUST(qolb_cond_wait(&it.cond, it.lock) == QOLB_GRANTED);
+    turn();
+    leave();
+    MUST(qolb_lock_leave(it.locks[1 + self]) == QOLB_DONE);
+    if (self == 0) MUST(qolb_cond_signal(&it.cond) == QOLB_DONE);
+}
+
+UNSEEN static int asks_for_holder(void (*does)(int)) {
+#define IS(name) is |= does == name;
+    int is = 0;
+    HOLDER_SCENES(IS)
+    return is;
+}
+
+/* ---- All scenes ---- */
+
+enum { MANY = 65535, NO_MEMORY = 1 };
+#define ROOMY 15, MANY, MANY, 0
+#define FAR 0, MANY, MANY, 0
+#define CROWDED 15, MANY, 1, 0
+const struct scene scenes[] = {
+    {"each enters, at the first use", enters, 3, 0, 1, ROOMY},
+    {"three enter", enters, 3, 0, 0, ROOMY},
+    {"three enter twice", enters_twice, 3, 0, 0, ROOMY},
+    {"two enter thrice", enters_thrice, 2, 0, 0, ROOMY},
+    {"one stays", one_stays, 3, 0, 0, ROOMY},
+    {"two of three yield", two_yield, 3, 0, 0, ROOMY},
+    {"no room for a sleeper", two_yield, 3, 0, 0, 15, 0, MANY, 0},
+    {"room for one sleeper", two_yield, 3, 0, 0, 15, 1, MANY, 0},
+    {"two are late", is_late, 3, 0, 0, ROOMY},
+    {"one is late", one_is_late, 3, 0, 0, ROOMY},
+    {"two are late and come again", is_late_and_comes_again, 3, 0, 0, ROOMY},
+    {"one is late and comes again", is_late_and_comes_again, 2, 0, 0, ROOMY},
+    {"one is late beside one that yields", one_late_beside_one_that_yields, 3, 0, 0, ROOMY},
+    {"two are late beside one that yields", two_late_beside_one_that_yields, 3, 0, 0, ROOMY},
+    {"two look in", looks_in, 3, 0, 0, ROOMY},
+    {"far: two are late", is_late, 3, 0, 0, FAR},
+    {"far: two are late beside one that yields", two_late_beside_one_that_yields, 3, 0, 0, FAR},
+    {"far: two look in", looks_in, 3, 0, 0, FAR},
+    {"far: two are late and come again", is_late_and_comes_again, 3, 0, 0, FAR},
+    {"far: no room for a sleeper", two_late_beside_one_that_yields, 3, 0, 0, 0, 0, MANY, 0},
+    {"far: room for one sleeper", two_late_beside_one_that_yields, 3, 0, 0, 0, 1, MANY, 0},
+    {"far: no memory", two_late_beside_one_that_yields, 3, 0, 0, 0, MANY, MANY, NO_MEMORY},
+    {"far: a younger lock", late_at_a_younger_lock, 3, 0, 0, FAR},
+    {"crowded: two are late", is_late, 3, 0, 0, CROWDED},
+    {"crowded: two are late beside one that yields", two_late_beside_one_that_yields, 3, 0, 0, CROWDED},
+    {"crowded: one shuts", shuts, 3, 0, 0, CROWDED},
+    {"crowded: one closes", one_closes, 2, 0, 0, CROWDED},
+    {"crowded: one frees", one_frees, 2, 0, 0, CROWDED},
+    {"crowded: the last frees beside one that is late", last_frees_beside_one_that_is_late, 3, 0, 0, CROWDED},
+    {"one tries", tries, 3, 0, 0, ROOMY},
+    {"the last tries", last_tries, 3, 0, 0, ROOMY},
+    {"one shuts", shuts, 3, 0, 0, ROOMY},
+    {"one shuts and asks", shuts_and_asks, 3, 0, 0, ROOMY},
+    {"one shuts and closes", shuts_and_closes, 2, 0, 0, ROOMY},
+    {"far: one shuts", shuts, 3, 0, 0, FAR},
+    {"the last frees", last_frees, 3, 0, 0, ROOMY},
+    {"the last frees, and each yields", last_frees_and_yields, 3, 0, 0, ROOMY},
+    {"the last frees beside one that is late", last_frees_beside_one_that_is_late, 3, 0, 0, ROOMY},
+    {"far: the last frees beside one that is late", last_frees_beside_one_that_is_late, 3, 0, 0, FAR},
+    {"one closes", one_closes, 2, 0, 0, ROOMY},
+    {"far: one closes", one_closes, 2, 0, 0, FAR},
+    {"one frees", one_frees, 2, 0, 0, ROOMY},
+    {"far: one frees", one_frees, 2, 0, 0, FAR},
+    {"one closes beside a holder", one_closes_beside_a_holder, 2, 0, 0, ROOMY},
+    {"two wait at a condition, one not for ever", waits, 3, 0, 0, ROOMY},
+    {"one waits at a condition while one stays", waits_while_one_stays, 2, 0, 0, ROOMY},
+    {"two wait at a condition until one shuts", waits_until_shut, 3, 0, 0, ROOMY},
+    {"one shuts and frees beside a waiter", shuts_and_frees, 2, 0, 0, ROOMY},
+    {"one signals and frees", signals_and_frees, 2, 0, 0, ROOMY},
+    {"one closes beside a waiter", one_closes_beside_a_waiter, 2, 0, 0, ROOMY},
+    {"enters again", enters_again, 2, 0, 0, ROOMY},
+    {"holder: one comes and ends", holder_comes_and_ends, 2, 0, 0, ROOMY},
+    {"holder: two come and end", holder_comes_and_ends, 3, 0, 0, ROOMY},
+    {"holder: one ends with it", ends_as_holder, 2, 0, 0, ROOMY},
+    {"holder: one leaves in a destructor", leaves_in_a_destructor, 2, 0, 0, ROOMY},
+    {"holder: one enters in a destructor", enters_in_a_destructor, 2, 0, 0, ROOMY},
+    {"holds three", holds_three, 2, 0, 1, ROOMY},
+    {"waits beyond the table", waits_beyond, 2, 0, 0, ROOMY},
+    {"bursts: each enters, at the first use", enters, 2, 2, 1, ROOMY},
+    {"bursts: three enter", enters, 3, 2, 0, ROOMY},
+    {"bursts: three enter twice", enters_twice, 3, 2, 0, ROOMY},
+    {"bursts: two enter thrice", enters_thrice, 2, 4, 0, ROOMY},
+    {"bursts: one yields", one_yields, 3, 4, 0, ROOMY},
+    {"bursts: two of three yield", two_yield, 3, 2, 0, ROOMY},
+    {"bursts: one stays", one_stays, 3, 2, 0, ROOMY},
+    {"bursts: one stays, of three turns", one_stays, 3, 3, 0, ROOMY},
+    {"bursts: two are late", is_late, 3, 2, 0, ROOMY},
+    {"bursts: one is late and comes again", is_late_and_comes_again, 2, 2, 0, ROOMY},
+    {"bursts: two are late beside one that yields", two_late_beside_one_that_yields, 3, 3, 0, ROOMY},
+    {"bursts: far: two are late", is_late, 3, 2, 0, FAR},
+    {"bursts: one tries", tries, 3, 2, 0, ROOMY},
+    {"bursts: the last tries", last_tries, 3, 2, 0, ROOMY},
+    {"bursts: one shuts", shuts, 3, 2, 0, ROOMY},
+    {"bursts: one shuts and asks", shuts_and_asks, 3, 2, 0, ROOMY},
+    {"bursts: one shuts and closes", shuts_and_closes, 2, 2, 0, ROOMY},
+    {"bursts: the last frees", last_frees, 3, 2, 0, ROOMY},
+    {"bursts: the last frees, and each yields", last_frees_and_yields, 3, 2, 0, ROOMY},
+    {"bursts: the last frees beside one that is late", last_frees_beside_one_that_is_late, 3, 2, 0, ROOMY},
+    {"bursts: one closes", one_closes, 2, 2, 0, ROOMY},
+    {"bursts: one frees", one_frees, 2, 2, 0, ROOMY},
+    {"bursts: far: two are late beside one that yields", two_late_beside_one_that_yields, 3, 3, 0, FAR},
+    {"bursts: far: two are late and come again", is_late_and_comes_again, 3, 2, 0, FAR},
+    {"bursts: crowded: one frees", one_frees, 2, 2, 0, CROWDED},
+    {"bursts: far: one frees", one_frees, 2, 2, 0, FAR},
+    {"bursts: one closes beside a holder", one_closes_beside_a_holder, 2, 2, 0, ROOMY},
+    {"bursts: two wait at a condition, one not for ever", waits, 3, 2, 0, ROOMY},
+    {"bursts: two wait at a condition until one shuts", waits_until_shut, 3, 2, 0, ROOMY},
+    {"bursts: one shuts and frees beside a waiter", shuts_and_frees, 2, 2, 0, ROOMY},
+    {"bursts: one signals and frees", signals_and_frees, 2, 2, 0, ROOMY},
+    {"bursts: one closes beside a waiter", one_closes_beside_a_waiter, 2, 2, 0, ROOMY},
+    {"bursts: enters again", enters_again, 2, 2, 0, ROOMY},
+    {"bursts: holds three", holds_three, 2, 2, 0, ROOMY},
+    {"tasks: a task each", by_task, 3, 0, 0, ROOMY},
+    {"tasks: a task each, twice", by_task_twice, 2, 0, 0, ROOMY},
+    {"tasks: three tasks, twice", by_task_twice, 3, 0, 0, ROOMY},
+    {"tasks: one task gives up", one_task_gives_up, 3, 0, 0, ROOMY},
+    {"far: tasks: one task gives up", one_task_gives_up, 3, 0, 0, FAR},
+    {"tasks: a task beside threads", a_task_beside_threads, 3, 0, 0, ROOMY},
+    {"tasks: tasks beside a thread", tasks_beside_a_thread, 3, 0, 0, ROOMY},
+    {"tasks: a task beside threads, twice", a_task_beside_threads_twice, 2, 0, 0, ROOMY},
+    {"tasks: tasks beside a thread, twice", tasks_beside_a_thread_twice, 3, 0, 0, ROOMY},
+    {"tasks: a task beside one that yields", a_task_beside_one_that_yields, 3, 0, 0, ROOMY},
+    {"tasks: tasks beside one that yields", tasks_beside_one_that_yields, 3, 0, 0, ROOMY},
+    {"tasks: a task beside one that stays", a_task_beside_one_that_stays, 3, 0, 0, ROOMY},
+    {"tasks: a task gives up between threads", a_task_gives_up_between_threads, 3, 0, 0, ROOMY},
+    {"far: tasks: a task gives up between threads", a_task_gives_up_between_threads, 3, 0, 0, FAR},
+    {"tasks: a task gives up beside one that yields", a_task_gives_up_beside_one_that_yields, 3, 0, 0, ROOMY},
+    {"far: tasks: a task gives up beside one that yields", a_task_gives_up_beside_one_that_yields, 3, 0, 0, FAR},
+    {"tasks: a task gives up before one", a_task_gives_up_before_one_beside_one_that_yields, 3, 0, 0, ROOMY},
+    {"far: tasks: a task gives up before one", a_task_gives_up_before_one_beside_one_that_yields, 3, 0, 0, FAR},
+    {"tasks: a task gives up and asks again", a_task_gives_up_and_asks_again, 2, 0, 0, ROOMY},
+    {"far: tasks: a task gives up and asks again", a_task_gives_up_and_asks_again, 2, 0, 0, FAR},
+    {"tasks: a thread is late between tasks", a_thread_is_late_between_tasks, 3, 0, 0, ROOMY},
+    {"far: tasks: a thread is late between tasks", a_thread_is_late_between_tasks, 3, 0, 0, FAR},
+    {"tasks: a thread is late before a task", a_thread_is_late_before_a_task, 3, 0, 0, ROOMY},
+    {"far: tasks: a thread is late before a task", a_thread_is_late_before_a_task, 3, 0, 0, FAR},
+    {"tasks: a thread is late or a task waits", a_thread_is_late_or_a_task_waits, 3, 0, 0, ROOMY},
+    {"tasks: a task and a thread give up", both_give_up, 3, 0, 0, ROOMY},
+    {"far: tasks: a task and a thread give up", both_give_up, 3, 0, 0, FAR},
+    {"tasks: one tries beside a task", one_tries_beside_a_task, 3, 0, 0, ROOMY},
+    {"tasks: two tasks of one", two_tasks_of_one, 2, 0, 0, ROOMY},
+    {"tasks: the first of two tasks gives up", first_of_two_gives_up, 2, 0, 0, ROOMY},
+    {"far: tasks: the first of two tasks gives up", first_of_two_gives_up, 2, 0, 0, FAR},
+    {"tasks: the second of two tasks gives up", second_of_two_gives_up, 2, 0, 0, ROOMY},
+    {"far: tasks: the second of two tasks gives up", second_of_two_gives_up, 2, 0, 0, FAR},
+    {"tasks: both of two tasks give up", both_of_two_give_up, 2, 0, 0, ROOMY},
+    {"far: tasks: both of two tasks give up", both_of_two_give_up, 2, 0, 0, FAR},
+    {"tasks: tasks until one shuts", tasks_until_shut, 3, 0, 0, ROOMY},
+    {"far: tasks: tasks until one shuts", tasks_until_shut, 3, 0, 0, FAR},
+    {"tasks: a task until one shuts", a_task_until_shut, 3, 0, 0, ROOMY},
+    {"tasks: a task shuts", a_task_shuts, 3, 0, 0, ROOMY},
+    {"tasks: the last task frees", last_task_frees, 2, 0, 0, ROOMY},
+    {"tasks: the last of three tasks frees", last_task_frees, 3, 0, 0, ROOMY},
+    {"tasks: the last of both frees", last_of_both_frees, 3, 0, 0, ROOMY},
+    {"far: tasks: the last of both frees", last_of_both_frees, 3, 0, 0, FAR},
+    {"tasks: the last that polls frees", last_that_polls_frees, 2, 0, 0, ROOMY},
+    {"tasks: a task polls early", a_task_polls_early, 3, 0, 0, ROOMY},
+    {"tasks: one closes beside a task", one_closes_beside_a_task, 3, 0, 0, ROOMY},
+    {"tasks: one closes while both wait", closes_while_both_wait, 3, 0, 0, ROOMY},
+    {"tasks: a task signals", a_task_signals, 3, 0, 0, ROOMY},
+    {"tasks: turns in calls", has_task_turn_in_call, 3, 0, 0, ROOMY},
+    {"tasks: turns in calls, and again", task_asks_again_in_call, 3, 0, 0, ROOMY},
+    {"tasks: a call enters another lock", enters_another_in_call, 3, 0, 0, ROOMY},
+    {"tasks: one waits while a call enters", waits_while_a_call_enters, 2, 0, 0, ROOMY},
+    {"tasks: a task comes to a younger lock", a_task_comes_to_a_younger_lock, 3, 0, 0, ROOMY},
+    {"bursts: tasks: a task each", by_task, 3, 2, 0, ROOMY},
+    {"bursts: tasks: a task each, twice", by_task_twice, 2, 2, 0, ROOMY},
+    {"bursts: tasks: three tasks, twice", by_task_twice, 3, 2, 0, ROOMY},
+    {"bursts: tasks: one task gives up", one_task_gives_up, 3, 2, 0, ROOMY},
+    {"bursts: far: tasks: one task gives up", one_task_gives_up, 3, 2, 0, FAR},
+    {"bursts: tasks: a task beside threads", a_task_beside_threads, 3, 2, 0, ROOMY},
+    {"bursts: tasks: tasks beside a thread", tasks_beside_a_thread, 3, 2, 0, ROOMY},
+    {"bursts: tasks: a task beside threads, twice", a_task_beside_threads_twice, 2, 2, 0, ROOMY},
+    {"bursts: tasks: tasks beside a thread, twice", tasks_beside_a_thread_twice, 3, 2, 0, ROOMY},
+    {"bursts: tasks: a task beside one that yields", a_task_beside_one_that_yields, 3, 2, 0, ROOMY},
+    {"bursts: tasks: tasks beside one that yields", tasks_beside_one_that_yields, 3, 2, 0, ROOMY},
+    {"bursts: tasks: a task beside one that stays", a_task_beside_one_that_stays, 3, 2, 0, ROOMY},
+    {"bursts: tasks: a task gives up between threads", a_task_gives_up_between_threads, 3, 2, 0, ROOMY},
+    {"bursts: far: tasks: a task gives up between threads", a_task_gives_up_between_threads, 3, 2, 0, FAR},
+    {"bursts: tasks: a task gives up beside one that yields", a_task_gives_up_beside_one_that_yields, 3, 2, 0, ROOMY},
+    {"bursts: far: tasks: a task gives up beside one that yields", a_task_gives_up_beside_one_that_yields, 3, 2, 0,
+     FAR},
+    {"bursts: tasks: a task gives up before one", a_task_gives_up_before_one_beside_one_that_yields, 3, 2, 0, ROOMY},
+    {"bursts: far: tasks: a task gives up before one", a_task_gives_up_before_one_beside_one_that_yields, 3, 2, 0, FAR},
+    {"bursts: tasks: a task gives up and asks again", a_task_gives_up_and_asks_again, 2, 2, 0, ROOMY},
+    {"bursts: far: tasks: a task gives up and asks again", a_task_gives_up_and_asks_again, 2, 2, 0, FAR},
+    {"bursts: tasks: a thread is late between tasks", a_thread_is_late_between_tasks, 3, 2, 0, ROOMY},
+    {"bursts: far: tasks: a thread is late between tasks", a_thread_is_late_between_tasks, 3, 2, 0, FAR},
+    {"bursts: tasks: a thread is late before a task", a_thread_is_late_before_a_task, 3, 2, 0, ROOMY},
+    {"bursts: far: tasks: a thread is late before a task", a_thread_is_late_before_a_task, 3, 2, 0, FAR},
+    {"bursts: tasks: a thread is late or a task waits", a_thread_is_late_or_a_task_waits, 3, 2, 0, ROOMY},
+    {"bursts: tasks: a task and a thread give up", both_give_up, 3, 2, 0, ROOMY},
+    {"bursts: far: tasks: a task and a thread give up", both_give_up, 3, 2, 0, FAR},
+    {"bursts: tasks: one tries beside a task", one_tries_beside_a_task, 3, 2, 0, ROOMY},
+    {"bursts: tasks: two tasks of one", two_tasks_of_one, 2, 2, 0, ROOMY},
+    {"bursts: tasks: the first of two tasks gives up", first_of_two_gives_up, 2, 2, 0, ROOMY},
+    {"bursts: far: tasks: the first of two tasks gives up", first_of_two_gives_up, 2, 2, 0, FAR},
+    {"bursts: tasks: the second of two tasks gives up", second_of_two_gives_up, 2, 2, 0, ROOMY},
+    {"bursts: far: tasks: the second of two tasks gives up", second_of_two_gives_up, 2, 2, 0, FAR},
+    {"bursts: tasks: both of two tasks give up", both_of_two_give_up, 2, 2, 0, ROOMY},
+    {"bursts: far: tasks: both of two tasks give up", both_of_two_give_up, 2, 2, 0, FAR},
+    {"bursts: tasks: tasks until one shuts", tasks_until_shut, 3, 2, 0, ROOMY},
+    {"bursts: far: tasks: tasks until one shuts", tasks_until_shut, 3, 2, 0, FAR},
+    {"bursts: tasks: a task until one shuts", a_task_until_shut, 3, 2, 0, ROOMY},
+    {"bursts: tasks: a task shuts", a_task_shuts, 3, 2, 0, ROOMY},
+    {"bursts: tasks: the last task frees", last_task_frees, 2, 2, 0, ROOMY},
+    {"bursts: tasks: the last of three tasks frees", last_task_frees, 3, 2, 0, ROOMY},
+    {"bursts: tasks: the last of both frees", last_of_both_frees, 3, 2, 0, ROOMY},
+    {"bursts: far: tasks: the last of both frees", last_of_both_frees, 3, 2, 0, FAR},
+    {"bursts: tasks: the last that polls frees", last_that_polls_frees, 2, 2, 0, ROOMY},
+    {"bursts: tasks: a task polls early", a_task_polls_early, 3, 2, 0, ROOMY},
+    {"bursts: tasks: one closes beside a task", one_closes_beside_a_task, 3, 2, 0, ROOMY},
+    {"bursts: tasks: one closes while both wait", closes_while_both_wait, 3, 2, 0, ROOMY},
+    {"bursts: tasks: a task signals", a_task_signals, 3, 2, 0, ROOMY},
+    {"bursts: tasks: turns in calls", has_task_turn_in_call, 3, 2, 0, ROOMY},
+    {"bursts: tasks: turns in calls, and again", task_asks_again_in_call, 3, 2, 0, ROOMY},
+    {"bursts: tasks: a call enters another lock", enters_another_in_call, 3, 2, 0, ROOMY},
+    {"bursts: tasks: one waits while a call enters", waits_while_a_call_enters, 2, 2, 0, ROOMY},
+    {"bursts: tasks: a task comes to a younger lock", a_task_comes_to_a_younger_lock, 3, 2, 0, ROOMY},
+    {"tasks: no memory", a_task_finds_no_memory, 2, 0, 0, 15, MANY, MANY, NO_MEMORY},
+    {"tasks: crowded", a_task_finds_no_memory, 2, 0, 0, 15, MANY, 0, 0},
+    {"tasks: room for one sleeper", a_task_beside_one_that_yields, 3, 0, 0, 15, 1, MANY, 0},
+    {NULL, NULL, 0, 0, 0, 0, 0, 0, 0},
+};
+
+/* A lock begins at any multiple of 16: each in another place of its cache lines, and the first of each scene, too. */
+static qolb_lock *unopened(const struct scene *scene, int k) {
+    enum { PLACES = 4, PLACE = 16 };
+    char *block = model_malloc(sizeof(qolb_lock) + PLACES * PLACE);
+    qolb_lock *lock = (qolb_lock *)(block + PLACE * ((scene - scenes + k) % PLACES));
+    if (k == 0) it.block = block;
+    *lock = (qolb_lock)QOLB_LOCK_INIT_BURSTS(scene->burst);
+    return lock;
+}
+
+void set_up(const struct scene *scene) {
+    qolb_bytes zeros = {{0}};
+    memset(&it, 0, sizeof it), memset(order, 0, sizeof order);
+    new_data_of_threads(asks_for_holder(scene->does));
+    time_of_order = 0, it.users = scene->threads, model_near = scene->near, model_sleepers = scene->sleepers,
+    model_open = scene->open;
+    model_memory = !scene->no_memory, for_second = 0;
+    for (int k = 0; k < LOCKS; k++) {
+        it.locks[k] = unopened(scene, k);
+        if (!scene->at_first_use)
+            MUST(qolb_lock_open(it.locks[k], scene->burst) == QOLB_DONE);
+    }
+    it.lock = it.locks[0];
+}
+
+/* Nobody is counted or withdrawn at any cell, waits, is a guest, or holds. */
+UNSEEN static void check_lock(struct lock *lock) {
+    for (int k = 0; k < TICKETS_IN_ROUND; k++) MUST((uint32_t)words_of(lock)[FIRST_CELL + k] == 0);
+    MUST(!lock->waits && *(unsigned *)&lock->guests == 0 && *(uint64_t *)&lock->beyond_by == 0);
+}
+
+/* All threads have ended. */
+void check_end(const struct scene *scene) {
+    static const struct {
+        void (*does)(int);
+        int turns;
+    } each[] = {{enters, 1}, {enters_twice, 2}, {enters_thrice, 3}, {two_yield, 1}, {one_yields, 1}, {holds_three, 1}};
+    for (size_t k = 0; k < sizeof each / sizeof each[0]; k++)
+        MUST(scene->does != each[k].does || it.turns == each[k].turns * scene->threads);
+    MUST(scene->does != one_stays || it.turns == 6);
+    MUST(it.inside == 0 && it.cond.own == NULL);
+    if (scene->does == ends_as_holder) {
+        is_held_by(0);
+        MUST(qolb_lock_close(it.lock) == QOLB_MISUSE);
+        return;
+    }
+    for (int k = 0; k < LOCKS; k++) {
+        qolb_lock *lock = k ? it.locks[k] : it.lock;
+        if (!lock) continue;
+        if (lock->own) check_lock(lock_of(lock));
+        MUST(qolb_lock_close(lock) == QOLB_DONE && lock->own == NULL);
+    }
+}
+
+int is_own(uintptr_t at) {
+    return is_in_table(at) || at - (uintptr_t)&qolb_core_room_ < sizeof qolb_core_room_ ||
+           at - (uintptr_t)&qolb_learned_ < sizeof qolb_learned_ || at - (uintptr_t)&errno < sizeof errno;
+}
+
+void change_thread(struct own_data *from, const struct own_data *to) { (void)from, (void)to; }

@@ -1,0 +1,79 @@
+/* What the scenes of the lock share (lock_scenes.c, task_scenes.c). */
+#ifndef CORE_SCENES_H
+#define CORE_SCENES_H
+
+#include <lock/lock.h>
+#include <sched.h>
+#include "explorer.h"
+
+#define UNSEEN __attribute__((no_sanitize("thread")))
+
+enum { LOCKS = 3 };
+
+struct it {
+    qolb_lock *lock; /* the first is `locks[0]`, unless it is freed */
+    qolb_lock *locks[LOCKS];
+    void *block; /* of the first */
+    qolb_cond cond;
+    int turns, inside, users, has, shut;
+    atomic_int over;
+    /* Of each task: whether its call was made, and how often since it wanted one. Thread 0 may have a second task. */
+    struct {
+        atomic_uint word;
+        int calls;
+    } told[THREADS + 1];
+    qolb_task task[THREADS + 1];
+};
+extern struct it it;
+
+/* Who may be served before whom: a thread is in a call; that of its second task. */
+void begins_call(void);
+void ends_call(void);
+void is_second(int self, int so);
+/* Whether the lock knows of another that is in its call, or that is in no call any more. */
+void await_other(int other);
+
+void turn(void);
+int had_turns(int turns);
+void leave(void);
+void enters(int self);
+void enters_with(int yields);
+void one_stays(int self);
+void is_late(int self);
+void tries(int self);
+int enters_to_shut(int self);
+void last_frees(int self);
+void free_lock(void);
+
+/* ---- holder_scenes.c ---- */
+
+/* New tables of all threads. Unless other threads look at them they are in no list, and no access to them is shared. */
+void new_data_of_threads(int looked_at);
+int is_in_table(uintptr_t at);
+void is_held_by(int self);
+
+#define HOLDER_SCENES(of) \
+    of(holder_comes_and_ends) of(ends_as_holder) of(leaves_in_a_destructor) of(enters_in_a_destructor)
+#define DECLARED(name) void name(int self);
+HOLDER_SCENES(DECLARED)
+
+/* ---- task_scenes.c ---- */
+
+#define TASK_SCENES(of)                                                                                               \
+    of(by_task) of(by_task_twice) of(one_task_gives_up) of(a_task_beside_threads) of(tasks_beside_a_thread)           \
+        of(a_task_beside_threads_twice) of(tasks_beside_a_thread_twice) of(a_task_beside_one_that_yields)             \
+            of(tasks_beside_one_that_yields) of(a_task_beside_one_that_stays) of(a_task_gives_up_between_threads)     \
+                of(a_task_gives_up_beside_one_that_yields) of(a_task_gives_up_before_one_beside_one_that_yields)      \
+                    of(a_task_gives_up_and_asks_again) of(a_thread_is_late_between_tasks)                             \
+                        of(a_thread_is_late_before_a_task) of(a_thread_is_late_or_a_task_waits) of(both_give_up)      \
+                            of(one_tries_beside_a_task) of(two_tasks_of_one) of(first_of_two_gives_up)                \
+                                of(second_of_two_gives_up) of(both_of_two_give_up) of(tasks_until_shut)               \
+                                    of(a_task_until_shut) of(a_task_shuts) of(last_task_frees) of(last_of_both_frees) \
+                                        of(last_that_polls_frees) of(a_task_polls_early) of(one_closes_beside_a_task) \
+                                            of(closes_while_both_wait) of(a_task_signals) of(has_task_turn_in_call)   \
+                                                of(task_asks_again_in_call) of(enters_another_in_call)                \
+                                                    of(waits_while_a_call_enters) of(a_task_comes_to_a_younger_lock)  \
+                                                        of(a_task_finds_no_memory)
+TASK_SCENES(DECLARED)
+
+#endif

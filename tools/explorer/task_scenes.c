@@ -1,0 +1,369 @@
+/* What tasks do in the runs of the lock (lock_scenes.c). A task is its thread's, which makes its calls, but
+ * for those that other threads make for it. */
+#include "lock_scenes.h"
+
+/* ---- A task's calls ---- */
+
+static void tells(void *task) {
+    int k = (int)(intptr_t)task;
+    it.told[k].calls++;
+    atomic_store(&it.told[k].word, 1);
+    qolb_wake_at_(&it.told[k].word, 1);
+}
+
+/* Sleeps until the task's call was made; 0 if that was not in time. */
+static int is_told(int k, uint64_t time) {
+    if (atomic_load(&it.told[k].word) == 0) qolb_sleep_at_(&it.told[k].word, 0, time);
+    return time == FOR_EVER || atomic_load(&it.told[k].word);
+}
+
+static uint32_t task_asks(int k) {
+    atomic_store(&it.told[k].word, 0);
+    begins_call();
+    uint32_t got = qolb_task_enter(&it.task[k], it.lock, tells, (void *)(intptr_t)k);
+    if (got == QOLB_CLOSED) ends_call();
+    return got;
+}
+
+static void task_gives_up(int k) {
+    uint32_t got = qolb_task_cancel(&it.task[k]);
+    MUST((got == QOLB_WITHDRAWN || got == QOLB_CLOSED) && it.told[k].calls <= 1);
+    MUST(qolb_task_cancel(&it.task[k]) == QOLB_DONE && qolb_task_poll(&it.task[k]) == QOLB_MISUSE);
+    it.told[k].calls = 0;
+    ends_call();
+}
+
+/* The answer of a task that waits. */
+static uint32_t task_waits(int k, uint64_t time) {
+    uint32_t got = QOLB_WAITING;
+    while (got == QOLB_WAITING) {
+        while (!is_told(k, time))
+            if (time != FOR_EVER) return task_gives_up(k), QOLB_LATE;
+        atomic_store(&it.told[k].word, 0);
+        got = qolb_task_poll(&it.task[k]);
+    }
+    MUST(it.told[k].calls-- == 1);
+    if (got != QOLB_GRANTED) ends_call();
+    return got;
+}
+
+static uint32_t task_enters(int k, uint64_t time) {
+    uint32_t got = task_asks(k);
+    return got == QOLB_WAITING ? task_waits(k, time) : got;
+}
+
+static void task_turn(int k) {
+    MUST(qolb_task_holds(&it.task[k]) && !qolb_lock_is_mine(it.lock) && qolb_lock_leave(it.lock) == QOLB_MISUSE);
+    MUST(qolb_task_cancel(&it.task[k]) == QOLB_MISUSE && qolb_lock_holder(it.lock) == UINT64_MAX);
+    turn();
+    MUST(qolb_task_leave(&it.task[k]) == QOLB_DONE && !qolb_task_holds(&it.task[k]));
+}
+
+/* ---- Entering, and giving up ---- */
+
+void by_task(int self) {
+    MUST(task_enters(self, FOR_EVER) == QOLB_GRANTED);
+    task_turn(self);
+}
+
+void by_task_twice(int self) { by_task(self), by_task(self); }
+
+static void by_task_or_gives_up(int self) {
+    if (task_enters(self, MS) == QOLB_GRANTED) task_turn(self);
+}
+
+void one_task_gives_up(int self) { self == 1 ? by_task_or_gives_up(self) : by_task(self); }
+
+void a_task_beside_threads(int self) { self == 1 ? by_task(self) : enters(self); }
+
+void tasks_beside_a_thread(int self) { self ? by_task(self) : enters(self); }
+
+void a_task_beside_threads_twice(int self) { a_task_beside_threads(self), a_task_beside_threads(self); }
+
+void tasks_beside_a_thread_twice(int self) { tasks_beside_a_thread(self), tasks_beside_a_thread(self); }
+
+/* The first lets the others go on in its turn. */
+void a_task_beside_one_that_yields(int self) { self == 0 ? enters_with(3) : a_task_beside_threads(self); }
+
+void tasks_beside_one_that_yields(int self) { self == 0 ? enters_with(3) : by_task(self); }
+
+void a_task_beside_one_that_stays(int self) { self == 1 ? by_task(self) : one_stays(self); }
+
+void a_task_gives_up_between_threads(int self) { self == 1 ? by_task_or_gives_up(self) : enters(self); }
+
+void a_task_gives_up_beside_one_that_yields(int self) {
+    self == 0 ? enters_with(3) : a_task_gives_up_between_threads(self);
+}
+
+void a_task_gives_up_before_one_beside_one_that_yields(int self) {
+    self == 0 ? enters_with(3) : self == 1 ? by_task_or_gives_up(self) : by_task(self);
+}
+
+void a_task_gives_up_and_asks_again(int self) {
+    if (self == 1) by_task_or_gives_up(self);
+    a_task_beside_threads(self);
+}
+
+void a_thread_is_late_between_tasks(int self) { self == 1 ? is_late(self) : by_task(self); }
+
+void a_thread_is_late_before_a_task(int self) {
+    self == 2 ? by_task(self) : self == 1 ? is_late(self) : enters_with(3);
+}
+
+void a_thread_is_late_or_a_task_waits(int self) { self == 2 ? by_task(self) : is_late(self); }
+
+void both_give_up(int self) { self == 0 ? enters(self) : self == 1 ? by_task_or_gives_up(self) : is_late(self); }
+
+void one_tries_beside_a_task(int self) { self == 2 ? by_task(self) : tries(self); }
+
+/* No ticket was drawn: the task may ask again. */
+void a_task_finds_no_memory(int self) {
+    if (self == 0) return enters_with(3);
+    uint32_t got = task_asks(1);
+    while (got == QOLB_NO_MEMORY) {
+        MUST(qolb_task_cancel(&it.task[1]) == QOLB_DONE);
+        sched_yield();
+        got = task_asks(1);
+    }
+    MUST(got == QOLB_GRANTED);
+    task_turn(1);
+}
+
+/* ---- Two tasks of thread 0 ---- */
+
+static void second_task(int self, uint32_t got, int gives_up) {
+    is_second(self, 1);
+    if (got == QOLB_WAITING && gives_up) {
+        task_gives_up(THREADS);
+    } else {
+        MUST(got == QOLB_GRANTED || task_waits(THREADS, FOR_EVER) == QOLB_GRANTED);
+        task_turn(THREADS);
+    }
+    is_second(self, 0);
+}
+
+static void two_tasks(int self, int first_gives_up, int second_gives_up) {
+    if (self) return enters(self);
+    uint32_t first = task_asks(0);
+    if (first == QOLB_GRANTED) task_turn(0);
+    is_second(self, 1);
+    uint32_t second = task_asks(THREADS);
+    is_second(self, 0);
+    if (second == QOLB_GRANTED) second_task(self, second, 0);
+    if (first == QOLB_WAITING && first_gives_up) task_gives_up(0);
+    else if (first == QOLB_WAITING) MUST(task_waits(0, FOR_EVER) == QOLB_GRANTED), task_turn(0);
+    if (second == QOLB_WAITING) second_task(self, second, second_gives_up);
+}
+
+void two_tasks_of_one(int self) { two_tasks(self, 0, 0); }
+void first_of_two_gives_up(int self) { two_tasks(self, 1, 0); }
+void second_of_two_gives_up(int self) { two_tasks(self, 0, 1); }
+void both_of_two_give_up(int self) { two_tasks(self, 1, 1); }
+
+/* ---- Shutting, closing and freeing ---- */
+
+static void task_until_shut(int self, int shuts) {
+    uint32_t got = task_enters(self, FOR_EVER);
+    if (got == QOLB_CLOSED) return;
+    MUST(got == QOLB_GRANTED);
+    turn();
+    if (shuts) it.shut = 1;
+    MUST((shuts ? qolb_task_shut : qolb_task_leave)(&it.task[self]) == QOLB_DONE);
+}
+
+void tasks_until_shut(int self) { self == 0 ? (void)enters_to_shut(0) : task_until_shut(self, 0); }
+void a_task_until_shut(int self) { self == 2 ? task_until_shut(self, 0) : (void)enters_to_shut(self); }
+void a_task_shuts(int self) { self == 1 ? task_until_shut(self, 1) : (void)enters_to_shut(self + 1); }
+
+static void frees_if_last_task(int self) {
+    int last = --it.users == 0;
+    MUST(qolb_task_leave(&it.task[self]) == QOLB_DONE);
+    if (!last) return;
+    MUST(qolb_lock_close(it.lock) == QOLB_DONE);
+    free_lock();
+}
+
+void last_task_frees(int self) {
+    MUST(task_enters(self, FOR_EVER) == QOLB_GRANTED);
+    turn();
+    frees_if_last_task(self);
+}
+
+void last_of_both_frees(int self) { self == 1 ? last_task_frees(self) : last_frees(self); }
+
+/* The task polls all the time, called or not. */
+void last_that_polls_frees(int self) {
+    if (self != 1) return last_frees(self);
+    uint32_t got = task_asks(1);
+    while (got == QOLB_WAITING) {
+        sched_yield();
+        got = qolb_task_poll(&it.task[1]);
+    }
+    MUST(got == QOLB_GRANTED && it.told[1].calls <= 1);
+    it.told[1].calls = 0;
+    turn();
+    frees_if_last_task(1);
+}
+
+/* The task polls once before it is called. */
+void a_task_polls_early(int self) {
+    if (self != 1) return enters_with(self == 0 ? 3 : 0);
+    uint32_t got = task_asks(1);
+    if (got == QOLB_WAITING) got = qolb_task_poll(&it.task[1]);
+    if (got == QOLB_WAITING) got = task_waits(1, FOR_EVER);
+    MUST(got == QOLB_GRANTED && it.told[1].calls <= 1);
+    it.told[1].calls = 0;
+    task_turn(1);
+}
+
+/* One tries to close the lock once a task waits, of whom the holder knows. */
+void one_closes_beside_a_task(int self) {
+    if (self == 2) {
+        while (!atomic_fetch_add(&it.over, 0)) sched_yield();
+        uint32_t got = qolb_lock_close(it.lock);
+        MUST(got == QOLB_DONE || got == QOLB_MISUSE);
+    } else if (self == 1) {
+        while (qolb_lock_try(it.lock) != QOLB_BUSY) leave(), sched_yield();
+        uint32_t got = task_asks(1);
+        atomic_fetch_add(&it.over, 1);
+        MUST(got == QOLB_GRANTED || task_waits(1, FOR_EVER) == QOLB_GRANTED);
+        task_turn(1);
+    } else {
+        begins_call();
+        MUST(qolb_lock_enter(it.lock) == QOLB_GRANTED);
+        turn();
+        while (!atomic_fetch_add(&it.over, 0)) sched_yield();
+        leave();
+    }
+}
+
+/* Who is in tries to close the lock while a thread and a task wait, or are about to. */
+void closes_while_both_wait(int self) {
+    if (self == 1) return by_task(self);
+    begins_call();
+    MUST(qolb_lock_enter(it.lock) == QOLB_GRANTED);
+    if (self == 0) MUST(qolb_lock_close(it.lock) == QOLB_MISUSE);
+    turn();
+    leave();
+}
+
+/* As late_at_a_younger_lock, with a task. */
+void a_task_comes_to_a_younger_lock(int self) {
+    if (self == 0) return enters(self);
+    if (self == 2) {
+        while (!atomic_fetch_add(&it.over, 0)) sched_yield();
+        uint32_t got = task_asks(2);
+        atomic_store(&it.over, 2);
+        MUST(got == QOLB_GRANTED || task_waits(2, FOR_EVER) == QOLB_GRANTED);
+        return task_turn(2);
+    }
+    enters(self);
+    while (!had_turns(2) || qolb_lock_close(it.lock) != QOLB_DONE) sched_yield();
+    MUST(qolb_lock_enter(it.lock) == QOLB_GRANTED);
+    atomic_store(&it.over, 1);
+    while (atomic_fetch_add(&it.over, 0) < 2) sched_yield();
+    sched_yield();
+    leave();
+}
+
+/* A task signals to a thread that waits at a condition. */
+void a_task_signals(int self) {
+    if (self == 2) return enters(self);
+    if (self == 0) {
+        MUST(task_enters(self, FOR_EVER) == QOLB_GRANTED);
+        it.has = 1;
+        qolb_cond_signal(&it.cond);
+        return task_turn(self);
+    }
+    MUST(qolb_lock_enter(it.lock) == QOLB_GRANTED);
+    while (!it.has) MUST(qolb_cond_wait(&it.cond, it.lock) == QOLB_GRANTED);
+    turn();
+    leave();
+}
+
+/* ---- Turns in calls ---- */
+
+static void task_ended(int k) {
+    it.told[k].calls = 0;
+    atomic_store(&it.told[k].word, 1);
+    qolb_wake_at_(&it.told[k].word, 1);
+}
+
+/* The call has the task's turn, in the thread that let it through, and may ask again, once. The task's thread does
+ * nothing more with it. */
+static void has_task_turn(void *task) {
+    int k = (int)(intptr_t)task;
+    uint32_t got = qolb_task_poll(&it.task[k]);
+    if (got == QOLB_WAITING) return;
+    qolb_notify_done();
+    do {
+        MUST(got == QOLB_GRANTED && it.inside++ == 0);
+        it.turns++;
+        MUST(--it.inside == 0);
+        MUST(qolb_task_leave(&it.task[k]) == QOLB_DONE);
+        got = it.has && ++it.told[k].calls == 1 ? qolb_task_enter(&it.task[k], it.lock, has_task_turn, task)
+                                                : QOLB_BUSY;
+    } while (got == QOLB_GRANTED);
+    if (got != QOLB_WAITING) task_ended(k);
+}
+
+static void task_turn_in_call(int self, int asks_again) {
+    if (self == 0) return enters(self);
+    uint32_t got = qolb_task_enter(&it.task[self], it.lock, has_task_turn, (void *)(intptr_t)self);
+    if (got == QOLB_GRANTED) {
+        task_turn(self);
+        if (asks_again) by_task(self);
+    }
+    while (got == QOLB_WAITING && !is_told(self, FOR_EVER)) {}
+}
+
+void has_task_turn_in_call(int self) { task_turn_in_call(self, 0); }
+void task_asks_again_in_call(int self) { task_turn_in_call(self, 1); }
+
+/* The call enters another lock, and holds it until its thread leaves it: in the place of the table in which that thread
+ * had the first. */
+static void enters_another(void *task) {
+    int k = (int)(intptr_t)task;
+    MUST(qolb_task_poll(&it.task[k]) == QOLB_GRANTED && qolb_lock_try(it.locks[2]) == QOLB_GRANTED);
+    MUST(qolb_task_leave(&it.task[k]) == QOLB_DONE && qolb_lock_leave(it.locks[2]) == QOLB_DONE);
+    task_ended(k);
+}
+
+static void task_in_another(int self) {
+    uint32_t got = qolb_task_enter(&it.task[self], it.lock, enters_another, (void *)(intptr_t)self);
+    if (got == QOLB_GRANTED) return task_turn(self);
+    while (got == QOLB_WAITING && !is_told(self, FOR_EVER)) {}
+}
+
+void enters_another_in_call(int self) { self == 1 ? task_in_another(self) : enters(self); }
+
+static void keeps_another(void *task) {
+    int k = (int)(intptr_t)task;
+    MUST(qolb_task_poll(&it.task[k]) == QOLB_GRANTED && qolb_lock_enter(it.locks[2]) == QOLB_GRANTED);
+    it.has = 2;
+    MUST(qolb_task_leave(&it.task[k]) == QOLB_DONE);
+    task_ended(k);
+}
+
+/* Thread 0 waits at the condition; as it leaves, the call of a task is made in it, which enters another lock and keeps
+ * that. Thread 1 signals. */
+void waits_while_a_call_enters(int self) {
+    if (self == 0) {
+        MUST(qolb_lock_enter(it.lock) == QOLB_GRANTED);
+        uint32_t got = qolb_task_enter(&it.task[0], it.lock, keeps_another, NULL);
+        MUST(got == QOLB_WAITING);
+        atomic_store(&it.over, 1);
+        MUST(qolb_cond_wait(&it.cond, it.lock) == QOLB_GRANTED && it.has == 2);
+        turn();
+        leave();
+        MUST(qolb_lock_is_mine(it.locks[2]) && qolb_lock_leave(it.locks[2]) == QOLB_DONE);
+        return;
+    }
+    while (!atomic_fetch_add(&it.over, 0)) sched_yield();
+    for (int signalled = 0; !signalled; sched_yield()) {
+        MUST(qolb_lock_enter(it.lock) == QOLB_GRANTED);
+        signalled = it.has == 2;
+        if (signalled) qolb_cond_signal(&it.cond);
+        leave();
+    }
+}
