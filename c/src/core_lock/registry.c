@@ -34,7 +34,7 @@ struct entry {
 /* The lists of a lock are in one row. */
 static struct row {
     _Alignas(APART) atomic_uint guard;
-    struct entry *last[COLUMNS];
+    struct entry *last[COLUMNS], *heads;
 } rows[ROWS];
 
 static struct row *row_of(const struct lock *lock) {
@@ -56,7 +56,8 @@ void qolb_free_rows_(void) {
 /* ---- The lists ---- */
 
 static struct entry **list_of(const struct lock *lock, uint64_t number) {
-    return &row_of(lock)->last[number % COLUMNS];
+    struct row *row = row_of(lock);
+    return number == HEAD ? &row->heads : &row->last[number % COLUMNS];
 }
 
 static struct entry *last_of(const struct lock *lock, uint64_t number) {
