@@ -5,7 +5,7 @@ LOCK, WAITS, TURNS, OPENS, CONDITIONS, REGISTRY, TASKS, HEADER = (
 )
 
 # Less room and fewer looks before the same decisions; no clock in pauses, and no list of tables. What limits tickets is by scenes, and so is the memory for
-# entries. The model has several threads in one, so what a thread keeps while it makes calls is its.
+# entries. A ticket is withdrawn for the scenes when its entry is abandoned. The model has several threads in one, so what a thread keeps while it makes calls is its.
 HOOKED = [
     (HEADER, "", "MOST_HELD = 8", "MOST_HELD = 1"),
     (HEADER, "", "CLASSES_OF_SLEEPERS = 32", "CLASSES_OF_SLEEPERS = 2"),
@@ -21,6 +21,8 @@ HOOKED = [
     (HEADER, "", "enum { MOST_ROUNDS_NEAR = 15, MOST_OPEN = 16384 };", "extern unsigned model_near, model_open;\nenum { MOST_OPEN = 1 };\n#define MOST_ROUNDS_NEAR (int)model_near"),
     (HEADER, "has_room", "MOST_OPEN / TICKETS_IN_ROUND", "(int)model_open"),
     (REGISTRY, "qolb_new_entry_", "struct entry *e = malloc(sizeof *e);", "void *model_entry(size_t size);\n    struct entry *e = model_entry(sizeof *e);"),
+    (REGISTRY, "qolb_abandon_", "    return_row(row);\n", "    { void hook_withdraws(void); if (got == QOLB_ASLEEP_) hook_withdraws(); }\n    return_row(row);\n"),
+    (REGISTRY, "withdraw", "        return (struct qolb_ticket){.state = QOLB_TICKET_FREE_};\n", "        { void hook_withdraws(void); hook_withdraws(); }\n        return (struct qolb_ticket){.state = QOLB_TICKET_FREE_};\n"),
     (REGISTRY, "", "ROWS = 64, COLUMNS = 64", "ROWS = 1, COLUMNS = 2"),
     ("notify.c", "", "static BY_THREAD struct caller_of_notices *in_call;", "void **model_in_call(void);\n#define in_call (*(struct caller_of_notices **)model_in_call())"),
     ("bells.h", "", "enum { BELLS = 1024 };", "enum { BELLS = 2 };"),
@@ -67,7 +69,7 @@ FAULTS = {
     "a try of a shut lock keeps its turn": (1, "", (LOCK, "qolb_try_at_", "    if (got != QOLB_GRANTED) qolb_pass_on_(lock, at);\n", "")),
     "a try does not look whether the lock is shut": (1, "", (LOCK, "busy_or_closed", "outer_word(lock) & OUTER_SHUT ? QOLB_CLOSED : QOLB_BUSY", "QOLB_BUSY")),
     "who has no ticket is no guest": (2, "crowded: ", (LOCK, "ask_later", "        be_guest(my);\n", "")),
-    "who could not be withdrawn stays a guest": (1, "far: ", (LOCK, "await", "    be_no_guest(my);\n", "")),
+    "who has no ticket stays a guest": (1, "crowded", (LOCK, "await", "    be_no_guest(my);\n", "")),
     "who could not be withdrawn waits for ever": (1, "far: ", (LOCK, "ask_later", "got == QOLB_FAR_ && !is_over(my->until)", "got == QOLB_FAR_ && my->until")),
     # Leaving, shutting and closing.
     "a shut is told to nobody by the core": (1, "", (LOCK, "qolb_lock_shut", "    qolb_core_shut_proved_(&lock->core, &at->ticket);\n", "")),
@@ -99,9 +101,9 @@ FAULTS = {
     "an entry announces its sleep before it is in its list": (2, "", (REGISTRY, "stand", "    put_in(e);\n", ""), (REGISTRY, "stand", "    if (got != QOLB_ASLEEP_) take_out(e);\n", "    if (got == QOLB_ASLEEP_) put_in(e);\n")),
     "an entry announces no sleep": (1, "", (REGISTRY, "stand", "    while (got == QOLB_WAITING);\n", "    while (0);\n"), (REGISTRY, "stand", "got = qolb_core_announce_sleep_proved_(&e->lock->core, ticket)", "got = qolb_core_poll_proved_(&e->lock->core, ticket) == QOLB_WAITING ? QOLB_ASLEEP_ : QOLB_GRANTED")),
     "an entry whose ticket is at its turn stays in": (2, "", (REGISTRY, "stand", "    if (got != QOLB_ASLEEP_) take_out(e);\n", "")),
-    "who finds an entry does not look whether it is granted": (2, "far: a younger lock", (REGISTRY, "qolb_find_granted_", "e && rounds_to_go(lock, number) == 0", "e")),
+    "who finds an entry does not look whether it is granted": (3, "far: a younger lock", (REGISTRY, "qolb_find_granted_", "e && rounds_to_go(lock, number) == 0", "e")),
     "who finds the entry of a task does not look whether it is granted": (2, "tasks: a task comes to a younger lock", (REGISTRY, "qolb_find_granted_", "e && rounds_to_go(lock, number) == 0", "e")),
-    "who looks whether an entry is granted does not look for one": (1, "the last frees", (REGISTRY, "qolb_find_granted_", "e && rounds_to_go(lock, number) == 0", "rounds_to_go(lock, number) == 0 && e")),
+    "who looks whether an entry is granted does not look for one": (2, "tasks: the last frees beside", (REGISTRY, "qolb_find_granted_", "e && rounds_to_go(lock, number) == 0", "rounds_to_go(lock, number) == 0 && e")),
     "who takes an entry out does not retract its sleep": (1, "far: ", (REGISTRY, "qolb_find_granted_", "        qolb_core_retract_sleep_proved_(&lock->core, ticket);\n", "        ticket->state = QOLB_TICKET_AT_TURN_;\n")),
     "who finds an entry leaves it in": (1, "", (REGISTRY, "qolb_find_granted_", "        take_out(e);\n", "")),
     "who grants does not look for an entry": (1, "far: ", (REGISTRY, "qolb_find_granted_", "if (!last_of(lock, number)) return NOBODY;", "if (lock) return NOBODY;")),
