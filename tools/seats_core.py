@@ -33,8 +33,8 @@ SOURCE = ROOT / "c/src"
 MODEL = ROOT / "tools/seats"
 # What is built, in a copy of c/src; those of tools/seats beside it.
 LIBRARY = ("bells.c", "notify.c", *(f"core_lock/{name}.c" for name in ("conditions", "lock", "opens", "parks", "registry", "tasks", "turns", "waits")))
-SCENES = ("core.c", "core_scenes.c", "core_tasks.c", "explorer.c")
-RENAMED = [f"-D{name}=model_{short}" for name, short in (("malloc", "malloc"), ("free", "free"), ("syscall", "syscall"), ("sched_yield", "yield"), ("clock_gettime", "clock"))]
+SCENES = ("core.c", "core_scenes.c", "core_holders.c", "core_tasks.c", "explorer.c")
+RENAMED = [f"-D{name}=model_{short}" for name, short in (("malloc", "malloc"), ("free", "free"), ("syscall", "syscall"), ("sched_yield", "yield"), ("clock_gettime", "clock"), ("pthread_once", "once"), ("pthread_key_create", "key"), ("pthread_setspecific", "set"), ("pthread_atfork", "atfork"))]
 BY_MODEL = ["-w", "-O1", "-DQOLB_LOCK_CORE", "-DWITHOUT_NODES", "-DEXPLORED", "-fsanitize=thread", "-U__SANITIZE_THREAD__", "-DQOLB_NO_PROBES", *RENAMED]
 
 

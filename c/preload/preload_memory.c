@@ -4,6 +4,7 @@
  * as the kernel limits their number. */
 #define _GNU_SOURCE
 #include "preload.h"
+#include <errno.h>
 #include <string.h>
 #include <sys/mman.h>
 #include <unistd.h>
@@ -26,7 +27,9 @@ uint64_t qolb_process_(void) {
         if (has_begun) {
             qolb_free_guards_();
         } else {
+            int kept = errno;
             madvise(own, sizeof *own, MADV_WIPEONFORK); /* Linux 4.14 */
+            errno = kept;
             qolb_begin_();
             has_begun = 1;
         }
@@ -42,11 +45,13 @@ enum { LEAST_MAP = 1 << 18, DOUBLED = 6 };
 
 static int map_more(void) {
     size_t size = (size_t)LEAST_MAP << (own->maps < DOUBLED ? own->maps : DOUBLED);
+    int kept = errno;
     char *map = mmap(NULL, size, PROT_READ | PROT_WRITE, MAP_PRIVATE | MAP_ANONYMOUS, -1, 0);
     if (map == MAP_FAILED)
         map = mmap(NULL, size = LEAST_MAP, PROT_READ | PROT_WRITE, MAP_PRIVATE | MAP_ANONYMOUS, -1, 0);
+    if (map != MAP_FAILED) madvise(map, size, MADV_NOHUGEPAGE);
+    errno = kept;
     if (map == MAP_FAILED) return 0;
-    madvise(map, size, MADV_NOHUGEPAGE);
     own->maps++;
     own->at = map;
     own->end = map + size;

@@ -2,6 +2,7 @@
  * again after 200 us (bells.h). Tested, not proved. */
 #define _GNU_SOURCE
 #include "bells.h"
+#include <errno.h>
 #include <time.h>
 #ifdef __linux__
 #include <sys/syscall.h>
@@ -51,11 +52,15 @@ unsigned qolb_looks_(void) {
 
 void qolb_sleep_at_(atomic_uint *word, unsigned value, uint64_t nanoseconds) {
     struct timespec most = {(time_t)(nanoseconds / 1000000000), (long)(nanoseconds % 1000000000)};
+    int kept = errno;
     syscall(SYS_futex, word, 128 /* FUTEX_WAIT_PRIVATE */, value, nanoseconds == FOR_EVER ? NULL : &most, NULL, 0);
+    errno = kept;
 }
 
 void qolb_wake_at_(atomic_uint *word, int most) {
+    int kept = errno;
     syscall(SYS_futex, word, 129 /* FUTEX_WAKE_PRIVATE */, most, NULL, NULL, 0);
+    errno = kept;
 }
 
 #else
@@ -63,11 +68,12 @@ void qolb_wake_at_(atomic_uint *word, int most) {
 /* A thread that is cancelled meanwhile sleeps on: else its request would stay in the queue. */
 void qolb_sleep_at_(atomic_uint *word, unsigned value, uint64_t nanoseconds) {
     struct timespec nap = {0, nanoseconds < 200000 ? (long)nanoseconds : 200000};
-    int cancels;
+    int cancels, kept = errno;
     if (atomic_load(word) != value) return;
     pthread_setcancelstate(PTHREAD_CANCEL_DISABLE, &cancels);
     nanosleep(&nap, NULL);
     pthread_setcancelstate(cancels, &cancels);
+    errno = kept;
 }
 
 void qolb_wake_at_(atomic_uint *word, int most) { (void)word, (void)most; }

@@ -2,6 +2,7 @@
 #define _GNU_SOURCE
 #include "spin.h"
 #include "bells.h"
+#include <errno.h>
 #ifdef __linux__
 #include <sched.h>
 #include <unistd.h>
@@ -38,8 +39,9 @@ static int only_processor(pid_t thread) {
 /* A program may keep its threads each at a processor of its own. So the process is taken to have one only if the first
  * thread has the same one; and each wait asks again. */
 static int has_one_processor(void) {
-    int own = only_processor(0);
-    return own >= 0 && only_processor(getpid()) == own;
+    int kept = errno, own = only_processor(0), has = own >= 0 && only_processor(getpid()) == own;
+    errno = kept;
+    return has;
 }
 #else
 static int has_one_processor(void) { return 0; }

@@ -2,6 +2,7 @@
  * 16, and takes no heap; a thread holds any number of them; many threads open one at its first use; a call with a
  * limit waits behind any number of others, and a lock is not closed meanwhile. Prints only errors. */
 #define _GNU_SOURCE
+#include <limits.h>
 #include <malloc.h>
 #include <qolb.h>
 #include <string.h>
@@ -124,17 +125,17 @@ static void *holds_many(void *argument) {
 }
 
 static int many_at_a_time(uint32_t burst) {
-    enum { ROUNDS = 200 };
+    enum { TIMES = 200 };
     struct user users[THREADS] = {{0}};
     memset(guarded, 0, sizeof guarded);
     for (int k = 0; k < MANY; k++) held[k] = of_bursts(burst);
     for (int k = 0; k < THREADS; k++) {
-        users[k].turns = ROUNDS;
+        users[k].turns = TIMES;
         MUST(pthread_create(&users[k].id, NULL, holds_many, &users[k]), 0);
     }
     for (int k = 0; k < THREADS; k++) pthread_join(users[k].id, NULL);
     for (int k = 0; k < MANY; k++) {
-        WANT(guarded[k], ROUNDS * THREADS);
+        WANT(guarded[k], TIMES * THREADS);
         WANT(qolb_lock_holder(&held[k]), 0);
         WANT(qolb_lock_close(&held[k]), QOLB_DONE);
     }
@@ -236,6 +237,79 @@ static int holder_that_ended(void) {
     return 0;
 }
 
+/* ---- Destructors of a thread's keys ----
+ *
+ * Those of keys that are newer than the library's run after its own, in at most PTHREAD_DESTRUCTOR_ITERATIONS
+ * rounds. */
+
+enum { LEAVES, WAITS, ENTERS, ENTERS_AND_STAYS };
+#ifdef __SANITIZE_THREAD__
+enum { ROUNDS = PTHREAD_DESTRUCTOR_ITERATIONS - 1 }; /* in the last one the sanitizer knows the thread no more */
+#else
+enum { ROUNDS = PTHREAD_DESTRUCTOR_ITERATIONS };
+#endif
+static struct {
+    pthread_key_t key;
+    int rounds, does; /* in the last of these rounds */
+    qolb_lock other;
+    pid_t thread;
+} end;
+
+static void leaves_held(void) {
+    for (int k = 0; k < MANY; k++) {
+        MUST(qolb_lock_is_mine(&held[k]), 1);
+        MUST(qolb_lock_holder(&held[k]), end.thread);
+        MUST(qolb_lock_enter(&held[k]), QOLB_MISUSE);
+        if (end.does == WAITS) {
+            MUST(qolb_cond_wait_within(&told, &held[k], 1000), QOLB_LATE);
+            MUST(qolb_lock_holder(&held[k]), end.thread);
+        }
+        MUST(qolb_lock_leave(&held[k]), QOLB_DONE);
+        MUST(qolb_lock_leave(&held[k]), QOLB_MISUSE);
+        MUST(qolb_lock_holder(&held[k]), 0);
+    }
+}
+
+static void enters_other(void) {
+    for (int k = 0; k < 2; k++) {
+        MUST(qolb_lock_enter(&end.other), QOLB_GRANTED);
+        MUST(qolb_lock_holder(&end.other), end.thread);
+        if (end.does == ENTERS_AND_STAYS) return;
+        MUST(qolb_lock_leave(&end.other), QOLB_DONE);
+        MUST(qolb_lock_holder(&end.other), 0);
+    }
+}
+
+static void in_a_destructor(void *round) {
+    int now = (int)(intptr_t)round;
+    if (now < end.rounds) MUST(pthread_setspecific(end.key, (void *)(intptr_t)(now + 1)), 0);
+    else if (end.does < ENTERS) leaves_held();
+    else enters_other();
+}
+
+static void *ends_with_key(void *unused) {
+    end.thread = gettid();
+    for (int k = 0; k < MANY; k++) MUST(qolb_lock_enter(&held[k]), QOLB_GRANTED);
+    MUST(pthread_setspecific(end.key, (void *)1), 0);
+    return unused;
+}
+
+static int after_the_librarys_destructor(int rounds, int does) {
+    pthread_t id;
+    for (int k = 0; k < MANY; k++) held[k] = of_bursts(k % 3 ? 0 : 16);
+    end.rounds = rounds, end.does = does, end.other = of_bursts(does % 2 ? 0 : 16);
+    WANT(pthread_key_create(&end.key, in_a_destructor), 0);
+    MUST(pthread_create(&id, NULL, ends_with_key, NULL), 0);
+    pthread_join(id, NULL);
+    WANT(qolb_lock_holder(&end.other), does == ENTERS_AND_STAYS ? end.thread : 0);
+    WANT(qolb_lock_close(&end.other), does == ENTERS_AND_STAYS ? QOLB_MISUSE : QOLB_DONE);
+    for (int k = 0; k < MANY; k++) {
+        WANT(qolb_lock_holder(&held[k]), does < ENTERS ? 0 : end.thread);
+        WANT(qolb_lock_close(&held[k]), does < ENTERS ? QOLB_DONE : QOLB_MISUSE);
+    }
+    return pthread_key_delete(end.key);
+}
+
 /* A lock whose memory went while its thread held it: another in the same bytes is not held. */
 static int another_in_the_same_bytes(void) {
     for (int k = 0; k < MANY; k++) held[k] = of_bursts(0);
@@ -303,6 +377,9 @@ int main(int argc, char **argv) {
     if (takes_no_heap() || lies_anywhere(0) || lies_anywhere(16) || on_the_stack()) return 1;
     if (many_at_a_time(0) || many_at_a_time(64) || waits_with_many(0) || waits_with_many(1)) return 1;
     if (opened_once(0) || opened_once(2) || holder_that_ended() || another_in_the_same_bytes()) return 1;
+    for (int round = 1; round <= ROUNDS; round++)
+        for (int does = LEAVES; does <= ENTERS_AND_STAYS; does++)
+            if (after_the_librarys_destructor(round, does)) return 1;
     for (int shut = 0; shut < 2; shut++)
         if (limits_behind_many(0, shut) || limits_behind_many(64, shut)) return 1;
     return 0;

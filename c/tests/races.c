@@ -133,6 +133,22 @@ static void *second(void *unused) {
     return unused;
 }
 
+/* Threads that end, one of them with a lock, while others do: nothing is used in a wrong way. */
+static void *ends(void *with) {
+    static qolb_lock kept = QOLB_LOCK_INIT(4);
+    enter(&other);
+    leave(&other);
+    if (with) enter(&kept);
+    return with;
+}
+
+static void end_together(void) {
+    enum { MANY = 6 };
+    pthread_t ids[MANY];
+    for (int k = 0; k < MANY; k++) MUST(pthread_create(&ids[k], NULL, ends, k == 0 ? &way : NULL), 0);
+    for (int k = 0; k < MANY; k++) pthread_join(ids[k], NULL);
+}
+
 int main(int argc, char **argv) {
     static const qolb_bytes zeros;
     pthread_t ids[2];
@@ -146,6 +162,7 @@ int main(int argc, char **argv) {
     MUST(pthread_create(&ids[0], NULL, second, NULL), 0);
     MUST(pthread_create(&ids[1], NULL, first, NULL), 0);
     for (int k = 0; k < 2; k++) pthread_join(ids[k], NULL);
+    end_together();
     WANT(data, 2);
     WANT(qolb_lock_close(&lock), QOLB_DONE);
     WANT(qolb_lock_close(&other), QOLB_DONE);

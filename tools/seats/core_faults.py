@@ -4,12 +4,14 @@ LOCK, WAITS, TURNS, OPENS, CONDITIONS, REGISTRY, TASKS, HEADER = (
     f"core_lock/{name}" for name in ("lock.c", "waits.c", "turns.c", "opens.c", "conditions.c", "registry.c", "tasks.c", "lock.h")
 )
 
-# Less room and fewer looks before the same decisions; no clock in pauses, and no list of tables. What limits tickets is by scenes, and so is the memory for
-# entries. A ticket is withdrawn for the scenes when its entry is abandoned. The model has several threads in one, so what a thread keeps while it makes calls is its.
+# Less room and fewer looks before the same decisions; no clock in pauses, and each thread's data where core_holders.c has them. What limits tickets is by scenes,
+# and so is the memory for entries. A ticket is withdrawn for the scenes when its entry is abandoned. The model has several threads in one, so what a thread keeps
+# while it makes calls is its.
 HOOKED = [
     (HEADER, "", "MOST_HELD = 8", "MOST_HELD = 1"),
     (HEADER, "", "CLASSES_OF_SLEEPERS = 32", "CLASSES_OF_SLEEPERS = 2"),
-    (TURNS, "qolb_place_for_", "own_number(), know_table(this_thread());", "own_number();"),
+    (HEADER, "", "static inline struct own *this_thread(void) { return &qolb_own_; }", "struct own *model_own(void);\nstatic inline struct own *this_thread(void) { return model_own(); }"),
+    (TURNS, "", "} tables;\n", "} tables;\nvoid model_clear_tables(void) { tables.first = NULL, tables.notes = NULL; }\n"),
     (LOCK, "", "TRIES = 4", "TRIES = 2"),
     (WAITS, "", "WATCH_PAUSE = 300", "WATCH_PAUSE = 90"),
     (WAITS, "", "REQUEST_PART = 16", "REQUEST_PART = 2"),
@@ -87,9 +89,9 @@ FAULTS = {
     "who meets one that opens does not say so": (2, "each enters", (OPENS, "qolb_opened_", "own_of(lock) == AWAITED || claims(lock, OPENING, AWAITED)", "own_of(lock) == OPENING"), (OPENS, "qolb_opened_", "AWAITED, 1, FOR_EVER", "OPENING, 1, FOR_EVER")),
     "the core is found by a relaxed load": (1, "each enters", (HEADER, "own_of", "__ATOMIC_ACQUIRE", "__ATOMIC_RELAXED")),
     "the core is shown before it is open": (1, "each enters", (OPENS, "open_core", "    lock->label =", "    __atomic_store_n(&lock->core.at, lock->block, __ATOMIC_SEQ_CST);\n    lock->label =")),
-    "two openings have one label": (1, "holds three", (OPENS, "open_core", "atomic_fetch_add(&labels, 1) + 1", "atomic_load(&labels) + 1"), (TURNS, "is_free", "!(lock_at(at) & HELD) || holds_by(at, lock)", "1")),
+    "two openings have one label": (1, "holds three", (OPENS, "open_core", "atomic_fetch_add(&labels, 1) + 1", "atomic_load(&labels) + 1"), (TURNS, "is_free", "!(lock_at(at) & HELD) || holds_still(at, lock)", "1")),
     # The thread's table.
-    "a turn goes to a place that is taken": (1, "", (TURNS, "is_free", "!(lock_at(at) & HELD) || holds_by(at, lock)", "1")),
+    "a turn goes to a place that is taken": (1, "", (TURNS, "is_free", "!(lock_at(at) & HELD) || holds_still(at, lock)", "1")),
     "a turn beyond the table is not counted": (1, "holds three", (TURNS, "qolb_keep_turn_", "    this_thread()->beyond++;\n", "")),
     "a turn beyond the table has no holder": (1, "holds three", (TURNS, "qolb_keep_turn_", "    atomic_store_explicit(&lock->beyond_by, own_number(), memory_order_relaxed);\n", "")),
     "a turn beyond the table keeps its holder": (1, "holds three", (TURNS, "qolb_take_turn_", "    atomic_store_explicit(&lock->beyond_by, 0, memory_order_relaxed);\n", "")),
@@ -151,7 +153,20 @@ FAULTS = {
     "a task waits before its state says so": (2, "tasks", (TASKS, "stand", "    atomic_store(&me->state, WAITS);\n", ""), (TASKS, "stand", "    if (qolb_stand_for_(e, ticket) == QOLB_WAITING) return QOLB_WAITING;\n", "    if (qolb_stand_for_(e, ticket) == QOLB_WAITING) return atomic_store(&me->state, WAITS), QOLB_WAITING;\n")),
     "a task's shut is told to nobody at a condition": (1, "tasks", (TASKS, "leave", "        qolb_tell_shut_(lock);\n", "")),
     "a task shuts nothing": (1, "tasks", (TASKS, "leave", "        qolb_core_shut_proved_(&lock->core, &at.ticket);\n", "")),
-    "who waits at a condition keeps its place while calls are made": (1, "tasks: one waits while a call enters", (CONDITIONS, "qolb_cond_wait_within", "    struct turn turn = *at; /* not in the table: a call of a task may enter other locks */\n    at->ticket = (struct qolb_ticket){0};\n", ""), (CONDITIONS, "qolb_cond_wait_within", "qolb_cond_wait_at_(cond, lock, &turn, nanoseconds)", "qolb_cond_wait_at_(cond, lock, at, nanoseconds)"), (CONDITIONS, "qolb_cond_wait_within", "    *(at = qolb_place_for_(lock, &beyond)) = turn;\n", "")),
+    "who waits at a condition keeps its place while calls are made": (1, "tasks: one waits while a call enters", (CONDITIONS, "qolb_cond_wait_within", "    struct turn turn = *at; /* not in the table: a call of a task may enter other locks */\n    at->ticket = (struct qolb_ticket){0};\n", ""), (CONDITIONS, "qolb_cond_wait_within", "qolb_cond_wait_at_(cond, lock, &turn, nanoseconds)", "qolb_cond_wait_at_(cond, lock, at, nanoseconds)"), (CONDITIONS, "qolb_cond_wait_within", "    at = qolb_place_for_(lock, &beyond);\n    at->ticket = turn.ticket;\n", "")),
+    # Who holds a lock.
+    "the tables are looked through without the guard": (2, "holder: ", (TURNS, "qolb_lock_holder", "        take_guard(&tables.guard);\n", "")),
+    "a table comes into the list without the guard": (2, "holder: ", (TURNS, "know_table", "    take_guard(&tables.guard);\n", "")),
+    "a table goes out of the list without the guard": (2, "holder: ", (TURNS, "forget_table", "    take_guard(&tables.guard);\n", "")),
+    "a table stays in the list at its thread's end": (1, "holder: ", (TURNS, "forget_table", "    *it->before = it->next;\n    if (it->next) it->next->before = it->before;\n", "")),
+    "a table behind one that goes keeps its address": (2, "holder: two", (TURNS, "forget_table", "    if (it->next) it->next->before = it->before;\n", "")),
+    "a thread that ends notes nothing": (1, "holder: ", (TURNS, "forget_table", "        if (lock_at(&it->table[k]) & HELD) note_turn(it, &it->table[k]);\n", "        continue;\n")),
+    "a thread that ends notes its turns after its table has gone": (1, "holder: ", (TURNS, "forget_table", "        if (lock_at(&it->table[k]) & HELD) note_turn(it, &it->table[k]);\n", "        continue;\n"), (TURNS, "forget_table", "        if (!(lock_at(&it->table[k]) & HELD)) set_lock(&it->table[k], 0);\n", "        if (lock_at(&it->table[k]) & HELD) note_turn(it, &it->table[k]);\n")),
+    "a note stays when its thread leaves": (1, "holder: ", (TURNS, "qolb_take_turn_", "return take_note_back(at), at;", "return set_lock(at, 0), at;")),
+    "a note comes without the guard": (2, "holder: ", (TURNS, "note_turn", "    take_guard(&tables.guard);\n", "")),
+    "a note goes without the guard": (2, "holder: ", (TURNS, "take_note_back", "    take_guard(&tables.guard);\n", "")),
+    "who enters after its end is not noted": (1, "holder: ", (TURNS, "qolb_keep_turn_", "        if (this_thread()->known == ENDED) note_turn(this_thread(), at);\n", "")),
+    "who enters after its end may take the quick way": (1, "holder: ", (TURNS, "forget_table", "        if (!(lock_at(&it->table[k]) & HELD)) set_lock(&it->table[k], 0);\n", "        continue;\n")),
     # Conditions.
     "who waits stands in the list after it has left": (1, "", (CONDITIONS, "qolb_cond_wait_at_", "    stand(cond, lock, &me);\n", ""), (CONDITIONS, "qolb_cond_wait_at_", "    qolb_leave_at_(lock, at);\n", "    qolb_leave_at_(lock, at);\n    stand(cond, lock, &me);\n")),
     "who waits at a condition is no guest": (1, "one closes beside", (CONDITIONS, "qolb_cond_wait_at_", "    atomic_fetch_add(&lock->guests, 1);\n", ""), (CONDITIONS, "qolb_cond_wait_at_", "        atomic_fetch_sub(&lock->guests, 1); /* its last access to the lock */\n", ""), (CONDITIONS, "qolb_cond_wait_at_", "qolb_enter_at_(lock, at, FOR_EVER, 1)", "qolb_enter_at_(lock, at, FOR_EVER, 0)")),

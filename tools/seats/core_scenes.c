@@ -2,6 +2,7 @@
  * files, or those that differ by a fault, and the stand-in for the proved calls are built with -fsanitize=thread, by
  * which the compiler reports each access to memory by a call, and explorer.c answers those calls. */
 #include "core_scenes.h"
+#include <errno.h>
 
 struct it it;
 
@@ -487,6 +488,13 @@ static void waits_beyond(int self) {
     if (self == 0) MUST(qolb_cond_signal(&it.cond) == QOLB_DONE);
 }
 
+UNSEEN static int asks_for_holder(void (*does)(int)) {
+#define IS(name) is |= does == name;
+    int is = 0;
+    HOLDER_SCENES(IS)
+    return is;
+}
+
 /* ---- All scenes ---- */
 
 enum { MANY = 65535, NO_MEMORY = 1 };
@@ -545,6 +553,11 @@ const struct scene scenes[] = {
     {"one signals and frees", signals_and_frees, 2, 0, 0, ROOMY},
     {"one closes beside a waiter", one_closes_beside_a_waiter, 2, 0, 0, ROOMY},
     {"enters again", enters_again, 2, 0, 0, ROOMY},
+    {"holder: one comes and ends", holder_comes_and_ends, 2, 0, 0, ROOMY},
+    {"holder: two come and end", holder_comes_and_ends, 3, 0, 0, ROOMY},
+    {"holder: one ends with it", ends_as_holder, 2, 0, 0, ROOMY},
+    {"holder: one leaves in a destructor", leaves_in_a_destructor, 2, 0, 0, ROOMY},
+    {"holder: one enters in a destructor", enters_in_a_destructor, 2, 0, 0, ROOMY},
     {"holds three", holds_three, 2, 0, 1, ROOMY},
     {"waits beyond the table", waits_beyond, 2, 0, 0, ROOMY},
     {"bursts: each enters, at the first use", enters, 2, 2, 1, ROOMY},
@@ -649,7 +662,8 @@ const struct scene scenes[] = {
     {"bursts: tasks: a task gives up between threads", a_task_gives_up_between_threads, 3, 2, 0, ROOMY},
     {"bursts: far: tasks: a task gives up between threads", a_task_gives_up_between_threads, 3, 2, 0, FAR},
     {"bursts: tasks: a task gives up beside one that yields", a_task_gives_up_beside_one_that_yields, 3, 2, 0, ROOMY},
-    {"bursts: far: tasks: a task gives up beside one that yields", a_task_gives_up_beside_one_that_yields, 3, 2, 0, FAR},
+    {"bursts: far: tasks: a task gives up beside one that yields", a_task_gives_up_beside_one_that_yields, 3, 2, 0,
+     FAR},
     {"bursts: tasks: a task gives up before one", a_task_gives_up_before_one_beside_one_that_yields, 3, 2, 0, ROOMY},
     {"bursts: far: tasks: a task gives up before one", a_task_gives_up_before_one_beside_one_that_yields, 3, 2, 0, FAR},
     {"bursts: tasks: a task gives up and asks again", a_task_gives_up_and_asks_again, 2, 2, 0, ROOMY},
@@ -707,8 +721,10 @@ static qolb_lock *unopened(const struct scene *scene, int k) {
 
 void set_up(const struct scene *scene) {
     qolb_bytes zeros = {{0}};
-    memset(&it, 0, sizeof it), memset(order, 0, sizeof order), memset(&qolb_own_, 0, sizeof qolb_own_);
-    time_of_order = 0, it.users = scene->threads, model_near = scene->near, model_sleepers = scene->sleepers, model_open = scene->open;
+    memset(&it, 0, sizeof it), memset(order, 0, sizeof order);
+    new_data_of_threads(asks_for_holder(scene->does));
+    time_of_order = 0, it.users = scene->threads, model_near = scene->near, model_sleepers = scene->sleepers,
+    model_open = scene->open;
     model_memory = !scene->no_memory, for_second = 0;
     for (int k = 0; k < LOCKS; k++) {
         it.locks[k] = unopened(scene, k);
@@ -734,6 +750,11 @@ void check_end(const struct scene *scene) {
         MUST(scene->does != each[k].does || it.turns == each[k].turns * scene->threads);
     MUST(scene->does != one_stays || it.turns == 6);
     MUST(it.inside == 0 && it.cond.own == NULL);
+    if (scene->does == ends_as_holder) {
+        is_held_by(0);
+        MUST(qolb_lock_close(it.lock) == QOLB_MISUSE);
+        return;
+    }
     for (int k = 0; k < LOCKS; k++) {
         qolb_lock *lock = k ? it.locks[k] : it.lock;
         if (!lock) continue;
@@ -743,12 +764,8 @@ void check_end(const struct scene *scene) {
 }
 
 int is_own(uintptr_t at) {
-    return at - (uintptr_t)&qolb_own_ < sizeof qolb_own_ || at - (uintptr_t)&qolb_core_room_ < sizeof qolb_core_room_ ||
-           at - (uintptr_t)&qolb_learned_ < sizeof qolb_learned_;
+    return is_in_table(at) || at - (uintptr_t)&qolb_core_room_ < sizeof qolb_core_room_ ||
+           at - (uintptr_t)&qolb_learned_ < sizeof qolb_learned_ || at - (uintptr_t)&errno < sizeof errno;
 }
 
-UNSEEN void change_thread(struct own_data *from, const struct own_data *to) {
-    memcpy(from, &qolb_own_, sizeof qolb_own_);
-    memcpy(&qolb_own_, to, sizeof qolb_own_);
-}
-_Static_assert(sizeof(struct own) <= sizeof(struct own_data), "a thread's data have room");
+void change_thread(struct own_data *from, const struct own_data *to) { (void)from, (void)to; }

@@ -45,9 +45,22 @@ int enters_to_shut(int self);
 void last_frees(int self);
 void free_lock(void);
 
+/* ---- core_holders.c ---- */
+
+/* New tables of all threads. Unless other threads look at them they are in no list, and no access to them is shared. */
+void new_data_of_threads(int looked_at);
+int is_in_table(uintptr_t at);
+void is_held_by(int self);
+
+#define HOLDER_SCENES(of) \
+    of(holder_comes_and_ends) of(ends_as_holder) of(leaves_in_a_destructor) of(enters_in_a_destructor)
+#define DECLARED(name) void name(int self);
+HOLDER_SCENES(DECLARED)
+
 /* ---- core_tasks.c ---- */
 
-#define TASK_SCENES(of)                                                                                              \
+/* clang-format off */
+#define TASK_SCENES(of)                                                                                               \
     of(by_task) of(by_task_twice) of(one_task_gives_up) of(a_task_beside_threads) of(tasks_beside_a_thread)           \
     of(a_task_beside_threads_twice) of(tasks_beside_a_thread_twice) of(a_task_beside_one_that_yields)                 \
     of(tasks_beside_one_that_yields) of(a_task_beside_one_that_stays) of(a_task_gives_up_between_threads)             \
@@ -59,7 +72,7 @@ void free_lock(void);
     of(a_task_polls_early) of(one_closes_beside_a_task) of(closes_while_both_wait) of(a_task_signals)                 \
     of(has_task_turn_in_call) of(task_asks_again_in_call) of(enters_another_in_call) of(waits_while_a_call_enters)    \
     of(a_task_comes_to_a_younger_lock) of(a_task_finds_no_memory) of(last_frees_beside_entries)
-#define DECLARED(name) void name(int self);
+/* clang-format on */
 TASK_SCENES(DECLARED)
 
 #endif

@@ -317,7 +317,8 @@ static void has_task_turn(void *task) {
         it.turns++;
         MUST(--it.inside == 0);
         MUST(qolb_task_leave(&it.task[k]) == QOLB_DONE);
-        got = it.has && ++it.told[k].calls == 1 ? qolb_task_enter(&it.task[k], it.lock, has_task_turn, task) : QOLB_BUSY;
+        got = it.has && ++it.told[k].calls == 1 ? qolb_task_enter(&it.task[k], it.lock, has_task_turn, task)
+                                                : QOLB_BUSY;
     } while (got == QOLB_GRANTED);
     if (got != QOLB_WAITING) task_ended(k);
 }

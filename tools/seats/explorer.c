@@ -330,6 +330,9 @@ long model_syscall(long number, ...) {
 
 static void body(int k) {
     scene->does(k);
+#ifdef QOLB_LOCK_CORE
+    end_thread();
+#endif
     step(0);
     show_all();
     me()->state = ENDED;

@@ -25,10 +25,13 @@ struct scene {
     int no_memory;
 };
 
-/* The data of a thread in the lock's files, which is in one place here. */
+/* Each thread's data have a place of their own (core_scenes.c). */
 struct own_data {
-    _Alignas(8) char bytes[640];
+    char none;
 };
+
+/* The thread ends: destructors of its keys run, and its data are freed. */
+void end_thread(void);
 #else
 /* What these threads do at the same time, each by its number, over a lock of this kind with these seats and bursts,
  * which is opened at its first use or before; or with a node each of a line of this kind. The places of a line share

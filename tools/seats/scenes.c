@@ -2,6 +2,7 @@
  * those that differ by a fault, are built with -fsanitize=thread, by which the compiler reports each access to memory
  * by a call, and explorer.c answers those calls. */
 #include <lock.h>
+#include <errno.h>
 #include <sched.h>
 #include "explorer.h"
 
@@ -1126,7 +1127,8 @@ void check_end(const struct scene *scene) {
 }
 
 int is_own(uintptr_t at) {
-    return at - (uintptr_t)&qolb_own_ < sizeof qolb_own_ || at - (uintptr_t)&qolb_room_ < sizeof qolb_room_;
+    return at - (uintptr_t)&qolb_own_ < sizeof qolb_own_ || at - (uintptr_t)&qolb_room_ < sizeof qolb_room_ ||
+           at - (uintptr_t)&errno < sizeof errno;
 }
 
 UNSEEN void change_thread(struct own_data *from, const struct own_data *to) {

@@ -165,14 +165,14 @@ HIDDEN uint32_t qolb_opened_(struct lock *lock);
 
 /* A thread's turn at a lock, or its wait for one. */
 struct turn {
-    /* The lock's address, with HELD while the thread holds it. It stays when the turn has ended: so one comparison says
-     * that this thread does not hold that lock. */
+    /* The lock's address, with HELD while the thread holds it, and NOTED at its end. It stays when the turn has ended:
+     * so one comparison says that this thread does not hold that lock. */
     _Atomic uintptr_t lock;
     uintptr_t slept; /* it slept while it waited */
     struct qolb_ticket ticket;
 };
 
-enum { MOST_HELD = 8, HELD = 1 };
+enum { MOST_HELD = 8, HELD = 1, NOTED = 2 };
 
 /* The number of a thread: the system's, 22 bits of it, and above them 22 bits of a count of the threads of this
  * process that have drawn one. A thread keeps it over a fork. So a thread of the child that the system gives the
@@ -181,10 +181,10 @@ enum { SYSTEM_BITS = 22 };
 
 struct own {
     struct turn table[MOST_HELD];
-    uint64_t number;                          /* 0 until it is drawn */
-    unsigned beyond;                          /* the number of locks that it holds, for which the table has no room */
-    enum { UNKNOWN, KNOWN, FORGOTTEN } known; /* to qolb_lock_holder: from the first use to the thread's end */
-    struct own *next, **before;               /* of those that are */
+    uint64_t number;                      /* 0 until it is drawn */
+    unsigned beyond;                      /* the number of locks that it holds, for which the table has no room */
+    enum { UNKNOWN, KNOWN, ENDED } known; /* to qolb_lock_holder: from the first use to the thread's end */
+    struct own *next, **before;           /* of those that are */
 };
 
 extern HIDDEN BY_THREAD struct own qolb_own_;

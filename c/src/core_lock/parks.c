@@ -5,6 +5,7 @@
  * that value is all that is needed: whoever changes the word afterwards was told of the sleeper. */
 #define _GNU_SOURCE
 #include "lock.h"
+#include <errno.h>
 #include <time.h>
 #ifdef __linux__
 #include <sys/syscall.h>
@@ -19,12 +20,16 @@ enum { IN_SECOND = 1000000000 };
 
 void qolb_park_(uint32_t *half, uint32_t value, uint32_t classes, uint64_t until) {
     struct timespec end = {(time_t)(until / IN_SECOND), (long)(until % IN_SECOND)};
+    int kept = errno;
     syscall(SYS_futex, half, 137 /* FUTEX_WAIT_BITSET_PRIVATE, until a time of CLOCK_MONOTONIC */, value,
             until == FOR_EVER ? NULL : &end, NULL, classes);
+    errno = kept;
 }
 
 void qolb_unpark_(uint32_t *half, uint32_t classes) {
+    int kept = errno;
     syscall(SYS_futex, half, 138 /* FUTEX_WAKE_BITSET_PRIVATE */, INT32_MAX, NULL, NULL, classes);
+    errno = kept;
 }
 
 #else
@@ -32,12 +37,13 @@ void qolb_unpark_(uint32_t *half, uint32_t classes) {
 /* A thread that is cancelled meanwhile sleeps on: else its request would stay in the queue. */
 void qolb_park_(uint32_t *half, uint32_t value, uint32_t classes, uint64_t until) {
     struct timespec nap = {0, 200000};
-    int cancels;
+    int cancels, kept = errno;
     (void)classes;
     if (__atomic_load_n(half, __ATOMIC_SEQ_CST) != value || is_over(until)) return;
     pthread_setcancelstate(PTHREAD_CANCEL_DISABLE, &cancels);
     nanosleep(&nap, NULL);
     pthread_setcancelstate(cancels, &cancels);
+    errno = kept;
 }
 
 void qolb_unpark_(uint32_t *half, uint32_t classes) { (void)half, (void)classes; }

@@ -5,9 +5,11 @@
  * of locks, without memory of its own for them.
  *
  * Tables are in a list, under a guard, for qolb_lock_holder: so no turn writes down who has it. A thread's table is in
- * it from its first use of a lock; at its end the locks that it never left go into a list of their own. */
+ * it from its first use of a lock to its end. From then on each lock that it holds is noted in a list of its own, until
+ * it leaves it: it may use locks in destructors of other keys. */
 #define _GNU_SOURCE
 #include "lock.h"
+#include <errno.h>
 #include <pthread.h>
 #include <stdlib.h>
 #ifdef __linux__
@@ -19,9 +21,9 @@ BY_THREAD struct own qolb_own_;
 
 /* ---- The list of tables ---- */
 
-/* A lock that a thread held at its end. */
-struct never_left {
-    struct never_left *next;
+/* A lock that a thread holds at its end. */
+struct note {
+    struct note *next;
     uintptr_t lock;
     uint64_t label, number;
 };
@@ -29,26 +31,48 @@ struct never_left {
 static struct {
     atomic_uint guard;
     struct own *first;
-    struct never_left *left;
+    struct note *notes;
 } tables;
 
 static pthread_key_t at_end;
 
-/* At the thread's end. If there is no memory, a lock's holder is not known. */
+/* If there is no memory, the lock's holder is not known. */
+static void note_turn(const struct own *it, struct turn *at) {
+    int kept = errno;
+    struct note *note = malloc(sizeof *note);
+    errno = kept;
+    take_guard(&tables.guard);
+    if (note) {
+        *note = (struct note){tables.notes, lock_at(at) - HELD, at->ticket.label, it->number};
+        tables.notes = note;
+    }
+    set_lock(at, lock_at(at) + NOTED);
+    return_guard(&tables.guard);
+}
+
+static void take_note_back(struct turn *at) {
+    struct note **it = &tables.notes, *note;
+    take_guard(&tables.guard);
+    while (*it && (*it)->label != at->ticket.label) it = &(*it)->next;
+    note = *it;
+    if (note) *it = note->next;
+    return_guard(&tables.guard);
+    set_lock(at, 0);
+    free(note);
+}
+
+/* At the thread's end. Where no place names a lock, entering it takes the slow way, by which a turn is noted. */
 static void forget_table(void *table) {
     struct own *it = table;
+    for (int k = 0; k < MOST_HELD; k++)
+        if (lock_at(&it->table[k]) & HELD) note_turn(it, &it->table[k]);
     take_guard(&tables.guard);
     *it->before = it->next;
     if (it->next) it->next->before = it->before;
-    it->known = FORGOTTEN;
-    for (int k = 0; k < MOST_HELD; k++) {
-        uintptr_t lock = lock_at(&it->table[k]);
-        struct never_left *left = lock & HELD ? malloc(sizeof *left) : NULL;
-        if (!left) continue;
-        *left = (struct never_left){tables.left, lock - HELD, it->table[k].ticket.label, it->number};
-        tables.left = left;
-    }
     return_guard(&tables.guard);
+    it->known = ENDED;
+    for (int k = 0; k < MOST_HELD; k++)
+        if (!(lock_at(&it->table[k]) & HELD)) set_lock(&it->table[k], 0);
 }
 
 /* The child of a fork has no other thread. */
@@ -65,16 +89,19 @@ static void begin(void) {
         abort();
 }
 
+/* Without memory its end would not be noticed: so it counts as one that has ended. */
 static void know_table(struct own *it) {
     static pthread_once_t begun = PTHREAD_ONCE_INIT;
+    int kept = errno;
     pthread_once(&begun, begin);
-    pthread_setspecific(at_end, it);
+    it->known = pthread_setspecific(at_end, it) == 0 ? KNOWN : ENDED;
+    errno = kept;
+    if (it->known == ENDED) return;
     take_guard(&tables.guard);
     it->next = tables.first;
     it->before = &tables.first;
     if (it->next) it->next->before = &it->next;
     tables.first = it;
-    it->known = KNOWN;
     return_guard(&tables.guard);
 }
 
@@ -89,9 +116,14 @@ uint64_t qolb_draw_number_(void) {
 
 /* ---- A thread's turns ---- */
 
+/* Also after the thread's end. */
+static int holds_still(const struct turn *at, const struct lock *lock) {
+    return (lock_at(at) & ~(uintptr_t)NOTED) == (uintptr_t)lock + HELD;
+}
+
 /* A place says so of a lock that lay at this address before, too; its label tells them apart. */
 static int holds_at(const struct turn *at, const struct lock *lock) {
-    return holds_by(at, lock) && at->ticket.label == lock->label;
+    return holds_still(at, lock) && at->ticket.label == lock->label;
 }
 
 static struct turn *find(const struct lock *lock) {
@@ -109,6 +141,7 @@ int qolb_holds_(const struct lock *lock) { return is_open(lock) && (find(lock) |
 
 struct turn *qolb_take_turn_(struct lock *lock, struct turn *beyond) {
     struct turn *at = is_open(lock) ? find(lock) : NULL;
+    if (at && lock_at(at) & NOTED) return take_note_back(at), at;
     if (at) return set_lock(at, (uintptr_t)lock), at;
     if (!is_open(lock) || !holds_beyond(lock)) return NULL;
     const struct beyond *kept = beyond_of(lock);
@@ -120,7 +153,7 @@ struct turn *qolb_take_turn_(struct lock *lock, struct turn *beyond) {
 
 /* A place that says that the thread holds a lock which lay at this address before is free. */
 static int is_free(const struct turn *at, const struct lock *lock) {
-    return !(lock_at(at) & HELD) || holds_by(at, lock);
+    return !(lock_at(at) & HELD) || holds_still(at, lock);
 }
 
 struct turn *qolb_place_for_(const struct lock *lock, struct turn *beyond) {
@@ -129,12 +162,13 @@ struct turn *qolb_place_for_(const struct lock *lock, struct turn *beyond) {
     for (int k = 0; k < MOST_HELD && !is_free(at, lock); k++) at = &this_thread()->table[k];
     if (!is_free(at, lock)) return *beyond = (struct turn){0}, beyond;
     if (lock_at(at) & HELD) at->ticket = (struct qolb_ticket){0};
-    return set_lock(at, (uintptr_t)lock), at;
+    return set_lock(at, this_thread()->known == ENDED ? 0 : (uintptr_t)lock), at;
 }
 
 void qolb_keep_turn_(struct lock *lock, struct turn *at, const struct turn *beyond) {
     if (at != beyond) {
         set_lock(at, (uintptr_t)lock + HELD);
+        if (this_thread()->known == ENDED) note_turn(this_thread(), at);
         return;
     }
     *beyond_of(lock) = (struct beyond){at->ticket.number, at->ticket.state};
@@ -148,7 +182,7 @@ static uint64_t number_in_tables(const struct lock *lock) {
     for (const struct own *it = tables.first; it; it = it->next)
         for (int k = 0; k < MOST_HELD; k++)
             if (holds_by(&it->table[k], lock)) return it->number;
-    for (const struct never_left *it = tables.left; it; it = it->next)
+    for (const struct note *it = tables.notes; it; it = it->next)
         if (it->lock == (uintptr_t)lock && it->label == lock->label) return it->number;
     return 0;
 }

@@ -1,0 +1,126 @@
+/* No call on a lock, a condition or a node changes errno, also where it sleeps, wakes or is late. With the argument
+ * `mutex` those of the C library's mutexes, for the library that is preloaded. Prints only errors. */
+#define _GNU_SOURCE
+#include <errno.h>
+#include <qolb.h>
+
+#include "waiters.h"
+
+enum { THREADS = 4, TURNS = 300, KEPT = 4711 };
+
+/* The call's answer; errno must be as before. */
+#define KEEPS(call)                                                              \
+    ({                                                                           \
+        errno = KEPT;                                                            \
+        unsigned long long answer_ = (unsigned long long)(call);                 \
+        if (errno != KEPT) {                                                     \
+            printf("line %d: %s changed errno to %d\n", __LINE__, #call, errno); \
+            exit(1);                                                             \
+        }                                                                        \
+        answer_;                                                                 \
+    })
+
+static qolb_lock lock;
+static qolb_cond cond = QOLB_COND_INIT;
+static pthread_mutex_t mutex = PTHREAD_MUTEX_INITIALIZER;
+static pthread_cond_t news = PTHREAD_COND_INITIALIZER;
+
+/* Long enough that the others sleep. */
+static void rest(int k) {
+    if (k % 8 == 0) usleep(300);
+}
+
+static void *uses_lock(void *argument) {
+    for (int k = 0; k < TURNS; k++) {
+        uint32_t got = k % 3 == 0   ? (uint32_t)KEEPS(qolb_lock_enter_within(&lock, 50 * US))
+                       : k % 7 == 0 ? (uint32_t)KEEPS(qolb_lock_try(&lock))
+                                    : (uint32_t)KEEPS(qolb_lock_enter(&lock));
+        if (got != QOLB_GRANTED) continue;
+        rest(k);
+        MUST(KEEPS(qolb_lock_holder(&lock)), gettid());
+        if (k % 5 == 0) {
+            got = (uint32_t)KEEPS(qolb_cond_wait_within(&cond, &lock, 100 * US));
+            MUST(got == QOLB_GRANTED || got == QOLB_LATE, 1);
+        }
+        MUST(KEEPS(qolb_cond_signal(&cond)), QOLB_DONE);
+        MUST(KEEPS(qolb_lock_leave(&lock)), QOLB_DONE);
+        MUST(KEEPS(qolb_lock_leave(&lock)), QOLB_MISUSE);
+    }
+    return argument;
+}
+
+static struct timespec soon(long nanoseconds) {
+    struct timespec end;
+    clock_gettime(CLOCK_REALTIME, &end);
+    end.tv_nsec += nanoseconds;
+    if (end.tv_nsec >= 1000 * MS) end.tv_sec++, end.tv_nsec -= 1000 * MS;
+    return end;
+}
+
+static void *uses_mutex(void *argument) {
+    for (int k = 0; k < TURNS; k++) {
+        struct timespec end = soon(50 * US);
+        int got = k % 3 == 0   ? (int)KEEPS(pthread_mutex_timedlock(&mutex, &end))
+                  : k % 7 == 0 ? (int)KEEPS(pthread_mutex_trylock(&mutex))
+                               : (int)KEEPS(pthread_mutex_lock(&mutex));
+        if (got != 0) continue;
+        rest(k);
+        end = soon(100 * US);
+        if (k % 5 == 0) got = (int)KEEPS(pthread_cond_timedwait(&news, &mutex, &end));
+        MUST(got == 0 || got == ETIMEDOUT, 1);
+        MUST(KEEPS(pthread_cond_signal(&news)), 0);
+        MUST(KEEPS(pthread_mutex_unlock(&mutex)), 0);
+    }
+    return argument;
+}
+
+static void in_threads(void *(*uses)(void *), void *argument[THREADS]) {
+    pthread_t id[THREADS];
+    for (int k = 0; k < THREADS; k++) MUST(pthread_create(&id[k], NULL, uses, argument ? argument[k] : NULL), 0);
+    for (int k = 0; k < THREADS; k++) pthread_join(id[k], NULL);
+}
+
+#ifndef WITHOUT_NODES
+static void *uses_node(void *argument) {
+    qolb_node *node = argument;
+    for (int k = 0; k < TURNS; k++) {
+        uint32_t got = k % 3 == 0 ? (uint32_t)KEEPS(qolb_acquire_within(node, 50 * US))
+                                  : (uint32_t)KEEPS(qolb_acquire(node));
+        if (got != QOLB_GRANTED) continue;
+        rest(k);
+        MUST(KEEPS(qolb_deqolb(node)), QOLB_DONE);
+    }
+    return argument;
+}
+
+static void of_nodes(void) {
+    static const qolb_bytes zeros;
+    static qolb_node nodes[THREADS];
+    void *each[THREADS] = {&nodes[0], &nodes[1], &nodes[2], &nodes[3]};
+    for (uint32_t kind = 0; kind < QOLB_KINDS; kind++) {
+        MUST(qolb_open(kind, 1, THREADS, QOLB_NO_LEASE, &zeros, nodes, THREADS), QOLB_DONE);
+        in_threads(uses_node, each);
+        for (int k = 0; k < THREADS; k++) MUST(KEEPS(qolb_close(&nodes[k])), QOLB_DONE);
+    }
+}
+#else
+static void of_nodes(void) {}
+#endif
+
+int main(int argc, char **argv) {
+    alarm(600);
+    if (argc > 1 && argv[1][0] == 'm') {
+        in_threads(uses_mutex, NULL);
+        return 0;
+    }
+    for (int k = 0; k < 3; k++) {
+        lock = (qolb_lock)QOLB_LOCK_INIT_BURSTS(QOLB_DEFAULT, 4, k == 0 ? 0 : k == 1 ? 2 : 1024);
+        in_threads(uses_lock, NULL);
+        MUST(KEEPS(qolb_lock_enter(&lock)), QOLB_GRANTED);
+        MUST(KEEPS(qolb_lock_shut(&lock)), QOLB_DONE);
+        MUST(KEEPS(qolb_lock_enter(&lock)), QOLB_CLOSED);
+        MUST(KEEPS(qolb_lock_close(&lock)), QOLB_DONE);
+    }
+    of_nodes();
+    return 0;
+}

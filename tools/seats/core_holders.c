@@ -1,0 +1,117 @@
+/* Scenes of qolb_lock_holder, and what a thread keeps: its table of the locks that it holds, which other threads look
+ * through, and a key whose destructor is called at its end (core_scenes.c). */
+#include "core_scenes.h"
+#include <pthread.h>
+
+/* ---- A thread's own data, and its end ---- */
+
+static struct own *owns[THREADS + 1];
+static int are_looked_at; /* by other threads; else each access to them is the thread's own */
+
+struct own *model_own(void);
+UNSEEN struct own *model_own(void) { return owns[self_number()]; }
+
+/* The library has one key. */
+static struct {
+    void (*destructor)(void *);
+    void *value[THREADS + 1];
+    int has_begun;
+    struct clock begun;
+} key;
+
+void model_clear_tables(void);
+UNSEEN int model_once(pthread_once_t *once, void (*call)(void)) {
+    if (!key.has_begun) call();
+    if (!key.has_begun) releases(&key.begun);
+    else acquires(&key.begun);
+    return (void)once, key.has_begun = 1, 0;
+}
+UNSEEN int model_key(pthread_key_t *out, void (*destructor)(void *)) {
+    return *out = 0, key.destructor = destructor, 0;
+}
+UNSEEN int model_set(pthread_key_t at, const void *value) {
+    return (void)at, key.value[self_number()] = (void *)(uintptr_t)value, 0;
+}
+int model_atfork(void (*prepare)(void), void (*parent)(void), void (*child)(void)) {
+    return (void)prepare, (void)parent, (void)child, 0;
+}
+
+UNSEEN static void run_destructor(void) {
+    void *value = key.value[self_number()];
+    key.value[self_number()] = NULL;
+    if (value) key.destructor(value);
+}
+
+void end_thread(void) {
+    run_destructor();
+    if (are_looked_at) model_free(owns[self_number()]);
+}
+
+void new_data_of_threads(int looked_at) {
+    memset(&key, 0, sizeof key);
+    are_looked_at = 0;
+    model_clear_tables();
+    for (int k = 0; k <= THREADS; k++) {
+        owns[k] = model_malloc(sizeof(struct own));
+        *owns[k] = (struct own){.known = looked_at && k < THREADS ? UNKNOWN : KNOWN};
+    }
+    are_looked_at = looked_at;
+}
+
+UNSEEN int is_in_table(uintptr_t at) {
+    int is = 0;
+    for (int k = 0; k <= THREADS; k++) is |= owns[k] && at - (uintptr_t)owns[k] < sizeof *owns[k];
+    return is && !are_looked_at;
+}
+
+/* ---- Who holds the lock ---- */
+
+/* As the system numbers them. */
+enum { FIRST_NUMBER = 100 };
+
+void is_held_by(int self) { MUST(qolb_lock_holder(it.lock) == (uint64_t)(FIRST_NUMBER + self)); }
+
+/* Others come, and end; one asks meanwhile. */
+void holder_comes_and_ends(int self) {
+    if (self < it.users - 1) {
+        MUST(qolb_lock_enter(it.lock) == QOLB_GRANTED);
+        turn();
+        is_held_by(self);
+        leave();
+        return;
+    }
+    uint64_t number = qolb_lock_holder(it.lock);
+    MUST(number == 0 || (number >= FIRST_NUMBER && number < (uint64_t)(FIRST_NUMBER + self)));
+}
+
+/* One ends as the holder, and another asks meanwhile. */
+void ends_as_holder(int self) {
+    if (self == 0) {
+        MUST(qolb_lock_enter(it.lock) == QOLB_GRANTED);
+        atomic_store(&it.over, 1);
+        return;
+    }
+    while (!atomic_fetch_add(&it.over, 0)) sched_yield();
+    for (int k = 0; k < 2; k++) is_held_by(0);
+}
+
+/* In a destructor behind the library's one leaves, or enters, while another asks. */
+static void in_a_destructor(int self, int holds) {
+    if (self) {
+        uint64_t number = qolb_lock_holder(it.lock);
+        MUST(number == 0 || number == FIRST_NUMBER);
+        return;
+    }
+    MUST(qolb_lock_enter(it.lock) == QOLB_GRANTED);
+    if (!holds) leave();
+    run_destructor();
+    if (!holds) MUST(qolb_lock_enter(it.lock) == QOLB_GRANTED);
+    MUST(qolb_lock_enter(it.lock) == QOLB_MISUSE);
+    is_held_by(0);
+    leave();
+    MUST(qolb_lock_holder(it.lock) == 0);
+}
+
+void leaves_in_a_destructor(int self) { in_a_destructor(self, 1); }
+
+void enters_in_a_destructor(int self) { in_a_destructor(self, 0); }
