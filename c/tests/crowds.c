@@ -112,8 +112,7 @@ static void has_turn(void *argument) {
 static void tasks_wait(int many) {
     memset(tasks, 0, sizeof tasks);
     had = depth = 0;
-    for (int k = 0; k < many; k++)
-        MUST(qolb_task_enter(&tasks[k], &lock, has_turn, (void *)(intptr_t)k), QOLB_WAITING);
+    for (int k = 0; k < many; k++) MUST(qolb_task_enter(&tasks[k], &lock, has_turn, (void *)(intptr_t)k), QOLB_WAITING);
 }
 
 /* ---- Requests that gave up, far from their turns ---- */

@@ -3,16 +3,16 @@
  * There are two such tickets. One is *abandoned*: its call gave up too far from its turn to withdraw it. The other is a
  * task's. Each has an entry, in a list by the lock's address and the ticket's number. The registry decides nothing:
  *
- * - An entry is put into its list, and then announces its ticket's sleep by the proved call. So who grants the ticket is
- *   told of a sleeper, looks, and finds the entry. If the ticket is at its turn already, the entry is taken out.
+ * - An entry is put into its list, and then announces its ticket's sleep by the proved call. So who grants the ticket
+ *   is told of a sleeper, looks, and finds the entry. If the ticket is at its turn already, the entry is taken out.
  * - Who grants has the lock's address alone: the lock may be gone. While an entry is in, its lock lives. Who finds one
  *   looks at its ticket's cell first, as it may be of a younger lock at that address, and wait.
  * - Who takes an entry out retracts its sleep, and only then passes its turn on, withdraws or tells: with any of these
  *   the lock may go. An abandoned turn is passed on. A task's is the task's, which is *due*: its call is made, and its
  *   poll, or whoever cancels, goes on from there.
  * - A task at its turn of the queue of a lock with bursts is the queue head, and watches nothing. If the outer word is
- *   held, its entry goes to the list of heads, and then requests the handoff, so that no newcomer follows who is in, and
- *   announces the head's sleep. Who leaves is told of that, looks there, and takes the word for the task.
+ *   held, its entry goes to the list of heads, and then requests the handoff, so that no newcomer follows who is in,
+ *   and announces the head's sleep. Who leaves is told of that, looks there, and takes the word for the task.
  *
  * All lists of a lock have one guard, which sleeps. No call of a task is made under it. A list is whole after each
  * store, for the child of a fork. */
@@ -207,7 +207,8 @@ enum found qolb_find_head_(struct lock *lock, uint64_t *key) {
     struct entry *e = find(lock, HEAD);
     if (e) {
         struct qolb_ticket ticket = kept_ticket(lock, e->task->number, QOLB_TICKET_AT_TURN_);
-        if (qolb_core_take_outer_proved_(&lock->core, &ticket) != QOLB_WAITING) take_out(e), *key = make_due(e, &ticket);
+        if (qolb_core_take_outer_proved_(&lock->core, &ticket) != QOLB_WAITING)
+            take_out(e), *key = make_due(e, &ticket);
     }
     return_row(row);
     return e ? A_TASK : NOBODY;
