@@ -125,7 +125,7 @@ FAULTS = {
     "a task as the queue head announces its sleep before it requests": (2, "bursts: tasks", (REGISTRY, "stands_as_head", "qolb_core_request_handoff_proved_(core, ticket) == QOLB_DONE &&\n            qolb_core_announce_head_sleep_proved_(core, ticket) == QOLB_ASLEEP_", "qolb_core_announce_head_sleep_proved_(core, ticket) == QOLB_ASLEEP_ &&\n            qolb_core_request_handoff_proved_(core, ticket) == QOLB_DONE")),
     "a task as the queue head that is in stays in its list": (2, "bursts: tasks", (REGISTRY, "stands_as_head", "    take_out(e);\n", "")),
     "who leaves the outer word does not look for a task": (1, "bursts: tasks", (WAITS, "qolb_leave_outer_", "at->ticket.head_sleeps && qolb_find_head_(lock, &key) == NOBODY", "at->ticket.head_sleeps")),
-    "who finds a task as the queue head leaves it in its list": (1, "bursts: tasks", (REGISTRY, "qolb_find_head_", "take_out(e), *key", "*key")),
+    "who finds a task as the queue head leaves it in its list": (1, "bursts: tasks", (REGISTRY, "qolb_find_head_", "take_out(gone = e)", "gone = e")),
     "who finds a task as the queue head takes no word for it": (1, "bursts: tasks", (REGISTRY, "qolb_find_head_", "if (qolb_core_take_outer_proved_(&lock->core, &ticket) != QOLB_WAITING)", "if (0)")),
     # Tasks.
     "who passes on makes no call": (1, "tasks", (WAITS, "qolb_pass_on_", "    make_call(key);\n", "")),
@@ -144,7 +144,7 @@ FAULTS = {
     "a task that gives up is not withdrawn": (1, "tasks", (REGISTRY, "withdraw", "            qolb_core_withdraw_proved_(&lock->core, &ticket);\n", "            ticket.state = QOLB_TICKET_FREE_;\n")),
     "a task that gives up retracts no sleep": (1, "tasks", (REGISTRY, "withdraw", "        if (qolb_core_retract_sleep_proved_(&lock->core, &ticket) == QOLB_WAITING)\n            qolb_core_withdraw_proved_(&lock->core, &ticket);\n", "        ticket.state = QOLB_TICKET_WAITING_, ticket.rounds = 1;\n        qolb_core_withdraw_proved_(&lock->core, &ticket);\n")),
     "a task that gives up far leaves its entry to itself": (1, "far: tasks", (REGISTRY, "withdraw", "        e->task = NULL;\n", "")),
-    "a task that gives up near leaves its entry": (1, "tasks", (REGISTRY, "withdraw", "    take_out(e);\n", "")),
+    "a task that gives up near leaves its entry": (1, "tasks", (REGISTRY, "withdraw", "take_out(*gone = e)", "*gone = e")),
     "a task that gives up far is withdrawn": (1, "far: tasks", (REGISTRY, "withdraw", "e->number != HEAD && rounds_to_go(lock, task->number) > MOST_ROUNDS_NEAR", "0")),
     "a task that gives up as the queue head retracts a sleep": (1, "bursts: tasks", (REGISTRY, "withdraw", "    if (e->number != HEAD) {\n", "    if (e) {\n")),
     "a task draws its ticket before its entry is allocated": (1, "tasks: no memory", (TASKS, "stand", "    struct entry *e = has_room(me->lock)", "    qolb_core_ask_proved_(&me->lock->core, ticket);\n    struct entry *e = has_room(me->lock)"), (TASKS, "stand", "    qolb_core_ask_proved_(&me->lock->core, ticket);\n    me->number", "    me->number")),

@@ -95,8 +95,9 @@ static struct entry *find(const struct lock *lock, uint64_t number) {
     return before ? before->next : NULL;
 }
 
+/* Not under the guard: a program's own free may take locks. */
 static void free_entry(struct entry *e) {
-    qolb_tell_acquire_(e);
+    if (e) qolb_tell_acquire_(e);
     free(e);
 }
 
@@ -155,7 +156,6 @@ static uint64_t make_due(struct entry *e, const struct qolb_ticket *ticket) {
     task->turn = ticket->state;
     atomic_store(&task->state, DUE);
     qolb_list_(&task->notice, key);
-    free_entry(e);
     return key;
 }
 
@@ -184,6 +184,7 @@ uint32_t qolb_stand_for_(struct entry *e, struct qolb_ticket *ticket) {
 
 enum found qolb_find_granted_(struct lock *lock, uint64_t number, struct qolb_ticket *ticket, uint64_t *key) {
     enum found found = NOBODY;
+    struct entry *gone = NULL;
     *key = 0;
     if (!last_of(lock, number)) return NOBODY;
     struct row *row = take_row(lock);
@@ -193,10 +194,11 @@ enum found qolb_find_granted_(struct lock *lock, uint64_t number, struct qolb_ti
         take_out(e);
         *ticket = kept_ticket(lock, number, QOLB_TICKET_ASLEEP_);
         qolb_core_retract_sleep_proved_(&lock->core, ticket);
-        if (!e->task) free_entry(e);
-        else if (!waits_on(e, ticket)) *key = make_due(e, ticket);
+        if (found == ABANDONED) gone = e;
+        else if (!waits_on(e, ticket)) *key = make_due(gone = e, ticket);
     }
     return_row(row);
+    free_entry(gone);
     return found;
 }
 
@@ -204,21 +206,22 @@ enum found qolb_find_head_(struct lock *lock, uint64_t *key) {
     *key = 0;
     if (!last_of(lock, HEAD)) return NOBODY;
     struct row *row = take_row(lock);
-    struct entry *e = find(lock, HEAD);
+    struct entry *e = find(lock, HEAD), *gone = NULL;
     if (e) {
         struct qolb_ticket ticket = kept_ticket(lock, e->task->number, QOLB_TICKET_AT_TURN_);
-        if (qolb_core_take_outer_proved_(&lock->core, &ticket) != QOLB_WAITING)
-            take_out(e), *key = make_due(e, &ticket);
+        if (qolb_core_take_outer_proved_(&lock->core, &ticket) != QOLB_WAITING) take_out(gone = e);
+        if (gone) *key = make_due(gone, &ticket);
     }
     return_row(row);
+    free_entry(gone);
     return e ? A_TASK : NOBODY;
 }
 
 /* ---- A task gives up ---- */
 
-/* Of a task that waits. The ticket of one that is near is FREE afterwards, or AT_TURN, to be passed on; of one that is
- * far the entry stays, abandoned. */
-static struct qolb_ticket withdraw(struct task *task) {
+/* Of a task that waits. The ticket of one that is near is FREE afterwards, or AT_TURN, to be passed on, and the entry is
+ * gone; of one that is far the entry stays, abandoned. */
+static struct qolb_ticket withdraw(struct task *task, struct entry **gone) {
     struct entry *e = task->entry;
     struct lock *lock = e->lock;
     struct qolb_ticket ticket = kept_ticket(lock, task->number, QOLB_TICKET_AT_TURN_);
@@ -227,23 +230,24 @@ static struct qolb_ticket withdraw(struct task *task) {
         e->task = NULL;
         return (struct qolb_ticket){.state = QOLB_TICKET_FREE_};
     }
-    take_out(e);
+    take_out(*gone = e);
     if (e->number != HEAD) {
         ticket.state = QOLB_TICKET_ASLEEP_;
         if (qolb_core_retract_sleep_proved_(&lock->core, &ticket) == QOLB_WAITING)
             qolb_core_withdraw_proved_(&lock->core, &ticket);
     }
-    free_entry(e);
     return ticket;
 }
 
 unsigned qolb_state_of_(struct task *task, struct qolb_ticket *withdrawn) {
     struct row *row = take_row(task->lock);
+    struct entry *gone = NULL;
     unsigned state = atomic_load(&task->state);
     if (withdrawn && state == WAITS) {
         atomic_store(&task->state, IDLE);
-        *withdrawn = withdraw(task);
+        *withdrawn = withdraw(task, &gone);
     }
     return_row(row);
+    free_entry(gone);
     return state;
 }
