@@ -97,7 +97,8 @@ static struct entry *find(const struct lock *lock, uint64_t number) {
 
 /* Not under the guard: a program's own free may take locks. */
 static void free_entry(struct entry *e) {
-    if (e) qolb_tell_acquire_(e);
+    if (!e) return;
+    qolb_tell_acquire_(e);
     free(e);
 }
 
