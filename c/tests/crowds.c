@@ -1,4 +1,4 @@
-/* A lock on the core with many that want it: calls that give up, tasks and threads by the thousand, and locks by the
+/* A lock with many that want it: calls that give up, tasks and threads by the thousand, and locks by the
  * million on the stack.
  *
  *   build/crowds [SECONDS [THREADS [LOCKS]]]     1 second of calls that give up at once, 1,000 threads, 20,000 locks
@@ -17,7 +17,7 @@ static qolb_lock lock;
 static int tells;
 static const uint32_t bursts[] = {0, 2, 1024};
 
-static void begin(uint32_t burst) { lock = (qolb_lock)QOLB_LOCK_INIT_BURSTS(QOLB_LINK, 4, burst); }
+static void begin(uint32_t burst) { lock = (qolb_lock)QOLB_LOCK_INIT_BURSTS(burst); }
 
 static double ms_since(double since) { return (seconds(CLOCK_MONOTONIC) - since) * 1e3; }
 
@@ -338,7 +338,7 @@ static __attribute__((noinline)) int on_the_stack(int round) {
     union {
         qolb_lock lock;
         unsigned char bytes[sizeof(qolb_lock)];
-    } it = {QOLB_LOCK_INIT_BURSTS(QOLB_LINK, 4, round % 3 ? 0 : 2)};
+    } it = {QOLB_LOCK_INIT_BURSTS(round % 3 ? 0 : 2)};
     stack.lock = &it.lock, stack.inside = 0;
     atomic_store(&stack.round, round);
     await(&stack.gone, round);
