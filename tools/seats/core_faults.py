@@ -25,7 +25,7 @@ HOOKED = [
     (REGISTRY, "qolb_new_entry_", "struct entry *e = malloc(sizeof *e);", "void *model_entry(size_t size);\n    struct entry *e = model_entry(sizeof *e);"),
     (REGISTRY, "qolb_abandon_", "    return_row(row);\n", "    { void hook_withdraws(void); if (got == QOLB_ASLEEP_) hook_withdraws(); }\n    return_row(row);\n"),
     (REGISTRY, "withdraw", "        return (struct qolb_ticket){.state = QOLB_TICKET_FREE_};\n", "        { void hook_withdraws(void); hook_withdraws(); }\n        return (struct qolb_ticket){.state = QOLB_TICKET_FREE_};\n"),
-    (REGISTRY, "", "ROWS = 64, COLUMNS = 64", "ROWS = 1, COLUMNS = 2"),
+    (REGISTRY, "", "ROWS = 32, COLUMNS = 256", "ROWS = 1, COLUMNS = 2"),
     ("notify.c", "", "static BY_THREAD struct caller_of_notices *in_call;", "void **model_in_call(void);\n#define in_call (*(struct caller_of_notices **)model_in_call())"),
     ("bells.h", "", "enum { BELLS = 1024 };", "enum { BELLS = 2 };"),
     ("bells.h", "", "GUARD_LOOKS = 64", "GUARD_LOOKS = 1"),
