@@ -5,7 +5,7 @@ LOCK, WAITS, TURNS, OPENS, CONDITIONS, REGISTRY, TASKS, HEADER = (
 )
 
 # Less room and fewer looks before the same decisions; no clock in pauses, and each thread's data where core_holders.c has them. What limits tickets is by scenes,
-# and so is the memory for entries. A ticket is withdrawn for the scenes when its entry is abandoned. The model has several threads in one, so what a thread keeps
+# and so is the memory for entries. All tasks have one key. A ticket is withdrawn for the scenes when its entry is abandoned. The model has several threads in one, so what a thread keeps
 # while it makes calls is its.
 HOOKED = [
     (HEADER, "", "MOST_HELD = 8", "MOST_HELD = 1"),
@@ -28,6 +28,7 @@ HOOKED = [
     (REGISTRY, "", "ROWS = 32, COLUMNS = 256", "ROWS = 1, COLUMNS = 2"),
     ("notify.c", "", "static BY_THREAD struct caller_of_notices *in_call;", "void **model_in_call(void);\n#define in_call (*(struct caller_of_notices **)model_in_call())"),
     ("bells.h", "", "enum { BELLS = 1024 };", "enum { BELLS = 2 };"),
+    (TASKS, "qolb_task_enter", "(uint64_t)(uintptr_t)me / sizeof *me << 32 | NO_WORD", "NO_WORD"),
     ("bells.h", "", "GUARD_LOOKS = 64", "GUARD_LOOKS = 1"),
 ]
 
@@ -122,7 +123,7 @@ FAULTS = {
     "a queue head is told of before it is in its list": (2, "bursts: tasks", (REGISTRY, "stands_as_head", "    put_in(e);\n", ""), (REGISTRY, "stands_as_head", "            return 1;\n", "            return put_in(e), 1;\n"), (REGISTRY, "stands_as_head", "    take_out(e);\n", "")),
     "a task as the queue head requests no handoff": (2, "bursts: tasks", (REGISTRY, "stands_as_head", "qolb_core_request_handoff_proved_(core, ticket) == QOLB_DONE &&\n            ", "")),
     "a task as the queue head announces no sleep": (1, "bursts: tasks", (REGISTRY, "stands_as_head", " &&\n            qolb_core_announce_head_sleep_proved_(core, ticket) == QOLB_ASLEEP_", "")),
-    "a task as the queue head announces its sleep before it requests": (2, "bursts: tasks: a task beside threads", (REGISTRY, "stands_as_head", "qolb_core_request_handoff_proved_(core, ticket) == QOLB_DONE &&\n            qolb_core_announce_head_sleep_proved_(core, ticket) == QOLB_ASLEEP_", "qolb_core_announce_head_sleep_proved_(core, ticket) == QOLB_ASLEEP_ &&\n            qolb_core_request_handoff_proved_(core, ticket) == QOLB_DONE")),
+    "a task as the queue head announces its sleep before it requests": (2, "bursts of four: tasks: a task beside threads", (REGISTRY, "stands_as_head", "qolb_core_request_handoff_proved_(core, ticket) == QOLB_DONE &&\n            qolb_core_announce_head_sleep_proved_(core, ticket) == QOLB_ASLEEP_", "qolb_core_announce_head_sleep_proved_(core, ticket) == QOLB_ASLEEP_ &&\n            qolb_core_request_handoff_proved_(core, ticket) == QOLB_DONE")),
     "a task as the queue head that is in stays in its list": (2, "bursts: tasks", (REGISTRY, "stands_as_head", "    take_out(e);\n", "")),
     "who leaves the outer word does not look for a task": (1, "bursts: tasks", (WAITS, "qolb_leave_outer_", "at->ticket.head_sleeps && qolb_find_head_(lock, &key) == NOBODY", "at->ticket.head_sleeps")),
     "who finds a task as the queue head leaves it in its list": (1, "bursts: tasks", (REGISTRY, "qolb_find_head_", "take_out(gone = e)", "gone = e")),
@@ -131,7 +132,7 @@ FAULTS = {
     "who passes on makes no call": (1, "tasks", (WAITS, "qolb_pass_on_", "    make_call(key);\n", "")),
     "who leaves the outer word makes no call": (1, "bursts: tasks", (WAITS, "qolb_leave_outer_", "    make_call(key);\n", "")),
     "a call is made under the registry's guard": (1, "tasks: turns in calls", (REGISTRY, "make_due", "    qolb_list_(&task->notice, key);\n", "    qolb_list_(&task->notice, key);\n    qolb_make_call_(bell_of_key(key), key);\n")),
-    "who makes a task due lists it first": (2, "tasks: the last that polls", (REGISTRY, "make_due", "    atomic_store(&task->state, DUE);\n", ""), (REGISTRY, "make_due", "    qolb_list_(&task->notice, key);\n", "    qolb_list_(&task->notice, key);\n    return_row(row_of(e->lock)), take_row(e->lock);\n    atomic_store(&task->state, DUE);\n")),
+    "who makes a task due lists it first": (2, "tasks: one task gives up", (REGISTRY, "make_due", "    atomic_store(&task->state, DUE);\n", ""), (REGISTRY, "make_due", "    qolb_list_(&task->notice, key);\n", "    qolb_list_(&task->notice, key);\n    return_row(row_of(e->lock)), take_row(e->lock);\n    atomic_store(&task->state, DUE);\n")),
     "a poll does not wait for who makes the task due": (2, "tasks: the last that polls", (TASKS, "qolb_task_poll", "qolb_state_of_(me, NULL)", "atomic_load(&me->state)")),
     "a poll leaves the call to be made": (1, "tasks", (TASKS, "qolb_task_poll", "    qolb_unlist_(&me->notice);\n", "")),
     "a cancel leaves the call to be made": (2, "tasks: a task gives up", (TASKS, "qolb_task_cancel", "    qolb_unlist_(&me->notice);\n", "")),
