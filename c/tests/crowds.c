@@ -139,9 +139,9 @@ enum { SANITIZED = 0 };
 #endif
 static size_t bytes_in_use(void) { return SANITIZED ? 0 : mallinfo2().uordblks; }
 
-/* Nobody waits for them, and one leave passes them all: the thread's own time, and the best of three tries, as the machine
- * may have other work. Of more than may be open the others draw no ticket. A task is before them: with bursts it is the queue head, which
- * each would be otherwise. */
+/* Nobody waits for them, and one leave passes them all: by the thread's own time, and the best of three tries, as the
+ * machine may have other work. Of more than may be open the others draw no ticket. A task is before them: with bursts
+ * it is the queue head, which each would be otherwise. */
 static int passes(int given_up, uint32_t burst) {
     double best = 1e9, wall = 1e9;
     size_t taken = 0;
