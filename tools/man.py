@@ -4,7 +4,7 @@
 tools/man.py [PROGRAM]      writes both; without a program, and none at crates/qolb/out/qolb, qolb(3) alone
 tools/man.py --check [PROGRAM]      compares them with the header and the program: writes nothing, and ends with 1 if one differs
 
-The header's tables of memory are those that c/build/tests/memory counts, once it is built (make -C c/tests manual): they are written and compared, too.
+The header's table of memory is the one that c/build/tests/memory counts, once it is built (make -C c/tests manual): it is written and compared, too.
 """
 
 import pathlib
@@ -29,23 +29,6 @@ def escaped(text):
 def filled(text):
     """Running text for troff, in lines of a page's source."""
     return escaped("\n".join(textwrap.wrap(text, 72, break_long_words=False, break_on_hyphens=False)))
-
-
-def by_default(text):
-    """The header without what a library has that was built with LOCK=core."""
-    kept, conditions = [], []
-    for line in text.split("\n"):
-        word = re.match(r"#(ifdef|ifndef|if|else|endif)\b(.*)", line)
-        if word and word[1].startswith("if"):
-            conditions.append({"ifdef QOLB_LOCK_CORE": False, "ifndef QOLB_LOCK_CORE": True}.get(word[0][1:]))
-        is_core = bool(word) and conditions[-1] is not None
-        if is_core and word[1] == "else":
-            conditions[-1] = not conditions[-1]
-        if not is_core and False not in conditions:
-            kept.append(line)
-        if word and word[1] == "endif":
-            conditions.pop()
-    return "\n".join(kept)
 
 
 def uncommented(comment):
@@ -172,27 +155,26 @@ def tagged(tag, text):
 
 
 def with_memory(text):
-    """The header with the tables of memory as the program counts them."""
+    """The header with the table of memory as the program counts it."""
     counted = subprocess.run([MEMORY, "table"], capture_output=True, text=True, check=True).stdout
-    for table in re.findall(r"(?:nodes|seats) .*\n(?:(?!nodes|seats).*\n)+", counted):
-        rows = "".join(f" *     {line}\n" for line in table.splitlines())
-        text, found = re.subn(rf" \*     {table[:5]} .*\n(?: \*     .*\n)+", rows, text)
-        if found != 1:
-            sys.exit(f"man.py: c/include/qolb.h has {found} tables of memory by {table[:5]}")
+    rows = "".join(f" *     {line}\n" for line in counted.splitlines())
+    text, found = re.subn(r" \*     nodes .*\n(?: \*     .*\n)+", lambda _: rows, text)
+    if found != 1:
+        sys.exit(f"man.py: c/include/qolb.h has {found} tables of memory")
     return text
 
 
 def check_memory(is_check):
-    """Writes the header's tables of memory, or ends if they are others."""
+    """Writes the header's table of memory, or ends if it is another."""
     if not MEMORY.exists():
-        print(f"man.py: {MEMORY} is not built: the tables of memory stay as they are", file=sys.stderr)
+        print(f"man.py: {MEMORY} is not built: the table of memory stays as it is", file=sys.stderr)
         return
     before = HEADER.read_text()
     text = with_memory(before)
     if not is_check:
         HEADER.write_text(text)
     elif text != before:
-        sys.exit("man.py: the tables of memory in c/include/qolb.h are not what c/build/tests/memory counts: run tools/man.py")
+        sys.exit("man.py: the table of memory in c/include/qolb.h is not what c/build/tests/memory counts: run tools/man.py")
 
 
 def released(version):
@@ -201,7 +183,7 @@ def released(version):
 
 
 def page_of_header():
-    head, rest = by_default(HEADER.read_text()).split("#ifndef QOLB_H", 1)
+    head, rest = HEADER.read_text().split("#ifndef QOLB_H", 1)
     parts = dict(sections(uncommented(head)))
     version = ".".join(re.search(rf"QOLB_VERSION_{part} (\d+)", rest)[1] for part in ("MAJOR", "MINOR", "PATCH"))
     what, _, of_what = parts["DESCRIPTION"][0][0].partition(": ")

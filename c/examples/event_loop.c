@@ -10,7 +10,7 @@
 
 enum { JOBS = 4, ROUNDS = 1000 };
 
-static qolb_lock lock = QOLB_LOCK_INIT_DEFAULT;
+static qolb_lock lock = QOLB_LOCK_INIT;
 static long count;
 
 struct job {

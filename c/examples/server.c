@@ -206,7 +206,7 @@ static int listens(void) {
 
 static void opens(void) {
     static const qolb_bytes zeros;
-    lock = (qolb_lock)QOLB_LOCK_INIT_DEFAULT;
+    lock = (qolb_lock)QOLB_LOCK_INIT;
     number = 0;
     if (!by_lock) MUST(qolb_open(QOLB_DEFAULT, 1, MOST, QOLB_NO_LEASE, &zeros, nodes, MOST), QOLB_DONE);
 }

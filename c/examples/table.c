@@ -13,7 +13,7 @@ struct entry {
 };
 
 static struct bucket {
-    qolb_lock lock; /* opened at its first use */
+    qolb_lock lock; /* zeros are QOLB_LOCK_INIT; opened at its first use */
     struct entry *first;
 } table[BUCKETS];
 
@@ -41,7 +41,6 @@ static void *count_all(void *unused) {
 
 int main(void) {
     uint64_t sum = 0;
-    for (int k = 0; k < BUCKETS; k++) table[k].lock = (qolb_lock)QOLB_LOCK_INIT_DEFAULT;
     for (int wave = 0; wave < WAVES; wave++) {
         pthread_t threads[THREADS];
         for (int k = 0; k < THREADS; k++)

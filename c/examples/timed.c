@@ -8,7 +8,7 @@
 
 enum { AT_MOST = 1000000 }; /* nanoseconds */
 
-static qolb_lock lock = QOLB_LOCK_INIT_DEFAULT;
+static qolb_lock lock = QOLB_LOCK_INIT;
 static long turns; /* guarded by the lock */
 static atomic_long other_work;
 

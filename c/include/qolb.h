@@ -2,8 +2,8 @@
  *
  * A line is 64 bytes that 1 to 200 nodes share. A node requests it, waits for its turn, reads and writes it, and
  * releases it: lock and bytes are handed to the oldest request. No request is overtaken; a thread may be (BUSY;
- * bursts, in LOCKS). What calls do to a line is proved. Waits, wakes, locks, tasks, notifications and memory are C,
- * tested, not proved.
+ * bursts, in LOCKS). What calls do to a line is proved, and of a lock who is served, in which order. Waits, wakes,
+ * tasks, notifications and memory are C, tested, not proved.
  *
  * EXAMPLE
  *
@@ -34,59 +34,48 @@
  *
  * LOCKS
  *
- * If threads come and go, take a lock. It is a line and its nodes in one object, which any thread may enter and leave:
+ * If threads come and go, take a lock, which any thread may enter and leave:
  *
- *     static qolb_lock lock = QOLB_LOCK_INIT_DEFAULT;      // for any number of threads, first come, first served
+ *     static qolb_lock lock = QOLB_LOCK_INIT;              // for any number of threads, first come, first served
  *
- *     if (qolb_lock_enter(&lock) != QOLB_GRANTED) abort(); // or NO_MEMORY at the first use, CLOSED after a shut
+ *     if (qolb_lock_enter(&lock) != QOLB_GRANTED) abort(); // CLOSED after a shut, MISUSE if this thread holds it
  *     table[key % SIZE] = value;
  *     qolb_lock_leave(&lock);
  *
  * So a pthread_mutex_t becomes a qolb_lock by type, initialiser, names of calls and tests of answers: success is
  * QOLB_GRANTED, not 0. A condition, qolb_cond, is for a lock what a pthread_cond_t is for a mutex. Times are lengths in
- * nanoseconds from the call on, not points in time. A lock in a struct starts as the same value:
+ * nanoseconds from the call on, not points in time. A lock in a struct starts as the same value, which is all zeros:
  *
- *     bucket->lock = (qolb_lock)QOLB_LOCK_INIT_DEFAULT;    // in C++ qolb_lock QOLB_LOCK_INIT_DEFAULT
+ *     bucket->lock = (qolb_lock)QOLB_LOCK_INIT;            // in C++ qolb_lock QOLB_LOCK_INIT; calloc makes locks, too
  *
- * From its first use until qolb_lock_close a lock keeps the memory of its line and its seats: by default at most 3
- * kilobytes of heap (KINDS, below). A lock that is never used takes nothing. QOLB_LOCK_INIT and QOLB_LOCK_INIT_OF
- * choose kind and seats.
+ * A lock is the 320 bytes of its qolb_lock, at a multiple of 16, and takes no heap. Its first use opens it there, which
+ * can't fail: no call of a thread on a lock answers NO_MEMORY. Data that many threads change begins best at a multiple
+ * of 64 bytes, as the last bytes of a lock may be in one cache line with what follows them.
  *
- * A thread that enters takes a free seat, which is a node of the lock's line, and makes a request. If no seat is free
- * it waits at the lock's door, in order: so a few seats serve any number of threads first come, first served. No thread
- * whose call begins later is served before one that has made its request or has come to the door, unless that one gives
- * up. With a seat for each thread a waiter sleeps once a turn, and at the door once more. The seat of a thread that was
- * late stays busy (BUSY, below) until a release has passed its request.
- *
- * While no thread waits, a lock keeps its line for whoever enters next: entering and leaving are then one change of a
- * word each. Threads that wait at a condition do not count.
+ * A thread that enters draws a ticket, by one step that never waits, and has its turn in the order of tickets. So no
+ * call that begins after that is served before it, unless it gives up.
  *
  * Such a lock is strict: each turn is handed to the thread that has waited longest. If threads enter again and again, a
  * mutex has more turns, as it lets its last holder in again; but it bounds no wait. A lock with bursts is between the
  * two:
  *
- *     static qolb_lock lock = QOLB_LOCK_INIT_BURSTS(QOLB_LINK, 4, 1024);   // 4 seats, bursts of at most 1024 turns
+ *     static qolb_lock lock = QOLB_LOCK_INIT_BURSTS(1024); // bursts of at most 1024 turns
  *
  * Its holder leaves it open, though threads wait, for whoever enters next: that is one burst. Those that wait keep
  * their order. Before a thread with p threads before it there are at most
  *
- *     (p + 1) * (burst - 1)
+ *     (p + 1) * (turns - 1)
  *
- * turns of calls that began later: to enter, to try, or the end of a wait at a condition (tested, not proved). The hard
- * limit, `burst`, is 2 to 65,535 turns. Usually fewer are made: a waiting thread watches, and while it runs ends the
- * burst after a sixteenth of the limit, after 1 ms, and once it finds the lock open and unused. A strict lock has a
- * burst of 0. There must be 2 seats or more.
+ * turns of calls that began later: to enter, to try, or the end of a wait at a condition. The hard limit, `turns`, is 2
+ * to 65,535; more count as 65,535, and with 0 or 1 a lock is strict. Usually fewer are made: the first of those that
+ * wait watches, and while it runs asks for the lock after a sixteenth of the limit, or after 1 ms, and takes it once it
+ * finds it free and unused.
  *
  * Only the thread that entered may leave. A thread that enters a lock which it holds is told MISUSE. A thread that ends
  * while it holds a lock releases nothing, and all others wait; qolb_lock_holder returns its number, on Linux gettid's.
  *
- * While there is no memory to open it, each use is answered QOLB_NO_MEMORY.
- *
- * The holder may use the line's 64 bytes too: qolb_lock_turn lends it the node, to read and to write the line. Every
- * other call on that node is misuse, and after the holder has left, all are.
- *
- * A turn for which threads queue at a strict lock is one of its line, by proved calls. All else of a lock is C, tested,
- * not proved.
+ * That at most one is served, in the order of tickets, and the bound of bursts are proved. Sleeping, waking, conditions
+ * and tasks are C, explored with two and three threads and tested, not proved.
  *
  * WORDS
  *
@@ -109,7 +98,7 @@
  * - QOLB_RING: a node takes a ticket and waits on a cell of its own. It takes at least 34 kilobytes, for any number of
  *   nodes.
  * - QOLB_LINK: a link line, whose queue is a linked list: a node links itself to its predecessor. Only this kind has
- *   requests in two calls, qolb_prepend and qolb_link. QOLB_LIST is its former name.
+ *   requests in two calls, qolb_prepend and qolb_link.
  * - QOLB_TICKET: a ticket line, a ring whose cells are granted by a number and never cleared. A release that passes no
  *   withdrawn request takes one step on shared words, where a ring's takes two. Take this one, by the name
  *   QOLB_DEFAULT, unless memory is short or you want requests in two calls.
@@ -122,13 +111,6 @@
  *     link              1,280     1,792     4,864    33,536   103,168
  *     ticket            1,408     2,304     7,680    57,856   142,848
  *
- * And those that a qolb_lock keeps, with its line and its seats:
- *
- *     seats                 1         2         8        64       200
- *     ring             34,048    34,304    35,840    50,688    86,528
- *     link              1,536     1,920     4,224    26,240    79,488
- *     ticket            1,664     2,432     7,040    50,560   119,168
- *
  * WHAT YOU MUST KEEP
  *
  * - Start a handle as zeros: `qolb_node node = {0};`.
@@ -139,10 +121,11 @@
  * - Hand a handle to another thread by a lock, a thread's start or join, or a sequentially consistent atomic.
  * - Use one copy of the library for a line or a lock: not the static one in the program and another one in what it
  *   opens at run time.
- * - Start a lock by QOLB_LOCK_INIT_DEFAULT, QOLB_LOCK_INIT or QOLB_LOCK_INIT_OF, a condition by QOLB_COND_INIT. Close a
+ * - Start a lock by QOLB_LOCK_INIT, QOLB_LOCK_INIT_BURSTS or zeros, a condition by QOLB_COND_INIT or zeros. Close a
  *   lock only if no thread is about to call it.
- * - Do not move or copy a lock or a condition once it is used. Close a lock before its memory goes. The memory of a
- *   condition may go when no thread is in a call on it.
+ * - Do not move or copy a lock or a condition once it is used. The memory of a lock may go when it is closed, or when
+ *   nobody holds it, waits for it or is about to call it: also while a thread that left it is still in that call. That
+ *   of a condition may go when no thread is in a call on it. Until then put nothing else there.
  * - Leave a lock before the thread ends.
  * - Call nothing from a signal handler, nor in the forked child of a process with threads (PROCESSES, below).
  * - The program's malloc, realloc and free are of one allocator, which aligns as C asks.
@@ -156,8 +139,7 @@
  * by the thread whose node is granted the line next, and by those whose requests are answered CLOSED.
  *
  * For the line's own 64 bytes this is proved. For other memory it is argued: a release takes a sequentially consistent
- * step after all that its holder wrote, and the next holder one on the same word before it reads. Some steps on other
- * words of a lock are weaker.
+ * step after all that its holder wrote, and the next holder one on the same word before it reads.
  *
  * WAITING
  *
@@ -166,13 +148,13 @@
  * then they poll anew. After polls without success a thread polls for less the next time. It never yields, so a
  * real-time thread may wait for another. A process that may use one processor only sleeps at once.
  *
- * A thread that waits for a lock polls for some 1.5 us and yields 16 times before it sleeps. At a strict lock's door it
- * yields 32 times, or, behind 12 others, never; meanwhile one with a seat, of at most 8, polls 16 times and yields 128.
- * At a condition it sleeps at once.
+ * A thread that waits for a lock polls in the same way: for at most 50 us with at most four threads before it, and 2 us
+ * with more. At a condition it sleeps at once.
  *
  * A call that releases the line (qolb_deqolb, qolb_shut, and any that answers CLOSED) wakes at most two sleepers: the
- * next holder, and the waiter behind it ahead of its turn. Leaving a lock also wakes the first two threads at its door;
- * in a burst only the thread that watches.
+ * next holder, and the waiter behind it ahead of its turn. Leaving a lock wakes the next holder, and, if the leaver
+ * slept while it waited, the waiter behind it, too; in a burst only the thread that watches. With thousands of threads
+ * it wakes another one in excess for each 128 that wait.
  *
  * No call wakes, and no notification tells, the thread of a busy node: it asks again for 20 us, then every 200 us.
  *
@@ -225,10 +207,9 @@
  *
  * What is said above of qolb_notify holds for that call. And:
  *
- * - Every call by which a thread or a task enters, leaves, gives up or closes a lock may make calls of tasks. While a
- *   task waits no burst begins, and a running one ends with the turn of who is in.
- * - qolb_task_enter, qolb_task_cancel, qolb_task_leave and qolb_task_shut may wait for a thread that is freeing its
- *   seat, but for no turn.
+ * - Every call by which a thread or a task enters, leaves, gives up or closes a lock may make calls of tasks. A task
+ *   that is the first of those that wait ends a burst with the turn of who is in.
+ * - No call of a task waits for a turn.
  * - A lock that a task holds is not held by its thread: qolb_lock_enter there waits, for ever if that thread would have
  *   to leave for the task; qolb_lock_enter_within is LATE, qolb_lock_try BUSY; leave, shut and waits at a condition are
  *   MISUSE. In an event loop let only tasks enter.
@@ -269,7 +250,7 @@
  *
  * A release calls the system only if it may have to wake a sleeper.
  *
- * Only qolb_open, qolb_close, qolb_lock_open, qolb_lock_close and the first use of a lock use the heap.
+ * Only qolb_open, qolb_close, qolb_task_enter and a call with a time limit use the heap.
  *
  * SANITIZERS AND DEBUGGERS
  *
@@ -280,7 +261,9 @@
  * a backtrace from inside its calls may end there.
  *
  * bpftrace, perf and gdb find probes where a thread waits (provider qolb: wait, sleep, wake, granted, withdrawn,
- * closed), if the library was built with <sys/sdt.h>.
+ * closed), if the library was built with <sys/sdt.h>. Their arguments are a line's label, the node's number, and a
+ * number by which lines of one label differ. A lock has no label: there they are its address, the number of the
+ * thread's ticket, from 1 on and 0 while it has none, and the address again.
  *
  * PROCESSOR
  *
@@ -302,8 +285,8 @@
 
 /* The version of this header. QOLB_VERSION is one number, 10000 for each major version, 100 for each minor one;
  * qolb_version() returns that of the library that the program runs with. */
-#define QOLB_VERSION_MAJOR 1
-#define QOLB_VERSION_MINOR 8
+#define QOLB_VERSION_MAJOR 2
+#define QOLB_VERSION_MINOR 0
 #define QOLB_VERSION_PATCH 0
 #define QOLB_VERSION (QOLB_VERSION_MAJOR * 10000 + QOLB_VERSION_MINOR * 100 + QOLB_VERSION_PATCH)
 
@@ -347,9 +330,8 @@ typedef struct qolb_bytes {
 } qolb_bytes;
 
 /* The kinds of line: nodes wait on cells by tickets, in a link line by links, or on numbered cells by tickets. Take
- * QOLB_DEFAULT, a ticket line, unless memory is short or you want requests in two calls: then take a link line.
- * QOLB_LIST is QOLB_LINK's former name. */
-enum qolb_kind { QOLB_RING = 0, QOLB_LINK = 1, QOLB_TICKET = 2, QOLB_LIST = QOLB_LINK, QOLB_DEFAULT = QOLB_TICKET };
+ * QOLB_DEFAULT, a ticket line, unless memory is short or you want requests in two calls: then take a link line. */
+enum qolb_kind { QOLB_RING = 0, QOLB_LINK = 1, QOLB_TICKET = 2, QOLB_DEFAULT = QOLB_TICKET };
 
 /* The number of kinds. Each number below it is a kind. */
 #define QOLB_KINDS 3
@@ -365,12 +347,12 @@ enum qolb_answer {
     QOLB_CLOSED = 6,     /* the line is closed, and the request has ended */
     QOLB_BUSY = 7,       /* its last request is not cleared yet: ask again later. Of a try: another has it */
     QOLB_MISUSE = 8,     /* the handle or its node does not allow the call; nothing changed */
-    QOLB_NO_MEMORY = 9,  /* only of an opening, as the next five; nothing changed. A lock's first use opens it */
-    QOLB_BAD_NODES = 10, /* not 1 to 200 nodes; of a lock also: no such burst */
+    QOLB_NO_MEMORY = 9,  /* of an opening, as the next five, and of a task that enters; nothing changed */
+    QOLB_BAD_NODES = 10, /* not 1 to 200 nodes */
     QOLB_BAD_LEASE = 11, /* a lease of 0 turns */
     QOLB_BAD_KIND = 12,  /* no such kind */
     QOLB_TOO_FEW = 13,   /* fewer handles than nodes */
-    QOLB_OCCUPIED = 14,  /* one of the handles has a node */
+    QOLB_OCCUPIED = 14,  /* one of the handles has a node; the lock is open */
     QOLB_LATE = 15       /* the time is over. A node's request is withdrawn; at a condition the lock is held again */
 };
 
@@ -468,7 +450,7 @@ uint32_t qolb_notify_fd(qolb_node *node, int fd) QOLB_LOOK;
 
 /* Takes the node's wish for a call back; the request stays. WITHDRAWN: the call will not be made. DONE: none was
  * wanted, or it was made, and has returned or said qolb_notify_done, unless the calling thread is in it. MISUSE for an
- * empty handle and for a lent node. */
+ * empty handle. */
 uint32_t qolb_notify_off(qolb_node *node);
 
 /* Says, in a notification's call, that from here on nobody has to wait for it: it does not touch its `arg` any more.
@@ -490,35 +472,14 @@ uint32_t qolb_state(qolb_node *node);
 
 /* clang-format off */
 
-/* A lock, unopened: 64 bytes of zeros, 1 to 200 seats, and bursts or none (LOCKS). Only these calls read or change its
+/* A lock, unopened: strict, or with bursts of at most `turns` turns (LOCKS). Only these calls read or change its
  * contents. */
-#ifndef QOLB_LOCK_CORE
-typedef struct qolb_lock {
-    void *own;
-    uint32_t kind, seats;
-} qolb_lock;
-#define QOLB_LOCK_INIT_DEFAULT {QOLB_NULL_, QOLB_LINK, 4}
-#define QOLB_LOCK_INIT(seats) {QOLB_NULL_, QOLB_DEFAULT, (seats)}
-#define QOLB_LOCK_INIT_OF(kind, seats) {QOLB_NULL_, (kind), (seats)}
-#define QOLB_LOCK_INIT_BURSTS(kind, seats, burst) {QOLB_NULL_, (kind), QOLB_SEATS(seats, burst)}
-#else
-/* Of a library that was built with LOCK=core: all of the lock lies here (docs/CORE_LOCK.md). */
 typedef struct __attribute__((aligned(16))) qolb_lock {
     void *own;
-    uint32_t kind, seats;
-    uint64_t more[38];
+    uint64_t turns, more[38];
 } qolb_lock;
-#define QOLB_LOCK_INIT_DEFAULT {QOLB_NULL_, QOLB_LINK, 4, {0}}
-#define QOLB_LOCK_INIT(seats) {QOLB_NULL_, QOLB_DEFAULT, (seats), {0}}
-#define QOLB_LOCK_INIT_OF(kind, seats) {QOLB_NULL_, (kind), (seats), {0}}
-#define QOLB_LOCK_INIT_BURSTS(kind, seats, burst) {QOLB_NULL_, (kind), QOLB_SEATS(seats, burst), {0}}
-#endif
-
-/* The number of seats for qolb_lock_open, of a lock with bursts of at most `burst` turns; 0: it is strict. An older
- * library answers BAD_NODES. It may evaluate its arguments twice. */
-#define QOLB_SEATS(seats, burst) QOLB_AS_(uint32_t, QOLB_HALF_(seats, 65535) + 65536 * QOLB_HALF_(burst, 1))
-#define QOLB_HALF_(number, if_more) \
-    (QOLB_AS_(uint64_t, number) > 65535 ? QOLB_AS_(uint64_t, if_more) : QOLB_AS_(uint64_t, number))
+#define QOLB_LOCK_INIT {QOLB_NULL_, 0, {0}}
+#define QOLB_LOCK_INIT_BURSTS(turns) {QOLB_NULL_, QOLB_AS_(uint64_t, turns), {0}}
 
 /* A condition: holders of a lock leave the lock and wait here until another thread signals. It may serve several locks.
  * It needs no freeing. */
@@ -529,23 +490,19 @@ typedef struct qolb_cond {
 
 /* clang-format on */
 
-/* Opens an unopened lock with this kind, label, number of seats (or QOLB_SEATS) and these bytes; without this call the
- * first use opens it. DONE; else the first that applies of BAD_KIND, BAD_NODES (no such seats or burst), NO_MEMORY, and
- * OCCUPIED: it is open. */
-uint32_t qolb_lock_open(qolb_lock *lock, uint32_t kind, uint64_t label, uint64_t seats,
-                        const qolb_bytes *opening) QOLB_LOOK;
+/* Opens an unopened lock with bursts of at most `turns` turns, or strict with 0 or 1: for a number that is known at run
+ * time. Else its first use opens it, as its initialiser says. DONE; OCCUPIED: it is open. */
+uint32_t qolb_lock_open(qolb_lock *lock, uint64_t turns) QOLB_LOOK;
 
 /* Enters the lock, and waits as long as it takes: GRANTED, CLOSED; MISUSE, and nothing changed, if the calling thread
- * holds it. At the first use also NO_MEMORY, BAD_NODES (a lock of no such seats or burst), BAD_KIND. */
+ * holds it. */
 uint32_t qolb_lock_enter(qolb_lock *lock) QOLB_LOOK;
 
-/* Enters the lock if no thread has it: GRANTED, BUSY (also if the calling thread holds it), CLOSED; at the first use
- * also the other answers of qolb_lock_enter. */
+/* Enters the lock if no thread has it: GRANTED, BUSY (also if the calling thread holds it), CLOSED. */
 uint32_t qolb_lock_try(qolb_lock *lock) QOLB_LOOK;
 
 /* Enters the lock, and waits at most this many nanoseconds (UINT64_MAX: as long as it takes): GRANTED, LATE, CLOSED;
- * MISUSE at once, and nothing changed, if the calling thread holds it; at the first use also the other answers of
- * qolb_lock_enter. */
+ * MISUSE at once, and nothing changed, if the calling thread holds it. */
 uint32_t qolb_lock_enter_within(qolb_lock *lock, uint64_t nanoseconds) QOLB_LOOK;
 
 /* Leaves the lock, which goes to the first thread in its queue. DONE; MISUSE if the calling thread does not hold it. */
@@ -555,21 +512,13 @@ uint32_t qolb_lock_leave(qolb_lock *lock);
  * one, each after the one before has polled. DONE; MISUSE if the calling thread does not hold it. */
 uint32_t qolb_lock_shut(qolb_lock *lock);
 
-/* Frees the lock's memory: it is unopened again. Its next use opens it with zeros, the label 0, and the kind, seats and
- * burst that it had. Whoever was granted the lock last, and left it, may close it while another thread is still leaving
- * it. DONE, also if it was unopened; MISUSE, and nothing changed, if a thread or a task holds it or waits, also at a
- * condition of it. */
+/* Closes the lock: it is unopened again, and its memory may go. Its next use opens it with the bursts that it had.
+ * Whoever was granted the lock last, and left it, may close it while another thread is still leaving it. DONE, also if
+ * it was unopened; MISUSE, and nothing changed, if a thread or a task holds it or waits, also at a condition of it. */
 uint32_t qolb_lock_close(qolb_lock *lock);
 
-#ifndef QOLB_LOCK_CORE
-/* The holder's node, lent until the holder leaves, for qolb_read, qolb_write, qolb_read_lane, qolb_write_lane,
- * qolb_add_lane, qolb_turns_left, qolb_number, qolb_label and qolb_state. For every other call, and for any other
- * thread, it is MISUSE. NULL if the calling thread does not hold the lock. */
-qolb_node *qolb_lock_turn(qolb_lock *lock);
-#else
 /* 1 if the calling thread holds the lock, else 0. */
 int qolb_lock_is_mine(const qolb_lock *lock);
-#endif
 
 /* A number of the thread that holds the lock; UINT64_MAX if a task does; 0 if none does, and for the moment of a
  * handoff. On Linux it is the system's, which the thread had when it first entered a lock. */
@@ -592,8 +541,8 @@ uint32_t qolb_cond_broadcast(qolb_cond *cond);
 
 /* clang-format off */
 
-/* A task that enters locks: nobody waits in it. It starts as QOLB_TASK_INIT. It stays where it is while it waits. Once
- * it is moved, ask for its lent node again (qolb_task_turn). Only these calls read or change its contents. */
+/* A task that enters locks: nobody waits in it. It starts as QOLB_TASK_INIT. It stays where it is while it waits. Only
+ * these calls read or change its contents. */
 typedef struct qolb_task {
     void *own[16];
 } qolb_task;
@@ -603,7 +552,7 @@ typedef struct qolb_task {
 
 /* Asks for the lock for a task, and does not wait for a turn. GRANTED: the task holds it. WAITING: `call(arg)` will be
  * called once, when the task has it or is told that the lock is shut; then qolb_task_poll tells which. CLOSED. MISUSE:
- * the task waits or holds, or `call` is null. At the first use also NO_MEMORY, BAD_NODES, BAD_KIND. */
+ * the task waits or holds, or `call` is null. NO_MEMORY. */
 uint32_t qolb_task_enter(qolb_task *task, qolb_lock *lock, void (*call)(void *arg), void *arg) QOLB_LOOK;
 
 /* The same, and 1 is added to the eventfd `fd`, which is not negative, in place of a call. Close it only after the
@@ -625,14 +574,8 @@ uint32_t qolb_task_leave(qolb_task *task);
 /* Leaves for a task, and closes the lock, as qolb_lock_shut does. DONE; MISUSE as of qolb_task_leave. */
 uint32_t qolb_task_shut(qolb_task *task);
 
-#ifndef QOLB_LOCK_CORE
-/* The node of a task that holds a lock, lent until it leaves, as qolb_lock_turn lends a thread's: to whoever makes the
- * calls for the task. Else NULL. */
-qolb_node *qolb_task_turn(qolb_task *task);
-#else
-/* 1 if the task holds a lock, else 0. */
+/* 1 if the task holds a lock, and knows it, else 0. */
 int qolb_task_holds(const qolb_task *task);
-#endif
 
 /* The version of the library, as QOLB_VERSION is that of the header. */
 uint32_t qolb_version(void);
@@ -706,11 +649,7 @@ static inline uint32_t qolb_entered_(qolb_lock *lock, uint32_t got) {
 }
 
 static inline void qolb_leaves_(qolb_lock *lock) {
-#ifdef QOLB_LOCK_CORE
     if (qolb_lock_is_mine(lock)) QOLB_GIVES_(lock);
-#else
-    if (qolb_lock_turn(lock)) QOLB_GIVES_(lock);
-#endif
 }
 
 QOLB_LOOK static inline uint32_t qolb_lock_enter_(qolb_lock *lock) {
@@ -737,11 +676,7 @@ static inline uint32_t qolb_tasked_(qolb_task *task, uint32_t got) {
 }
 
 static inline void qolb_task_leaves_(qolb_task *task) {
-#ifdef QOLB_LOCK_CORE
     if (qolb_task_holds(task)) QOLB_GIVES_(task->own[0]);
-#else
-    if (qolb_task_turn(task)) QOLB_GIVES_(task->own[0]);
-#endif
 }
 
 QOLB_LOOK static inline uint32_t qolb_task_enter_(qolb_task *task, qolb_lock *lock, void (*call)(void *arg),

@@ -15,7 +15,7 @@
 //
 //     qolb::lock lock;                                   // as a std::timed_mutex, first come, first served
 //     std::lock_guard<qolb::lock> turn(lock);
-//     qolb::guarded<Count> count;                        // a value that lies in the line
+//     qolb::guarded<Count> count;                        // a value that is used with its lock alone
 //     count.with([](Count &it) { it.hits++; });
 #ifndef QOLB_HPP
 #define QOLB_HPP
@@ -30,9 +30,7 @@
 #include <condition_variable>
 #include <cstdint>
 #include <cstdlib>
-#include <cstring>
 #include <mutex>
-#include <new>
 #include <stdexcept>
 #include <system_error>
 #include <type_traits>
@@ -330,36 +328,29 @@ template <class Change> Got Node::with(Change change) {
     return got;
 }
 
-// The number of seats, and the most turns of a burst, of a lock with bursts (qolb.h, LOCKS).
-struct seats {
-    std::uint32_t number;
-};
+// The most turns of a burst (qolb.h, LOCKS): qolb::burst{1024}. With 0 or 1 a lock is strict. A number above 65,535 does
+// not compile.
 struct burst {
-    std::uint32_t turns;
+    std::uint16_t turns;
 };
 
-// A lock that any thread may enter, without a node for each (qolb.h, LOCKS). It opens at its first use, so a static one
-// needs no constructor at run time.
+// A lock that any thread may enter, without a node for each (qolb.h, LOCKS). It is made at compile time, in its own 320
+// bytes, and opens at its first use: so a static one needs no constructor at run time.
 //
 // It is a timed lock as the standard library means it: std::lock_guard, std::unique_lock, std::scoped_lock and
 // std::condition_variable_any take it. The thread that entered must leave. It may be destroyed if no thread holds it or
-// waits for it; else its memory stays.
+// waits for it.
 class Lock {
   public:
-    // For any number of threads, in at most 3 kilobytes.
-    constexpr Lock() noexcept : lock_ QOLB_LOCK_INIT_DEFAULT {}
-    // With 1 to 200 seats, of this kind. A link line takes the least memory.
-    explicit constexpr Lock(std::uint32_t seats, qolb_kind kind = QOLB_DEFAULT) noexcept
-        : lock_ QOLB_LOCK_INIT_OF(static_cast<std::uint32_t>(kind), seats) {}
-    // With 2 to 200 seats, and bursts of 2 to 65,535 turns: qolb::lock(qolb::seats{4}, qolb::burst{1024}).
-    constexpr Lock(qolb::seats many, qolb::burst most, qolb_kind kind = QOLB_LINK) noexcept
-        : lock_ QOLB_LOCK_INIT_BURSTS(static_cast<std::uint32_t>(kind), many.number, most.turns) {}
+    // Strict: first come, first served.
+    constexpr Lock() noexcept : lock_ QOLB_LOCK_INIT {}
+    // With bursts.
+    explicit constexpr Lock(burst most) noexcept : lock_ QOLB_LOCK_INIT_BURSTS(most.turns) {}
     Lock(const Lock &) = delete;
     Lock &operator=(const Lock &) = delete;
     ~Lock() { qolb_lock_close(&lock_); }
 
-    // As in qolb.h: granted; closed; late or busy; misuse if the thread holds it; and at the first use no memory, or
-    // bad nodes if it does not have 1 to 200 seats.
+    // As in qolb.h: granted; closed; late or busy; misuse if the thread holds it.
     QOLB_NODISCARD qolb_answer enter() { return answer(qolb_lock_enter(&lock_)); }
     QOLB_NODISCARD qolb_answer try_enter() { return answer(qolb_lock_try(&lock_)); }
     template <class Rep, class Period>
@@ -369,9 +360,10 @@ class Lock {
     qolb_answer leave() { return answer(qolb_lock_leave(&lock_)); }
     qolb_answer shut() { return answer(qolb_lock_shut(&lock_)); }
     std::uint64_t holder() const { return qolb_lock_holder(&lock_); }
+    bool is_mine() const { return qolb_lock_is_mine(&lock_) != 0; }
 
-    // As a lock of the standard library: these throw Closed if the lock was shut, std::bad_alloc, Deadlock if the
-    // thread holds it (try_lock returns false), and Misuse.
+    // As a lock of the standard library: these throw Closed if the lock was shut, and Deadlock if the thread holds it
+    // (try_lock returns false).
     void lock() { entered(enter()); }
     QOLB_NODISCARD bool try_lock() { return entered(try_enter()); }
     template <class Rep, class Period>
@@ -394,11 +386,8 @@ class Lock {
 
     static bool entered(qolb_answer got) {
         if (got == QOLB_CLOSED) QOLB_THROW(Closed());
-        if (got == QOLB_NO_MEMORY) QOLB_THROW(std::bad_alloc());
-        if (got == QOLB_GRANTED) return true;
         if (got == QOLB_MISUSE) QOLB_THROW(Deadlock());
-        if (got != QOLB_BUSY && got != QOLB_LATE) QOLB_THROW(Misuse());
-        return false;
+        return got == QOLB_GRANTED;
     }
 
     qolb_lock lock_;
@@ -470,41 +459,41 @@ class Condition {
     qolb_cond cond_;
 };
 
-// A value of at most 64 bytes in a lock's line, which is handed from thread to thread with it. It is opened when it is
-// made.
+// A value of any size that is used with its lock alone. It lies beside the lock, in no cache line of it.
 template <class T> class Guarded {
-    static_assert(std::is_trivially_copyable<T>::value, "its bytes are copied into the line and out");
-    static_assert(sizeof(T) <= sizeof(qolb_bytes), "a line has 64 bytes");
-
   public:
-    // For any number of threads, in at most 3 kilobytes. Throws std::bad_alloc.
-    explicit Guarded(const T &value = T()) : Guarded(value, qolb_lock QOLB_LOCK_INIT_DEFAULT) {}
-    // With 1 to 200 seats, of this kind. Throws std::bad_alloc, and Misuse if it does not have 1 to 200 seats.
-    Guarded(const T &value, std::uint32_t seats, qolb_kind kind = QOLB_DEFAULT)
-        : Guarded(value, qolb_lock QOLB_LOCK_INIT_OF(static_cast<std::uint32_t>(kind), seats)) {}
-    // With 2 to 200 seats, and bursts of 2 to 65,535 turns. Throws as the one before.
-    Guarded(const T &value, qolb::seats many, qolb::burst most, qolb_kind kind = QOLB_LINK)
-        : Guarded(value, qolb_lock QOLB_LOCK_INIT_BURSTS(static_cast<std::uint32_t>(kind), many.number, most.turns)) {}
+    // Strict: first come, first served.
+    constexpr Guarded() : value_() {}
+    explicit constexpr Guarded(T value) : value_(std::move(value)) {}
+    // With bursts.
+    constexpr Guarded(T value, burst most) : lock_(most), value_(std::move(value)) {}
 
-    // Enters, lets `change` change the value, writes it and leaves; returns the result of `change`. If `change` throws,
-    // nothing is written. Throws Closed if the line was shut, and Deadlock if the thread is in `change` of the same
-    // value.
+    // Enters, lets `change` change the value, and leaves; returns the result of `change`. If `change` throws, what it
+    // has changed until then stays. Throws Closed if the lock was shut, and Deadlock if the thread is in `change` of
+    // the same value.
     template <class Change> auto with(Change change) -> decltype(change(std::declval<T &>())) {
         std::lock_guard<Lock> held(lock_);
-        Copy copy(place());
-        return copy.changed(change, std::is_void<decltype(change(std::declval<T &>()))>());
+        return change(value_);
     }
 
-    // Enters, and returns the value as the last thread left it. Throws as `with` does.
+    // The same, with a copy of the value, which is moved back at the end. If `change` throws, the value is as before.
+    template <class Change> auto update(Change change) -> decltype(change(std::declval<T &>())) {
+        std::lock_guard<Lock> held(lock_);
+        T copy(value_);
+        return changed(copy, change, std::is_void<decltype(change(std::declval<T &>()))>());
+    }
+
+    // Enters, and returns a copy of the value. Throws as `with` does.
     QOLB_NODISCARD T load() const {
         std::lock_guard<Lock> held(lock_);
-        return Copy(place()).value();
+        return value_;
     }
-    void store(const T &value) {
-        with([&value](T &it) { std::memcpy(&it, &value, sizeof value); });
+    void store(T value) {
+        std::lock_guard<Lock> held(lock_);
+        value_ = std::move(value);
     }
 
-    // Closes the line: later threads get Closed. Returns false if it was closed. Throws Deadlock if the thread is in
+    // Closes the lock: later threads get Closed. Returns false if it was closed. Throws Deadlock if the thread is in
     // `change` of the same value.
     bool shut() {
         qolb_answer got = lock_.enter();
@@ -513,65 +502,23 @@ template <class T> class Guarded {
     }
 
   private:
-    // Of the kind and the number of seats of an unopened lock.
-    Guarded(const T &value, const qolb_lock &of) {
-        qolb_bytes bytes{};
-        std::memcpy(bytes.byte, &value, sizeof value);
-        std::uint32_t got = qolb_lock_open(lock_.native_handle(), of.kind, 0, of.seats, &bytes);
-        if (got == QOLB_NO_MEMORY) QOLB_THROW(std::bad_alloc());
-        if (got != QOLB_DONE) QOLB_THROW(Misuse());
-#ifdef QOLB_LOCK_CORE
-        std::memcpy(kept_, &value, sizeof value);
-#endif
+    template <class Change> void changed(T &copy, Change &change, std::true_type) {
+        change(copy);
+        value_ = std::move(copy);
+    }
+    template <class Change>
+    auto changed(T &copy, Change &change, std::false_type) -> decltype(change(std::declval<T &>())) {
+        decltype(change(std::declval<T &>())) told = change(copy);
+        value_ = std::move(copy);
+        return told;
     }
 
-    // Where the holder finds the value: in the line; of a lock on the core, which has none, beside it.
-#ifdef QOLB_LOCK_CORE
-    using Place = unsigned char *;
-    Place place() const { return kept_; }
-    static void read(Place from, unsigned char *to) { std::memcpy(to, from, sizeof(T)); }
-    static void write(Place to, const unsigned char *from) { std::memcpy(to, from, sizeof(T)); }
-#else
-    using Place = qolb_node *;
-    Place place() const { return qolb_lock_turn(lock_.native_handle()); }
-    static void read(Place from, unsigned char *to) {
-        qolb_bytes bytes{};
-        qolb_read(from, &bytes);
-        std::memcpy(to, bytes.byte, sizeof(T));
-    }
-    static void write(Place to, const unsigned char *from) {
-        qolb_bytes bytes{};
-        std::memcpy(bytes.byte, from, sizeof(T));
-        qolb_write(to, UINT64_MAX, &bytes);
-    }
-#endif
-
-    // The value during a turn. T may have no default constructor, so the value is in bytes.
-    class Copy {
-      public:
-        explicit Copy(Place turn) : turn_(turn) { Guarded::read(turn_, place_); }
-
-        T &value() { return *reinterpret_cast<T *>(place_); }
-
-        template <class Change> void changed(Change &change, std::true_type) {
-            change(value());
-            Guarded::write(turn_, place_);
-        }
-        template <class Change> auto changed(Change &change, std::false_type) -> decltype(change(std::declval<T &>())) {
-            decltype(change(std::declval<T &>())) told = change(value());
-            Guarded::write(turn_, place_);
-            return told;
-        }
-
-      private:
-        Place turn_;
-        alignas(T) unsigned char place_[sizeof(T)];
-    };
+    // A lock ends at a multiple of 16 bytes, so its last cache line ends here.
+    static constexpr std::size_t apart = 64 - alignof(qolb_lock);
 
     mutable Lock lock_; // it is entered to read the value, too
-#ifdef QOLB_LOCK_CORE
-    alignas(T) mutable unsigned char kept_[sizeof(T)];
-#endif
+    char apart_[apart] = {};
+    T value_;
 };
 
 template <class T> using guarded = Guarded<T>;
@@ -676,8 +623,6 @@ template <class Loop> class Turn final : public detail::Waits<Loop> {
     qolb_node *node_;
 };
 
-#ifndef QOLB_LOCK_CORE
-
 // A turn of a lock.
 class Entered {
   public:
@@ -732,8 +677,6 @@ template <class Loop> class Enter final : public detail::Waits<Loop> {
 };
 
 template <class Loop> Enter<Loop> enter(Lock &which, Loop &loop) { return Enter<Loop>(which.native_handle(), loop); }
-
-#endif
 
 template <class Loop> Turn<Loop> turn(Node &node, Loop &loop) { return Turn<Loop>(node.native_handle(), loop); }
 

@@ -1,24 +1,23 @@
-/* Any program's mutexes as locks of lines: a library to be preloaded, for a program that knows nothing of lines.
+/* Any program's mutexes as locks: a library to be preloaded, for a program that knows nothing of them.
  *
  *   make -C c && LD_PRELOAD=c/build/preload.so PROGRAM        (glibc, Linux 4.14); installed as LIBDIR/qolb/preload.so
  *
- * Each ordinary mutex that the program locks gets its own qolb_lock, of 3 KB (with LOCK=core half a KB), and each
- * condition variable by which it waits with one a qolb_cond. Recursive, error-checking, robust, shared and priority
+ * Each ordinary mutex that the program locks gets its own qolb_lock, of half a KB, and each condition variable by which
+ * it waits with one a qolb_cond. Recursive, error-checking, robust, shared and priority
  * mutexes stay the C library's, and so does one for which there is no memory. Whether a mutex is a lock of ours is
  * decided once, at its first use, until it is destroyed or initialised again.
  *
  * As with the C library, any thread may unlock such a mutex, unlocking a free one changes nothing, and a thread that
  * locks one that it holds waits until another unlocks it. A mutex that a thread held when it forked is held in the
- * child, and those that waited are not there. A program that never destroys its mutexes keeps 3 KB for each address at
- * which it locked one. A wait until a time of the clock CLOCK_REALTIME does not notice that this is set meanwhile. A
+ * child, and those that waited are not there. A program that never destroys its mutexes keeps half a KB for each address
+ * at which it locked one. A wait until a time of the clock CLOCK_REALTIME does not notice that this is set meanwhile. A
  * wait at a condition may return for no reason when another thread that waits is cancelled.
  *
  * QOLB_BURST=TURNS is the hard limit of a burst (qolb.h, LOCKS): 1024, if it is not set, and 0 for strict order.
- * QOLB_KIND=ring, link or ticket chooses the kind of line; else it is that of a lock by default.
  *
- * With QOLB_REPORT=FILE the program appends a line there at its end: the number of their kind, the burst, how many
- * mutexes were ours in all, and at most at a time, how often one was granted, was late or was not free at once, and how
- * often two threads were in one at the same time, which must be 0. Counting costs time, and is left out without it.
+ * With QOLB_REPORT=FILE the program appends a line there at its end: the burst, how many mutexes were ours in all, and
+ * at most at a time, how often one was granted, was late or was not free at once, and how often two threads were in one
+ * at the same time, which must be 0. Counting costs time, and is left out without it.
  *
  * What does not call the C library's mutexes by their names is not taken in: C11's mtx_t, Rust's std::sync::Mutex, and
  * libraries that are opened with RTLD_DEEPBIND, which must not share a mutex with others then. */
@@ -62,7 +61,7 @@ REAL(cancel, "GLIBC_2.2.5", pthread_t)
 enum { USUAL_BURST = 1024, BURSTS = 65536 };
 
 static struct {
-    uint32_t kind, seats, burst;
+    uint32_t burst;
     char report[4096]; /* empty: nothing is counted */
 } settings;
 
@@ -71,18 +70,6 @@ static inline int counts(void) { return settings.report[0] != 0; }
 static void refuse(const char *name, const char *value, const char *wanted) {
     dprintf(STDERR_FILENO, "qolb: %s=%s is not %s\n", name, value, wanted);
     _exit(2);
-}
-
-static void choose_kind(const char *name) {
-    static const qolb_lock usual = QOLB_LOCK_INIT_DEFAULT;
-    settings.kind = usual.kind;
-    settings.seats = usual.seats;
-    if (!name) return;
-    if (strcmp(name, "list") == 0) name = qolb_kind_name(QOLB_LINK); /* its former name */
-    settings.kind = 0;
-    while (settings.kind < QOLB_KINDS && strcmp(name, qolb_kind_name(settings.kind)) != 0) settings.kind++;
-    if (settings.kind == QOLB_KINDS) refuse("QOLB_KIND", name, "ring, link or ticket");
-    settings.seats = settings.kind == QOLB_TICKET ? 3 : 4;
 }
 
 /* The number that is written there, with digits alone; 65536 if it is another or greater. */
@@ -95,8 +82,7 @@ static uint32_t number_in(const char *digits) {
 
 static void choose_burst(const char *digits) {
     settings.burst = digits ? number_in(digits) : USUAL_BURST;
-    if (settings.burst == 1 || settings.burst == BURSTS)
-        refuse("QOLB_BURST", digits, "0, for strict order, or a number from 2 to 65535");
+    if (settings.burst == BURSTS) refuse("QOLB_BURST", digits, "a number from 0, for strict order, to 65535");
 }
 
 /* A copy, as a program may write its title over its environment. */
@@ -107,7 +93,6 @@ static void choose_report(const char *name) {
 }
 
 void qolb_begin_(void) {
-    choose_kind(getenv("QOLB_KIND"));
     choose_burst(getenv("QOLB_BURST"));
     choose_report(getenv("QOLB_REPORT"));
 }
@@ -146,8 +131,8 @@ __attribute__((destructor)) static void report(void) {
     if (file < 0) return;
     int size = snprintf(
         text, sizeof text,
-        "kind %u burst %u mutexes %llu at once %lld grants %llu late %llu not free %llu violations %llu\n",
-        settings.kind, settings.burst, mutexes, most_at_once, grants, late, not_free, violations);
+        "burst %u mutexes %llu at once %lld grants %llu late %llu not free %llu violations %llu\n", settings.burst,
+        mutexes, most_at_once, grants, late, not_free, violations);
     if (write(file, text, (size_t)size) != size) perror(settings.report);
     close(file);
 }
@@ -156,16 +141,13 @@ __attribute__((destructor)) static void report(void) {
 
 /* A line that serves no mutex; NULL if there is no memory. */
 static struct line *take_line(void) {
-    static const qolb_bytes zeros;
     struct line *line = qolb_take_spare_();
     if (line) return line;
     line = qolb_take_memory_(sizeof *line);
     if (!line) return NULL;
     *line = (struct line){0};
-    if (qolb_lock_open(&line->lock, settings.kind, 0, QOLB_SEATS(settings.seats, settings.burst), &zeros) == QOLB_DONE)
-        return line;
-    qolb_give_memory_(line, sizeof *line);
-    return NULL;
+    (void)!qolb_lock_open(&line->lock, settings.burst); /* it is unopened */
+    return line;
 }
 
 /* Of this process. A thread that has left it may still be in that call. */

@@ -2,10 +2,7 @@
 #ifndef QOLB_PRELOAD_H
 #define QOLB_PRELOAD_H
 
-#include "bells.h"
-#ifdef QOLB_LOCK_CORE
-#include "core_lock/lock.h"
-#endif
+#include "lock/lock.h"
 
 /* ---- Processes ----
  *
@@ -46,11 +43,9 @@ struct line {
     struct line *next;  /* of those that serve none */
     atomic_int inside;  /* the number of threads in it, if they are counted */
     atomic_int waiting; /* the number of threads that left it to wait at a condition */
-#ifdef QOLB_LOCK_CORE
     struct turn at;         /* of its holder: any thread may unlock */
     _Atomic uint64_t owner; /* the number of that thread, or 0 */
     _Atomic uint64_t guess; /* of the outer word */
-#endif
 };
 
 /* What is kept of an address. An entry stays in its tree, and may get another address once its own is removed. */
@@ -75,7 +70,6 @@ HIDDEN void qolb_for_each_(int table, void (*call)(struct entry *));
 
 /* A block of this process's own maps, at a multiple of 16 bytes; NULL if there is none. */
 HIDDEN void *qolb_take_memory_(size_t size);
-HIDDEN void qolb_give_memory_(void *block, size_t size);
 
 /* A lock that served a mutex before, or NULL. */
 HIDDEN struct line *qolb_take_spare_(void);

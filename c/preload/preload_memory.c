@@ -81,7 +81,7 @@ void *qolb_take_memory_(size_t size) {
     return block;
 }
 
-void qolb_give_memory_(void *block, size_t size) {
+static void give_memory(void *block, size_t size) {
     take_guard(&own->guard);
     memcpy(block, &own->given_back[units_of(size)], sizeof(void *));
     own->given_back[units_of(size)] = block;
@@ -105,7 +105,7 @@ void __wrap_free(void *block) {
     size_t whole;
     if (!block) return;
     memcpy(&whole, (char *)block - UNIT, sizeof whole);
-    qolb_give_memory_((char *)block - UNIT, whole);
+    give_memory((char *)block - UNIT, whole);
 }
 
 struct line *qolb_take_spare_(void) {

@@ -1,27 +1,9 @@
-/* Entering and leaving a mutex's line, for preload.c. Any thread may leave, and one that holds it and enters waits
- * until another leaves: so where the lock is on the core (LOCK=core), the turn is kept beside it and not in a
- * thread's table. */
+/* Entering and leaving a mutex's lock, for preload.c. Any thread may leave, and one that holds it and enters waits
+ * until another leaves: so the turn is kept beside the lock and not in a thread's table. */
 #ifndef QOLB_PRELOAD_TURNS_H
 #define QOLB_PRELOAD_TURNS_H
 
 #include "preload.h"
-
-#ifndef QOLB_LOCK_CORE
-
-static inline uint32_t enter_line(struct line *line, uint64_t nanoseconds) {
-    return qolb_lock_enter_unasked_(&line->lock, nanoseconds);
-}
-static inline uint32_t try_line(struct line *line) { return qolb_lock_try(&line->lock); }
-static inline void leave_line(struct line *line) {
-    if (qolb_lock_leave(&line->lock) != QOLB_DONE) qolb_lock_leave_for_another_(&line->lock);
-}
-static inline int is_held_line(const struct line *line) { return qolb_lock_holder(&line->lock) != 0; }
-static inline int is_own_line(struct line *line) { return qolb_lock_turn(&line->lock) != NULL; }
-static inline uint32_t wait_with_line(qolb_cond *cond, struct line *line, uint64_t nanoseconds) {
-    return qolb_cond_wait_within(cond, &line->lock, nanoseconds);
-}
-
-#else
 
 static inline uint32_t owned(struct line *line, const struct turn *at, uint32_t got) {
     if (got != QOLB_GRANTED && got != QOLB_LATE) return got;
@@ -69,7 +51,5 @@ static inline uint32_t wait_with_line(qolb_cond *cond, struct line *line, uint64
     if (!take_turn_of(line, &at)) return QOLB_MISUSE;
     return owned(line, &at, qolb_cond_wait_at_(cond, lock_of(&line->lock), &at, nanoseconds));
 }
-
-#endif
 
 #endif

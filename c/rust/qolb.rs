@@ -12,8 +12,7 @@
 //! if let Some(turn) = nodes[1].try_lock_for(Duration::from_millis(1))? { .. }
 //! ```
 //!
-//! For threads that come and go, without a node for each: `Mutex` guards a value beside the line, `Lock` has a value of at most 64 bytes in the line.
-//! With the crate's feature `lock_api` (`qolb = { path = .., features = ["lock_api"] }`), `lock_api::Mutex<RawQolb, T>` is a mutex as those of
+//! For threads that come and go, without a node for each: `Mutex` guards a value of any size, which stays where it is. With the crate's feature `lock_api` (`qolb = { path = .., features = ["lock_api"] }`), `lock_api::Mutex<RawQolb, T>` is a mutex as those of
 //! `parking_lot`. So it is in a crate that takes this file as a module, and has the crate `lock_api` and a feature of that name.
 //!
 //! ```ignore
@@ -23,15 +22,15 @@
 //!
 //! # Tasks
 //!
-//! A task of an executor waits without a thread: `node.turn().await` gives a node's turn, `mutex.lock_async().await` and `lock.lock_async().await` one of a
-//! `Mutex` or a `Lock`. These futures need no particular executor. They ask when they are first polled; tasks and threads stand in one queue, first come, first
+//! A task of an executor waits without a thread: `node.turn().await` gives a node's turn, `mutex.lock_async().await` one of a `Mutex`. These futures need no
+//! particular executor. They ask when they are first polled; tasks and threads stand in one queue, first come, first
 //! served. A future that is dropped withdraws its request. The guards of `lock_async` may go from thread to thread, if the value may.
 //!
-//! # A panic while a line is held
+//! # A panic while a line or a mutex is held
 //!
-//! While the thread unwinds, the guard is dropped, which releases the line; if the guard was leaked, the node releases it when the node is dropped.
-//! The holder's writes until then stay, and the next holder is granted the line as usual: nothing is poisoned, and no thread is told. If a half-made
-//! change must not be seen, read the line, change the copy and write it last. With `panic = "abort"` the process ends, and its lines with it.
+//! While the thread unwinds, the guard is dropped, which releases the line or the mutex; if a node's guard was leaked, the node releases the line when the
+//! node is dropped. The holder's writes until then stay, and the next holder is granted it as usual: nothing is poisoned, and no thread is told. If a half-made
+//! change must not be seen, change a copy and write it last. With `panic = "abort"` the process ends, and its lines with it.
 //!
 //! # The thread sanitizer
 //!
@@ -44,14 +43,12 @@ use std::ffi::c_void;
 use std::fmt;
 use std::future::Future;
 use std::marker::{PhantomData, PhantomPinned};
-use std::mem::MaybeUninit;
 use std::ops::{Deref, DerefMut};
 use std::os::fd::{AsRawFd, BorrowedFd};
 use std::panic::{RefUnwindSafe, UnwindSafe};
 use std::pin::Pin;
 use std::ptr::{NonNull, null_mut};
 use std::sync::PoisonError;
-#[cfg(qolb_core)]
 use std::sync::atomic::{AtomicPtr, Ordering};
 use std::task::{Context, Poll, Waker};
 use std::time::{Duration, Instant};
@@ -73,9 +70,6 @@ impl Kind {
     pub const DEFAULT: Kind = Kind::Ticket;
     /// All kinds, each at the place of its number.
     pub const ALL: [Kind; 3] = [Kind::Ring, Kind::Link, Kind::Ticket];
-    /// The former name of `Kind::Link`.
-    #[allow(non_upper_case_globals)]
-    pub const List: Kind = Kind::Link;
 
     /// Returns the kind's name, as the program `qolb` takes it.
     pub const fn name(self) -> &'static str {
@@ -224,16 +218,12 @@ unsafe extern "C" {
     fn qolb_task_cancel(task: *mut RawTask) -> u32;
     fn qolb_task_leave(task: *mut RawTask) -> u32;
     fn qolb_task_shut(task: *mut RawTask) -> u32;
-    fn qolb_task_turn(task: *mut RawTask) -> Option<NonNull<Handle>>;
-    fn qolb_lock_open(lock: *mut RawLock, kind: u32, label: u64, seats: u64, opening: *const LineBytes) -> u32;
     fn qolb_lock_enter(lock: *mut RawLock) -> u32;
     fn qolb_lock_try(lock: *mut RawLock) -> u32;
     fn qolb_lock_enter_within(lock: *mut RawLock, nanoseconds: u64) -> u32;
     fn qolb_lock_leave(lock: *mut RawLock) -> u32;
     fn qolb_lock_shut(lock: *mut RawLock) -> u32;
     fn qolb_lock_close(lock: *mut RawLock) -> u32;
-    fn qolb_lock_turn(lock: *mut RawLock) -> Option<NonNull<Handle>>;
-    #[cfg(qolb_core)]
     fn qolb_lock_is_mine(lock: *const RawLock) -> std::ffi::c_int;
     fn qolb_lock_holder(lock: *const RawLock) -> u64;
     fn qolb_cond_wait(cond: *mut RawCond, lock: *mut RawLock) -> u32;
@@ -572,21 +562,11 @@ fn state_told(state: u32) -> State {
 
 // ---- Locks for threads that come and go ----
 
-#[cfg(not(qolb_core))]
-#[repr(C)]
-struct RawLock {
-    own: *mut c_void,
-    kind: u32,
-    seats: u32,
-}
-
-/// Of a library that was built with LOCK=core (docs/CORE_LOCK.md): the lock lies here, and does not move once it is used.
-#[cfg(qolb_core)]
+/// All of a lock lies here, and it does not move once it is used.
 #[repr(C, align(16))]
 struct RawLock {
     own: *mut c_void,
-    kind: u32,
-    seats: u32,
+    turns: u64,
     more: [u64; 38],
 }
 
@@ -594,16 +574,6 @@ struct RawLock {
 struct RawCond {
     own: *mut c_void,
 }
-
-/// The bytes of a line with a value in it; not all of them need be initialized.
-#[repr(C)]
-struct LineBytes([MaybeUninit<u8>; 64]);
-
-/// A number of seats with which few locks have threads at their door. It was the default until a few seats served any number of threads in order.
-pub const SEATS: u32 = 64;
-
-/// The kind and the number of seats of a lock by default, as of `QOLB_LOCK_INIT_DEFAULT`.
-const BY_DEFAULT: (Kind, u32) = (Kind::Link, 4);
 
 fn nanoseconds(time: Duration) -> u64 {
     u64::try_from(time.as_nanos()).unwrap_or(u64::MAX)
@@ -614,81 +584,41 @@ fn from_now_to(end: Instant) -> Duration {
     end.saturating_duration_since(Instant::now())
 }
 
-/// A lock that guards nothing by itself, as a `RawMutex` of `lock_api`: `Mutex` and `Lock` use it.
+/// A lock that guards nothing by itself, as a `RawMutex` of `lock_api`: `Mutex` uses it.
 ///
-/// It opens at its first use. The thread that entered must leave. If it is dropped while a thread holds it or waits for it, which a leaked guard may
-/// cause, its memory stays.
-#[cfg(not(qolb_core))]
-pub struct RawQolb(UnsafeCell<RawLock>);
-
-/// The same. It is in a box from its first use on, since a value may move and a lock may not.
-#[cfg(qolb_core)]
+/// It is made at compile time, and in a box from its first use on, since a value may move and a lock may not. The thread that entered must leave. If it is
+/// dropped while a thread holds it or waits for it, which a leaked guard may cause, its box stays.
 pub struct RawQolb {
-    boxed: AtomicPtr<Boxed>,
-    kind: u32,
-    seats: u32,
+    boxed: AtomicPtr<RawLock>,
+    turns: u16,
 }
 
-/// A lock, and the bytes of a `Lock`, which has no line.
-#[cfg(qolb_core)]
-#[repr(C)]
-struct Boxed {
-    lock: RawLock,
-    bytes: LineBytes,
-}
+// SAFETY: the library lets any threads call for one lock at the same time, and only the library reads or changes its contents.
+unsafe impl Sync for RawQolb {}
+unsafe impl Send for RawQolb {}
 
-#[cfg(not(qolb_core))]
 impl RawQolb {
-    const fn over(kind: u32, seats: u32) -> RawQolb {
-        RawQolb(UnsafeCell::new(RawLock { own: null_mut(), kind, seats }))
+    /// A strict lock: first come, first served.
+    pub const fn new() -> RawQolb {
+        RawQolb::with_burst(0)
+    }
+
+    /// A lock with bursts of at most `turns` turns, for threads that enter again and again; with 0 or 1 it is strict.
+    ///
+    /// With `p` threads before it, a waiter is overtaken by at most `(p + 1) * (turns - 1)` turns of later calls.
+    pub const fn with_burst(turns: u16) -> RawQolb {
+        RawQolb { boxed: AtomicPtr::new(null_mut()), turns }
     }
 
     fn at(&self) -> *mut RawLock {
-        self.0.get()
-    }
-
-    fn is_mine(&self) -> bool {
-        unsafe { qolb_lock_turn(self.at()) }.is_some()
-    }
-
-    fn open(&self, opening: &LineBytes) -> Answer {
-        // SAFETY: no other thread has the lock yet.
-        let RawLock { kind, seats, .. } = unsafe { &*self.at() };
-        told(unsafe { qolb_lock_open(self.at(), *kind, 0, u64::from(*seats), opening) })
-    }
-
-    /// Reads the line, for the holder.
-    fn read(&self, bytes: &mut LineBytes) {
-        let mut turn = unsafe { qolb_lock_turn(self.at()) }.expect("the lock is held");
-        unsafe { qolb_read(turn.as_mut(), (&raw mut *bytes).cast()) };
-    }
-
-    /// Writes the line, for the holder; nothing, if the thread is none.
-    fn write(&self, bytes: &LineBytes) {
-        unsafe { qolb_lock_turn(self.at()).map(|mut turn| qolb_write(turn.as_mut(), u64::MAX, (&raw const *bytes).cast())) };
-    }
-
-    fn close(&mut self) {
-        unsafe { qolb_lock_close(self.at()) };
-    }
-}
-
-#[cfg(qolb_core)]
-impl RawQolb {
-    const fn over(kind: u32, seats: u32) -> RawQolb {
-        RawQolb { boxed: AtomicPtr::new(null_mut()), kind, seats }
-    }
-
-    fn boxed(&self) -> *mut Boxed {
         let at = self.boxed.load(Ordering::Acquire);
         if at.is_null() { self.put_in_box() } else { at }
     }
 
     /// Of threads that make one at the same time, one's is taken.
     #[cold]
-    fn put_in_box(&self) -> *mut Boxed {
-        let lock = RawLock { own: null_mut(), kind: self.kind, seats: self.seats, more: [0; 38] };
-        let made = Box::into_raw(Box::new(Boxed { lock, bytes: LineBytes([MaybeUninit::uninit(); 64]) }));
+    fn put_in_box(&self) -> *mut RawLock {
+        let made = Box::into_raw(Box::new(RawLock { own: null_mut(), turns: self.turns.into(), more: [0; 38] }));
         match self.boxed.compare_exchange(null_mut(), made, Ordering::AcqRel, Ordering::Acquire) {
             Ok(_) => made,
             Err(at) => {
@@ -699,111 +629,19 @@ impl RawQolb {
         }
     }
 
-    fn at(&self) -> *mut RawLock {
-        self.boxed().cast()
-    }
-
-    fn is_mine(&self) -> bool {
-        unsafe { qolb_lock_is_mine(self.at()) == 1 }
-    }
-
-    fn open(&self, opening: &LineBytes) -> Answer {
-        // SAFETY: no other thread has the lock yet.
-        unsafe { (*self.boxed()).bytes = LineBytes(opening.0) };
-        told(unsafe { qolb_lock_open(self.at(), self.kind, 0, u64::from(self.seats), opening) })
-    }
-
-    /// Reads the bytes, for the holder.
-    fn read(&self, bytes: &mut LineBytes) {
-        assert!(self.is_mine(), "the lock is held");
-        // SAFETY: one thread at a time holds the lock.
-        bytes.0 = unsafe { (*self.boxed()).bytes.0 };
-    }
-
-    /// Writes the bytes, for the holder; nothing, if the thread is none.
-    fn write(&self, bytes: &LineBytes) {
-        if self.is_mine() {
-            // SAFETY: one thread at a time holds the lock.
-            unsafe { (*self.boxed()).bytes = LineBytes(bytes.0) };
-        }
-    }
-
-    /// A lock that is held or waited for keeps its box.
-    fn close(&mut self) {
-        let at = *self.boxed.get_mut();
-        if !at.is_null() && told(unsafe { qolb_lock_close(at.cast()) }) == Answer::Done {
-            // SAFETY: it was made by a box, and nobody uses it any more.
-            drop(unsafe { Box::from_raw(at) });
-        }
-    }
-}
-
-// SAFETY: the library lets any threads call for one lock at the same time, and only the library reads or changes its contents.
-unsafe impl Sync for RawQolb {}
-unsafe impl Send for RawQolb {}
-
-impl RawQolb {
-    /// A lock of the default kind with `seats` seats.
-    ///
-    /// # Panics
-    ///
-    /// If `seats` is not 1 to 200.
-    pub const fn new(seats: u32) -> RawQolb {
-        RawQolb::of_kind(Kind::DEFAULT, seats)
-    }
-
-    /// A lock over a line of this kind: a link line takes the least memory.
-    ///
-    /// # Panics
-    ///
-    /// If `seats` is not 1 to 200.
-    pub const fn of_kind(kind: Kind, seats: u32) -> RawQolb {
-        assert!(seats >= 1 && seats <= 200, "a lock has 1 to 200 seats");
-        RawQolb::over(kind as u32, seats)
-    }
-
-    /// A lock with bursts, for threads that enter again and again: of the kind of the default lock, with `seats` seats.
-    ///
-    /// With `p` threads before it, a waiter is overtaken by at most `(p + 1) * (burst - 1)` turns of later calls (tested, not proved). A burst of 0 is strict
-    /// order.
-    ///
-    /// # Panics
-    ///
-    /// If `seats` is not 1 to 200, `burst` is 1 or above 65,535, or there is a burst and one seat.
-    pub const fn with_burst(seats: u32, burst: u32) -> RawQolb {
-        RawQolb::of_kind_with_burst(BY_DEFAULT.0, seats, burst)
-    }
-
-    /// A lock with bursts over a line of this kind, as of [`with_burst`](Self::with_burst).
-    ///
-    /// # Panics
-    ///
-    /// As [`with_burst`](Self::with_burst).
-    pub const fn of_kind_with_burst(kind: Kind, seats: u32, burst: u32) -> RawQolb {
-        assert!(seats >= 1 && seats <= 200, "a lock has 1 to 200 seats");
-        assert!(burst != 1 && burst <= u16::MAX as u32, "a burst has 2 to 65,535 turns");
-        assert!(burst == 0 || seats > 1, "a lock with bursts has 2 seats or more");
-        RawQolb::over(kind as u32, seats + (burst << 16))
-    }
-
-    /// A lock for any number of threads, first come, first served, in at most 3 kilobytes of heap.
-    pub const fn of_default() -> RawQolb {
-        RawQolb::of_kind(BY_DEFAULT.0, BY_DEFAULT.1)
-    }
-
-    /// Enters, and waits as long as it takes: `Granted`, `Closed`; `Misuse` if the calling thread holds it; `NoMemory` at the first use.
+    /// Enters, and waits as long as it takes: `Granted`, `Closed`; `Misuse` if the calling thread holds it.
     #[must_use]
     pub fn enter(&self) -> Answer {
         self.took(unsafe { qolb_lock_enter(self.at()) })
     }
 
-    /// Enters if no thread has it: `Granted`, `Busy` (also if the calling thread holds it), `Closed`; `NoMemory` at the first use.
+    /// Enters if no thread has it: `Granted`, `Busy` (also if the calling thread holds it), `Closed`.
     #[must_use]
     pub fn try_enter(&self) -> Answer {
         self.took(unsafe { qolb_lock_try(self.at()) })
     }
 
-    /// Enters, and waits at most `time`: `Granted`, `Late`, `Closed`; `Misuse` at once if the calling thread holds it; `NoMemory` at the first use.
+    /// Enters, and waits at most `time`: `Granted`, `Late`, `Closed`; `Misuse` at once if the calling thread holds it.
     #[must_use]
     pub fn enter_for(&self, time: Duration) -> Answer {
         self.took(unsafe { qolb_lock_enter_within(self.at(), nanoseconds(time)) })
@@ -823,7 +661,14 @@ impl RawQolb {
 
     /// Returns a number of the holding thread (`gettid` on Linux), or `u64::MAX` if a task holds it; `None` if nobody does, and for the moment of a handoff.
     pub fn holder(&self) -> Option<u64> {
-        Some(unsafe { qolb_lock_holder(self.at()) }).filter(|number| *number != 0)
+        let at = self.boxed.load(Ordering::Acquire);
+        let number = if at.is_null() { 0 } else { unsafe { qolb_lock_holder(at) } };
+        Some(number).filter(|number| *number != 0)
+    }
+
+    /// Whether the calling thread holds it.
+    pub fn is_mine(&self) -> bool {
+        unsafe { qolb_lock_is_mine(self.at()) == 1 }
     }
 
     /// Tells the thread sanitizer of an answer by which the thread may have entered.
@@ -873,7 +718,7 @@ mod tsan {
 
 impl Default for RawQolb {
     fn default() -> RawQolb {
-        RawQolb::of_default()
+        RawQolb::new()
     }
 }
 
@@ -885,7 +730,11 @@ impl fmt::Debug for RawQolb {
 
 impl Drop for RawQolb {
     fn drop(&mut self) {
-        self.close();
+        let at = *self.boxed.get_mut();
+        if !at.is_null() && told(unsafe { qolb_lock_close(at) }) == Answer::Done {
+            // SAFETY: it was made by a box, and nobody uses it any more.
+            drop(unsafe { Box::from_raw(at) });
+        }
     }
 }
 
@@ -903,7 +752,7 @@ fn no_memory() -> ! {
     std::alloc::handle_alloc_error(std::alloc::Layout::new::<[Handle; 200]>())
 }
 
-/// A mutex that is first come, first served.
+/// A mutex that is first come, first served, for a value of any size, which stays in its place. The lock is in a box of its own.
 ///
 /// Nothing is poisoned: a panic while it is held releases it, with the writes until then. A thread that locks a mutex that it holds is told
 /// `Stopped::Misuse`, and holds it as before; but if a task of that thread holds it, it waits, and for ever if that
@@ -918,36 +767,14 @@ unsafe impl<T: ?Sized + Send> Send for Mutex<T> {}
 unsafe impl<T: ?Sized + Send> Sync for Mutex<T> {}
 
 impl<T> Mutex<T> {
-    /// For any number of threads, in at most 3 kilobytes of heap.
+    /// A strict mutex: first come, first served.
     pub const fn new(value: T) -> Mutex<T> {
-        Mutex { raw: RawQolb::of_default(), value: UnsafeCell::new(value) }
+        Mutex::with_burst(value, 0)
     }
 
-    /// A mutex of the default kind with `seats` seats.
-    ///
-    /// # Panics
-    ///
-    /// If `seats` is not 1 to 200.
-    pub const fn with_seats(value: T, seats: u32) -> Mutex<T> {
-        Mutex::of_kind(value, Kind::DEFAULT, seats)
-    }
-
-    /// A mutex over a line of this kind with `seats` seats.
-    ///
-    /// # Panics
-    ///
-    /// If `seats` is not 1 to 200.
-    pub const fn of_kind(value: T, kind: Kind, seats: u32) -> Mutex<T> {
-        Mutex { raw: RawQolb::of_kind(kind, seats), value: UnsafeCell::new(value) }
-    }
-
-    /// A mutex with bursts, for threads that lock it again and again (`RawQolb::with_burst`).
-    ///
-    /// # Panics
-    ///
-    /// If `seats` is not 1 to 200, `burst` is 1 or above 65,535, or there is a burst and one seat.
-    pub const fn with_burst(value: T, seats: u32, burst: u32) -> Mutex<T> {
-        Mutex { raw: RawQolb::with_burst(seats, burst), value: UnsafeCell::new(value) }
+    /// A mutex with bursts of at most `turns` turns, for threads that lock it again and again (`RawQolb::with_burst`); with 0 or 1 it is strict.
+    pub const fn with_burst(value: T, turns: u16) -> Mutex<T> {
+        Mutex { raw: RawQolb::with_burst(turns), value: UnsafeCell::new(value) }
     }
 
     pub fn into_inner(self) -> T {
@@ -1237,181 +1064,8 @@ impl Condition {
     }
 }
 
-/// A value of at most 64 bytes in the line of a lock, which is handed from thread to thread with it.
-pub struct Lock<T: Copy + Send + 'static> {
-    raw: RawQolb,
-    value: PhantomData<UnsafeCell<T>>,
-}
-
-// SAFETY: one thread at a time has the value.
-unsafe impl<T: Copy + Send + 'static> Sync for Lock<T> {}
-
-impl<T: Copy + Send + 'static> Lock<T> {
-    const FITS: () = assert!(size_of::<T>() <= 64, "a line has 64 bytes");
-
-    /// For any number of threads, in at most 3 kilobytes of heap.
-    pub fn new(value: T) -> Result<Lock<T>, Answer> {
-        Lock::of_kind(value, BY_DEFAULT.0, BY_DEFAULT.1)
-    }
-
-    /// A lock of the default kind with `seats` seats, which has `value`.
-    ///
-    /// # Panics
-    ///
-    /// If `seats` is not 1 to 200.
-    pub fn with_seats(value: T, seats: u32) -> Result<Lock<T>, Answer> {
-        Lock::of_kind(value, Kind::DEFAULT, seats)
-    }
-
-    /// A lock over a line of this kind with `seats` seats, which has `value`.
-    ///
-    /// # Panics
-    ///
-    /// If `seats` is not 1 to 200.
-    pub fn of_kind(value: T, kind: Kind, seats: u32) -> Result<Lock<T>, Answer> {
-        Lock::over(RawQolb::of_kind(kind, seats), value)
-    }
-
-    /// A lock with bursts, for threads that lock it again and again (`RawQolb::with_burst`), which has `value`.
-    ///
-    /// # Panics
-    ///
-    /// If `seats` is not 1 to 200, `burst` is 1 or above 65,535, or there is a burst and one seat.
-    pub fn with_burst(value: T, seats: u32, burst: u32) -> Result<Lock<T>, Answer> {
-        Lock::over(RawQolb::with_burst(seats, burst), value)
-    }
-
-    fn over(raw: RawQolb, value: T) -> Result<Lock<T>, Answer> {
-        match raw.open(&bytes_of(value)) {
-            Answer::Done => Ok(Lock { raw, value: PhantomData }),
-            refused => Err(refused),
-        }
-    }
-
-    /// Waits as long as it takes.
-    pub fn lock(&self) -> Result<LockGuard<'_, T>, Stopped> {
-        entered(self.raw.enter()).map(|_| self.guard())
-    }
-
-    /// Returns a guard if no thread has it.
-    pub fn try_lock(&self) -> Result<Option<LockGuard<'_, T>>, Stopped> {
-        entered(self.raw.try_enter()).map(|had| had.then(|| self.guard()))
-    }
-
-    /// Returns a guard if it is granted within this time.
-    pub fn try_lock_for(&self, time: Duration) -> Result<Option<LockGuard<'_, T>>, Stopped> {
-        entered(self.raw.enter_for(time)).map(|had| had.then(|| self.guard()))
-    }
-
-    /// Returns a guard if it is granted by this time.
-    pub fn try_lock_until(&self, end: Instant) -> Result<Option<LockGuard<'_, T>>, Stopped> {
-        self.try_lock_for(from_now_to(end))
-    }
-
-    fn guard(&self) -> LockGuard<'_, T> {
-        let () = Lock::<T>::FITS;
-        let mut bytes = LineBytes([MaybeUninit::uninit(); 64]);
-        self.raw.read(&mut bytes);
-        // SAFETY: the calling thread holds the lock, and an opening or a guard wrote a `T` there.
-        let value = unsafe { bytes.0.as_ptr().cast::<T>().read_unaligned() };
-        LockGuard { lock: self, value, stays: PhantomData }
-    }
-}
-
-/// The value in a line.
-///
-/// # Safety
-///
-/// It is the turn of a `Lock<T>`: an opening or a guard wrote a `T` there.
-unsafe fn value_of<T: Copy + Send + 'static>(turn: Option<NonNull<Handle>>) -> T {
-    let () = Lock::<T>::FITS;
-    let mut bytes = LineBytes([MaybeUninit::uninit(); 64]);
-    let mut turn = turn.expect("the lock is held");
-    unsafe {
-        qolb_read(turn.as_mut(), (&raw mut bytes).cast());
-        bytes.0.as_ptr().cast::<T>().read_unaligned()
-    }
-}
-
-/// Without memory the program ends, as for any failed allocation.
-impl<T: Copy + Send + Default + 'static> Default for Lock<T> {
-    fn default() -> Lock<T> {
-        Lock::new(T::default()).unwrap_or_else(|_no_memory| no_memory())
-    }
-}
-
-/// The value, if no thread has the lock, which is locked meanwhile. It does not wait.
-impl<T: Copy + Send + fmt::Debug + 'static> fmt::Debug for Lock<T> {
-    fn fmt(&self, f: &mut fmt::Formatter<'_>) -> fmt::Result {
-        shown(f, "Lock", self.try_lock())
-    }
-}
-
-impl<T: Copy + Send + 'static> UnwindSafe for Lock<T> {}
-impl<T: Copy + Send + 'static> RefUnwindSafe for Lock<T> {}
-
-fn bytes_of<T: Copy + Send + 'static>(value: T) -> LineBytes {
-    let () = Lock::<T>::FITS;
-    let mut bytes = LineBytes([MaybeUninit::uninit(); 64]);
-    // SAFETY: it fits.
-    unsafe { bytes.0.as_mut_ptr().cast::<T>().write_unaligned(value) };
-    bytes
-}
-
-/// A turn of a lock: the value as the last holder left it.
-///
-/// When it is dropped, also if a panic unwinds, the value is written and the lock is left.
-#[must_use]
-pub struct LockGuard<'a, T: Copy + Send + 'static> {
-    lock: &'a Lock<T>,
-    value: T,
-    stays: PhantomData<*mut ()>,
-}
-
-impl<T: Copy + Send + 'static> LockGuard<'_, T> {
-    /// Writes the value, leaves and closes the lock: no later thread enters.
-    pub fn shut(self) {
-        self.write();
-        // The drop that follows finds nothing to write or to leave.
-        self.lock.raw.shut();
-    }
-
-    fn write(&self) {
-        self.lock.raw.write(&bytes_of(self.value));
-    }
-}
-
-impl<T: Copy + Send + fmt::Debug + 'static> fmt::Debug for LockGuard<'_, T> {
-    fn fmt(&self, f: &mut fmt::Formatter<'_>) -> fmt::Result {
-        self.value.fmt(f)
-    }
-}
-
-impl<T: Copy + Send + fmt::Display + 'static> fmt::Display for LockGuard<'_, T> {
-    fn fmt(&self, f: &mut fmt::Formatter<'_>) -> fmt::Result {
-        self.value.fmt(f)
-    }
-}
-
-impl<T: Copy + Send + 'static> Deref for LockGuard<'_, T> {
-    type Target = T;
-    fn deref(&self) -> &T {
-        &self.value
-    }
-}
-
-impl<T: Copy + Send + 'static> DerefMut for LockGuard<'_, T> {
-    fn deref_mut(&mut self) -> &mut T {
-        &mut self.value
-    }
-}
-
-impl<T: Copy + Send + 'static> Drop for LockGuard<'_, T> {
-    fn drop(&mut self) {
-        self.write();
-        self.lock.raw.leave();
-    }
-}
+/// The same.
+pub type Lock<T> = Mutex<T>;
 
 // ---- Tasks ----
 
@@ -1653,87 +1307,6 @@ impl<T: ?Sized> Drop for MutexTaskGuard<'_, T> {
     }
 }
 
-impl<T: Copy + Send + 'static> Lock<T> {
-    /// Asks when it is first polled, and is ready when the lock is granted or shut. Dropped before, it gives up. As `Mutex::lock_async`.
-    pub fn lock_async(&self) -> LockFuture<'_, T> {
-        LockFuture { lock: self, entering: Some(Entering::new(&self.raw)) }
-    }
-}
-
-/// A task's way to a turn of a lock (`Lock::lock_async`).
-#[must_use = "a future does nothing unless it is awaited"]
-pub struct LockFuture<'a, T: Copy + Send + 'static> {
-    lock: &'a Lock<T>,
-    entering: Option<Entering<'a>>,
-}
-
-// SAFETY: as of a `MutexFuture`.
-unsafe impl<T: Copy + Send + 'static> Send for LockFuture<'_, T> {}
-unsafe impl<T: Copy + Send + 'static> Sync for LockFuture<'_, T> {}
-
-impl<'a, T: Copy + Send + 'static> Future for LockFuture<'a, T> {
-    type Output = Result<LockTaskGuard<'a, T>, Stopped>;
-
-    fn poll(self: Pin<&mut Self>, context: &mut Context<'_>) -> Poll<Self::Output> {
-        // SAFETY: what enters is not moved before it is ready.
-        let this = unsafe { self.get_unchecked_mut() };
-        let entering = this.entering.as_mut().expect("a future that was ready is not polled again");
-        let Poll::Ready(got) = (unsafe { entering.poll(context) }) else { return Poll::Pending };
-        this.entering = None;
-        Poll::Ready(got.map(|mut task| {
-            // SAFETY: the task holds the lock.
-            let value = unsafe { value_of(qolb_task_turn(&mut task)) };
-            LockTaskGuard { lock: this.lock, value, task }
-        }))
-    }
-}
-
-/// A task's turn of a lock: the value as the last holder left it. When it is dropped, by any thread, the value is written and the lock is left.
-#[must_use]
-pub struct LockTaskGuard<'a, T: Copy + Send + 'static> {
-    lock: &'a Lock<T>,
-    value: T,
-    task: RawTask,
-}
-
-// SAFETY: the turn is of no thread, and the guard has the value; a shared guard gives only shared values.
-unsafe impl<T: Copy + Send + 'static> Send for LockTaskGuard<'_, T> {}
-unsafe impl<T: Copy + Send + Sync + 'static> Sync for LockTaskGuard<'_, T> {}
-
-impl<T: Copy + Send + 'static> LockTaskGuard<'_, T> {
-    /// Writes the value, leaves and closes the lock: nobody enters later.
-    pub fn shut(mut self) {
-        self.end(true);
-    }
-
-    /// Does nothing if the task does not hold the lock any more.
-    fn end(&mut self, shuts: bool) {
-        let bytes = bytes_of(self.value);
-        // SAFETY: there is a turn if the task holds the lock.
-        unsafe { qolb_task_turn(&mut self.task).map(|mut turn| qolb_write(turn.as_mut(), u64::MAX, (&raw const bytes).cast())) };
-        leave_by(&self.lock.raw, &mut self.task, shuts);
-    }
-}
-
-impl<T: Copy + Send + 'static> Deref for LockTaskGuard<'_, T> {
-    type Target = T;
-    fn deref(&self) -> &T {
-        &self.value
-    }
-}
-
-impl<T: Copy + Send + 'static> DerefMut for LockTaskGuard<'_, T> {
-    fn deref_mut(&mut self) -> &mut T {
-        &mut self.value
-    }
-}
-
-impl<T: Copy + Send + 'static> Drop for LockTaskGuard<'_, T> {
-    fn drop(&mut self) {
-        self.end(false);
-    }
-}
-
 #[cfg(feature = "lock_api")]
 mod api {
     use super::{Answer, RawQolb};
@@ -1750,7 +1323,7 @@ mod api {
 
     // SAFETY: one thread at a time holds it.
     unsafe impl RawMutex for RawQolb {
-        const INIT: RawQolb = RawQolb::of_default();
+        const INIT: RawQolb = RawQolb::new();
         type GuardMarker = GuardNoSend;
 
         fn lock(&self) {

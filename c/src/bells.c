@@ -1,5 +1,5 @@
-/* The bells, how long a waiter polls, and the system calls of sleeping: Linux's futex. On other systems a sleeper polls
- * again after 200 us (bells.h). Tested, not proved. */
+/* The bells, the clock, and the system calls of sleeping: Linux's futex. On other systems a sleeper polls again after
+ * 200 us (bells.h). Tested, not proved. */
 #define _GNU_SOURCE
 #include "bells.h"
 #include <errno.h>
@@ -17,35 +17,6 @@ uint64_t qolb_now_(void) {
     struct timespec time;
     clock_gettime(CLOCK_MONOTONIC, &time);
     return (uint64_t)time.tv_sec * 1000000000 + (uint64_t)time.tv_nsec;
-}
-
-enum { LOOK_NANOSECONDS = 1500, LEAST_LOOKS = 16, MOST_LOOKS = 512 };
-
-/* The time of 64 pauses, by the quickest of five runs: in another one the thread may have lost the processor. */
-static uint64_t time_pauses(void) {
-    uint64_t least = UINT64_MAX;
-    for (int run = 0; run < 5; run++) {
-        uint64_t since = qolb_now_();
-        for (int k = 0; k < 64; k++) __builtin_ia32_pause();
-        uint64_t took = qolb_now_() - since;
-        if (took < least) least = took;
-    }
-    return least;
-}
-
-static unsigned count_looks(void) {
-    uint64_t took = time_pauses();
-    if (took <= 64 * LOOK_NANOSECONDS / MOST_LOOKS) return MOST_LOOKS;
-    uint64_t looks = 64 * LOOK_NANOSECONDS / took;
-    return looks > LEAST_LOOKS ? (unsigned)looks : LEAST_LOOKS;
-}
-
-/* Threads that count at the same time count nearly the same. */
-unsigned qolb_looks_(void) {
-    static atomic_uint counted;
-    unsigned looks = atomic_load_explicit(&counted, memory_order_relaxed);
-    if (looks == 0) atomic_store_explicit(&counted, looks = count_looks(), memory_order_relaxed);
-    return looks;
 }
 
 #ifdef __linux__

@@ -1,14 +1,13 @@
-/* Bells, at which threads sleep that wait for a lock or for a node's turn, and the clock of their time limits. One of
- * the library's internal files.
+/* Bells, at which threads sleep that wait for a node's turn; and for locks, too: the clock of time limits, sleeping at
+ * a word, and guards. One of the library's internal files.
  *
- * Each place at which a node of a line waits has a bell, and so has the door of each lock, for threads that want a
- * seat. A waiter adds itself to the bell's sleepers, and to counts of more: of all that wait for its lock; or, with a
- * node of its own, of all that wait for its line, and of all such. It reads the bell's word, checks once more for its
- * turn or seat, and sleeps while the word is unchanged. A waker first makes its change, and then loads those counts,
- * the one of most first; if none is 0, the waker loads the sleepers of the few bells that it has to ring. Each step is
- * sequentially consistent, but for those of qolb_end_turn_, in lock.c. So one of the two sees the other: a Dekker
- * handshake. tools/spin goes through all orders of these steps, and through those of protocols that differ by one step;
- * tools/seats.py runs these files themselves, on a model of the processor's memory.
+ * Each place at which a node of a line waits has a bell. A waiter adds itself to the bell's sleepers, and to counts of
+ * more: of all that wait for its line, and of all that wait with nodes. It reads the bell's word, checks once more for
+ * its turn, and sleeps while the word is unchanged. A waker first makes its change, and then loads those counts, the
+ * one of most first; if none is 0, the waker loads the sleepers of the few bells that it has to ring. Each step is
+ * sequentially consistent. So one of the two sees the other: a Dekker handshake. tools/spin goes through all orders of
+ * these steps, and through those of protocols that differ by one step; tools/explore_nodes.py runs these files
+ * themselves, on a model of the processor's memory.
  *
  * A waiter without a thread has a notice in the bell's list in place of a sleeper: the waker makes its call (notify.c).
  *
@@ -25,8 +24,6 @@
 #define HIDDEN __attribute__((visibility("hidden")))
 #define FOR_EVER UINT64_MAX
 
-/* How often a waiter yields the processor, once it has polled qolb_looks_() times and before it sleeps. */
-enum { YIELDS = 16 };
 /* The distance in bytes at which two objects share no cache line, nor a pair of lines that is fetched together. */
 enum { APART = 128 };
 
@@ -54,10 +51,6 @@ HIDDEN void qolb_sleep_at_(atomic_uint *word, unsigned value, uint64_t nanosecon
 
 /* Wakes at most this many sleepers of the word, which need not exist any more. */
 HIDDEN void qolb_wake_at_(atomic_uint *word, int most);
-
-/* How often a waiter polls before it yields the processor: as often as one instruction `pause` behind each poll makes
- * some 1.5 us, which is counted once. The instruction takes 10 to 140 cycles, by the processor. */
-HIDDEN unsigned qolb_looks_(void);
 
 /* ---- Guards ---- */
 

@@ -1,7 +1,5 @@
-/* The calls on nodes, as the library exports them: each is the proved one, but for a node that a lock has lent
- * (qolb_lock_turn). With a lent node its holder reads and writes the line, and every call that would change the node's
- * state is misuse: its lock would not know of it. Only opening and closing write to a handle, so threads may have
- * theirs side by side, as qolb_open writes them.
+/* The calls on nodes, as the library exports them: each is the proved one. Only opening and closing write to a handle,
+ * so threads may have theirs side by side, as qolb_open writes them.
  *
  * The calls that wait for a turn are here, too, and those by which a node is told of its turn (notify.c). All that
  * release a line ring its bells (bells.h). This is tested, not proved. So is the memory of an open line beside its
@@ -16,8 +14,8 @@ enum { NAP = 200000 };
 
 /* ---- Opening ---- */
 
-/* The number of nodes that sleep at bells or have a notice in a list, of any line that is no lock's. A release loads
- * it, and nothing more while it is 0. */
+/* The number of nodes that sleep at bells or have a notice in a list, of any line. A release loads it, and nothing more
+ * while it is 0. */
 static struct { _Alignas(APART) atomic_uint waiting; } anywhere;
 
 /* The first bells of lines that are opened one after another are far apart: the next is behind this one by the golden
@@ -64,47 +62,38 @@ static inline uint32_t let_go(qolb_node *node, uint32_t got) {
 static inline uint32_t told(qolb_node *node, uint32_t got) { return got == QOLB_CLOSED ? let_go(node, got) : got; }
 
 uint32_t qolb_enqolb(qolb_node *node) {
-    if (qolb_is_lent_(node)) return QOLB_MISUSE;
     return told(node, qolb_enqolb_proved_(node));
 }
 
 uint32_t qolb_poll(qolb_node *node) {
-    if (qolb_is_lent_(node)) return QOLB_MISUSE;
     return told(node, qolb_poll_proved_(node));
 }
 
 uint32_t qolb_withdraw(qolb_node *node) {
-    if (qolb_is_lent_(node)) return QOLB_MISUSE;
     return told(node, qolb_withdraw_proved_(node));
 }
 
 uint32_t qolb_prepend(qolb_node *node) {
-    if (qolb_is_lent_(node)) return QOLB_MISUSE;
     return told(node, qolb_prepend_proved_(node));
 }
 
 uint32_t qolb_link(qolb_node *node) {
-    if (qolb_is_lent_(node)) return QOLB_MISUSE;
     return told(node, qolb_link_proved_(node));
 }
 
 uint32_t qolb_deqolb(qolb_node *node) {
-    if (qolb_is_lent_(node)) return QOLB_MISUSE;
     return let_go(node, qolb_deqolb_proved_(node));
 }
 
 uint32_t qolb_shut(qolb_node *node) {
-    if (qolb_is_lent_(node)) return QOLB_MISUSE;
     return let_go(node, qolb_shut_proved_(node));
 }
 
 uint32_t qolb_wait(qolb_node *node, uint64_t polls) {
-    if (qolb_is_lent_(node)) return QOLB_MISUSE;
     return told(node, qolb_wait_proved_(node, polls));
 }
 
 uint32_t qolb_clear(qolb_node *node) {
-    if (qolb_is_lent_(node)) return QOLB_MISUSE;
     return qolb_clear_proved_(node);
 }
 
@@ -116,7 +105,6 @@ static int may_close(qolb_node *node) {
 
 /* Its notice is in the node's block. */
 uint32_t qolb_close(qolb_node *node) {
-    if (qolb_is_lent_(node)) return QOLB_MISUSE;
     if (may_close(node)) qolb_notify_off(node);
     return qolb_close_proved_(node);
 }
@@ -208,7 +196,6 @@ __attribute__((noinline)) static uint32_t acquired(qolb_node *node, uint32_t got
 }
 
 static inline uint32_t acquire(qolb_node *node, uint64_t nanoseconds) {
-    if (qolb_is_lent_(node)) return QOLB_MISUSE;
     struct limit limit = from_now(nanoseconds);
     uint32_t got = qolb_enqolb_proved_(node);
     return got == QOLB_GRANTED ? got : acquired(node, got, limit);
@@ -221,7 +208,7 @@ uint32_t qolb_acquire_within(qolb_node *node, uint64_t nanoseconds) { return acq
 /* ---- Being told of a turn (notify.c) ---- */
 
 uint32_t qolb_notify(qolb_node *node, void (*call)(void *), void *arg) {
-    if (qolb_is_lent_(node) || !call || qolb_state_proved_(node) != QOLB_STATE_QUEUED) return QOLB_MISUSE;
+    if (!call || qolb_state_proved_(node) != QOLB_STATE_QUEUED) return QOLB_MISUSE;
     struct notice *notice = notice_of(node);
     qolb_notify_off(node);
     notice->call = call;
@@ -232,7 +219,7 @@ uint32_t qolb_notify(qolb_node *node, void (*call)(void *), void *arg) {
 }
 
 uint32_t qolb_notify_off(qolb_node *node) {
-    if (qolb_is_lent_(node) || !node->own) return QOLB_MISUSE;
+    if (!node->own) return QOLB_MISUSE;
     struct notice *notice = notice_of(node);
     if (!notice->call) return QOLB_DONE;
     uint32_t got = qolb_unlist_(notice);
@@ -246,52 +233,39 @@ uint32_t qolb_notify_fd(qolb_node *node, int fd) {
 
 /* ---- The others ---- */
 
-/* The node of a call: for a lent one the holder's, if the caller is the holder, else NULL. */
-static inline qolb_node *meant(qolb_node *node) { return qolb_is_lent_(node) ? qolb_lent_(node) : node; }
-
 uint32_t qolb_read(qolb_node *node, qolb_bytes *out) {
-    if (!(node = meant(node))) return QOLB_MISUSE;
     return qolb_read_proved_(node, out);
 }
 
 uint32_t qolb_write(qolb_node *node, uint64_t mask, const qolb_bytes *bytes) {
-    if (!(node = meant(node))) return QOLB_MISUSE;
     return qolb_write_proved_(node, mask, bytes);
 }
 
 uint32_t qolb_read_lane(qolb_node *node, uint64_t lane, uint64_t *out) {
-    if (!(node = meant(node))) return QOLB_MISUSE;
     return qolb_read_lane_proved_(node, lane, out);
 }
 
 uint32_t qolb_write_lane(qolb_node *node, uint64_t lane, uint64_t value) {
-    if (!(node = meant(node))) return QOLB_MISUSE;
     return qolb_write_lane_proved_(node, lane, value);
 }
 
 uint32_t qolb_add_lane(qolb_node *node, uint64_t lane, uint64_t by, uint64_t *was) {
-    if (!(node = meant(node))) return QOLB_MISUSE;
     return qolb_add_lane_proved_(node, lane, by, was);
 }
 
-/* 0 for a node by which the caller does not hold, as for an empty handle. */
 uint64_t qolb_turns_left(qolb_node *node) {
-    if (!(node = meant(node))) return 0;
     return qolb_turns_left_proved_(node);
 }
 
 uint64_t qolb_number(qolb_node *node) {
-    if (!(node = meant(node))) return 0;
     return qolb_number_proved_(node);
 }
 
 uint64_t qolb_label(qolb_node *node) {
-    if (!(node = meant(node))) return 0;
     return qolb_label_proved_(node);
 }
 
 uint32_t qolb_state(qolb_node *node) {
-    if (!(node = meant(node))) return 0;
     return qolb_state_proved_(node);
 }
 

@@ -14,7 +14,6 @@ HIDDEN void *qolb_malloc_(size_t size);
 HIDDEN void *qolb_realloc_(void *block, size_t size);
 HIDDEN void qolb_free_(void *block);
 
-BY_THREAD struct room qolb_room_;
 BY_THREAD struct core_room qolb_core_room_;
 
 /* The place of a block of a lock's core, or NULL: each is given once. */
@@ -36,13 +35,6 @@ static struct before *before(void *block) { return (struct before *)block - 1; }
 void *qolb_malloc_(size_t size) {
     void *of_lock = given_by_lock(size);
     if (of_lock) return of_lock;
-    struct room *room = &qolb_room_;
-    if ((size == NODE_BYTES || size == LINE_BYTES) && (size_t)(room->end - room->at) >= ROOM_BYTES(size)) {
-        void *block = room->at;
-        room->at += ROOM_BYTES(size);
-        *before(block) = (struct before){NULL, size};
-        return block;
-    }
     char *given = size <= SIZE_MAX - 2 * GAP_BYTES ? malloc(KEPT_BYTES(size) + GAP_BYTES) : NULL;
     if (!given) return NULL;
     void *block = given + GAP_BYTES - (uintptr_t)given % GAP_BYTES;

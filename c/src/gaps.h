@@ -9,8 +9,7 @@ enum {
     TABLE_BLOCKS = 2,  /* the words, and the slots */
     LINE_BYTES = 112,  /* of the block with the line, which all nodes share, and the count of those that do */
     NODE_BYTES = 160,  /* of the block of each node, to which its handle points */
-    SEAT_BYTES = 40,   /* behind a node's data, for a lock's seat */
-    NOTICE_BYTES = 56, /* in its place, for the notice of a node that is no lock's */
+    NOTICE_BYTES = 56, /* behind a node's data, for its notice */
     GAP_BYTES = QOLB_NODE_ALIGN
 };
 
@@ -18,22 +17,13 @@ enum {
  * align the block. */
 #define KEPT_BYTES(size) (((size) + GAP_BYTES - 1) / GAP_BYTES * GAP_BYTES)
 
-/* What stands before each block: what malloc gave, or NULL for one in a lock's room; and the size asked for. */
+/* What stands before each block: what malloc gave, and the size asked for. */
 struct before {
     void *given;
     size_t size;
 };
 
-/* The bytes that a block of this size takes in a room: the next one has its `before` there too. */
-#define ROOM_BYTES(size) KEPT_BYTES((size) + sizeof(struct before))
-
-/* A lock's room for the blocks of its line and nodes, while the thread opens it: from `at`, a multiple of 128 bytes,
- * before `end`. The lock frees the room, and the blocks in it are not freed. */
-struct room {
-    char *at, *end;
-};
-
-/* The blocks of a lock's core, which lie in the lock's own bytes (core_lock/opens.c): its words, its slots, of which it
+/* The blocks of a lock's core, which lie in the lock's own bytes (lock/opens.c): its words, its slots, of which it
  * has none, and what refers to both. They have no `struct before`, and are never freed. */
 enum { CORE_WORDS_BYTES = 168, CORE_SLOTS_BYTES = 8, CORE_BLOCK_BYTES = 80 };
 
@@ -49,10 +39,9 @@ struct core_room {
 #define BY_THREAD _Thread_local
 #endif
 
-extern BY_THREAD __attribute__((visibility("hidden"))) struct room qolb_room_;
 extern BY_THREAD __attribute__((visibility("hidden"))) struct core_room qolb_core_room_;
 
-_Static_assert(SEAT_BYTES <= GAP_BYTES / 2 && NOTICE_BYTES <= GAP_BYTES / 2, "both are before the number");
+_Static_assert(NOTICE_BYTES <= GAP_BYTES / 2, "it is before the number");
 _Static_assert(NODE_BYTES % GAP_BYTES + GAP_BYTES / 2 + 2 * sizeof(uint32_t) + sizeof(struct before) <= GAP_BYTES,
                "all has room there");
 
@@ -66,10 +55,10 @@ static inline uint32_t *first_bell_of(const qolb_node *node) {
     return (uint32_t *)((char *)node->own + NODE_BYTES + GAP_BYTES / 2);
 }
 
-/* The number of the line's nodes, behind that number. A node of a lock has none. */
+/* The number of the line's nodes, behind that number. */
 static inline uint32_t *nodes_beside(const qolb_node *node) { return first_bell_of(node) + 1; }
 
-/* The node's notice (bells.h), before that number. A node of a lock has its seat there, and no notice. */
+/* The node's notice (bells.h), before that number. */
 static inline struct notice *notice_of(const qolb_node *node) { return behind(node); }
 
 #endif

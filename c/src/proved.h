@@ -1,4 +1,4 @@
-/* For the library's internal files, and preload.c: the proved calls, as crates/qolb_c/src/lib.rt exports them. A call
+/* For the library's internal files: the proved calls on nodes, as crates/qolb_c/src/lib.rt exports them. A call
  * of qolb.h has the same name without _proved_, and is in calls.c. */
 #ifndef QOLB_PROVED_H
 #define QOLB_PROVED_H
@@ -38,29 +38,5 @@ uint64_t qolb_waits_at_proved_(qolb_node *node);
  * the waiter behind it. The first is proved, the second is not. If there is none, a number at which no node waits. */
 uint64_t qolb_went_to_proved_(qolb_node *node);
 uint64_t qolb_went_ahead_proved_(qolb_node *node);
-
-/* Returns the node by which the calling thread holds the lock of a lent node; NULL if it does not hold it.
- *
- * A lent node is a handle whose lowest bit is set: without it, it is the address of a lock's hall. No node of the
- * library has an odd address. */
-__attribute__((visibility("hidden"))) qolb_node *qolb_lent_(const qolb_node *node);
-
-/* For the mutexes of c/preload/preload.c, as those of the system may be released by any thread.
- *
- * Leaves the lock for its holder, by any thread. MISUSE if no thread holds it. */
-__attribute__((visibility("hidden"))) uint32_t qolb_lock_leave_for_another_(qolb_lock *lock);
-/* Enters as qolb_lock_enter_within does, but a thread that holds the lock waits until another leaves for it. */
-__attribute__((visibility("hidden"))) uint32_t qolb_lock_enter_unasked_(qolb_lock *lock, uint64_t nanoseconds);
-/* Frees the guards of conditions, in the child of a fork: threads of the parent that were in a call on a condition are
- * not there. */
-__attribute__((visibility("hidden"))) void qolb_free_guards_(void);
-
-#ifdef QOLB_LOCK_CORE
-/* A lock of core_lock lends no node. */
-static inline int qolb_is_lent_(const qolb_node *node) { return (void)node, 0; }
-#define qolb_lent_(node) ((void)(node), (qolb_node *)NULL)
-#else
-static inline int qolb_is_lent_(const qolb_node *node) { return (int)((uintptr_t)node->own & 1); }
-#endif
 
 #endif

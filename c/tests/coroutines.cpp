@@ -135,7 +135,7 @@ enum { THREADS = 4, NODES = 160, MOST_LINES = 64 };
 static int many(int coroutines, int rounds, unsigned seed) {
     int lines = std::min<int>(MOST_LINES, (coroutines / 2 + NODES - 1) / NODES),
         at_lock = std::max(0, coroutines - lines * NODES);
-    qolb::Lock lock(8);
+    qolb::Lock lock(qolb::burst{static_cast<std::uint16_t>(seed % 2 * 64)});
     std::vector<std::vector<Share>> shares(THREADS);
     std::vector<qolb::Node> last;
     added_nodes = added_lock = guarded = 0;
@@ -234,7 +234,7 @@ static Job enters(qolb::Lock &lock, qolb::Inline &now, std::vector<qolb_answer> 
 }
 
 static int entering_is_told() {
-    qolb::Lock lock(1);
+    qolb::Lock lock;
     qolb::Inline now;
     std::vector<qolb_answer> told;
     std::vector<Job> jobs;
@@ -262,7 +262,7 @@ static Job enters_again(qolb::Lock &lock, qolb::Inline &now, int &turns) {
 
 // One object is awaited again and again, the first time while another thread would wait.
 static int an_enter_lasts() {
-    qolb::Lock lock(1);
+    qolb::Lock lock;
     qolb::Inline now;
     int turns = 0;
     if (lock.enter() != QOLB_GRANTED) return 1;

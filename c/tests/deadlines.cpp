@@ -36,11 +36,14 @@ struct Node {
     }
 };
 
+// Where nodes have lines of three kinds, locks are strict, and have bursts of two lengths.
+qolb::burst bursts_for(qolb_kind kind) { return qolb::burst{static_cast<std::uint16_t>(kind * 32)}; }
+
 struct Lock {
     qolb::lock lock;
     std::unique_lock<qolb::lock> held{lock};
 
-    explicit Lock(qolb_kind kind) : lock(2, kind) {}
+    explicit Lock(qolb_kind kind) : lock(bursts_for(kind)) {}
     template <class Time> bool within(Time time) { return had(lock.try_lock_for(time)); }
     template <class End> bool until(End end) { return had(lock.try_lock_until(end)); }
     void can_be_had() { held.unlock(); }
@@ -57,7 +60,7 @@ struct Signal {
     qolb::Condition cond;
     bool is_so = false;
 
-    explicit Signal(qolb_kind kind) : lock(2, kind) {}
+    explicit Signal(qolb_kind kind) : lock(bursts_for(kind)) {}
     template <class Time> bool within(Time time) {
         std::unique_lock<qolb::lock> held(lock);
         return is_so || cond.wait_for(held, time);

@@ -3,7 +3,7 @@
 #[path = "../rust/qolb.rs"]
 mod qolb;
 
-use qolb::{Answer, Bytes, Guard, Kind, Lock, Mutex, Node, State, Stopped};
+use qolb::{Answer, Bytes, Guard, Kind, Mutex, Node, State, Stopped};
 use std::error::Error;
 use std::future::Future;
 use std::io::{ErrorKind, Read};
@@ -233,9 +233,9 @@ fn a_dropped_future_withdraws(kind: Kind) {
     assert_eq!((first.deqolb(), first.try_acquire()), (Answer::Done, Answer::Granted));
 }
 
-/// Of a mutex and of a lock: free, held by a thread, held by a task, free again though a future gave up, and shut.
-fn each_future(kind: Kind) {
-    let (mutex, lock) = (Mutex::of_kind(0, kind, 1), Lock::of_kind(0, kind, 1).unwrap());
+/// Of a strict mutex and of one with bursts: free, held by a thread, held by a task, free again though a future gave up, and shut.
+fn each_future() {
+    let (mutex, lock) = (Mutex::new(0), Mutex::with_burst(0, 64));
     let both = || (polled(mutex.lock_async()), polled(lock.lock_async()));
     let all = |told: &str| (told.to_string(), told.to_string());
     let mut context = Context::from_waker(Waker::noop());
@@ -295,7 +295,6 @@ fn says() {
     assert_eq!((Kind::DEFAULT, Kind::default()), (Kind::Ticket, Kind::Ticket));
     assert_eq!(Kind::ALL.map(Kind::name), ["ring", "link", "ticket"]);
     assert_eq!(Kind::Link.to_string(), "link");
-    assert!(matches!(Kind::Link, Kind::List)); // the former name
     assert_eq!(asks(1, false).unwrap(), 5);
     assert_eq!(asks(201, false).unwrap_err().to_string(), "a line has 1 to 200 nodes");
     assert_eq!(asks(1, true).unwrap_err().to_string(), "the line is closed");
@@ -348,11 +347,11 @@ fn main() {
     alarm(300); // where a turn is lost, who waits for it does not end
     says();
     tells_memory();
+    each_future();
     for kind in Kind::ALL {
         each_call(kind);
         wishes_end(kind);
         a_dropped_future_withdraws(kind);
-        each_future(kind);
         is_cancelled(kind);
     }
 }

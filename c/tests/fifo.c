@@ -133,7 +133,7 @@ int main(int argc, char **argv) {
     with_mutex = argc > 1 && strcmp(argv[1], "mutex") == 0;
     if (with_mutex) return enters_when_woken_in_a_leave();
     for (size_t k = 0; k < sizeof bursts / sizeof bursts[0]; k++) {
-        lock = (qolb_lock)QOLB_LOCK_INIT_BURSTS(QOLB_LINK, 4, bursts[k]);
+        lock = (qolb_lock)QOLB_LOCK_INIT_BURSTS(bursts[k]);
         if (enters_when_woken_in_a_leave() || closes_when_woken_in_a_leave()) return 1;
         WANT(qolb_lock_close(&lock), QOLB_DONE);
     }

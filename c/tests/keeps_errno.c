@@ -114,7 +114,7 @@ int main(int argc, char **argv) {
         return 0;
     }
     for (int k = 0; k < 3; k++) {
-        lock = (qolb_lock)QOLB_LOCK_INIT_BURSTS(QOLB_DEFAULT, 4, k == 0 ? 0 : k == 1 ? 2 : 1024);
+        lock = (qolb_lock)QOLB_LOCK_INIT_BURSTS(k == 0 ? 0 : k == 1 ? 2 : 1024);
         in_threads(uses_lock, NULL);
         MUST(KEEPS(qolb_lock_enter(&lock)), QOLB_GRANTED);
         MUST(KEEPS(qolb_lock_shut(&lock)), QOLB_DONE);

@@ -13,13 +13,6 @@
 
 enum { MOST = 200 };
 
-/* A lock on the core lends no node (docs/CORE_LOCK.md). */
-#ifdef QOLB_LOCK_CORE
-#define IS_MINE(lock) qolb_lock_is_mine(lock)
-#else
-#define IS_MINE(lock) (qolb_lock_turn(lock) != NULL)
-#endif
-
 /* A thread that a test starts: its number, which it reports right before it waits. */
 struct helper {
     pthread_t id;
@@ -36,12 +29,16 @@ static void start(struct helper *it, void *(*work)(void *)) { MUST(pthread_creat
 
 /* ---- What each call answers ---- */
 
-static int of_a_closed_one(void) {
-    qolb_bytes zeros = {{0}};
-    qolb_lock lock = QOLB_LOCK_INIT(2), none = QOLB_LOCK_INIT(0), many = QOLB_LOCK_INIT(201),
-              odd = QOLB_LOCK_INIT_OF(3, 2);
+static qolb_lock of_bursts(uint64_t turns) {
+    qolb_lock lock = QOLB_LOCK_INIT_BURSTS(turns);
+    return lock;
+}
+
+static int of_an_unopened_one(void) {
+    qolb_lock lock = QOLB_LOCK_INIT;
     qolb_cond cond = QOLB_COND_INIT;
-    WANT(lock.kind, QOLB_TICKET);
+    static const qolb_lock zeros;
+    WANT(memcmp(&lock, &zeros, sizeof lock), 0);
     WANT(qolb_lock_leave(&lock), QOLB_MISUSE);
     WANT(qolb_lock_shut(&lock), QOLB_MISUSE);
     WANT(qolb_cond_wait(&cond, &lock), QOLB_MISUSE);
@@ -49,54 +46,44 @@ static int of_a_closed_one(void) {
     WANT(qolb_cond_signal(&cond), QOLB_DONE);
     WANT(qolb_cond_broadcast(&cond), QOLB_DONE);
     WANT(qolb_lock_holder(&lock), 0);
-    WANT(IS_MINE(&lock), 0);
+    WANT(qolb_lock_is_mine(&lock), 0);
     WANT(qolb_lock_close(&lock), QOLB_DONE);
-    WANT(lock.own == NULL, 1);
-    WANT(qolb_lock_enter(&none), QOLB_BAD_NODES);
-    WANT(qolb_lock_try(&many), QOLB_BAD_NODES);
-    WANT(qolb_lock_enter_within(&odd, 1), QOLB_BAD_KIND);
-    WANT(qolb_lock_open(&lock, 3, 1, 2, &zeros), QOLB_BAD_KIND);
-    WANT(qolb_lock_open(&lock, QOLB_RING, 1, 0, &zeros), QOLB_BAD_NODES);
-    WANT(qolb_lock_open(&lock, QOLB_RING, 1, 201, &zeros), QOLB_BAD_NODES);
-    WANT(lock.own == NULL && none.own == NULL && many.own == NULL && odd.own == NULL, 1);
+    WANT(memcmp(&lock, &zeros, sizeof lock), 0);
     return 0;
 }
 
-/* Bursts that there are not, for a lock that is opened by its first use and by the call; and the least and the
- * longest. */
-static int of_bursts(void) {
-    static const uint32_t wrong[][2] = {{2, 1}, {200, 1}, {2, 65536}, {2, UINT32_MAX}, {1, 2},          {1, 1024},
-                                        {0, 2}, {201, 2}, {65536, 2}, {65538, 2},      {UINT32_MAX, 2}, {65538, 0}};
-    static const uint32_t right[][2] = {{2, 2}, {2, 65535}, {200, 2}, {200, 65535}, {1, 0}, {4, 0}};
-    qolb_bytes zeros = {{0}};
-    for (size_t k = 0; k < sizeof wrong / sizeof wrong[0]; k++) {
-        qolb_lock lock = QOLB_LOCK_INIT_BURSTS(QOLB_LINK, wrong[k][0], wrong[k][1]),
-                  odd = QOLB_LOCK_INIT_BURSTS(3, wrong[k][0], wrong[k][1]);
-        WANT(qolb_lock_enter(&lock), QOLB_BAD_NODES);
-        WANT(qolb_lock_try(&odd), QOLB_BAD_KIND);
-        WANT(qolb_lock_open(&lock, QOLB_TICKET, 1, QOLB_SEATS(wrong[k][0], wrong[k][1]), &zeros), QOLB_BAD_NODES);
-        WANT(qolb_lock_open(&lock, 3, 1, QOLB_SEATS(wrong[k][0], wrong[k][1]), &zeros), QOLB_BAD_KIND);
-        WANT(lock.own == NULL && odd.own == NULL, 1);
-    }
-    qolb_lock lock = QOLB_LOCK_INIT(2);
-    WANT(qolb_lock_open(&lock, QOLB_LINK, 1, ((uint64_t)1 << 32) + QOLB_SEATS(4, 1024), &zeros), QOLB_BAD_NODES);
-    WANT(qolb_lock_open(&lock, QOLB_LINK, 1, ((uint64_t)1 << 32) + 4, &zeros), QOLB_BAD_NODES);
-    for (size_t k = 0; k < sizeof right / sizeof right[0]; k++) {
-        qolb_lock other = QOLB_LOCK_INIT_BURSTS(QOLB_RING, right[k][0], right[k][1]);
-        WANT(qolb_lock_open(&lock, QOLB_LINK, 1, QOLB_SEATS(right[k][0], right[k][1]), &zeros), QOLB_DONE);
-        WANT(lock.kind == QOLB_LINK && lock.seats == QOLB_SEATS(right[k][0], right[k][1]), 1);
-        WANT(qolb_lock_close(&lock), QOLB_DONE);
-        WANT(qolb_lock_enter(&other), QOLB_GRANTED);
-        WANT(qolb_lock_leave(&other), QOLB_DONE);
-        WANT(qolb_lock_close(&other), QOLB_DONE);
+/* Each number of turns, of a lock that is opened by its first use and by the call; memory of calloc; and closed and
+ * used again. */
+static int of_any_bursts(void) {
+    static const uint64_t turns[] = {0, 1, 2, 3, 1024, 65535, 65536, (uint64_t)1 << 32, UINT64_MAX};
+    qolb_lock *zeros = calloc(1, sizeof *zeros), opened = QOLB_LOCK_INIT;
+    if (!zeros) return 1;
+    WANT(qolb_lock_enter(zeros), QOLB_GRANTED);
+    WANT(qolb_lock_leave(zeros), QOLB_DONE);
+    WANT(qolb_lock_close(zeros), QOLB_DONE);
+    free(zeros);
+    for (size_t k = 0; k < sizeof turns / sizeof turns[0]; k++) {
+        qolb_lock lock = QOLB_LOCK_INIT_BURSTS(turns[k]);
+        for (int again = 0; again < 2; again++) {
+            WANT(qolb_lock_enter(&lock), QOLB_GRANTED);
+            WANT(qolb_lock_leave(&lock), QOLB_DONE);
+            WANT(qolb_lock_open(&lock, 5), QOLB_OCCUPIED);
+            WANT(qolb_lock_close(&lock), QOLB_DONE);
+            WANT(lock.turns == turns[k], 1);
+        }
+        WANT(qolb_lock_open(&opened, turns[k]), QOLB_DONE);
+        WANT(qolb_lock_open(&opened, turns[k]), QOLB_OCCUPIED);
+        WANT(qolb_lock_enter(&opened), QOLB_GRANTED);
+        WANT(qolb_lock_leave(&opened), QOLB_DONE);
+        WANT(qolb_lock_close(&opened), QOLB_DONE);
     }
     return 0;
 }
 
-/* The answers to another thread, of a holder's lock and of the node that it was lent. */
+/* The answers to another thread, of a holder's lock. */
 static void *of_another(void *argument) {
     struct helper *me = argument;
-    MUST(IS_MINE(me->lock), 0);
+    MUST(qolb_lock_is_mine(me->lock), 0);
     MUST(qolb_lock_leave(me->lock), QOLB_MISUSE);
     MUST(qolb_lock_shut(me->lock), QOLB_MISUSE);
     MUST(qolb_cond_wait(me->cond, me->lock), QOLB_MISUSE);
@@ -105,89 +92,6 @@ static void *of_another(void *argument) {
     MUST(qolb_lock_close(me->lock), QOLB_MISUSE);
     return NULL;
 }
-
-#ifndef QOLB_LOCK_CORE
-static qolb_node *lent_node;
-
-static void *by_lent_node(void *argument) {
-    uint64_t lane = 77;
-    (void)argument;
-    MUST(qolb_read_lane(lent_node, 0, &lane), QOLB_MISUSE);
-    MUST(lane, 77);
-    MUST(qolb_write_lane(lent_node, 0, 1), QOLB_MISUSE);
-    MUST(qolb_state(lent_node), QOLB_STATE_EMPTY);
-    MUST(qolb_number(lent_node), 0);
-    MUST(qolb_deqolb(lent_node), QOLB_MISUSE);
-    return NULL;
-}
-
-static int refuses_to_move(qolb_node *lent) {
-    WANT(qolb_clear(lent), QOLB_MISUSE);
-    WANT(qolb_enqolb(lent), QOLB_MISUSE);
-    WANT(qolb_poll(lent), QOLB_MISUSE);
-    WANT(qolb_wait(lent, 1), QOLB_MISUSE);
-    WANT(qolb_withdraw(lent), QOLB_MISUSE);
-    WANT(qolb_prepend(lent), QOLB_MISUSE);
-    WANT(qolb_link(lent), QOLB_MISUSE);
-    WANT(qolb_deqolb(lent), QOLB_MISUSE);
-    WANT(qolb_shut(lent), QOLB_MISUSE);
-    WANT(qolb_close(lent), QOLB_MISUSE);
-    WANT(qolb_acquire(lent), QOLB_MISUSE);
-    WANT(qolb_acquire_within(lent, 0), QOLB_MISUSE);
-    WANT(qolb_try(lent), QOLB_MISUSE);
-    return 0;
-}
-
-/* The holder reads and writes by the node that it was lent, in a lock that was opened with the label 9 and three
- * seats. */
-static int reads_and_writes(qolb_node *lent, const qolb_bytes *opening) {
-    qolb_bytes seen;
-    uint64_t lane;
-    WANT(qolb_read(lent, &seen), QOLB_DONE);
-    WANT(memcmp(&seen, opening, sizeof seen), 0);
-    WANT(qolb_write_lane(lent, 7, 5), QOLB_DONE);
-    WANT(qolb_write(lent, 1, &(qolb_bytes){{3}}), QOLB_DONE);
-    WANT(qolb_read_lane(lent, 8, &lane), QOLB_MISUSE);
-    WANT(qolb_read_lane(lent, 0, &lane), QOLB_DONE);
-    WANT(lane, 0x203);
-    WANT(qolb_state(lent), QOLB_STATE_HOLDING);
-    WANT(qolb_label(lent), 9);
-    WANT(qolb_turns_left(lent), QOLB_NO_LEASE);
-    WANT(qolb_number(lent) >= 1 && qolb_number(lent) <= 3, 1);
-    return refuses_to_move(lent);
-}
-
-static int lends_a_node(qolb_lock *lock, struct helper *other, const qolb_bytes *opening) {
-    lent_node = qolb_lock_turn(lock);
-    if (reads_and_writes(lent_node, opening)) return 1;
-    start(other, by_lent_node);
-    pthread_join(other->id, NULL);
-    return 0;
-}
-
-/* Once the lock is left, and entered anew. */
-static int lends_no_more(void) {
-    WANT(qolb_state(lent_node), QOLB_STATE_EMPTY);
-    return refuses_to_move(lent_node);
-}
-
-static int lane_7_is(qolb_lock *lock, uint64_t wanted) {
-    uint64_t lane;
-    WANT(qolb_read_lane(qolb_lock_turn(lock), 7, &lane), QOLB_DONE);
-    WANT(lane, wanted);
-    return 0;
-}
-#else
-static int lends_a_node(qolb_lock *lock, struct helper *other, const qolb_bytes *opening) {
-    (void)lock, (void)other, (void)opening;
-    return 0;
-}
-static int lends_no_more(void) { return 0; }
-static int lane_7_is(qolb_lock *lock, uint64_t wanted) {
-    (void)lock, (void)wanted;
-    return 0;
-}
-#endif
 
 static int of_others(qolb_lock *lock) {
     qolb_cond cond = QOLB_COND_INIT;
@@ -202,10 +106,8 @@ static int of_others(qolb_lock *lock) {
     return 0;
 }
 
-/* A shut lock answers CLOSED to all later threads; closed and used again it is as after its initialiser, with its kind
- * and its seats. */
+/* A shut lock answers CLOSED to all later threads; closed and used again it is as after its initialiser. */
 static int of_a_shut_one(qolb_lock *lock) {
-    uint32_t kind = lock->kind, seats = lock->seats;
     WANT(qolb_lock_shut(lock), QOLB_DONE);
     WANT(qolb_lock_shut(lock), QOLB_MISUSE);
     for (int k = 0; k < 5; k++) {
@@ -214,26 +116,17 @@ static int of_a_shut_one(qolb_lock *lock) {
         WANT(qolb_lock_enter_within(lock, MS), QOLB_CLOSED);
     }
     WANT(qolb_lock_close(lock), QOLB_DONE);
-    WANT(lock->kind, kind);
-    WANT(lock->seats, seats);
     WANT(qolb_lock_enter(lock), QOLB_GRANTED);
-    if (lane_7_is(lock, 0)) return 1;
     WANT(qolb_lock_leave(lock), QOLB_DONE);
     WANT(qolb_lock_close(lock), QOLB_DONE);
     return 0;
 }
 
-static int of_the_holder(uint32_t kind) {
-    qolb_bytes opening = {{1, 2}};
-    qolb_lock lock = QOLB_LOCK_INIT(1);
-    struct helper other = {.lock = &lock};
-    WANT(qolb_lock_open(&lock, kind, 9, 3, &opening), QOLB_DONE);
-    WANT(qolb_lock_open(&lock, kind, 9, 3, &opening), QOLB_OCCUPIED);
-    WANT(lock.seats, 3);
+static int of_the_holder(uint32_t burst) {
+    qolb_lock lock = of_bursts(burst);
     WANT(qolb_lock_enter(&lock), QOLB_GRANTED);
     WANT(qolb_lock_holder(&lock), gettid());
-    WANT(IS_MINE(&lock), 1);
-    if (lends_a_node(&lock, &other, &opening)) return 1;
+    WANT(qolb_lock_is_mine(&lock), 1);
     WANT(qolb_lock_try(&lock), QOLB_BUSY);
     WANT(qolb_lock_close(&lock), QOLB_MISUSE);
     if (of_others(&lock)) return 1;
@@ -241,9 +134,8 @@ static int of_the_holder(uint32_t kind) {
     WANT(qolb_lock_leave(&lock), QOLB_DONE);
     WANT(qolb_lock_leave(&lock), QOLB_MISUSE);
     WANT(qolb_lock_holder(&lock), 0);
-    if (lends_no_more()) return 1;
+    WANT(qolb_lock_is_mine(&lock), 0);
     WANT(qolb_lock_try(&lock), QOLB_GRANTED);
-    if (lane_7_is(&lock, 5)) return 1;
     return of_a_shut_one(&lock);
 }
 
@@ -272,12 +164,11 @@ static void *notes_its_turn(void *argument) {
     return NULL;
 }
 
-/* Some threads were late before, so that their seats are busy; and a thread tried. Waiting threads take no processor.
- * With bursts those that wait keep their order, too. */
-static int in_order(uint32_t kind, uint32_t burst) {
+/* Some threads were late before, and a thread tried. Waiting threads take no processor. With bursts those that wait
+ * keep their order, too. */
+static int in_order(uint32_t burst) {
     enum { THREADS = 8, LATE = 3 };
-    /* The holder, those that were late, and those that wait. */
-    qolb_lock lock = QOLB_LOCK_INIT_BURSTS(kind, 1 + LATE + LATE + THREADS, burst);
+    qolb_lock lock = of_bursts(burst);
     struct helper late[LATE] = {{0}}, threads[THREADS] = {{0}};
     guarded.served = 0;
     WANT(qolb_lock_enter(&lock), QOLB_GRANTED);
@@ -307,16 +198,16 @@ static int in_order(uint32_t kind, uint32_t burst) {
     return 0;
 }
 
-/* Far more threads than seats: they come one after another, the next when the last sleeps. Some give up in the middle.
- * The line is kept before, or is not; and a thread at the door may be late. */
-static int in_order_at_the_door(uint32_t kind, int is_kept, uint32_t burst) {
+/* Many threads, one after another, the next when the last sleeps. Some give up in the middle, as they can only while
+ * some sixty are before them. The lock was used before, or not. */
+static int many_in_order(int is_used, uint32_t burst) {
     enum { THREADS = 200, TURNS = 40 };
-    qolb_lock lock = QOLB_LOCK_INIT_BURSTS(kind, 2, burst);
+    qolb_lock lock = of_bursts(burst);
     static struct helper threads[THREADS];
     struct helper late = {.lock = &lock, .nanoseconds = 1};
     guarded.served = 0;
     memset(threads, 0, sizeof threads);
-    for (int k = 0; is_kept && k < TURNS; k++) {
+    for (int k = 0; is_used && k < TURNS; k++) {
         WANT(qolb_lock_enter(&lock), QOLB_GRANTED);
         WANT(qolb_lock_leave(&lock), QOLB_DONE);
     }
@@ -341,9 +232,9 @@ static int in_order_at_the_door(uint32_t kind, int is_kept, uint32_t burst) {
 
 /* While some threads wait, this one enters again and again. The k-th of them is overtaken at most k * (burst - 1)
  * times; and by some turns, as it slept. */
-static int overtaken_within_the_bound(uint32_t kind, uint32_t seats, uint32_t burst) {
+static int overtaken_within_the_bound(uint32_t burst) {
     enum { THREADS = 3 };
-    qolb_lock lock = QOLB_LOCK_INIT_BURSTS(kind, seats, burst);
+    qolb_lock lock = of_bursts(burst);
     struct helper threads[THREADS] = {{0}};
     guarded.served = 0;
     WANT(qolb_lock_enter(&lock), QOLB_GRANTED);
@@ -369,12 +260,12 @@ static int overtaken_within_the_bound(uint32_t kind, uint32_t seats, uint32_t bu
     return 0;
 }
 
-static int bursts(uint32_t kind) {
-    static const uint32_t of[][2] = {{2, 2}, {2, 3}, {4, 16}, {2, 64}, {4, 1024}, {3, 65535}};
+static int bursts(void) {
+    static const uint32_t of[] = {2, 3, 16, 64, 1024, 65535};
     shared_turns = 0;
-    for (int round = 0; round < 4; round++)
+    for (int round = 0; round < 8; round++)
         for (size_t k = 0; k < sizeof of / sizeof of[0]; k++)
-            if (overtaken_within_the_bound(kind, of[k][0], of[k][1])) return 1;
+            if (overtaken_within_the_bound(of[k])) return 1;
     WANT(shared_turns > 0, 1);
     return 0;
 }
@@ -392,11 +283,10 @@ static void *has_a_long_turn(void *argument) {
     return NULL;
 }
 
-static int others_sleep_on(uint32_t kind) {
+static int others_sleep_on(uint32_t burst) {
     enum { THREADS = 12, MOST_SLEEPS = 8 };
-    static qolb_lock lock = QOLB_LOCK_INIT(1 + THREADS);
+    qolb_lock lock = of_bursts(burst);
     struct helper threads[THREADS] = {{0}};
-    lock.kind = kind;
     WANT(qolb_lock_enter(&lock), QOLB_GRANTED);
     for (int k = 0; k < THREADS; k++) {
         threads[k].lock = &lock;
@@ -412,19 +302,17 @@ static int others_sleep_on(uint32_t kind) {
     return 0;
 }
 
-/* More threads than seats: each is served, also if every seat is busy for a while, and a thread that is late without a
- * seat is late. */
-static int without_a_seat(uint32_t kind) {
+/* Those that wait behind some that gave up are served. A lock for which threads wait is not closed. */
+static int behind_those_that_gave_up(uint32_t burst) {
     enum { THREADS = 6 };
-    static qolb_lock lock = QOLB_LOCK_INIT(2);
+    qolb_lock lock = of_bursts(burst);
     struct helper threads[THREADS] = {{0}};
-    lock.kind = kind;
     guarded.served = 0;
     WANT(qolb_lock_enter(&lock), QOLB_GRANTED);
     struct helper late = {.lock = &lock, .nanoseconds = MS};
     start(&late, enters_once);
     pthread_join(late.id, NULL);
-    WANT(late.got, QOLB_LATE); /* the second seat is busy now */
+    WANT(late.got, QOLB_LATE);
     double since = seconds(CLOCK_MONOTONIC);
     late.nanoseconds = 20 * MS;
     start(&late, enters_once);
@@ -468,7 +356,7 @@ static void *is_cancelled_at_condition(void *argument) {
 }
 
 static int cancelled(void *(*work)(void *)) {
-    static qolb_lock lock = QOLB_LOCK_INIT(2);
+    static qolb_lock lock = QOLB_LOCK_INIT;
     static qolb_cond cond = QOLB_COND_INIT;
     struct helper thread = {.lock = &lock, .cond = &cond};
     void *ended;
@@ -486,7 +374,7 @@ static int cancelled(void *(*work)(void *)) {
     return 0;
 }
 
-/* A wait of a second takes no processor: for a lock, for a seat of it, at a condition, and with a node. */
+/* A wait of a second takes no processor: for a lock, at a condition, and with a node. */
 static void *waits_a_second(void *argument) {
     struct helper *me = argument;
     double since = used().processor;
@@ -539,7 +427,7 @@ static int close_nodes(qolb_node *held) { return held->own != NULL; }
 #endif
 
 static int waiters_take_no_processor(void) {
-    static qolb_lock held = QOLB_LOCK_INIT(2), free = QOLB_LOCK_INIT(2);
+    static qolb_lock held = QOLB_LOCK_INIT, free = QOLB_LOCK_INIT_BURSTS(64);
     static qolb_cond cond = QOLB_COND_INIT;
     static void *(*const works[])(void *) = {waits_a_second, waits_a_second, waits_a_second,
                                              waits_a_second_at_condition, waits_a_second_with_a_node};
@@ -563,7 +451,7 @@ static int waiters_take_no_processor(void) {
     return 0;
 }
 
-/* All threads that wait when the lock is shut are answered CLOSED: for a turn, for a seat, and at a condition. */
+/* All threads that wait when the lock is shut are answered CLOSED: for a turn, and at a condition. */
 static void *waits_at_condition(void *argument) {
     struct helper *me = argument;
     MUST(qolb_lock_enter(me->lock), QOLB_GRANTED);
@@ -576,12 +464,11 @@ static void *waits_at_condition(void *argument) {
     return NULL;
 }
 
-static int shut_tells_all(uint32_t kind) {
+static int shut_tells_all(uint32_t burst) {
     enum { THREADS = 9 };
-    static qolb_lock lock = QOLB_LOCK_INIT(4);
+    qolb_lock lock = of_bursts(burst);
     qolb_cond cond = QOLB_COND_INIT;
     struct helper threads[THREADS] = {{0}};
-    lock.kind = kind;
     for (int k = 0; k < THREADS; k++) {
         threads[k].lock = &lock;
         threads[k].cond = &cond;
@@ -599,10 +486,9 @@ static int shut_tells_all(uint32_t kind) {
     return 0;
 }
 
-/* Once a shut has returned every call is told CLOSED, though who waits, for a turn or for a seat, may not have woken up
- * yet. */
-static int shut_is_seen_at_once(uint32_t kind, uint32_t seats, uint32_t waiters, int way) {
-    qolb_lock lock = QOLB_LOCK_INIT_OF(kind, seats);
+/* Once a shut has returned every call is told CLOSED, though who waits may not have woken up yet. */
+static int shut_is_seen_at_once(uint32_t burst, uint32_t waiters, int way) {
+    qolb_lock lock = of_bursts(burst);
     struct helper threads[4] = {{0}};
     WANT(qolb_lock_enter(&lock), QOLB_GRANTED);
     for (uint32_t k = 0; k < waiters; k++) {
@@ -622,12 +508,10 @@ static int shut_is_seen_at_once(uint32_t kind, uint32_t seats, uint32_t waiters,
     return 0;
 }
 
-static int shuts_seen_at_once(uint32_t kind) {
-    static const uint32_t seats_of[] = {1, 2, 4, 8, QOLB_SEATS(2, 2), QOLB_SEATS(4, 64), QOLB_SEATS(8, 1024)};
-    for (size_t k = 0; k < sizeof seats_of / sizeof seats_of[0]; k++)
-        for (uint32_t waiters = 1; waiters <= 4; waiters++)
-            for (int round = 0; round < 20; round++)
-                if (shut_is_seen_at_once(kind, seats_of[k], waiters, round % 2)) return 1;
+static int shuts_seen_at_once(uint32_t burst) {
+    for (uint32_t waiters = 1; waiters <= 4; waiters++)
+        for (int round = 0; round < 40; round++)
+            if (shut_is_seen_at_once(burst, waiters, round % 2)) return 1;
     return 0;
 }
 
@@ -642,13 +526,12 @@ static int served_by(qolb_lock *lock, int less) {
 
 /* A signal wakes the thread that has waited longest and no other; a late thread is not in the list any more; a
  * broadcast wakes all. */
-static int told_in_order(uint32_t kind) {
+static int told_in_order(uint32_t burst) {
     enum { THREADS = 7 };
-    static qolb_lock lock = QOLB_LOCK_INIT(THREADS + 1);
+    qolb_lock lock = of_bursts(burst);
     static qolb_cond cond = QOLB_COND_INIT;
     static const int told[] = {0, 2, 3, 4, 5, 6};
     struct helper threads[THREADS] = {{0}};
-    lock.kind = kind;
     guarded.served = 0;
     for (int k = 0; k < THREADS; k++) {
         threads[k] = (struct helper){.lock = &lock, .cond = &cond, .self = k, .nanoseconds = k == 1 ? 30 * MS : 0};
@@ -681,7 +564,7 @@ static int told_in_order(uint32_t kind) {
 static void does_nothing(int signal) { (void)signal; }
 
 static int interrupted(uint64_t nanoseconds) {
-    static qolb_lock lock = QOLB_LOCK_INIT(2);
+    static qolb_lock lock = QOLB_LOCK_INIT;
     static qolb_cond cond = QOLB_COND_INIT;
     struct helper thread = {.lock = &lock, .cond = &cond, .nanoseconds = nanoseconds};
     struct sigaction interrupts = {.sa_handler = does_nothing}; /* without SA_RESTART */
@@ -708,7 +591,7 @@ static struct {
     qolb_cond full, empty;
     int has, value;
     long made, taken, sum;
-} box = {QOLB_LOCK_INIT(6), QOLB_COND_INIT, QOLB_COND_INIT, 0, 0, 0, 0, 0};
+} box = {QOLB_LOCK_INIT, QOLB_COND_INIT, QOLB_COND_INIT, 0, 0, 0, 0, 0};
 
 enum { MAKERS = 3, TAKERS = 3, THINGS = 600 };
 
@@ -818,14 +701,13 @@ static void *uses(void *argument) {
     return NULL;
 }
 
-/* Threads come and go: each wave is joined, and another starts, before the next combination of kinds, seats and
- * ends. */
-static int much_use(uint32_t kind, unsigned threads, unsigned seats, int ends_by_shut) {
+/* Threads come and go: each wave is joined, and another starts, before the next combination of bursts and ends. */
+static int much_use(unsigned threads, uint32_t burst, int ends_by_shut) {
     static struct helper helpers[MOST];
     long had = 0;
     memset(&shared, 0, sizeof shared);
     memset(helpers, 0, sizeof helpers);
-    shared.lock = (qolb_lock)QOLB_LOCK_INIT_OF(kind, seats);
+    shared.lock = of_bursts(burst);
     shared.ends_by_shut = ends_by_shut;
     shared.rounds = threads > 32 ? 30 : 3000 / (int)threads;
     for (unsigned k = 0; k < threads; k++) {
@@ -861,54 +743,40 @@ static void *lets_go(void *argument) {
     return NULL;
 }
 
-static int freed_by_the_last(uint32_t kind, uint32_t burst) {
+static int freed_by_the_last(uint32_t burst) {
     for (int round = 0; round < 200; round++) {
         struct owned *it = malloc(sizeof *it);
         pthread_t ids[2];
         if (!it) return 1;
-        *it = (struct owned){QOLB_LOCK_INIT_BURSTS(kind, 2, burst), 2};
+        *it = (struct owned){QOLB_LOCK_INIT_BURSTS(burst), 2};
         for (int k = 0; k < 2; k++) MUST(pthread_create(&ids[k], NULL, lets_go, it), 0);
         for (int k = 0; k < 2; k++) pthread_join(ids[k], NULL);
     }
     return 0;
 }
 
-static int of_kind(uint32_t kind) {
-    for (int is_kept = 0; is_kept < 2; is_kept++)
-        if (in_order_at_the_door(kind, is_kept, 0) || in_order_at_the_door(kind, is_kept, 64)) return 1;
-    if (of_the_holder(kind) || in_order(kind, 0) || in_order(kind, 64) || others_sleep_on(kind) || without_a_seat(kind))
+static int with_bursts(uint32_t burst) {
+    static const unsigned threads[] = {2, 8, 32, 200};
+    for (int is_used = 0; is_used < 2; is_used++)
+        if (many_in_order(is_used, burst)) return 1;
+    if (of_the_holder(burst) || in_order(burst) || others_sleep_on(burst) || behind_those_that_gave_up(burst)) return 1;
+    if (shut_tells_all(burst) || shuts_seen_at_once(burst) || told_in_order(burst) || freed_by_the_last(burst))
         return 1;
-    if (shut_tells_all(kind) || shuts_seen_at_once(kind) || told_in_order(kind) || freed_by_the_last(kind, 0) ||
-        freed_by_the_last(kind, 2) || bursts(kind))
-        return 1;
-    static const unsigned uses_of[][2] = {{2, 1},
-                                          {2, 2},
-                                          {8, 3},
-                                          {8, 20},
-                                          {32, 5},
-                                          {32, 32},
-                                          {200, 200},
-                                          {200, 16},
-                                          {2, QOLB_SEATS(2, 2)},
-                                          {8, QOLB_SEATS(3, 2)},
-                                          {8, QOLB_SEATS(20, 3)},
-                                          {32, QOLB_SEATS(2, 64)},
-                                          {32, QOLB_SEATS(5, 1024)},
-                                          {200, QOLB_SEATS(4, 16)},
-                                          {200, QOLB_SEATS(200, 65535)}};
-    for (size_t k = 0; k < sizeof uses_of / sizeof uses_of[0]; k++)
+    for (size_t k = 0; k < sizeof threads / sizeof threads[0]; k++)
         for (int shut = 0; shut < 2; shut++)
-            if (much_use(kind, uses_of[k][0], uses_of[k][1], shut)) return 1;
+            for (int round = 0; round < 3; round++)
+                if (much_use(threads[k], burst, shut)) return 1;
     return 0;
 }
 
 int main(int argc, char **argv) {
     alarm(argc > 1 ? (unsigned)atoi(argv[1]) : 1200);
-    if (of_a_closed_one() || of_bursts() || cancelled(is_cancelled) || cancelled(is_cancelled_at_condition) ||
+    if (of_an_unopened_one() || of_any_bursts() || cancelled(is_cancelled) || cancelled(is_cancelled_at_condition) ||
         interrupted(0) || interrupted(UINT64_MAX))
         return 1;
-    if (waiters_take_no_processor() || makers_and_takers()) return 1;
-    for (uint32_t kind = 0; kind < QOLB_KINDS; kind++)
-        if (of_kind(kind)) return 1;
+    if (waiters_take_no_processor() || makers_and_takers() || bursts()) return 1;
+    static const uint32_t of[] = {0, 2, 64, 65535};
+    for (size_t k = 0; k < sizeof of / sizeof of[0]; k++)
+        if (with_bursts(of[k])) return 1;
     return 0;
 }

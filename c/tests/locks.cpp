@@ -50,23 +50,22 @@ void together(int count, const std::function<void(int)> &work) {
 
 constexpr int threads = 8, rounds = 500;
 
-qolb::lock of_few_seats(3);
+qolb::lock strict;
 long turns;
 
 bool counts() {
-    qolb::lock other(64, QOLB_LINK);
-    WANT(other.native_handle()->kind == QOLB_LINK && other.native_handle()->seats == 64);
+    qolb::lock other(qolb::burst{16});
     for (int wave = 0; wave < 3; wave++) {
         together(threads, [&](int self) {
             for (int k = 0; k < rounds; k++) {
                 if (self % 3 == 0) {
-                    std::lock_guard<qolb::lock> turn(of_few_seats);
+                    std::lock_guard<qolb::lock> turn(strict);
                     turns++;
                 } else if (self % 3 == 1) {
-                    std::scoped_lock turn(of_few_seats, other);
+                    std::scoped_lock turn(strict, other);
                     turns++;
                 } else {
-                    std::unique_lock<qolb::lock> turn(of_few_seats, std::defer_lock);
+                    std::unique_lock<qolb::lock> turn(strict, std::defer_lock);
                     while (!turn.try_lock_for(100us) && !turn.try_lock()) {}
                     turns++;
                 }
@@ -86,8 +85,8 @@ void until_asleep(const std::atomic<int> &number) {
 }
 
 // While one waits, this thread enters again and again: at most burst - 1 times.
-bool is_overtaken_within(std::uint32_t burst) {
-    qolb::lock lock(qolb::seats{2}, qolb::burst{burst});
+bool is_overtaken_within(std::uint16_t burst) {
+    qolb::lock lock(qolb::burst{burst});
     std::atomic<int> number{0};
     bool served = false;
     std::uint32_t later = 0;
@@ -109,13 +108,10 @@ bool is_overtaken_within(std::uint32_t burst) {
     return true;
 }
 
-constexpr qolb::seats four{4};
-qolb::lock in_bursts(four, qolb::burst{64});
+qolb::lock in_bursts(qolb::burst{64});
 
 bool bursts() {
-    const qolb_lock *raw = in_bursts.native_handle();
-    WANT(raw->kind == QOLB_LINK && raw->seats == QOLB_SEATS(4, 64));
-    for (std::uint32_t burst : {2u, 16u, 1024u, 65535u}) WANT(is_overtaken_within(burst));
+    for (std::uint16_t burst : {1, 2, 16, 1024, 65535}) WANT(is_overtaken_within(burst));
     long had = 0;
     together(threads, [&](int) {
         for (int k = 0; k < rounds; k++) {
@@ -124,25 +120,18 @@ bool bursts() {
         }
     });
     WANT(had == threads * rounds);
-    for (std::uint32_t burst : {1u, 65536u, 65540u})
-        WANT(throws<qolb::Misuse>([&] { qolb::lock(four, qolb::burst{burst}).lock(); }));
-    WANT(throws<qolb::Misuse>([&] { qolb::lock(qolb::seats{1}, qolb::burst{2}).lock(); }));
-    qolb::lock strict(qolb::seats{1}, qolb::burst{0}, QOLB_RING);
-    WANT(strict.try_lock() && strict.native_handle()->kind == QOLB_RING && strict.leave() == QOLB_DONE);
-    qolb::guarded<int> value(3, four, qolb::burst{2});
+    qolb::guarded<int> value(3, qolb::burst{2});
     value.with([](int &it) { it++; });
     WANT(value.load() == 4);
-    WANT(throws<qolb::Misuse>([] { qolb::guarded<int> none(0, four, qolb::burst{1}); }));
     return true;
 }
 
 bool answers() {
-    qolb::lock lock(2), none(0);
-    WANT(lock.holder() == 0 && lock.native_handle()->kind == QOLB_TICKET);
+    qolb::lock lock;
+    WANT(lock.holder() == 0 && !lock.is_mine());
     WANT(throws<qolb::Misuse>([&] { lock.unlock(); }));
-    WANT(throws<qolb::Misuse>([&] { none.lock(); }));
-    WANT(none.enter() == QOLB_BAD_NODES);
     lock.lock();
+    WANT(lock.is_mine());
     WANT(lock.holder() == static_cast<std::uint64_t>(gettid()));
     WANT(!lock.try_lock());
     auto since = std::chrono::steady_clock::now();
@@ -294,13 +283,58 @@ struct Count {
     char last;
 };
 
-struct Whole {
-    explicit Whole(int it) : bytes{} { bytes[63] = static_cast<char>(it); }
-    char bytes[64];
+struct Large {
+    explicit Large(int it) : bytes{} { bytes[999] = static_cast<char>(it); }
+    char bytes[1000];
 };
 
+// Not to be copied or moved, nor made without arguments.
+struct Fixed {
+    Fixed() : number(3) {}
+    Fixed(const Fixed &) = delete;
+    int number;
+};
+
+// They are made at compile time.
+#if defined(__cpp_constinit)
+constinit qolb::lock static_lock(qolb::burst{1024});
+constinit qolb::guarded<Count> static_count(Count{1, 2, 'd'});
+#else
+qolb::lock static_lock(qolb::burst{1024});
+qolb::guarded<Count> static_count(Count{1, 2, 'd'});
+#endif
+
+// In place, and in no cache line of its lock.
+bool lies_apart() {
+    std::vector<qolb::guarded<char>> many(8);
+    for (auto &it : many) {
+        auto end = reinterpret_cast<std::uintptr_t>(&it) + sizeof(qolb::lock);
+        it.with([&](char &value) { end = reinterpret_cast<std::uintptr_t>(&value) / 64 - (end - 1) / 64; });
+        WANT(end > 0);
+    }
+    return true;
+}
+
+// What a throw leaves: of `with` what was changed until then, of `update` nothing.
+bool throws_in_turns() {
+    qolb::guarded<std::string> text(std::string("a"), qolb::burst{16});
+    auto adds = [](std::string &it) -> std::size_t {
+        it += "b";
+        if (it.size() < 4) throw 7;
+        return it.size();
+    };
+    WANT(throws<int>([&] { text.update(adds); }) && text.load() == "a");
+    WANT(throws<int>([&] { text.with(adds); }) && text.load() == "ab");
+    WANT(throws<int>([&] { text.with(adds); }) && text.load() == "abb");
+    WANT(text.update(adds) == 4 && text.load() == "abbb");
+    WANT(text.with(adds) == 5 && text.load() == "abbbb");
+    text.update([](std::string &it) { it.clear(); });
+    WANT(text.load().empty());
+    return true;
+}
+
 bool guards() {
-    qolb::guarded<Count> count(Count{5, 0.5, 'a'}, 4);
+    qolb::guarded<Count> count(Count{5, 0.5, 'a'});
     long beside = 0;
     together(threads, [&](int self) {
         for (int k = 0; k < rounds; k++) {
@@ -331,21 +365,23 @@ bool guards() {
             throw 7;
         });
     }));
-    WANT(count.with([](Count &it) { return it.hits; }) == seen.hits);
+    WANT(count.with([](Count &it) { return it.hits; }) == 0);
     count.store(Count{1, 2, 'c'});
     WANT(count.load().sum == 2);
     WANT(count.shut());
     WANT(!count.shut());
     WANT(throws<qolb::Closed>([&] { (void)count.load(); }));
-    WANT(throws<qolb::Misuse>([] { qolb::guarded<int> none(0, 0); }));
     qolb::guarded<int> own(1);
     WANT(throws<qolb::Deadlock>([&] { own.with([&](int &value) { value += own.load(); }); }));
     WANT(throws<qolb::Deadlock>([&] { own.with([&](int &) { return own.shut(); }); }));
     WANT(own.load() == 1 && own.shut() && !own.shut());
-    qolb::guarded<Whole> whole(Whole(9), 2, QOLB_LINK);
-    WANT(whole.load().bytes[63] == 9);
-    WANT(throws<qolb::Misuse>([] { qolb::guarded<int> none(0, 1, static_cast<qolb_kind>(3)); }));
-    return true;
+    qolb::guarded<Large> large(Large(9), qolb::burst{2});
+    WANT(large.load().bytes[999] == 9);
+    qolb::guarded<Fixed> fixed;
+    WANT(fixed.with([](Fixed &it) { return it.number; }) == 3);
+    WANT(static_lock.try_lock() && static_count.load().hits == 1);
+    static_lock.unlock();
+    return lies_apart() && throws_in_turns();
 }
 
 } // namespace

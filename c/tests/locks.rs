@@ -1,9 +1,8 @@
-//! The locks of qolb.rs by threads that come and go: a mutex, a condition, a value in the line; with time limits, shut, and by panics. Prints only
-//! errors.
+//! The locks of qolb.rs by threads that come and go: a mutex, a condition, values of any size; with time limits, shut, and by panics. Prints only errors.
 #[path = "../rust/qolb.rs"]
 mod qolb;
 
-use qolb::{Answer, Bytes, Condition, Kind, Lock, LockGuard, MappedMutexGuard, Mutex, MutexGuard, RawQolb, Stopped};
+use qolb::{Answer, Bytes, Condition, Kind, Lock, MappedMutexGuard, Mutex, MutexGuard, RawQolb, Stopped};
 use std::cell::Cell;
 use std::fmt;
 use std::panic::{self, RefUnwindSafe, UnwindSafe};
@@ -15,7 +14,7 @@ const THREADS: u64 = 8;
 const ROUNDS: u64 = 1_000;
 const MS: Duration = Duration::from_millis(1);
 
-static WORDS: Mutex<Vec<u64>> = Mutex::of_kind(Vec::new(), Kind::Link, 3);
+static WORDS: Mutex<Vec<u64>> = Mutex::new(Vec::new());
 
 fn mutex_guards() {
     for _wave in 0..2 {
@@ -90,17 +89,8 @@ fn are_as_others() {
     drop(held);
     prints(&mutex, "Mutex { data: (2, \"two\") }");
     assert_eq!(Mutex::new(7).lock().unwrap().to_string(), "7");
-    let lock = Lock::<u32>::default();
-    prints(&lock, "Lock { data: 0 }");
-    let held = lock.try_lock_until(Instant::now() + 1000 * MS).unwrap().unwrap();
-    prints(&lock, "Lock { data: <locked> }");
-    assert_eq!((format!("{held:?}"), held.to_string()), ("0".to_string(), "0".to_string()));
-    held.shut();
-    prints(&lock, "Lock { data: <closed> }");
-    assert_eq!(lock.try_lock_until(Instant::now() + MS).err(), Some(Stopped::Closed));
     prints(&Condition::new(), "Condition { .. }");
     unwind_safe::<Mutex<Cell<u8>>>();
-    unwind_safe::<Lock<u8>>();
     unwind_safe::<Condition>();
 }
 
@@ -126,7 +116,6 @@ fn guards_of_parts() {
     assert!(panics.is_err() && mutex.try_lock().unwrap().is_some());
     <MutexGuard<'_, u8> as Stays<_>>::stays();
     <MappedMutexGuard<'_, u8> as Stays<_>>::stays();
-    <LockGuard<'_, u8> as Stays<_>>::stays();
 }
 
 /// A condition's waits by a predicate and with a time, as of `std::sync::Condvar`.
@@ -231,8 +220,8 @@ struct Count {
     last: u8,
 }
 
-fn line_has_a_value() {
-    let lock = Lock::with_seats(Count { hits: 7, last: 0 }, 4).unwrap();
+fn values_of_any_size() {
+    let lock: Lock<Count> = Mutex::new(Count { hits: 7, last: 0 });
     thread::scope(|scope| {
         for thread in 0..THREADS {
             let lock = &lock;
@@ -254,23 +243,28 @@ fn line_has_a_value() {
     turn.hits = 1;
     turn.shut();
     assert_eq!(lock.lock().err(), Some(Stopped::Closed));
-    let whole = Lock::of_kind([3u64; 8], Kind::Ring, 2).unwrap();
-    whole.lock().unwrap()[7] = 4;
-    assert_eq!(*whole.lock().unwrap(), [3, 3, 3, 3, 3, 3, 3, 4]);
+    let large = Mutex::new([3u64; 1000]);
+    let held = &mut *large.lock().unwrap();
+    held[999] = 4;
+    assert!((&raw const *held).cast::<u8>() > (&raw const large).cast()); // in place
+    let unsized_one: Box<Mutex<[u64]>> = Box::new(Mutex::new([1, 2, 3]));
+    unsized_one.lock().unwrap()[2] = 4;
+    assert_eq!(unsized_one.lock().unwrap()[..], [1, 2, 4]);
 }
 
 fn raw_answers() {
-    let raw = RawQolb::new(1);
+    static RAW: RawQolb = RawQolb::new();
+    let raw = &RAW;
+    assert_eq!((raw.holder(), raw.is_mine()), (None, false));
     assert_eq!(raw.enter(), Answer::Granted);
+    assert!(raw.is_mine());
     assert_eq!(raw.try_enter(), Answer::Busy);
     assert_eq!(raw.enter_for(MS), Answer::Misuse);
-    thread::scope(|s| s.spawn(|| assert_eq!(raw.enter_for(MS), Answer::Late)).join().unwrap());
+    thread::scope(|s| s.spawn(|| assert_eq!((raw.enter_for(MS), raw.is_mine()), (Answer::Late, false))).join().unwrap());
     assert_eq!(raw.leave(), Answer::Done);
     assert_eq!(raw.try_enter(), Answer::Granted);
     assert_eq!(raw.shut(), Answer::Done);
     assert_eq!(raw.enter_for(MS), Answer::Closed);
-    assert!(panic::catch_unwind(|| RawQolb::new(0)).is_err());
-    assert!(panic::catch_unwind(|| RawQolb::new(201)).is_err());
 }
 
 /// Times, and whether each is as long as it takes; else it is late at once.
@@ -305,10 +299,6 @@ fn durations_never_overflow() {
         let held = mutex.lock().unwrap();
         let got = thread::scope(|s| gets(held, waits, s.spawn(|| mutex.try_lock_for(time).unwrap().is_some())));
         assert_eq!(got, waits, "mutex, {time:?}");
-        let lock = Lock::new(0).unwrap();
-        let held = lock.lock().unwrap();
-        let got = thread::scope(|s| gets(held, waits, s.spawn(|| lock.try_lock_for(time).unwrap().is_some())));
-        assert_eq!(got, waits, "lock, {time:?}");
         assert_eq!(is_signalled(time, waits), waits, "condition, {time:?}");
     }
 }
@@ -325,7 +315,7 @@ fn is_signalled(time: Duration, soon: bool) -> bool {
     })
 }
 
-static IN_BURSTS: Mutex<u64> = Mutex::with_burst(0, 4, 64);
+static IN_BURSTS: Mutex<u64> = Mutex::with_burst(0, 64);
 
 /// Waits until the thread with this folder in /proc sleeps.
 fn until_asleep(folder: &std::path::Path) {
@@ -336,8 +326,8 @@ fn until_asleep(folder: &std::path::Path) {
 }
 
 /// While one waits, this thread locks again and again: at most `burst - 1` times.
-fn is_overtaken_within(burst: u32) {
-    let mutex = Mutex::with_burst(false, 2, burst);
+fn is_overtaken_within(burst: u16) {
+    let mutex = Mutex::with_burst(false, burst);
     let (tells, told) = mpsc::channel();
     let mut later = 0;
     thread::scope(|scope| {
@@ -356,7 +346,7 @@ fn is_overtaken_within(burst: u32) {
 }
 
 fn bursts() {
-    for burst in [2, 16, 1024, 65535] {
+    for burst in [1, 2, 16, 1024, 65535] {
         is_overtaken_within(burst);
     }
     thread::scope(|scope| {
@@ -365,24 +355,17 @@ fn bursts() {
         }
     });
     assert_eq!(*IN_BURSTS.lock().unwrap(), THREADS * ROUNDS);
-    let lock = Lock::with_burst(7u64, 4, 64).unwrap();
-    *lock.lock().unwrap() += 1;
-    assert_eq!(*lock.lock().unwrap(), 8);
-    let raw = RawQolb::of_kind_with_burst(Kind::Ring, 2, 2);
-    assert_eq!(raw.enter(), Answer::Granted);
-    assert_eq!(raw.leave(), Answer::Done);
-    let strict = RawQolb::with_burst(1, 0);
-    assert_eq!(strict.enter(), Answer::Granted);
-    assert_eq!(strict.leave(), Answer::Done);
-    for (seats, burst) in [(0, 2), (201, 2), (2, 1), (2, 65536), (1, 2)] {
-        assert!(panic::catch_unwind(|| RawQolb::with_burst(seats, burst)).is_err());
+    for burst in [0, 1, 2, u16::MAX] {
+        let raw = RawQolb::with_burst(burst);
+        assert_eq!(raw.enter(), Answer::Granted);
+        assert_eq!(raw.leave(), Answer::Done);
     }
 }
 
 /// A mutex may be moved once it was used; and one whose guard is forgotten may be dropped, whose thread goes on.
 fn moved_and_forgotten() {
     for burst in [0, 64] {
-        let mutex = Mutex::with_burst(1, 4, burst);
+        let mutex = Mutex::with_burst(1, burst);
         *mutex.lock().unwrap() += 1;
         let mut moved = vec![mutex];
         moved.reserve(100);
@@ -395,7 +378,7 @@ fn moved_and_forgotten() {
         assert_eq!(*boxed.lock().unwrap(), 402);
         std::mem::forget(boxed.lock().unwrap());
         drop(boxed);
-        let another = Mutex::with_burst(7, 4, burst);
+        let another = Mutex::with_burst(7, burst);
         assert_eq!(*another.lock().unwrap(), 7);
     }
     let never_used: Mutex<u8> = Mutex::new(3);
@@ -405,8 +388,7 @@ fn moved_and_forgotten() {
 fn main() {
     panic::set_hook(Box::new(|told| {
         let said = told.payload_as_str().unwrap_or_default();
-        let refused = ["a lock has 1 to 200 seats", "a burst has 2 to 65,535 turns", "a lock with bursts has 2 seats or more"];
-        if said != "in a turn" && !refused.contains(&said) {
+        if said != "in a turn" {
             println!("{told}");
         }
     }));
@@ -417,7 +399,7 @@ fn main() {
     guards_of_parts();
     conditions();
     waits_of_others();
-    line_has_a_value();
+    values_of_any_size();
     raw_answers();
     durations_never_overflow();
     bursts();

@@ -1,7 +1,7 @@
 /* Ten thousand tasks over four threads: half with a node each, half at a lock that threads enter, too. They are woken
  * for no reason, and give up at random. Prints only errors.
  *
- *   build/many_tasks_c [TASKS [ROUNDS [SEED [SEATS [SECONDS]]]]]
+ *   build/many_tasks_c [TASKS [ROUNDS [SEED [BURST [SECONDS]]]]]
  *
  * Another seed follows while there is time. */
 #define _GNU_SOURCE
@@ -217,9 +217,9 @@ static void *enters(void *seed) {
 }
 static struct line *lines;
 
-static void opens(int of_nodes, int rounds, uint64_t seed, int seats) {
+static void opens(int of_nodes, int rounds, uint64_t seed, uint64_t burst) {
     static const qolb_bytes zeros;
-    lock = (qolb_lock)QOLB_LOCK_INIT_OF((uint32_t)(seed % 3), (uint32_t)seats);
+    lock = (qolb_lock)QOLB_LOCK_INIT_BURSTS(burst);
     guarded = 0;
     for (int k = 0; k < (of_nodes + 39) / 40; k++) {
         lines[k] = (struct line){0};
@@ -241,12 +241,12 @@ static void closes(int of_nodes, int rounds, long by_others) {
     MUST(qolb_lock_close(&lock) == QOLB_DONE);
 }
 
-static void run(int rounds, uint64_t seed, int seats) {
+static void run(int rounds, uint64_t seed, uint64_t burst) {
     enum { WORKERS = 4, ALL = WORKERS + 3 };
     pthread_t thread[ALL];
     int of_nodes = many / 2;
     long before = atomic_load(&by_threads);
-    opens(of_nodes, rounds, seed, seats);
+    opens(of_nodes, rounds, seed, burst);
     atomic_store(&left, many);
     for (int k = 0; k < many; k++) wake(&tasks[k]);
     for (int k = 0; k < ALL; k++) {
@@ -259,15 +259,14 @@ static void run(int rounds, uint64_t seed, int seats) {
 
 int main(int argc, char **argv) {
     many = argc > 1 ? atoi(argv[1]) : 10000;
-    int rounds = argc > 2 ? atoi(argv[2]) : 5, seats = argc > 4 ? atoi(argv[4]) : 4,
-        seconds = argc > 5 ? atoi(argv[5]) : 0;
-    uint64_t seed = argc > 3 ? strtoull(argv[3], NULL, 10) : 1;
+    int rounds = argc > 2 ? atoi(argv[2]) : 5, seconds = argc > 5 ? atoi(argv[5]) : 0;
+    uint64_t seed = argc > 3 ? strtoull(argv[3], NULL, 10) : 1, burst = argc > 4 ? strtoull(argv[4], NULL, 10) : 0;
     time_t since = time(NULL);
     alarm((unsigned)seconds + 600);
     lines = aligned_alloc(128, ((size_t)many / 2 + 39) / 40 * sizeof *lines);
     tasks = aligned_alloc(128, (size_t)many * sizeof *tasks);
     MUST(lines && tasks);
-    do run(rounds, seed++, seats);
+    do run(rounds, seed++, burst);
     while (time(NULL) - since < seconds);
     return 0;
 }

@@ -1,5 +1,5 @@
-/* The heap bytes of a line, and of a lock: those that stay taken after qolb_open and after a lock's first use, by kind
- * and number of nodes or of seats, as malloc_usable_size counts them. qolb_memory must return what opening has
+/* The heap bytes of a line: those that stay taken after qolb_open, by kind and number of nodes, as malloc_usable_size
+ * counts them. qolb_memory must return what opening has
  * allocated and keeps, and opening may ask for at most three times that at a time. The data of two nodes must be in no
  * two cache lines that are fetched together, and each block of a line must begin at a multiple of 128 bytes. 100,000
  * ticket lines of two nodes must take less than 260 MB. */
@@ -137,18 +137,6 @@ static int fit(size_t lines, size_t bytes) {
     return all < bytes;
 }
 
-/* The most heap that a lock takes by default, as qolb.h says. */
-enum { BY_DEFAULT = 3072 };
-
-static int is_small(void) {
-    qolb_lock lock = QOLB_LOCK_INIT_DEFAULT;
-    size_t before = taken;
-    if (qolb_lock_enter(&lock) != QOLB_GRANTED || qolb_lock_leave(&lock) != QOLB_DONE) return 0;
-    size_t takes = taken - before;
-    printf("lock by default   bytes %zu\n", takes);
-    return takes <= BY_DEFAULT && qolb_lock_close(&lock) == QOLB_DONE && taken == before;
-}
-
 /* What was taken of the heap: by malloc's count, and as it was asked for. */
 struct heap {
     size_t usable, asked;
@@ -170,17 +158,6 @@ static struct heap of_line(uint32_t kind, uint64_t nodes) {
     return keeps;
 }
 
-/* The same of a lock of so many seats, which takes nothing before its first use. */
-static struct heap of_lock(uint32_t kind, uint64_t seats) {
-    const struct heap before = {taken, asked};
-    qolb_lock lock = QOLB_LOCK_INIT_OF(kind, (uint32_t)seats);
-    if (qolb_lock_enter(&lock) != QOLB_GRANTED || qolb_lock_leave(&lock) != QOLB_DONE) abort();
-    struct heap keeps = since(before);
-    if (qolb_lock_close(&lock) != QOLB_DONE) abort();
-    if (since(before).usable != 0) puts("a lock leaves something"), exit(1);
-    return keeps;
-}
-
 static void column(size_t bytes) {
     char text[32];
     snprintf(text, sizeof text, bytes < 1000 ? "%zu" : "%zu,%03zu", bytes < 1000 ? bytes : bytes / 1000, bytes % 1000);
@@ -191,27 +168,25 @@ static const uint64_t counts_of_nodes[] = {1, 2, 8, 64, 200};
 enum { COUNTS = sizeof counts_of_nodes / sizeof counts_of_nodes[0] };
 
 /* Prints a table of qolb.h, which tools/man.py writes there and compares. */
-static void table(const char *of, struct heap (*keeps)(uint32_t kind, uint64_t count)) {
-    printf("%-13s", of);
+static void table(void) {
+    printf("%-13s", "nodes");
     for (int k = 0; k < COUNTS; k++) column((size_t)counts_of_nodes[k]);
     puts("");
     for (uint32_t kind = 0; kind < QOLB_KINDS; kind++) {
         printf("%-13s", qolb_kind_name(kind));
-        for (int k = 0; k < COUNTS; k++) column(keeps(kind, counts_of_nodes[k]).asked);
+        for (int k = 0; k < COUNTS; k++) column(of_line(kind, counts_of_nodes[k]).asked);
         puts("");
     }
 }
 
 int main(int argc, char **argv) {
-    if (argc > 1 && strcmp(argv[1], "table") == 0) return table("nodes", of_line), table("seats", of_lock), 0;
+    if (argc > 1 && strcmp(argv[1], "table") == 0) return table(), 0;
     for (uint32_t kind = 0; kind < QOLB_KINDS; kind++) {
         for (int k = 0; k < COUNTS; k++) {
             int count = (int)counts_of_nodes[k];
             printf("%-6s nodes %3d bytes %zu\n", qolb_kind_name(kind), count, of_line(kind, counts_of_nodes[k]).usable);
-            printf("%-6s seats %3d bytes %zu\n", qolb_kind_name(kind), count, of_lock(kind, counts_of_nodes[k]).usable);
         }
     }
-    if (!is_small()) return puts("a lock takes more by default"), 1;
     if (!all_are_told()) return puts("qolb_memory tells something else"), 1;
     if (given == 0 || !aligned) return puts("a block begins elsewhere"), 1;
     if (!fit(100000, 260000000)) return puts("many lines take too much"), 1;

@@ -284,19 +284,16 @@ static struct {
     qolb_lock lock;
     qolb_cond cond;
     int open, shut, held;
-    uint64_t label, seats;
-    uint8_t byte[64];
+    uint64_t turns;
 } locked;
 
-static void lock_opens(uint64_t label) {
+static void lock_opens(void) {
     locked.open = 1;
     locked.shut = 0;
-    locked.label = label;
-    memset(locked.byte, 0, 64);
 }
 
 static uint32_t lock_enters(uint32_t if_held) {
-    if (!locked.open) lock_opens(0);
+    if (!locked.open) lock_opens();
     if (locked.shut) return QOLB_CLOSED;
     if (locked.held) return if_held;
     locked.held = 1;
@@ -310,42 +307,15 @@ static uint32_t lock_leaves(int shut) {
     return QOLB_DONE;
 }
 
-static void lock_is_opened(void) {
-    qolb_bytes opening;
-    uint32_t kind = (uint32_t)draw(4);
-    uint64_t seats = draw(8) ? draw(6) : draw(2) * 201, label = draw(9);
-    for (int k = 0; k < 64; k++) opening.byte[k] = (uint8_t)draw(256);
-    uint32_t wanted = kind >= QOLB_KINDS           ? QOLB_BAD_KIND
-                      : seats == 0 || seats > MOST ? QOLB_BAD_NODES
-                      : locked.open                ? QOLB_OCCUPIED
-                                                   : QOLB_DONE;
-    SAME(qolb_lock_open(&locked.lock, kind, label, seats, &opening), 0, wanted);
-    if (wanted != QOLB_DONE) return;
-    lock_opens(label);
-    locked.seats = seats;
-    memcpy(locked.byte, opening.byte, 64);
-}
+static uint64_t drawn_turns(void) { return draw(4) ? draw(4) : draw(2) ? draw(70000) : draw(UINT64_MAX); }
 
-/* A lock on the core has no bytes, and lends no node. */
-#ifdef QOLB_LOCK_CORE
-static void lock_is_read_and_written(void) { SAME(qolb_lock_is_mine(&locked.lock), 0, (uint64_t)locked.held); }
-#else
-static void lock_is_read_and_written(void) {
-    qolb_node *turn = qolb_lock_turn(&locked.lock);
-    uint64_t lane = draw(8), value = draw(UINT64_MAX), out = 0;
-    SAME(turn != NULL, 0, (uint64_t)locked.held);
-    if (!turn) return;
-    SAME(qolb_read_lane(turn, lane, &out), 0, QOLB_DONE);
-    for (int k = 0; k < 8; k++) SAME(out >> 8 * k & 0xff, 0, locked.byte[8 * lane + k]);
-    SAME(qolb_write_lane(turn, lane, value), 0, QOLB_DONE);
-    SAME(qolb_add_lane(turn, lane, 1, &out), 0, QOLB_DONE);
-    SAME(out, 0, value);
-    for (int k = 0; k < 8; k++) locked.byte[8 * lane + k] = (uint8_t)((value + 1) >> 8 * k);
-    SAME(qolb_label(turn), 0, locked.label);
-    SAME(qolb_deqolb(turn), 0, QOLB_MISUSE);
-    SAME(qolb_withdraw(turn), 0, QOLB_MISUSE);
+static void lock_is_opened(void) {
+    uint64_t turns = drawn_turns();
+    SAME(qolb_lock_open(&locked.lock, turns), 0, locked.open ? QOLB_OCCUPIED : QOLB_DONE);
+    if (locked.open) return;
+    lock_opens();
+    locked.turns = turns;
 }
-#endif
 
 static void lock_call(void) {
     switch (draw(12)) {
@@ -367,19 +337,18 @@ static void lock_call(void) {
         if (!locked.held) locked.open = locked.shut = 0;
         break;
     case 9: lock_is_opened(); break;
-    default: lock_is_read_and_written();
+    default: SAME(qolb_lock_is_mine(&locked.lock), 0, (uint64_t)locked.held);
     }
     SAME(qolb_lock_holder(&locked.lock) != 0, 0, (uint64_t)locked.held);
     SAME(locked.lock.own != NULL, 0, (uint64_t)locked.open);
-    SAME(locked.lock.seats, 0, locked.seats);
+    SAME(locked.lock.turns, 0, locked.turns);
     done++;
 }
 
 static void one_lock(void) {
     memset(&locked, 0, sizeof locked);
-    locked.seats = draw(10) ? 1 + draw(6) : 1 + draw(MOST);
-    uint32_t kind = (uint32_t)draw(QOLB_KINDS);
-    locked.lock = (qolb_lock)QOLB_LOCK_INIT_OF(kind, (uint32_t)locked.seats);
+    locked.turns = drawn_turns();
+    locked.lock = (qolb_lock)QOLB_LOCK_INIT_BURSTS(locked.turns);
     for (uint64_t end = done + 1 + draw(1000); done < end && done < calls;) lock_call();
     lock_leaves(0);
     qolb_lock_leave(&locked.lock);

@@ -1,6 +1,6 @@
 /* Each allocation of an opening is refused in turn: the opening is then refused, the handles stay empty, and its memory
  * is freed. Only opening and closing allocate or free, or write to a handle: the proved calls put the same node back.
- * The same for a lock, which its first use may open. Linked with --wrap for malloc, realloc and free. Prints only
+ * A lock takes no memory, whatever its first use is. Linked with --wrap for malloc, realloc and free. Prints only
  * errors. */
 #define _DEFAULT_SOURCE
 #include <proved.h>
@@ -132,50 +132,36 @@ static int puts_the_same_back(uint32_t kind) {
     return 0;
 }
 
-/* Each allocation of a lock's first use, or of its opening, is refused in turn: then the lock is closed as before, and
- * keeps nothing. The next use opens it. Entering, leaving and waiting allocate nothing. */
-static uint32_t used_first(qolb_lock *lock, uint32_t kind, unsigned way) {
-    qolb_bytes zeros = {{0}};
+/* Each way by which a lock may be used first, and what follows: no allocation. */
+static uint32_t used_first(qolb_lock *lock, unsigned way) {
     switch (way) {
     case 0: return qolb_lock_enter(lock);
     case 1: return qolb_lock_try(lock);
     case 2: return qolb_lock_enter_within(lock, 1000);
-    default: return qolb_lock_open(lock, kind, 1, NODES, &zeros);
+    default: return qolb_lock_open(lock, 64);
     }
 }
 
-static int lock_refused_in_turn(uint32_t kind, unsigned way) {
-    for (unsigned long n = 1;; n++) {
-        qolb_lock lock = {NULL, kind, NODES};
-        qolb_cond cond = QOLB_COND_INIT;
-        taken = given_back = 0;
-        refuse_at = n;
-        uint32_t got = used_first(&lock, kind, way);
-        int refused = refuse_at == 0;
-        refuse_at = 0;
-        if (got != (refused ? QOLB_NO_MEMORY : way == 3 ? QOLB_DONE : QOLB_GRANTED))
-            return printf("lock, allocation %lu: answer %u\n", n, got), 1;
-        if (refused && (lock.own || taken != given_back))
-            return printf("lock, allocation %lu: %lu taken, %lu given back\n", n, taken, given_back), 1;
-        if ((refused || way == 3) && qolb_lock_enter(&lock) != QOLB_GRANTED) return puts("lock: not opened later"), 1;
-        unsigned long before = taken;
-        if (qolb_lock_enter_within(&lock, 0) != QOLB_MISUSE || qolb_cond_wait_within(&cond, &lock, 0) != QOLB_LATE)
-            return puts("lock: not late"), 1;
-        if (qolb_lock_leave(&lock) != QOLB_DONE || taken != before) return puts("lock: calls took memory"), 1;
-        if (qolb_lock_close(&lock) != QOLB_DONE || taken != given_back)
-            return printf("lock: %lu taken, %lu given back\n", taken, given_back), 1;
-        if (!refused) return n < 5 ? puts("lock: too few allocations"), 1 : 0;
-    }
+static int lock_takes_none(unsigned way, uint64_t burst) {
+    qolb_lock lock = QOLB_LOCK_INIT_BURSTS(burst);
+    qolb_cond cond = QOLB_COND_INIT;
+    taken = given_back = 0;
+    if (used_first(&lock, way) != (way == 3 ? QOLB_DONE : QOLB_GRANTED)) return puts("lock: not used"), 1;
+    if (way == 3 && qolb_lock_enter(&lock) != QOLB_GRANTED) return puts("lock: not entered"), 1;
+    if (qolb_lock_enter_within(&lock, 0) != QOLB_MISUSE || qolb_cond_wait_within(&cond, &lock, 0) != QOLB_LATE)
+        return puts("lock: not late"), 1;
+    if (qolb_lock_leave(&lock) != QOLB_DONE || qolb_lock_close(&lock) != QOLB_DONE) return puts("lock: not closed"), 1;
+    return taken || given_back ? printf("lock: %lu taken, %lu given back\n", taken, given_back), 1 : 0;
 }
 
 static int tried(uint32_t kind) {
-    for (unsigned way = 0; way < 4; way++)
-        if (lock_refused_in_turn(kind, way)) return 1;
     return refused_in_turn(kind) || calls_take_none(kind) || puts_the_same_back(kind);
 }
 
 int main(void) {
     for (uint32_t kind = 0; kind < QOLB_KINDS; kind++)
         if (tried(kind)) return 1;
+    for (unsigned way = 0; way < 4; way++)
+        if (lock_takes_none(way, 0) || lock_takes_none(way, 64)) return 1;
     return 0;
 }

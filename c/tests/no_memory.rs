@@ -1,12 +1,13 @@
-//! Each allocation of an opening is refused in turn, of a line's and of a lock's, which its first use may open: the answer is `NoMemory`. Linked with
-//! --wrap for malloc. Prints only errors.
+//! Each allocation of a line's opening is refused in turn: the answer is `NoMemory`. A mutex takes one box, and no call on it takes more. Linked with --wrap for
+//! malloc. Prints only errors.
 #[path = "../rust/qolb.rs"]
 mod qolb;
 
-use qolb::{Answer, Bytes, Kind, Lock, RawQolb};
+use qolb::{Answer, Bytes, Kind, RawQolb};
 use std::ffi::c_void;
 use std::ptr::null_mut;
 use std::sync::atomic::{AtomicU64, Ordering};
+use std::time::Duration;
 
 /// The allocation to refuse, counted from now on; 0 for none.
 static REFUSED: AtomicU64 = AtomicU64::new(0);
@@ -43,23 +44,19 @@ fn refused(first: u64, open: impl Fn() -> Option<Answer>) -> u64 {
     unreachable!()
 }
 
-/// Enters and leaves. Returns nothing, or the cause why it could not.
-fn enters(raw: &RawQolb) -> Option<Answer> {
-    let told = raw.enter();
-    raw.leave();
-    Some(told).filter(|told| *told != Answer::Granted)
-}
-
 fn main() {
     for kind in Kind::ALL {
         // The first allocation is for the handles, in Rust.
         assert!(refused(2, || qolb::open(kind, 1, 5, None, &Bytes([0; 64])).err()) >= 3);
-        assert!(refused(1, || Lock::of_kind(7u64, kind, 5).err()) >= 4);
-        assert!(refused(1, || enters(&RawQolb::of_kind(kind, 5))) >= 4);
-        let raw = RawQolb::of_kind(kind, 2);
+    }
+    for burst in [0, 64] {
+        let raw = RawQolb::with_burst(burst);
+        assert_eq!(raw.leave(), Answer::Misuse); // it is in its box now
         REFUSED.store(1, Ordering::SeqCst);
-        assert_eq!(raw.try_enter(), Answer::NoMemory);
-        assert_eq!(raw.enter(), Answer::Granted);
+        assert_eq!(raw.try_enter(), Answer::Granted);
         assert_eq!(raw.leave(), Answer::Done);
+        assert_eq!(raw.enter(), Answer::Granted);
+        assert_eq!((raw.enter_for(Duration::from_millis(1)), raw.leave()), (Answer::Misuse, Answer::Done));
+        assert_eq!(REFUSED.swap(0, Ordering::SeqCst), 1);
     }
 }

@@ -71,21 +71,6 @@ static int refuses(uint32_t kind) {
     return closes(3, n);
 }
 
-/* A lock on the core lends no node. */
-static int refuses_lent(void) {
-#ifndef QOLB_LOCK_CORE
-    qolb_lock lock = QOLB_LOCK_INIT_DEFAULT;
-    WANT(qolb_lock_enter(&lock), QOLB_GRANTED);
-    qolb_node *lent = qolb_lock_turn(&lock);
-    WANT(qolb_notify(lent, count, NULL), QOLB_MISUSE);
-    WANT(qolb_notify_fd(lent, 0), QOLB_MISUSE);
-    WANT(qolb_notify_off(lent), QOLB_MISUSE);
-    WANT(qolb_lock_leave(&lock), QOLB_DONE);
-    WANT(qolb_lock_close(&lock), QOLB_DONE);
-#endif
-    return 0;
-}
-
 /* ---- One thread ---- */
 
 static int calls_once(uint32_t kind) {
@@ -347,7 +332,6 @@ static int calls_in_both_processes(uint32_t kind) {
 
 int main(void) {
     alarm(120);
-    if (refuses_lent()) return 1;
     for (uint32_t kind = 0; kind < QOLB_KINDS; kind++) {
         if (refuses(kind) || calls_once(kind) || replaces(kind) || passes_withdrawn(kind) || shuts(kind)) return 1;
         if (nests_no_call(kind) || has_turns_of_many(kind) || tells_lines_apart(kind)) return 1;

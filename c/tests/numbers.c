@@ -38,16 +38,10 @@ long __wrap_syscall(long number, ...) {
 static qolb_lock lock;
 static qolb_cond cond = QOLB_COND_INIT;
 
-#ifdef QOLB_LOCK_CORE
-#define IS_MINE(lock) qolb_lock_is_mine(lock)
-#else
-#define IS_MINE(lock) (qolb_lock_turn(lock) != NULL)
-#endif
-
 /* Another thread holds the lock. */
 static void *holds_nothing(void *unused) {
     WANT(qolb_lock_holder(&lock), NUMBER);
-    WANT(IS_MINE(&lock), 0);
+    WANT(qolb_lock_is_mine(&lock), 0);
     WANT(qolb_lock_leave(&lock), QOLB_MISUSE);
     WANT(qolb_lock_shut(&lock), QOLB_MISUSE);
     WANT(qolb_cond_wait(&cond, &lock), QOLB_MISUSE);
@@ -73,7 +67,7 @@ static void in_another_thread(void *(*work)(void *)) {
 static void is_held(void) {
     in_another_thread(holds_nothing);
     WANT(qolb_lock_enter(&lock), QOLB_MISUSE);
-    WANT(IS_MINE(&lock), 1);
+    WANT(qolb_lock_is_mine(&lock), 1);
     WANT(qolb_lock_leave(&lock), QOLB_DONE);
     in_another_thread(has_it);
     WANT(qolb_lock_enter(&lock), QOLB_GRANTED);
@@ -81,7 +75,7 @@ static void is_held(void) {
     WANT(qolb_lock_close(&lock), QOLB_DONE);
 }
 
-/* The lock is held at the fork, by a request or, after turns that nobody else wanted, because the line is kept. */
+/* The lock is held at the fork, at its first use or after turns that nobody else wanted. */
 static void forks(qolb_lock as, int turns) {
     int ended;
     lock = as;
@@ -98,11 +92,9 @@ static void forks(qolb_lock as, int turns) {
 }
 
 int main(void) {
-    for (uint32_t kind = 0; kind < QOLB_KINDS; kind++) {
-        for (uint32_t seats = 1; seats <= 4; seats += 3) {
-            forks((qolb_lock)QOLB_LOCK_INIT_OF(kind, seats), 0);
-            forks((qolb_lock)QOLB_LOCK_INIT_OF(kind, seats), TURNS);
-        }
+    for (uint32_t burst = 0; burst <= 64; burst += 64) {
+        forks((qolb_lock)QOLB_LOCK_INIT_BURSTS(burst), 0);
+        forks((qolb_lock)QOLB_LOCK_INIT_BURSTS(burst), TURNS);
     }
     return 0;
 }

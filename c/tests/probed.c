@@ -1,13 +1,13 @@
 /* Threads that wait, one at a time, for a debugger that stops at the library's probes (probes.h): one is late, one is
- * granted the line, one is told that it is closed, and one waits for a lock of one seat. The lines have the labels 7
- * and 9. Prints only errors. */
+ * granted the line, one is told that it is closed, and one waits for a lock. The line has the label 7. Prints only
+ * errors. */
 #define _GNU_SOURCE
 #include <qolb.h>
 
 #include "waiters.h"
 
 static qolb_node nodes[2];
-static qolb_lock lock = QOLB_LOCK_INIT(1);
+static qolb_lock lock = QOLB_LOCK_INIT;
 static atomic_int waits;
 
 static void *is_late(void *unused) {
@@ -62,7 +62,6 @@ int main(void) {
     run(is_granted, release);
     WANT(qolb_acquire(&nodes[0]), QOLB_GRANTED);
     run(is_closed, shut);
-    WANT(qolb_lock_open(&lock, QOLB_DEFAULT, 9, 1, &zeros), QOLB_DONE);
     WANT(qolb_lock_enter(&lock), QOLB_GRANTED);
     run(enters, leave);
     WANT(qolb_lock_close(&lock), QOLB_DONE);

@@ -1,40 +1,40 @@
-# Has the debugger print each probe of the library that a program passes, with the line's label and the number of the node. A lock on the core has its
-# address as a label: 9 is printed in its place.
+# Has the debugger print each probe of the library that a program passes, with the line's label and the number of the node; or, for a lock, 0 in place of its
+# address, and the number of the ticket.
 set pagination off
 break -probe-stap qolb:wait
 commands
 silent
-printf "wait %d %d\n", $_probe_arg0 == (unsigned long)&lock ? 9 : $_probe_arg0, $_probe_arg1
+printf "wait %d %d\n", $_probe_arg0 == (unsigned long)&lock ? 0 : $_probe_arg0, $_probe_arg1
 continue
 end
 break -probe-stap qolb:sleep
 commands
 silent
-printf "sleep %d %d\n", $_probe_arg0 == (unsigned long)&lock ? 9 : $_probe_arg0, $_probe_arg1
+printf "sleep %d %d\n", $_probe_arg0 == (unsigned long)&lock ? 0 : $_probe_arg0, $_probe_arg1
 continue
 end
 break -probe-stap qolb:wake
 commands
 silent
-printf "wake %d %d\n", $_probe_arg0 == (unsigned long)&lock ? 9 : $_probe_arg0, $_probe_arg1
+printf "wake %d %d\n", $_probe_arg0 == (unsigned long)&lock ? 0 : $_probe_arg0, $_probe_arg1
 continue
 end
 break -probe-stap qolb:granted
 commands
 silent
-printf "granted %d %d\n", $_probe_arg0 == (unsigned long)&lock ? 9 : $_probe_arg0, $_probe_arg1
+printf "granted %d %d\n", $_probe_arg0 == (unsigned long)&lock ? 0 : $_probe_arg0, $_probe_arg1
 continue
 end
 break -probe-stap qolb:withdrawn
 commands
 silent
-printf "withdrawn %d %d\n", $_probe_arg0 == (unsigned long)&lock ? 9 : $_probe_arg0, $_probe_arg1
+printf "withdrawn %d %d\n", $_probe_arg0 == (unsigned long)&lock ? 0 : $_probe_arg0, $_probe_arg1
 continue
 end
 break -probe-stap qolb:closed
 commands
 silent
-printf "closed %d %d\n", $_probe_arg0 == (unsigned long)&lock ? 9 : $_probe_arg0, $_probe_arg1
+printf "closed %d %d\n", $_probe_arg0 == (unsigned long)&lock ? 0 : $_probe_arg0, $_probe_arg1
 continue
 end
 run

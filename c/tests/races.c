@@ -14,7 +14,7 @@
 
 enum { GUARDED, BY_A_TASK, BY_A_NODE, BY_TWO_LOCKS, AFTER_LEAVING, AFTER_BUSY, AFTER_LATE, AFTER_A_SIGNAL, WAYS };
 
-static qolb_lock lock = QOLB_LOCK_INIT(4), other = QOLB_LOCK_INIT(4);
+static qolb_lock lock = QOLB_LOCK_INIT, other = QOLB_LOCK_INIT;
 static qolb_cond cond = QOLB_COND_INIT;
 static qolb_node nodes[2];
 static int way, is_ready, data;
@@ -52,13 +52,7 @@ static void *first(void *unused) {
     return unused;
 }
 
-/* Both wait at an eventfd, by which the tools are told nothing. No task enters a lock on the core. */
-#ifdef QOLB_LOCK_CORE
-static void task_adds(int fd) {
-    close(fd);
-    exit(2);
-}
-#else
+/* Both wait at an eventfd, by which the tools are told nothing. */
 static void task_adds(int fd) {
     static qolb_task task;
     eventfd_t count;
@@ -71,7 +65,6 @@ static void task_adds(int fd) {
     data++;
     MUST(qolb_task_leave(&task), QOLB_DONE);
 }
-#endif
 
 static void node_adds(int fd) {
     eventfd_t count;

@@ -1,9 +1,8 @@
-/* How a waiter rests between polls, with a node, for a lock and at a condition, by a clock that the program advances:
- * how often it requests and polls, how often it yields the processor, how long it sleeps, and when it is late; its
- * answer if the line is granted, or closed, between the last poll and the withdrawal; and which calls wake sleepers,
- * and which sleepers. Linked with --wrap for clock_gettime, nanosleep, sched_yield, syscall and for the proved calls
- * that request, poll, withdraw and name the next holder. One thread does what several would: so it enters a lock that
- * it holds, by the call of preload.c. Prints only errors. */
+/* How a waiter with a node rests between polls, by a clock that the program advances: how often it requests and polls,
+ * how long it sleeps, and when it is late; its answer if the line is granted, or closed, between the last poll and the
+ * withdrawal; and which calls wake sleepers, and which sleepers. Linked with --wrap for clock_gettime, nanosleep,
+ * sched_yield, syscall and for the proved calls that request, poll, withdraw and name the next holder. One thread does
+ * what several would. Prints only errors. */
 #define _GNU_SOURCE
 #include <proved.h>
 #include <sched.h>
@@ -41,13 +40,6 @@ static uint64_t now, clocks, yields, sleeps, longest, asks, spins, spun, looks, 
 enum { NEAR = 555, UNKNOWN = 222, LEAST = 22, WOKEN = 111 };
 /* The same behind a spin in vain: half as often, and an eighth of that more. */
 enum { LESS = NEAR / 2 + NEAR / 2 / 8 };
-/* How often a waiter for a lock yields before it sleeps, as qolb.h says; and how often it polls before it yields: for
- * 1.5 us, by a clock by which 64 pauses take 384 ns. */
-enum { YIELDS = 16, LOOKS = 250 };
-/* The same at the door of a strict lock, where who has so many before it does not yield; and with a seat of a lock at
- * whose door somebody is. */
-enum { YIELDS_AT_DOOR = 32, FAR = 12, YIELDS_IN_CROWD = 128, LOOKS_IN_CROWD = 16 };
-
 /* How long 64 pauses take by the clock in each of the runs in which they are timed, between two clock calls; the number
  * of clock calls for that. */
 enum { TIMED = 5 };
@@ -171,41 +163,6 @@ static void begins(void (*does)(void)) {
 }
 
 /* ---- How often a waiter polls ---- */
-
-/* In bells.h: how often a waiter for a lock polls. */
-unsigned qolb_looks_(void);
-
-/* The polls of a process in which the runs take so long. */
-static int counts(const uint64_t *runs, uint64_t polls) {
-    for (int k = 0; k < TIMED; k++) lasts[k] = runs[k];
-    timed = 0;
-    WANT(qolb_looks_(), polls);
-    WANT(timed, 2 * TIMED);
-    return 0;
-}
-
-/* Each is counted in a process of its own, and the last one in this process. The quickest run counts; 16 to 512
- * polls. */
-static int counts_looks(void) {
-    static const struct {
-        uint64_t runs[TIMED], polls;
-    } rows[] = {
-        {{0, 0, 0, 0, 0}, 512},
-        {{187, 187, 187, 187, 187}, 512},
-        {{188, 188, 188, 188, 188}, 510},
-        {{90000, 3200, 5000, 3300, 4000}, 30},
-        {{9000, 9000, 9000, 9000, 6000}, 16},
-        {{7000, 6500, 7000, 7000, 7000}, 16},
-    };
-    for (size_t k = 0; k < sizeof rows / sizeof rows[0]; k++) {
-        int status;
-        pid_t child = fork();
-        if (child == 0) exit(counts(rows[k].runs, rows[k].polls));
-        if (waitpid(child, &status, 0) != child || status != 0) return printf("row %zu of polls\n", k), 1;
-    }
-    static const uint64_t runs[TIMED] = {9000, 384, 70000, 5000, 800};
-    return counts(runs, LOOKS);
-}
 
 /* The pauses in 1,024 ns, of which the quickest run counts: 1 to 1,024. */
 static int counts_pauses(void) {
@@ -602,12 +559,6 @@ static int each_passes_on(uint32_t kind) {
     return kind == QOLB_LINK && (passes_on(kind, qolb_link, 1) || asks_a_closed_one(kind, qolb_prepend, 1));
 }
 
-static qolb_lock *held;
-
-static void leaves(void) {
-    if (qolb_lock_leave(held) != QOLB_DONE) wrong++;
-}
-
 /* ---- A release wakes the next holder, and the waiter behind it ---- */
 
 enum { SLEEPERS = 3 };
@@ -619,7 +570,6 @@ static void (*lets_go)(void);
 static uint32_t acquires_as(unsigned k) {
     return k ? qolb_acquire_within(&nodes[k], 20 * MS) : qolb_acquire(&nodes[0]);
 }
-static uint32_t enters_as(unsigned k) { return qolb_lock_enter_unasked_(held, k ? 20 * MS : NEVER); }
 
 /* While one sleeps the next waits and sleeps, too, and while the last does the line is released. */
 static void next_sleeps(void) {
@@ -730,157 +680,9 @@ static int each_has_its_bell(uint32_t kind) {
     return 0;
 }
 
-/* A leave also wakes threads that want a seat: with this few seats, the last of the three. */
-static int leaving_wakes(uint32_t kind, uint32_t seats) {
-    qolb_lock lock = {NULL, kind, seats};
-    WANT(qolb_lock_enter(&lock), QOLB_GRANTED);
-    held = &lock;
-    if (wakes_so_many(enters_as, leaves, seats == SLEEPERS ? 3 : 2, QOLB_GRANTED)) return 1;
-    WANT(qolb_lock_leave(&lock), QOLB_DONE);
-    WANT(qolb_lock_close(&lock), QOLB_DONE);
-    return 0;
-}
-
 static int wakes_whom_it_should(uint32_t kind) {
     if (wakes_two(kind, 0) || wakes_two(kind, 1) || closing_wakes_two(kind, 0) || closing_wakes_two(kind, 1)) return 1;
-    if (wakes_behind_one_awake(kind) || each_has_its_bell(kind)) return 1;
-    return leaving_wakes(kind, SLEEPERS + 1) || leaving_wakes(kind, SLEEPERS);
-}
-
-/* ---- For a lock, and at a condition ---- */
-
-/* Without a grant for 20 ms, for a turn and for want of a seat; with a seat it polls as with a node. */
-static int late_for_lock(qolb_lock *lock, unsigned has_seat) {
-    uint64_t since = now;
-    begins(NULL);
-    WANT(qolb_lock_enter_unasked_(lock, 20 * MS), QOLB_LATE);
-    WANT(now - since, 20 * MS);
-    WANT(yields, has_seat ? YIELDS : YIELDS_AT_DOOR);
-    WANT(sleeps, 1);
-    WANT(longest, 20 * MS);
-    WANT(asks, has_seat);
-    WANT(spun, has_seat ? LOOKS : 0);
-    WANT(looks, has_seat ? YIELDS + 1 : 0);
-    return 0;
-}
-
-/* Each that sleeps at the door is joined by the next, until so many are before the last. */
-static void one_more_comes(void) {
-    if (sleeps < FAR) event.does = one_more_comes, event.at_sleep = sleeps + 1;
-    if (qolb_lock_enter_unasked_(held, MS) != QOLB_LATE) wrong++;
-}
-
-static int sleeps_far_from_door(uint32_t kind) {
-    qolb_lock lock = {NULL, kind, 1};
-    WANT(qolb_lock_enter(&lock), QOLB_GRANTED);
-    held = &lock;
-    begins(one_more_comes);
-    event.at_sleep = 1;
-    WANT(qolb_lock_enter_unasked_(&lock, MS), QOLB_LATE);
-    WANT(sleeps, FAR + 1);
-    WANT(yields, FAR * YIELDS_AT_DOOR);
-    WANT(qolb_lock_leave(&lock), QOLB_DONE);
-    WANT(qolb_lock_close(&lock), QOLB_DONE);
-    return 0;
-}
-
-static qolb_task task = QOLB_TASK_INIT;
-static int is_impatient;
-
-static void is_called(void *unused) {
-    (void)unused;
-    wrong++;
-}
-
-static void much_time_passes(void) { now += 20 * MS; }
-
-/* It stays at the door. From then on the other looks otherwise; its time ends while it yields, if it is impatient. */
-static void task_comes(void) {
-    if (qolb_task_enter(&task, held, is_called, NULL) != QOLB_WAITING) wrong++;
-    if (is_impatient) event.does = much_time_passes, event.at_yield = yields + 5;
-}
-
-static int late_in_crowd(uint32_t kind, uint32_t seats, int impatient) {
-    int crowd = seats <= 8;
-    qolb_lock lock = {NULL, kind, seats};
-    qolb_task others[8] = {QOLB_TASK_INIT};
-    WANT(qolb_lock_enter(&lock), QOLB_GRANTED);
-    held = &lock;
-    for (uint32_t k = 0; k + 2 < seats; k++) WANT(qolb_task_enter(&others[k], held, is_called, NULL), QOLB_WAITING);
-    uint64_t since = now;
-    is_impatient = impatient;
-    begins(task_comes);
-    event.at_sleep = 1;
-    WANT(qolb_lock_enter_unasked_(&lock, 20 * MS), QOLB_LATE);
-    WANT(now - since, 20 * MS);
-    WANT(yields, YIELDS + (impatient ? 5 : crowd ? YIELDS_IN_CROWD : YIELDS));
-    WANT(spun, LOOKS + (crowd ? LOOKS_IN_CROWD : LOOKS));
-    WANT(sleeps, impatient ? 1 : 2);
-    WANT(qolb_task_cancel(&task), QOLB_WITHDRAWN);
-    for (uint32_t k = 0; k + 2 < seats; k++) WANT(qolb_task_cancel(&others[k]), QOLB_WITHDRAWN);
-    WANT(qolb_lock_leave(&lock), QOLB_DONE);
-    WANT(qolb_lock_close(&lock), QOLB_DONE);
-    return 0;
-}
-
-/* With few seats, and with more. */
-static int late_in_each_crowd(uint32_t kind) {
-    for (int impatient = 0; impatient < 2; impatient++)
-        if (late_in_crowd(kind, 2, impatient) || late_in_crowd(kind, 9, impatient)) return 1;
-    return 0;
-}
-
-static void shuts_lock(void) {
-    if (qolb_lock_shut(held) != QOLB_DONE) wrong++;
-}
-
-/* The time is over, and the lock is granted, or is shut, before the withdrawal. */
-static int lock_at_the_end(uint32_t kind, int is_shut) {
-    qolb_lock lock = {NULL, kind, 2};
-    WANT(qolb_lock_enter(&lock), QOLB_GRANTED);
-    held = &lock;
-    begins(is_shut ? shuts_lock : leaves);
-    event.at_withdrawal = 1;
-    WANT(qolb_lock_enter_unasked_(&lock, MS), is_shut ? QOLB_CLOSED : QOLB_GRANTED);
-    if (!is_shut) WANT(qolb_lock_leave(&lock), QOLB_DONE);
-    WANT(qolb_lock_close(&lock), QOLB_DONE);
-    return 0;
-}
-
-static int lock_rests(uint32_t kind) {
-    qolb_lock lock = {NULL, kind, 3}, narrow = {NULL, kind, 1};
-    qolb_cond cond = QOLB_COND_INIT;
-    WANT(qolb_lock_enter(&lock), QOLB_GRANTED);
-    WANT(qolb_lock_enter(&narrow), QOLB_GRANTED);
-    if (late_for_lock(&lock, 1) || late_for_lock(&narrow, 0)) return 1;
-    WANT(qolb_lock_leave(&narrow), QOLB_DONE);
-    /* Without sleepers, a leave does not ask for the next holder. */
-    begins(NULL);
-    WANT(qolb_lock_enter(&narrow), QOLB_GRANTED);
-    WANT(qolb_lock_leave(&narrow), QOLB_DONE);
-    WANT(names + yields + sleeps + wakes, 0);
-    /* As long as it takes, by the seat that is not busy. */
-    held = &lock;
-    begins(leaves);
-    event.at_sleep = 2;
-    WANT(qolb_lock_enter_unasked_(&lock, NEVER), QOLB_GRANTED);
-    WANT(clocks, 0);
-    WANT(yields, 2 * YIELDS);
-    WANT(sleeps, 2);
-    WANT(longest, NEVER);
-    WANT(spun, 3 * LOOKS);
-    WANT(wakes, 1);
-    uint64_t since = now;
-    begins(NULL);
-    WANT(qolb_cond_wait_within(&cond, &lock, 20 * MS), QOLB_LATE);
-    WANT(now - since, 20 * MS);
-    WANT(sleeps, 1);
-    WANT(longest, 20 * MS);
-    WANT(yields + wakes, 0);
-    WANT(qolb_lock_leave(&lock), QOLB_DONE);
-    WANT(qolb_lock_close(&lock), QOLB_DONE);
-    WANT(qolb_lock_close(&narrow), QOLB_DONE);
-    return 0;
+    return wakes_behind_one_awake(kind) || each_has_its_bell(kind);
 }
 
 /* ---- Woken without a grant: the rest of the time is used ---- */
@@ -897,24 +699,14 @@ static int has_what_is_left(uint64_t since) {
 static int woken_for_nothing(uint32_t kind) {
     qolb_bytes zeros = {{0}};
     qolb_node n[2] = {{0}};
-    qolb_lock lock = {NULL, kind, 2};
-    qolb_cond cond = QOLB_COND_INIT;
     WANT(qolb_open(kind, 1, 2, QOLB_NO_LEASE, &zeros, n, 2), QOLB_DONE);
     WANT(qolb_acquire(&n[0]), QOLB_GRANTED);
-    WANT(qolb_lock_enter(&lock), QOLB_GRANTED);
-    for (int way = 0; way < 3; way++) {
-        uint64_t since = now;
-        begins(time_passes);
-        event.at_sleep = 1;
-        WANT(way == 0   ? qolb_acquire_within(&n[1], 20 * MS)
-             : way == 1 ? qolb_lock_enter_unasked_(&lock, 20 * MS)
-                        : qolb_cond_wait_within(&cond, &lock, 20 * MS),
-             QOLB_LATE);
-        if (has_what_is_left(since)) return 1;
-    }
+    uint64_t since = now;
+    begins(time_passes);
+    event.at_sleep = 1;
+    WANT(qolb_acquire_within(&n[1], 20 * MS), QOLB_LATE);
+    if (has_what_is_left(since)) return 1;
     WANT(qolb_deqolb(&n[0]), QOLB_DONE);
-    WANT(qolb_lock_leave(&lock), QOLB_DONE);
-    WANT(qolb_lock_close(&lock), QOLB_DONE);
     for (int k = 0; k < 2; k++) WANT(qolb_close(&n[k]), QOLB_DONE);
     return 0;
 }
@@ -922,13 +714,11 @@ static int woken_for_nothing(uint32_t kind) {
 int main(void) {
     alarm(60); /* who never looks at the clock, or never rests, does not end */
     now = 5000000000;
-    if (counts_looks() || counts_pauses() || has_one_processor()) return 1;
+    if (counts_pauses() || has_one_processor()) return 1;
     atomic_store(&qolb_pauses_, 80); /* also where there is one processor */
     for (uint32_t kind = 0; kind < QOLB_KINDS; kind++)
         if (rests(kind) || learns(kind, 2) || learns(kind, 6) || withdraws_late(kind, 0) || withdraws_late(kind, 1) ||
-            each_passes_on(kind) || wakes_whom_it_should(kind) || lock_rests(kind) || lock_at_the_end(kind, 0) ||
-            lock_at_the_end(kind, 1) || woken_for_nothing(kind) || sleeps_far_from_door(kind) ||
-            late_in_each_crowd(kind))
+            each_passes_on(kind) || wakes_whom_it_should(kind) || woken_for_nothing(kind))
             return 1;
     WANT(wrong, 0);
     return 0;

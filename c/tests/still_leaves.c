@@ -1,6 +1,6 @@
 /* A thread leaves a lock, and is stopped in that call while it wakes the next holder. All others can enter, whichever
- * call the thread left by. The lock is closed only once that thread is out; one on the core at once, and its memory may
- * go. Linked with --wrap for syscall. Prints only errors. */
+ * call the thread left by; the lock can be closed, and its memory may go. Linked with --wrap for syscall. Prints only
+ * errors. */
 #define _GNU_SOURCE
 #include <qolb.h>
 #include <stdarg.h>
@@ -15,16 +15,15 @@ static __thread int first;
 static atomic_int holds, asks, is_stopped, may_go_on;
 static qolb_lock lock;
 
-/* The first thread draws the number of the last seat; and stops behind the first sleeper that it wakes. */
+/* The first thread stops behind the first sleeper that it wakes. */
 long __wrap_syscall(long number, ...) {
     long word[6];
     va_list rest;
-    if (number == SYS_gettid) return first ? (long)lock.seats - 1 : gettid();
     va_start(rest, number);
     for (int k = 0; k < 6; k++) word[k] = va_arg(rest, long);
     va_end(rest);
     long got = __real_syscall(number, word[0], word[1], word[2], word[3], word[4], word[5]);
-    if (first && (word[1] == 129 /* FUTEX_WAKE_PRIVATE */ || word[1] == 138 /* FUTEX_WAKE_BITSET_PRIVATE */)) {
+    if (first && number == SYS_futex && word[1] == 138 /* FUTEX_WAKE_BITSET_PRIVATE */) {
         atomic_store(&is_stopped, 1);
         while (!atomic_load(&may_go_on)) usleep(1000);
     }
@@ -57,34 +56,22 @@ static void uses(void) {
     MUST(qolb_lock_leave(&lock), QOLB_DONE);
 }
 
-static void is_free_meanwhile(uint32_t kind, uint32_t seats) {
+static void is_free_meanwhile(uint64_t burst) {
     pthread_t one, other;
-    lock = (qolb_lock)QOLB_LOCK_INIT_OF(kind, seats);
+    lock = (qolb_lock)QOLB_LOCK_INIT_BURSTS(burst);
     holds = asks = is_stopped = may_go_on = 0;
     MUST(pthread_create(&one, NULL, leaves_to_another, NULL), 0);
     while (!atomic_load(&holds)) sched_yield();
     uses();
-#ifdef QOLB_LOCK_CORE
     MUST(qolb_lock_close(&lock), QOLB_DONE);
     memset(&lock, 0x5a, sizeof lock);
     MUST(pthread_create(&other, NULL, goes_on, NULL), 0);
-#else
-    MUST(pthread_create(&other, NULL, goes_on, NULL), 0);
-    MUST(qolb_lock_close(&lock), QOLB_DONE);
-    MUST(atomic_load(&may_go_on), 1);
-#endif
     pthread_join(one, NULL);
     pthread_join(other, NULL);
 }
 
 int main(void) {
     alarm(600);
-    for (uint32_t kind = 0; kind < QOLB_KINDS; kind++)
-        for (uint32_t seats = 2; seats <= 4; seats++) {
-            is_free_meanwhile(kind, seats);
-#ifdef QOLB_LOCK_CORE
-            is_free_meanwhile(kind, QOLB_SEATS(seats, 64));
-#endif
-        }
+    for (uint64_t burst = 0; burst <= 64; burst++) is_free_meanwhile(burst);
     return 0;
 }

@@ -1,12 +1,11 @@
 /* Two hundred threads at one lock for some time: each enters, waits at most some time, tries, and waits at a condition,
  * in a random order. No addition may be lost, no two threads be in at once, and each thread has to go on.
  *
- *   build/stress SECONDS KIND SEATS[+BURST] [SEED]     a thread that has no turn in ten times as long ends the program
+ *   build/stress SECONDS BURST [SEED]     a thread that has no turn in ten times as long ends the program
  *
  * Prints the turns of all, and the least and the most of one thread. */
 #define _GNU_SOURCE
 #include <qolb.h>
-#include <string.h>
 
 #include "waiters.h"
 
@@ -25,11 +24,9 @@ struct worker {
 static struct worker workers[THREADS];
 
 static void turn(struct worker *me) {
-    uint64_t was;
     MUST(inside++, 0);
     additions++;
-    MUST(qolb_add_lane(qolb_lock_turn(&lock), 0, 1, &was), QOLB_DONE);
-    MUST(was + 1, additions);
+    MUST(qolb_lock_is_mine(&lock), 1);
     MUST(--inside, 0);
     me->turns++;
 }
@@ -69,13 +66,12 @@ static void *works(void *argument) {
 }
 
 int main(int argc, char **argv) {
-    if (argc < 4) return fputs("stress SECONDS KIND SEATS[+BURST] [SEED]\n", stderr), 2;
+    if (argc < 3) return fputs("stress SECONDS BURST [SEED]\n", stderr), 2;
     double last = atof(argv[1]);
-    const char *plus = strchr(argv[3], '+');
-    lock = (qolb_lock)QOLB_LOCK_INIT_BURSTS((uint32_t)atoi(argv[2]), atoi(argv[3]), plus ? atoi(plus + 1) : 0);
+    lock = (qolb_lock)QOLB_LOCK_INIT_BURSTS(strtoul(argv[2], NULL, 10));
     alarm((unsigned)(10 * last) + 60);
     for (int k = 0; k < THREADS; k++) {
-        workers[k].seed = (uint32_t)(k + 1) * 77773u + (argc > 4 ? (uint32_t)atoi(argv[4]) : 0);
+        workers[k].seed = (uint32_t)(k + 1) * 77773u + (argc > 3 ? (uint32_t)atoi(argv[3]) : 0);
         MUST(pthread_create(&workers[k].id, NULL, works, &workers[k]), 0);
     }
     usleep((useconds_t)(last * 1e6));
@@ -87,7 +83,7 @@ int main(int argc, char **argv) {
         if (least < 0 || workers[k].turns < least) least = workers[k].turns;
         if (workers[k].turns > most) most = workers[k].turns;
     }
-    printf("kind %s seats %s: %ld turns, of one thread %ld to %ld\n", argv[2], argv[3], turns, least, most);
+    printf("burst %s: %ld turns, of one thread %ld to %ld\n", argv[2], turns, least, most);
     MUST(turns, additions);
     MUST(qolb_lock_close(&lock), QOLB_DONE);
     return least < 1;

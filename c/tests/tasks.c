@@ -15,23 +15,14 @@ static void *last;
 
 static void count(void *arg) { calls++, last = arg; }
 
-/* A lock of this kind and of these seats and bursts, which nobody has. */
-static void begin(uint32_t kind, uint32_t seats) {
-    lock = (qolb_lock)QOLB_LOCK_INIT_OF(kind, seats);
+/* A lock with these bursts, which nobody has. */
+static void begin(uint64_t burst) {
+    lock = (qolb_lock)QOLB_LOCK_INIT_BURSTS(burst);
     memset(task, 0, sizeof task);
     calls = 0;
 }
 
 static uint32_t enters(int k) { return qolb_task_enter(&task[k], &lock, count, &task[k]); }
-
-/* Whether a task holds the lock, and whether this thread does. */
-#ifdef QOLB_LOCK_CORE
-static int holds(int k) { return qolb_task_holds(&task[k]); }
-static int is_mine(void) { return qolb_lock_is_mine(&lock); }
-#else
-static int holds(int k) { return qolb_task_turn(&task[k]) != NULL; }
-static int is_mine(void) { return qolb_lock_turn(&lock) != NULL; }
-#endif
 
 static int is_called(int k, int times) {
     WANT(calls, times);
@@ -42,32 +33,33 @@ static int is_called(int k, int times) {
 
 /* ---- One thread ---- */
 
-static int refuses(uint32_t kind, uint32_t seats) {
-    begin(kind, seats);
+static int refuses(uint64_t burst) {
+    begin(burst);
     WANT(qolb_task_poll(&task[0]), QOLB_MISUSE);
     WANT(qolb_task_leave(&task[0]), QOLB_MISUSE);
     WANT(qolb_task_shut(&task[0]), QOLB_MISUSE);
     WANT(qolb_task_cancel(&task[0]), QOLB_DONE);
-    WANT(holds(0), 0);
+    WANT(qolb_task_holds(&task[0]), 0);
     WANT(qolb_task_enter(&task[0], &lock, NULL, NULL), QOLB_MISUSE);
     WANT(qolb_task_enter_fd(&task[0], &lock, -1), QOLB_MISUSE);
     WANT(enters(0), QOLB_GRANTED);
+    WANT(qolb_task_holds(&task[0]), 1);
     WANT(enters(0), QOLB_MISUSE);
     WANT(qolb_task_poll(&task[0]), QOLB_MISUSE);
     WANT(qolb_task_cancel(&task[0]), QOLB_MISUSE);
     WANT(qolb_lock_leave(&lock), QOLB_MISUSE);
     WANT(qolb_lock_shut(&lock), QOLB_MISUSE);
     WANT(qolb_lock_try(&lock), QOLB_BUSY);
-    WANT(holds(0), 1);
-    WANT(is_mine(), 0);
+    WANT(qolb_lock_is_mine(&lock), 0);
     WANT(qolb_lock_holder(&lock), UINT64_MAX);
     WANT(qolb_lock_close(&lock), QOLB_MISUSE);
     WANT(enters(1), QOLB_WAITING);
     WANT(enters(1), QOLB_MISUSE);
     WANT(qolb_task_leave(&task[1]), QOLB_MISUSE);
-    WANT(holds(1), 0);
+    WANT(qolb_task_holds(&task[1]), 0);
     WANT(qolb_task_cancel(&task[1]), QOLB_WITHDRAWN);
     WANT(qolb_task_leave(&task[0]), QOLB_DONE);
+    WANT(qolb_task_holds(&task[0]), 0);
     WANT(qolb_task_leave(&task[0]), QOLB_MISUSE);
     WANT(qolb_lock_holder(&lock), 0);
     WANT(calls, 0);
@@ -75,10 +67,10 @@ static int refuses(uint32_t kind, uint32_t seats) {
     return 0;
 }
 
-/* Tasks beyond the seats, in the order in which they came; one gives up in the middle, one at the front, and one at its
+/* Tasks in the order in which they came; one gives up in the middle, one at the front, and one at its
  * turn. */
-static int in_order(uint32_t kind, uint32_t seats) {
-    begin(kind, seats);
+static int in_order(uint64_t burst) {
+    begin(burst);
     WANT(enters(0), QOLB_GRANTED);
     for (int k = 1; k < MANY; k++) WANT(enters(k), QOLB_WAITING);
     WANT(qolb_task_cancel(&task[3]), QOLB_WITHDRAWN);
@@ -102,34 +94,24 @@ static int in_order(uint32_t kind, uint32_t seats) {
     return 0;
 }
 
-#ifndef QOLB_LOCK_CORE
-/* The bytes of the line, by a task and by a thread; a task by a seat, and by the gate once the line is kept. */
-static int has_the_bytes(uint32_t kind, uint32_t seats) {
-    uint64_t was = 0;
-    begin(kind, seats);
-    for (uint64_t k = 0; k < 100; k += 2) {
+/* A task and a thread in turn, of one thread. */
+static int in_turn(uint64_t burst) {
+    begin(burst);
+    for (int k = 0; k < 100; k++) {
         WANT(enters(0), QOLB_GRANTED);
-        qolb_node *turn = qolb_task_turn(&task[0]);
-        WANT(qolb_add_lane(turn, 0, 1, &was), QOLB_DONE);
-        WANT(was, k);
-        WANT(qolb_deqolb(turn), QOLB_MISUSE);
+        WANT(qolb_lock_is_mine(&lock), 0);
         WANT(qolb_task_leave(&task[0]), QOLB_DONE);
-        WANT(qolb_add_lane(turn, 0, 1, &was), QOLB_MISUSE);
         WANT(qolb_lock_enter(&lock), QOLB_GRANTED);
-        WANT(qolb_add_lane(qolb_lock_turn(&lock), 0, 1, &was), QOLB_DONE);
-        WANT(was, k + 1);
+        WANT(qolb_lock_is_mine(&lock), 1);
+        WANT(qolb_task_holds(&task[0]), 0);
         WANT(qolb_lock_leave(&lock), QOLB_DONE);
     }
     WANT(qolb_lock_close(&lock), QOLB_DONE);
     return 0;
 }
-#else
-/* A lock on the core has none. */
-static int has_the_bytes(uint32_t kind, uint32_t seats) { return kind > QOLB_KINDS && seats; }
-#endif
 
-static int shuts(uint32_t kind, uint32_t seats, int by_task) {
-    begin(kind, seats);
+static int shuts(uint64_t burst, int by_task) {
+    begin(burst);
     if (by_task) WANT(enters(0), QOLB_GRANTED);
     else WANT(qolb_lock_enter(&lock), QOLB_GRANTED);
     for (int k = 1; k < MANY; k++) WANT(enters(k), QOLB_WAITING);
@@ -146,10 +128,10 @@ static int shuts(uint32_t kind, uint32_t seats, int by_task) {
     return 0;
 }
 
-/* Once a shut has returned no task waits for those before it, to be told: one that asks, the last in the line or at the
- * door that gives up, and a thread. */
-static int shut_is_seen_at_once(uint32_t kind, uint32_t seats, int by_task) {
-    begin(kind, seats);
+/* Once a shut has returned no task waits for those before it, to be told: one that asks, one that gives up, and a
+ * thread. */
+static int shut_is_seen_at_once(uint64_t burst, int by_task) {
+    begin(burst);
     if (by_task) WANT(enters(0), QOLB_GRANTED);
     else WANT(qolb_lock_enter(&lock), QOLB_GRANTED);
     for (int k = 1; k < MANY - 1; k++) WANT(enters(k), QOLB_WAITING);
@@ -163,10 +145,10 @@ static int shut_is_seen_at_once(uint32_t kind, uint32_t seats, int by_task) {
     return 0;
 }
 
-static int tells_a_descriptor(uint32_t kind, uint32_t seats) {
+static int tells_a_descriptor(uint64_t burst) {
     int fd = eventfd(0, EFD_NONBLOCK);
     uint64_t got = 0;
-    begin(kind, seats);
+    begin(burst);
     WANT(qolb_lock_enter(&lock), QOLB_GRANTED);
     WANT(qolb_task_enter_fd(&task[0], &lock, fd), QOLB_WAITING);
     WANT(qolb_lock_leave(&lock), QOLB_DONE);
@@ -200,10 +182,10 @@ static void go_on(void *arg) {
     depth--;
 }
 
-/* One leave begins all turns of five tasks, more than there are seats. */
-static int nests_no_call(uint32_t kind, uint32_t seats) {
+/* One leave begins all turns of five tasks. */
+static int nests_no_call(uint64_t burst) {
     static struct chain it[MANY];
-    begin(kind, seats);
+    begin(burst);
     deepest = 0;
     WANT(enters(0), QOLB_GRANTED);
     for (int k = 1; k < MANY; k++) {
@@ -224,8 +206,8 @@ static void close_it(void *arg) {
 }
 
 /* The call of the last task closes the lock, inside the leave of the holder before it. */
-static int closes_in_a_call(uint32_t kind, uint32_t seats) {
-    begin(kind, seats);
+static int closes_in_a_call(uint64_t burst) {
+    begin(burst);
     WANT(qolb_lock_enter(&lock), QOLB_GRANTED);
     WANT(qolb_task_enter(&task[0], &lock, close_it, &task[0]), QOLB_WAITING);
     WANT(qolb_lock_leave(&lock), QOLB_DONE);
@@ -267,9 +249,9 @@ static void *serves_tasks(void *first) {
     return NULL;
 }
 
-static int beside_threads(uint32_t kind, uint32_t seats) {
+static int beside_threads(uint64_t burst) {
     pthread_t thread[4];
-    begin(kind, seats);
+    begin(burst);
     guarded = 0;
     memset(ready, 0, sizeof ready);
     for (int k = 0; k < 4; k++)
@@ -291,10 +273,10 @@ static void *enters_once(void *turn) {
     return NULL;
 }
 
-static int keeps_the_order(uint32_t kind, uint32_t seats) {
+static int keeps_the_order(uint64_t burst) {
     pthread_t thread;
     int seen = -1;
-    begin(kind, seats);
+    begin(burst);
     atomic_store(&number, 0);
     WANT(enters(0), QOLB_GRANTED);
     WANT(enters(1), QOLB_WAITING);
@@ -314,16 +296,13 @@ static int keeps_the_order(uint32_t kind, uint32_t seats) {
 
 int main(void) {
     alarm(300);
-    for (uint32_t kind = 0; kind < QOLB_KINDS; kind++)
-        for (uint32_t seats = 1; seats <= 4; seats++)
-            for (uint32_t burst = 0; burst < (seats > 1 ? 2 : 1); burst++) {
-                uint32_t all = seats + 65536 * 4 * burst;
-                if (refuses(kind, all) || in_order(kind, all) || has_the_bytes(kind, all) || shuts(kind, all, 0) ||
-                    shuts(kind, all, 1))
-                    return 1;
-                if (shut_is_seen_at_once(kind, all, 0) || shut_is_seen_at_once(kind, all, 1)) return 1;
-                if (tells_a_descriptor(kind, all) || nests_no_call(kind, all) || closes_in_a_call(kind, all)) return 1;
-                if (beside_threads(kind, all) || keeps_the_order(kind, all)) return 1;
-            }
+    static const uint64_t bursts[] = {0, 2, 4, 1024};
+    for (size_t k = 0; k < sizeof bursts / sizeof bursts[0]; k++) {
+        uint64_t burst = bursts[k];
+        if (refuses(burst) || in_order(burst) || in_turn(burst) || shuts(burst, 0) || shuts(burst, 1)) return 1;
+        if (shut_is_seen_at_once(burst, 0) || shut_is_seen_at_once(burst, 1)) return 1;
+        if (tells_a_descriptor(burst) || nests_no_call(burst) || closes_in_a_call(burst)) return 1;
+        if (beside_threads(burst) || keeps_the_order(burst)) return 1;
+    }
     return 0;
 }

@@ -1,5 +1,5 @@
-//! Futures of a node's turn, of a `Mutex` and of a `Lock`, over a small executor: what each gives, who may have the guards, and 10,000 tasks over four threads
-//! that give up or are dropped at any time. Prints only errors.
+//! Futures of a node's turn and of a `Mutex`, over a small executor: what each gives, who may have the guards, and 10,000 tasks over four threads that give up
+//! or are dropped at any time. Prints only errors.
 //!
 //!   build/tasks_rs [TASKS [ROUNDS [SEED [SECONDS]]]]
 //!
@@ -12,7 +12,7 @@ mod qolb;
 mod executor;
 
 use executor::{Pool, Task, block_on};
-use qolb::{Bytes, Kind, Lock, Mutex, Node, Stopped};
+use qolb::{Bytes, Kind, Mutex, Node, Stopped};
 use std::future::Future;
 use std::pin::Pin;
 use std::sync::Arc;
@@ -74,7 +74,7 @@ fn is_send<T: Send>(_: &T) {}
 /// A task waits beside a thread that holds, and is told of a grant and of a closing.
 fn one_waits() {
     let mutex = Arc::new(Mutex::new(0u64));
-    let lock = Arc::new(Lock::new(0u64).unwrap());
+    let lock = Arc::new(Mutex::with_burst(0u64, 64));
     let (held, value) = (mutex.lock().unwrap(), lock.lock().unwrap());
     let other = thread::spawn({
         let (mutex, lock) = (mutex.clone(), lock.clone());
@@ -116,8 +116,8 @@ fn a_node_waits(kind: Kind) {
 }
 
 /// A guard that is dropped by another thread, and a future that is dropped while it waits, in the middle of the queue.
-fn guards_go() {
-    let mutex = Mutex::of_kind(0u64, Kind::Ticket, 1);
+fn guards_go(burst: u16) {
+    let mutex = Mutex::with_burst(0u64, burst);
     let mut guard = block_on(mutex.lock_async()).unwrap();
     is_send(&guard);
     *guard += 1;
@@ -142,7 +142,7 @@ struct Counts {
     given_up: AtomicU64,
 }
 
-async fn by_mutex(mutex: Arc<Mutex<u64>>, lock: Arc<Lock<u64>>, counts: Arc<Counts>, rounds: u32, mut random: Random) {
+async fn by_mutex(mutex: Arc<Mutex<u64>>, lock: Arc<Mutex<u64>>, counts: Arc<Counts>, rounds: u32, mut random: Random) {
     for round in 0..rounds {
         let polls = if random.below(4) == 0 { random.below(3) as u32 } else { u32::MAX };
         let yields = random.below(4) == 0;
@@ -220,10 +220,9 @@ fn aborts(tasks: &[Arc<Task>], mut random: Random) {
     }
 }
 
-fn many_tasks(count: u64, rounds: u32, seed: u64, kind: Kind, seats: u32) {
+fn many_tasks(count: u64, rounds: u32, seed: u64, bursts: [u16; 2]) {
     let (pool, counts) = (Arc::new(Pool::default()), Arc::new(Counts::default()));
-    let mutex = Arc::new(Mutex::of_kind(0u64, kind, seats));
-    let lock = Arc::new(Lock::of_kind(0u64, kind, seats).unwrap());
+    let [mutex, lock] = bursts.map(|burst| Arc::new(Mutex::with_burst(0u64, burst)));
     let tasks: Vec<_> = (0..count)
         .map(|k| pool.spawn(by_mutex(mutex.clone(), lock.clone(), counts.clone(), rounds, Random(seed * 7919 + k * 104_729 + 1))))
         .collect();
@@ -242,7 +241,7 @@ fn many_tasks(count: u64, rounds: u32, seed: u64, kind: Kind, seats: u32) {
         pool.run(4);
     });
     let (added, seen) = (counts.added.load(SeqCst) + by_thread.load(SeqCst), *mutex.lock().unwrap() + *lock.lock().unwrap());
-    assert_eq!(seen, added, "{kind:?}, {seats} seats");
+    assert_eq!(seen, added, "{bursts:?}");
 }
 
 fn many_nodes(count: u64, rounds: u32, seed: u64) {
@@ -265,14 +264,15 @@ fn main() {
     let (count, rounds, seed) = (words.next().unwrap_or(10_000), words.next().unwrap_or(4) as u32, words.next().unwrap_or(1));
     let (time, since) = (Duration::from_secs(words.next().unwrap_or(0)), Instant::now());
     one_waits();
-    guards_go();
+    guards_go(0);
+    guards_go(64);
     wakers_own_turns();
     for kind in Kind::ALL {
         a_node_waits(kind);
     }
     for seed in seed.. {
-        for (seats, kind) in [(2, Kind::Link), (16, Kind::Ticket), (64, Kind::Ring)] {
-            many_tasks(count, rounds, seed, kind, seats);
+        for bursts in [[0, 0], [0, 2], [1024, 16]] {
+            many_tasks(count, rounds, seed, bursts);
         }
         many_nodes(count, rounds, seed);
         if since.elapsed() >= time {

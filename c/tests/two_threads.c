@@ -213,7 +213,6 @@ static int halves(void) {
         WANT(qolb_link(&other), QOLB_MISUSE);
         WANT(qolb_close(&other), QOLB_DONE);
     }
-    WANT(QOLB_LIST, QOLB_LINK); /* the former name */
     WANT(qolb_open(QOLB_LINK, 7, 2, 2, &zeros, n, 2), QOLB_DONE);
     WANT(qolb_prepend(&n[0]), QOLB_GRANTED);
     WANT(qolb_prepend(&n[1]), QOLB_LINKING);

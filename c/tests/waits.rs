@@ -1,4 +1,4 @@
-//! Lines that Rust and C share: a waiter of one sleeps, and is woken by a release of the other. The calls in C are those of plugin.c. Prints only
+//! Lines that Rust and C share: a waiter of one sleeps, and is woken by a release of the other. The calls in C are those of waits_in_c.c. Prints only
 //! errors.
 #[path = "../rust/qolb.rs"]
 mod qolb;
@@ -14,7 +14,7 @@ const LATE: u32 = 15;
 const ROUNDS: u64 = 500;
 const MS: Duration = Duration::from_millis(1);
 
-/// The calls of the C object on a node: `struct calls` of beside.h.
+/// The calls of the C object on a node: `struct calls` of waits_in_c.c.
 #[repr(C)]
 struct Calls {
     acquire: extern "C" fn(*mut c_void) -> u32,
@@ -24,7 +24,7 @@ struct Calls {
 }
 
 unsafe extern "C" {
-    safe fn plugin() -> &'static Calls;
+    safe fn calls_in_c() -> &'static Calls;
     safe fn alarm(seconds: u32) -> u32;
 }
 
@@ -42,7 +42,7 @@ fn two_nodes(kind: Kind) -> (Node, Node) {
 
 /// Waits in C, with a limit or without, and releases there.
 fn waits_in_c(mut node: Node, limited: bool) -> u32 {
-    let c = plugin();
+    let c = calls_in_c();
     let got = if limited { (c.acquire_within)(handle(&mut node), 60_000_000_000) } else { (c.acquire)(handle(&mut node)) };
     if got == GRANTED {
         assert_eq!((c.deqolb)(handle(&mut node)), 0);
@@ -63,16 +63,16 @@ fn c_is_woken(kind: Kind, limited: bool, lets_go: fn(Node), wanted: u32) {
 
 fn rust_is_woken(kind: Kind, limited: bool, shuts: bool) {
     let (mut first, mut second) = two_nodes(kind);
-    assert_eq!((plugin().acquire)(handle(&mut first)), GRANTED);
+    assert_eq!((calls_in_c().acquire)(handle(&mut first)), GRANTED);
     let waiter = thread::spawn(move || if limited { second.acquire_for(60_000 * MS) } else { second.acquire() });
     thread::sleep(5 * MS);
-    let lets_go = if shuts { plugin().shut } else { plugin().deqolb };
+    let lets_go = if shuts { calls_in_c().shut } else { calls_in_c().deqolb };
     assert_eq!(lets_go(handle(&mut first)), 0);
     assert_eq!(waiter.join().unwrap(), if shuts { Answer::Closed } else { Answer::Granted });
 }
 
 fn turns_in_c(mut node: Node) -> u64 {
-    let c = plugin();
+    let c = calls_in_c();
     let mut had = 0;
     for k in 0..ROUNDS {
         match (c.acquire_within)(handle(&mut node), 20_000 * k) {

@@ -322,7 +322,7 @@ UNSEEN int had_turns(int turns) { return it.turns >= turns; }
 /* The lock is closed as soon as it may be, and used again at the same address, where another's ticket is abandoned. Who
  * left the first lock may be in that call still. */
 static void late_at_a_younger_lock(int self) {
-    if (self == 0) return enters(self);
+    if (self == 0) return enters_with(1);
     if (self == 2) {
         while (!atomic_fetch_add(&it.over, 0)) sched_yield();
         begins_call();
@@ -701,6 +701,8 @@ const struct scene scenes[] = {
     {"bursts: tasks: a call enters another lock", enters_another_in_call, 3, 2, 0, ROOMY},
     {"bursts: tasks: one waits while a call enters", waits_while_a_call_enters, 2, 2, 0, ROOMY},
     {"bursts: tasks: a task comes to a younger lock", a_task_comes_to_a_younger_lock, 3, 2, 0, ROOMY},
+    {"tasks: the last frees beside others' entries", last_frees_beside_entries, 3, 0, 0, ROOMY},
+    {"bursts: tasks: the last frees beside others' entries", last_frees_beside_entries, 3, 2, 0, ROOMY},
     {"tasks: no memory", a_task_finds_no_memory, 2, 0, 0, 15, MANY, MANY, NO_MEMORY},
     {"tasks: crowded", a_task_finds_no_memory, 2, 0, 0, 15, MANY, 0, 0},
     {"tasks: room for one sleeper", a_task_beside_one_that_yields, 3, 0, 0, 15, 1, MANY, 0},

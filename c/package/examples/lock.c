@@ -5,7 +5,7 @@
 
 enum { WAVES = 2, THREADS = 4, ROUNDS = 500 };
 
-static qolb_lock lock = QOLB_LOCK_INIT(THREADS + 1); /* opened at its first use */
+static qolb_lock lock = QOLB_LOCK_INIT; /* opened at its first use */
 static qolb_cond done = QOLB_COND_INIT;
 static long count;
 

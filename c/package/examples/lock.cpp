@@ -1,26 +1,30 @@
-// Threads that come and go add to a count that a lock guards, and to one that lies in a lock's line.
+// Threads that come and go add to a count that a lock guards, and to a table that has a lock with bursts.
 #include <cstdio>
+#include <map>
 #include <mutex>
 #include <qolb.hpp>
 #include <thread>
 #include <vector>
 
+static qolb::lock lock;
+static qolb::guarded<std::map<int, long>> visits({}, qolb::burst{1024});
+
 int main() {
-    qolb::lock lock(4);
-    qolb::guarded<long> in_the_line;
-    long beside = 0;
+    long count = 0;
     for (int wave = 0; wave < 2; wave++) {
         std::vector<std::thread> threads;
-        for (int k = 0; k < 4; k++)
-            threads.emplace_back([&] {
+        for (int page = 0; page < 4; page++)
+            threads.emplace_back([&, page] {
                 for (int round = 0; round < 500; round++) {
-                    in_the_line.with([](long &count) { count++; });
+                    visits.with([page](std::map<int, long> &table) { table[page]++; });
                     std::lock_guard<qolb::lock> turn(lock);
-                    beside++;
+                    count++;
                 }
             });
         for (std::thread &thread : threads) thread.join();
     }
-    std::printf("%ld\n", beside);
-    return in_the_line.load() == beside ? 0 : 1;
+    long sum = 0;
+    for (auto &page : visits.load()) sum += page.second;
+    std::printf("%ld\n", count);
+    return sum == count ? 0 : 1;
 }

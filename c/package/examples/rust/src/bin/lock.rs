@@ -1,25 +1,27 @@
-//! Threads that come and go add to a count that a mutex guards, and to one that lies in a lock's line.
-use qolb::{Answer, Lock, Mutex};
+//! Threads that come and go add to a count, and to a table that a mutex with bursts guards.
+use qolb::{Mutex, Stopped};
+use std::collections::HashMap;
 use std::thread;
 
-static BESIDE: Mutex<u64> = Mutex::new(0);
+static COUNT: Mutex<u64> = Mutex::new(0);
 
-fn main() -> Result<(), Answer> {
-    let in_the_line = Lock::new(0u64)?;
+fn main() -> Result<(), Stopped> {
+    let visits = Mutex::with_burst(HashMap::new(), 1024);
     for _wave in 0..2 {
         thread::scope(|scope| {
-            for _ in 0..4 {
-                scope.spawn(|| {
+            for page in 0..4 {
+                let visits = &visits;
+                scope.spawn(move || {
                     for _round in 0..500 {
-                        *in_the_line.lock().expect("nobody shuts it") += 1;
-                        *BESIDE.lock().expect("nobody shuts it") += 1;
+                        *visits.lock().expect("nobody shuts it").entry(page).or_insert(0) += 1;
+                        *COUNT.lock().expect("nobody shuts it") += 1;
                     }
                 });
             }
         });
     }
-    let count = *BESIDE.lock().expect("nobody shuts it");
-    assert_eq!(count, *in_the_line.lock().expect("nobody shuts it"));
+    let count = *COUNT.lock()?;
+    assert_eq!(count, visits.lock()?.values().sum::<u64>());
     println!("{count}");
     Ok(())
 }

@@ -25,7 +25,7 @@
  * before it waits. */
 enum { TRIES = 4 };
 
-static int has_bursts(const struct lock *lock) { return burst_of(lock) > 1; }
+static int has_bursts(const struct lock *lock) { return lock->turns > 1; }
 
 static int goes_in(struct lock *lock, struct turn *at) {
     for (int k = 0; k < TRIES; k++) {
@@ -117,11 +117,10 @@ SLOW uint32_t qolb_enter_at_(struct lock *lock, struct turn *at, uint64_t nanose
 
 SLOW static uint32_t enter_slowly(struct lock *lock, uint64_t nanoseconds) {
     struct turn beyond;
-    uint32_t got = qolb_opened_(lock);
-    if (got != QOLB_DONE) return got;
+    qolb_open_(lock);
     if (qolb_holds_(lock)) return QOLB_MISUSE;
     struct turn *at = qolb_place_for_(lock, &beyond);
-    got = qolb_enter_at_(lock, at, nanoseconds, 0);
+    uint32_t got = qolb_enter_at_(lock, at, nanoseconds, 0);
     if (got == QOLB_GRANTED) qolb_keep_turn_(lock, at, &beyond);
     return got;
 }
@@ -182,11 +181,10 @@ uint32_t qolb_try_at_(struct lock *lock, struct turn *at) {
 uint32_t qolb_lock_try(qolb_lock *of) {
     struct lock *lock = lock_of(of);
     struct turn beyond;
-    uint32_t got = qolb_opened_(lock);
-    if (got != QOLB_DONE) return got;
+    qolb_open_(lock);
     if (qolb_holds_(lock)) return QOLB_BUSY;
     struct turn *at = qolb_place_for_(lock, &beyond);
-    got = qolb_try_at_(lock, at);
+    uint32_t got = qolb_try_at_(lock, at);
     if (got == QOLB_GRANTED) qolb_keep_turn_(lock, at, &beyond);
     return got;
 }

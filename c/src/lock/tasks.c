@@ -58,11 +58,10 @@ uint32_t qolb_task_enter(qolb_task *task, qolb_lock *of, void (*call)(void *), v
     struct task *me = task_of(task);
     struct lock *lock = lock_of(of);
     if (!call || atomic_load(&me->state) != IDLE) return QOLB_MISUSE;
-    uint32_t got = qolb_opened_(lock);
-    if (got != QOLB_DONE) return got;
+    qolb_open_(lock);
     struct turn at = {0};
     me->lock = lock;
-    got = qolb_try_at_(lock, &at);
+    uint32_t got = qolb_try_at_(lock, &at);
     if (got == QOLB_GRANTED) hold(me, &at);
     if (got != QOLB_BUSY) return got;
     me->notice = (struct notice){.key = (uint64_t)(uintptr_t)me / sizeof *me << 32 | NO_WORD};

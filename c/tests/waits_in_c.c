@@ -1,7 +1,14 @@
-/* A library that a program opens at run time, and an object that a program in Rust is linked with: C that waits and
- * releases with the program's nodes. */
-#include "beside.h"
+/* C that waits and releases with the nodes of a program in Rust (waits.rs). */
 #include <qolb.h>
+
+struct calls {
+    uint32_t (*acquire)(qolb_node *node);
+    uint32_t (*acquire_within)(qolb_node *node, uint64_t nanoseconds);
+    uint32_t (*deqolb)(qolb_node *node);
+    uint32_t (*shut)(qolb_node *node);
+};
+
+const struct calls *calls_in_c(void);
 
 static uint32_t acquires(qolb_node *node) { return qolb_acquire(node); }
 static uint32_t acquires_within(qolb_node *node, uint64_t nanoseconds) {
@@ -10,7 +17,7 @@ static uint32_t acquires_within(qolb_node *node, uint64_t nanoseconds) {
 static uint32_t releases(qolb_node *node) { return qolb_deqolb(node); }
 static uint32_t shuts(qolb_node *node) { return qolb_shut(node); }
 
-const struct calls *plugin(void) {
+const struct calls *calls_in_c(void) {
     static const struct calls calls = {acquires, acquires_within, releases, shuts};
     return &calls;
 }

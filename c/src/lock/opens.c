@@ -9,17 +9,6 @@
  * memory by gaps.c, and gets these (qolb_core_room_). So opening can't fail, and nothing has to be freed. */
 #include "lock.h"
 
-/* Whether there are such seats, and such bursts of them. They mean nothing here but this answer. */
-static int has_seats(uint64_t seats) {
-    uint64_t many = seats % BURST, burst = seats / BURST;
-    return many > 0 && many <= MAX_SEATS && burst < BURST && burst != 1 && (burst == 0 || many > 1);
-}
-
-static uint32_t checked(uint32_t kind, uint64_t seats) {
-    if (kind >= QOLB_KINDS) return QOLB_BAD_KIND;
-    return has_seats(seats) ? QOLB_DONE : QOLB_BAD_NODES;
-}
-
 /* By who has written OPENING. */
 static void open_core(struct lock *lock) {
     static _Atomic uint64_t labels;
@@ -40,26 +29,18 @@ static int claims(struct lock *lock, uintptr_t from, uintptr_t to) {
     return __atomic_compare_exchange_n((uintptr_t *)&lock->core.at, &from, to, 0, __ATOMIC_SEQ_CST, __ATOMIC_SEQ_CST);
 }
 
-uint32_t qolb_opened_(struct lock *lock) {
-    uint32_t got = is_open(lock) ? (uint32_t)QOLB_DONE : checked(lock->kind, lock->seats);
-    if (got != QOLB_DONE) return got;
+void qolb_open_(struct lock *lock) {
     while (!is_open(lock)) {
         if (claims(lock, 0, OPENING)) open_core(lock);
         else if (own_of(lock) == AWAITED || claims(lock, OPENING, AWAITED))
             qolb_park_((uint32_t *)&lock->core.at, AWAITED, 1, FOR_EVER);
     }
-    return QOLB_DONE;
 }
 
-/* The label and the bytes are those of a line, which this lock has not. */
-uint32_t qolb_lock_open(qolb_lock *of, uint32_t kind, uint64_t label, uint64_t seats, const qolb_bytes *opening) {
+uint32_t qolb_lock_open(qolb_lock *of, uint64_t turns) {
     struct lock *lock = lock_of(of);
-    uint32_t got = checked(kind, seats);
-    (void)label, (void)opening;
-    if (got != QOLB_DONE) return got;
     if (!claims(lock, 0, OPENING)) return QOLB_OCCUPIED;
-    lock->kind = kind;
-    lock->seats = (uint32_t)seats;
+    lock->turns = turns;
     open_core(lock);
     return QOLB_DONE;
 }

@@ -1,6 +1,6 @@
-/* What a lock on the core has that another has not (docs/CORE_LOCK.md): it lies in its own bytes, at any multiple of
- * 16, and takes no heap; a thread holds any number of them; many threads open one at its first use; a call with a
- * limit waits behind any number of others, and a lock is not closed meanwhile. Prints only errors. */
+/* Where locks lie, and how many of them: a lock lies in its own bytes, at any multiple of 16, and takes no heap; a
+ * thread holds any number of them; many threads open one at its first use; a call with a limit waits behind any number
+ * of others, and a lock is not closed meanwhile. Prints only errors. */
 #define _GNU_SOURCE
 #include <limits.h>
 #include <malloc.h>
@@ -12,7 +12,7 @@
 enum { MANY = 40, THREADS = 4 };
 
 static qolb_lock of_bursts(uint32_t burst) {
-    qolb_lock lock = QOLB_LOCK_INIT_BURSTS(QOLB_LINK, 4, burst);
+    qolb_lock lock = QOLB_LOCK_INIT_BURSTS(burst);
     return lock;
 }
 

@@ -1,5 +1,4 @@
-/* The lock on the proved core: what it has, and what its files call of each other (qolb.h, LOCKS). Two of the library's
- * internal files include it. Built with LOCK=core (../../Makefile).
+/* The lock: what it has, and what its files call of each other (qolb.h, LOCKS). One of the library's internal files.
  *
  * What decides is proved: each step on a shared word that grants, passes, withdraws, shuts or counts is a call of
  * core.h, by the lock and a ticket. The files here find the ticket, spin, sleep and wake. They call downwards only:
@@ -14,9 +13,9 @@
  *   parks.c        sleeping at a word, and waking
  *   ../core.h      the proved calls; ../spin.h how long to spin; ../bells.h the clock, guards, and calls of notices
  *
- * Tested and explored (tools/seats.py), not proved. */
-#ifndef QOLB_CORE_LOCK_H
-#define QOLB_CORE_LOCK_H
+ * Tested and explored (tools/explore_lock.py), not proved. */
+#ifndef QOLB_LOCK_H
+#define QOLB_LOCK_H
 
 #include "../bells.h"
 #include "../core.h"
@@ -25,7 +24,7 @@
 
 /* ---- A lock's bytes ---- */
 
-enum { BURST = 65536, MAX_SEATS = 200, LOCK_BYTES = 320, LINE = 64, WORDS_SLACK = 24 };
+enum { MAX_BURST = 65535, LOCK_BYTES = 320, LINE = 64, WORDS_SLACK = 24 };
 
 /* How a qolb_lock's bytes are used. The first part is written once, when it is opened; what the holder writes lies
  * behind it; and the core's words begin where the outer word shares no cache line with the first part, and the tail and
@@ -33,7 +32,7 @@ enum { BURST = 65536, MAX_SEATS = 200, LOCK_BYTES = 320, LINE = 64, WORDS_SLACK 
 struct __attribute__((may_alias)) lock {
     /* By who opens it: NULL, OPENING, AWAITED, and then the address of `block`. */
     struct qolb_core core;
-    uint32_t kind, seats;         /* by the initialiser */
+    uint64_t turns;               /* of its bursts, by the initialiser; 0 and 1: it is strict */
     char block[CORE_BLOCK_BYTES]; /* the core's: never written after opening */
     uint64_t label;               /* by who opens it: no other opening of the process has it */
     struct waiter *waits;         /* by the holder: those that wait at a condition */
@@ -58,7 +57,8 @@ struct beyond {
 
 static inline struct lock *lock_of(const qolb_lock *lock) { return (struct lock *)(uintptr_t)lock; }
 
-static inline uint32_t burst_of(const struct lock *lock) { return lock->seats / BURST; }
+/* The bound of bursts; 0 and 1: the lock is strict. */
+static inline uint64_t burst_of(const struct lock *lock) { return lock->turns < MAX_BURST ? lock->turns : MAX_BURST; }
 
 /* The core's words. A function of the lock's address alone: so it can be used when the lock is gone. */
 static inline uint64_t *words_of(const struct lock *lock) {
@@ -108,8 +108,8 @@ static inline int32_t rounds_to_go(const struct lock *lock, uint64_t number) {
     return (int32_t)((uint32_t)rounds << (GRANTED_ROUNDS - 32)) >> (GRANTED_ROUNDS - 32);
 }
 
-/* The most rounds from which a request can be withdrawn; and the most requests that are open before a call with a limit,
- * or a task, draws a ticket. So the abandoned ones are few enough to be passed in 2 ms. */
+/* The most rounds from which a request can be withdrawn; and the most requests that are open when a call with a limit,
+ * or a task, draws a ticket: so that one release passes the abandoned ones in 2 ms. */
 enum { MOST_ROUNDS_NEAR = 15, MOST_OPEN = 16384 };
 
 static inline int has_room(const struct lock *lock) {
@@ -157,9 +157,8 @@ static inline uintptr_t own_of(const struct lock *lock) {
 
 static inline int is_open(const struct lock *lock) { return own_of(lock) > AWAITED; }
 
-/* Opens the lock, unless it is open: DONE; BAD_KIND or BAD_NODES if its initialiser says so. A thread that meets
- * another which opens it sleeps until that has. */
-HIDDEN uint32_t qolb_opened_(struct lock *lock);
+/* Opens the lock, unless it is open. A thread that meets another which opens it sleeps until that has. */
+HIDDEN void qolb_open_(struct lock *lock);
 
 /* ---- turns.c ---- */
 
@@ -317,5 +316,9 @@ HIDDEN void qolb_tell_shut_(struct lock *lock);
 
 /* As qolb_cond_wait_within, by a turn that is in no table. */
 HIDDEN uint32_t qolb_cond_wait_at_(qolb_cond *cond, struct lock *lock, struct turn *at, uint64_t nanoseconds);
+
+/* Frees the guards of conditions, in the child of a fork: threads of the parent that were in a call on a condition are
+ * not there. */
+HIDDEN void qolb_free_guards_(void);
 
 #endif

@@ -1,0 +1,97 @@
+/* Two copies of the library in one program: the static one of this program, and the shared one, which it opens at run
+ * time as a plugin would bring it. Each has locks and lines of its own, which threads use by turns and inside one
+ * another; no call of one copy touches what the other has of a thread or a line. Prints only errors. */
+#define _GNU_SOURCE
+#include <dlfcn.h>
+#include <qolb.h>
+
+#include "waiters.h"
+
+enum { THREADS = 4, ROUNDS = 2000, MANY = 12 };
+
+static struct copy {
+    uint32_t (*enter)(qolb_lock *);
+    uint32_t (*leave)(qolb_lock *);
+    uint32_t (*close)(qolb_lock *);
+    int (*is_mine)(const qolb_lock *);
+    uint64_t (*holder)(const qolb_lock *);
+    uint32_t (*open_line)(uint32_t, uint64_t, uint64_t, uint64_t, const qolb_bytes *, qolb_node *, size_t);
+    uint32_t (*acquire)(qolb_node *);
+    uint32_t (*deqolb)(qolb_node *);
+    uint32_t (*close_node)(qolb_node *);
+    qolb_lock lock[MANY];
+    qolb_node node[THREADS];
+    long count;
+} own, other;
+
+static void *named(void *library, const char *name) {
+    void *found = dlsym(library, name);
+    if (!found) printf("there is no %s\n", name), exit(1);
+    return found;
+}
+
+/* The result of dlsym is not a pointer to a function by C, but by POSIX. */
+static int find_both(void) {
+    void *library = dlopen(LIBRARY, RTLD_NOW | RTLD_LOCAL);
+    if (!library) return puts(dlerror()), 1;
+    own = (struct copy){qolb_lock_enter, qolb_lock_leave, qolb_lock_close, qolb_lock_is_mine, qolb_lock_holder,
+                        qolb_open,       qolb_acquire,    qolb_deqolb,     qolb_close};
+    *(void **)&other.enter = named(library, "qolb_lock_enter");
+    *(void **)&other.leave = named(library, "qolb_lock_leave");
+    *(void **)&other.close = named(library, "qolb_lock_close");
+    *(void **)&other.is_mine = named(library, "qolb_lock_is_mine");
+    *(void **)&other.holder = named(library, "qolb_lock_holder");
+    *(void **)&other.open_line = named(library, "qolb_open");
+    *(void **)&other.acquire = named(library, "qolb_acquire");
+    *(void **)&other.deqolb = named(library, "qolb_deqolb");
+    *(void **)&other.close_node = named(library, "qolb_close");
+    WANT(own.enter != other.enter && own.acquire != other.acquire, 1);
+    return 0;
+}
+
+static void is_in(struct copy *it, int k) {
+    MUST(it->enter(&it->lock[k]), QOLB_GRANTED);
+    MUST(it->is_mine(&it->lock[k]), 1);
+    MUST(it->holder(&it->lock[k]), gettid());
+}
+
+/* More locks than a thread's table has, of both copies, and a turn of a line of each. */
+static void *uses_both(void *number) {
+    int self = (int)(intptr_t)number;
+    struct copy *const outer = self % 2 ? &own : &other, *const inner = self % 2 ? &other : &own;
+    for (int round = 0; round < ROUNDS; round++) {
+        int k = round % MANY;
+        is_in(&own, k);
+        is_in(&other, k);
+        MUST(own.leave(&own.lock[k]), QOLB_DONE);
+        MUST(own.is_mine(&own.lock[k]), 0);
+        MUST(other.is_mine(&other.lock[k]), 1);
+        MUST(other.leave(&other.lock[k]), QOLB_DONE);
+        MUST(outer->acquire(&outer->node[self]), QOLB_GRANTED);
+        outer->count++;
+        MUST(outer->deqolb(&outer->node[self]), QOLB_DONE);
+        MUST(inner->acquire(&inner->node[self]), QOLB_GRANTED);
+        inner->count++;
+        MUST(inner->deqolb(&inner->node[self]), QOLB_DONE);
+    }
+    return NULL;
+}
+
+static int ends(struct copy *it) {
+    WANT(it->count, THREADS * ROUNDS);
+    for (int k = 0; k < MANY; k++) WANT(it->close(&it->lock[k]), QOLB_DONE);
+    for (int k = 0; k < THREADS; k++) WANT(it->close_node(&it->node[k]), QOLB_DONE);
+    return 0;
+}
+
+int main(void) {
+    static const qolb_bytes zeros;
+    pthread_t ids[THREADS];
+    alarm(600);
+    if (find_both()) return 1;
+    WANT(own.open_line(QOLB_DEFAULT, 1, THREADS, QOLB_NO_LEASE, &zeros, own.node, THREADS), QOLB_DONE);
+    WANT(other.open_line(QOLB_LINK, 1, THREADS, QOLB_NO_LEASE, &zeros, other.node, THREADS), QOLB_DONE);
+    for (intptr_t k = 0; k < THREADS; k++) MUST(pthread_create(&ids[k], NULL, uses_both, (void *)k), 0);
+    for (int k = 0; k < THREADS; k++) pthread_join(ids[k], NULL);
+    return ends(&own) || ends(&other);
+}

@@ -1,0 +1,361 @@
+/* How a waiter for a lock rests, and at a condition, by a clock that the program advances: how often it polls, how long
+ * it sleeps, and when it is late; its answer if the lock is granted, or shut, between the last poll and the withdrawal;
+ * and whom a leave wakes. Linked with --wrap for clock_gettime, nanosleep, sched_yield, syscall and for the proved calls
+ * that poll and withdraw. One thread does what several would: so it enters a lock that it holds as preload.c does.
+ * Prints only errors. */
+#define _GNU_SOURCE
+#include <lock/lock.h>
+#include <sched.h>
+#include <stdarg.h>
+#include <stdio.h>
+#include <stdlib.h>
+#include <sys/syscall.h>
+#include <sys/wait.h>
+#include <time.h>
+#include <unistd.h>
+
+#define WANT(call, wanted)                                            \
+    do {                                                              \
+        unsigned long long got_ = (unsigned long long)(call);         \
+        if (got_ != (unsigned long long)(wanted)) {                   \
+            printf("line %d: %s gave %llu\n", __LINE__, #call, got_); \
+            return 1;                                                 \
+        }                                                             \
+    } while (0)
+
+enum { MS = 1000000, NOTED = 8 };
+#define NEVER UINT64_MAX
+
+/* How often a waiter polls before it sleeps, each 90 ns, as qolb.h says: for 50 us behind at most four others, and for
+ * 2 us behind more. A spin in vain halves the next one, which begins with an eighth more. */
+enum { NEAR = 555, FAR = 22, LESS = NEAR / 2 + NEAR / 2 / 8 };
+
+/* The time; and since `begins` the numbers of clock calls, sleeps, polls and wakes, the longest time that a sleep may
+ * have lasted, and the calls that a waiter must not make. */
+static uint64_t now = 5000000000, clocks, sleeps, longest, polls, wakes, wrong;
+static const void *slept_at[NOTED], *woken_at[NOTED];
+
+/* An action during this number of sleeps, before this number of polls, or before a request is withdrawn. It happens
+ * once. */
+static struct {
+    void (*does)(void);
+    uint64_t at_sleep, at_poll;
+    int at_withdrawal;
+} event;
+
+static void happens(void) {
+    void (*does)(void) = event.does;
+    event.does = NULL;
+    if (does) does();
+}
+
+static void begins(void (*does)(void)) {
+    qolb_learned_[0] = qolb_learned_[1] = 0;
+    clocks = sleeps = longest = polls = wakes = 0;
+    event.does = does;
+    event.at_sleep = event.at_poll = 0;
+    event.at_withdrawal = 0;
+}
+
+int __wrap_clock_gettime(clockid_t clock, struct timespec *out) {
+    if (clock != CLOCK_MONOTONIC) wrong++;
+    clocks++;
+    out->tv_sec = (time_t)(now / 1000000000);
+    out->tv_nsec = (long)(now % 1000000000);
+    return 0;
+}
+
+int __wrap_nanosleep(const struct timespec *time, struct timespec *left) { return (void)time, (void)left, wrong++, 0; }
+int __wrap_sched_yield(void) { return wrong++, 0; }
+
+/* A sleep without a limit ends for no reason, and so does one in which something happens; any other takes its time. */
+static void sleep_until(const void *word, uint64_t end) {
+    uint64_t lasts = end == NEVER ? NEVER : end > now ? end - now : 0;
+    if (lasts > longest) longest = lasts;
+    if (sleeps < NOTED) slept_at[sleeps] = word;
+    if (++sleeps == event.at_sleep) happens();
+    else if (end != NEVER && end > now) now = end;
+    if (sleeps > 5000) puts("sleeps for ever"), exit(1);
+}
+
+static uint64_t nanoseconds_of(const struct timespec *time) {
+    return (uint64_t)time->tv_sec * 1000000000 + (uint64_t)time->tv_nsec;
+}
+
+long __real_syscall(long number, ...);
+
+long __wrap_syscall(long number, ...) {
+    if (number != SYS_futex) return __real_syscall(number);
+    va_list rest;
+    va_start(rest, number);
+    const unsigned *word = va_arg(rest, const unsigned *);
+    int what = va_arg(rest, int);
+    unsigned value = va_arg(rest, unsigned);
+    const struct timespec *time = va_arg(rest, const struct timespec *);
+    va_end(rest);
+    switch (what) {
+    case 128: /* FUTEX_WAIT_PRIVATE, for so long */
+        if (*word == value) sleep_until(word, time ? now + nanoseconds_of(time) : NEVER);
+        break;
+    case 137: /* FUTEX_WAIT_BITSET_PRIVATE, until then */
+        if (*word == value) sleep_until(word, time ? nanoseconds_of(time) : NEVER);
+        break;
+    case 129: /* FUTEX_WAKE_PRIVATE */
+    case 138: /* FUTEX_WAKE_BITSET_PRIVATE */
+        if (wakes < NOTED) woken_at[wakes] = word;
+        wakes++;
+        break;
+    default: wrong++;
+    }
+    return 0;
+}
+
+uint32_t __real_qolb_core_poll_proved_(const struct qolb_core *core, struct qolb_ticket *ticket);
+uint32_t __real_qolb_core_withdraw_proved_(const struct qolb_core *core, struct qolb_ticket *ticket);
+
+uint32_t __wrap_qolb_core_poll_proved_(const struct qolb_core *core, struct qolb_ticket *ticket) {
+    if (++polls == event.at_poll) happens();
+    return __real_qolb_core_poll_proved_(core, ticket);
+}
+
+uint32_t __wrap_qolb_core_withdraw_proved_(const struct qolb_core *core, struct qolb_ticket *ticket) {
+    if (event.at_withdrawal) happens();
+    return __real_qolb_core_withdraw_proved_(core, ticket);
+}
+
+/* ---- The lock, which this thread holds, and another turn at it ---- */
+
+static qolb_lock lock;
+static struct turn other;
+
+static uint32_t enters(uint64_t nanoseconds) {
+    other = (struct turn){0};
+    return qolb_enter_at_(lock_of(&lock), &other, nanoseconds, 0);
+}
+
+static void leaves(void) {
+    if (qolb_lock_leave(&lock) != QOLB_DONE) wrong++;
+}
+
+static void shuts(void) {
+    if (qolb_lock_shut(&lock) != QOLB_DONE) wrong++;
+}
+
+static int is_held(uint64_t burst) {
+    lock = (qolb_lock)QOLB_LOCK_INIT_BURSTS(burst);
+    WANT(qolb_lock_enter(&lock), QOLB_GRANTED);
+    return 0;
+}
+
+static int is_left_by_other(void) {
+    qolb_leave_at_(lock_of(&lock), &other);
+    WANT(qolb_lock_close(&lock), QOLB_DONE);
+    return 0;
+}
+
+static int is_left(void) {
+    leaves();
+    WANT(qolb_lock_close(&lock), QOLB_DONE);
+    return 0;
+}
+
+/* ---- Resting ---- */
+
+/* Late to the nanosecond, after one sleep; at once for no time at all. The head of a lock with bursts polls no cell. */
+static int late(uint64_t burst) {
+    if (is_held(burst)) return 1;
+    for (int again = 0; again < 2; again++) {
+        uint64_t since = now;
+        begins(NULL);
+        WANT(enters(20 * MS), QOLB_LATE);
+        WANT(now - since, 20 * MS);
+        WANT(sleeps, 1);
+        WANT(longest, 20 * MS);
+        WANT(polls, burst ? 0 : NEAR);
+    }
+    begins(NULL);
+    WANT(enters(0), QOLB_LATE);
+    WANT(sleeps + polls, 0);
+    return is_left();
+}
+
+/* As long as it takes, without a look at the clock: it sleeps, and if it is woken for no reason it polls anew. A leave
+ * wakes it, by one call. */
+static int sleeps_on(void) {
+    if (is_held(0)) return 1;
+    begins(leaves);
+    event.at_sleep = 3;
+    WANT(enters(NEVER), QOLB_GRANTED);
+    WANT(clocks, 0);
+    WANT(sleeps, 3);
+    WANT(longest, NEVER);
+    WANT(polls, NEAR + NEAR + LESS);
+    WANT(wakes, 1);
+    WANT(woken_at[0] == slept_at[0], 1);
+    return is_left_by_other();
+}
+
+/* The head of a lock with bursts: a leave wakes it at the outer word. */
+static int head_sleeps_on(void) {
+    if (is_held(64)) return 1;
+    begins(leaves);
+    event.at_sleep = 2;
+    WANT(enters(NEVER), QOLB_GRANTED);
+    WANT(sleeps, 2);
+    WANT(longest, NEVER);
+    WANT(wakes, 1);
+    WANT(woken_at[0] == slept_at[1], 1);
+    return is_left_by_other();
+}
+
+/* Granted while it polls, and at once: no sleep, no wake. */
+static int granted_awake(void) {
+    if (is_held(0)) return 1;
+    begins(leaves);
+    event.at_poll = 5;
+    WANT(enters(NEVER), QOLB_GRANTED);
+    WANT(polls, 5);
+    WANT(sleeps + wakes + clocks, 0);
+    qolb_leave_at_(lock_of(&lock), &other);
+    begins(NULL);
+    WANT(qolb_lock_enter(&lock), QOLB_GRANTED);
+    WANT(polls + sleeps + wakes + clocks, 0);
+    return is_left();
+}
+
+/* Behind more than four it polls for less. */
+static int far_from_its_turn(void) {
+    enum { BEFORE = 7 };
+    struct turn before[BEFORE] = {{0}};
+    if (is_held(0)) return 1;
+    for (int k = 0; k < BEFORE; k++)
+        WANT(qolb_core_ask_proved_(&lock_of(&lock)->core, &before[k].ticket), QOLB_WAITING);
+    begins(NULL);
+    WANT(enters(MS), QOLB_LATE);
+    WANT(polls, FAR);
+    WANT(sleeps, 1);
+    leaves();
+    for (int k = 0; k < BEFORE; k++) {
+        WANT(qolb_core_poll_proved_(&lock_of(&lock)->core, &before[k].ticket), QOLB_GRANTED);
+        WANT(qolb_core_check_open_proved_(&lock_of(&lock)->core, &before[k].ticket), QOLB_GRANTED);
+        qolb_leave_at_(lock_of(&lock), &before[k]);
+    }
+    WANT(qolb_lock_close(&lock), QOLB_DONE);
+    return 0;
+}
+
+/* The time is over, and the lock is granted, or is shut, before the withdrawal. */
+static int at_the_end(int is_shut) {
+    if (is_held(0)) return 1;
+    begins(is_shut ? shuts : leaves);
+    event.at_withdrawal = 1;
+    WANT(enters(MS), is_shut ? QOLB_CLOSED : QOLB_GRANTED);
+    if (!is_shut) return is_left_by_other();
+    WANT(qolb_lock_close(&lock), QOLB_DONE);
+    return 0;
+}
+
+static void time_passes(void) { now += 5 * MS; }
+
+/* Woken without a grant: the rest of the time is used. */
+static int woken_for_nothing(uint64_t burst) {
+    qolb_cond cond = QOLB_COND_INIT;
+    if (is_held(burst)) return 1;
+    for (int way = 0; way < 2; way++) {
+        uint64_t since = now;
+        begins(time_passes);
+        event.at_sleep = 1;
+        WANT(way ? qolb_cond_wait_within(&cond, &lock, 20 * MS) : enters(20 * MS), QOLB_LATE);
+        WANT(now - since, 20 * MS);
+        WANT(sleeps, 2);
+        WANT(longest, 20 * MS);
+    }
+    return is_left();
+}
+
+/* At a condition it sleeps at once. */
+static int at_condition(void) {
+    qolb_cond cond = QOLB_COND_INIT;
+    if (is_held(0)) return 1;
+    uint64_t since = now;
+    begins(NULL);
+    WANT(qolb_cond_wait_within(&cond, &lock, 20 * MS), QOLB_LATE);
+    WANT(now - since, 20 * MS);
+    WANT(sleeps, 1);
+    WANT(polls + wakes, 0);
+    return is_left();
+}
+
+/* A process that may use one processor only, here a child, sleeps at once. */
+static int sleeps_at_once(void) {
+    cpu_set_t set;
+    CPU_ZERO(&set);
+    CPU_SET(sched_getcpu(), &set);
+    atomic_store(&qolb_pauses_, 0);
+    WANT(sched_setaffinity(0, sizeof set, &set), 0);
+    if (is_held(0)) return 1;
+    begins(NULL);
+    WANT(enters(MS), QOLB_LATE);
+    WANT(polls, 0);
+    WANT(sleeps, 1);
+    WANT(wrong, 0);
+    return 0;
+}
+
+static int with_one_processor(void) {
+    int status;
+    pid_t child = fork();
+    if (child == 0) exit(sleeps_at_once());
+    WANT(waitpid(child, &status, 0), child);
+    WANT(status, 0);
+    return 0;
+}
+
+/* ---- Whom a leave wakes ---- */
+
+enum { SLEEPERS = 3 };
+static void (*lets_go)(void);
+static struct turn holder;
+
+/* While one sleeps the next waits and sleeps, too, and while the last does the lock is left. Those behind the first
+ * are late, as their sleeps end. */
+static void next_sleeps(void) {
+    struct turn mine = {0};
+    if (sleeps == SLEEPERS) {
+        lets_go();
+        return;
+    }
+    event.does = next_sleeps;
+    event.at_sleep = sleeps + 1;
+    if (qolb_enter_at_(lock_of(&lock), &mine, 20 * MS, 0) != QOLB_LATE) wrong++;
+}
+
+static void holder_leaves(void) { qolb_leave_at_(lock_of(&lock), &holder); }
+
+/* Three sleep, each at its own word: the next holder is woken; and the one behind it, if who leaves has slept. */
+static int wakes_in_order(unsigned has_slept) {
+    lock = (qolb_lock)QOLB_LOCK_INIT;
+    WANT(qolb_lock_open(&lock, 0), QOLB_DONE);
+    holder = (struct turn){0};
+    WANT(qolb_enter_at_(lock_of(&lock), &holder, NEVER, 0), QOLB_GRANTED);
+    holder.slept = has_slept;
+    lets_go = holder_leaves;
+    begins(next_sleeps);
+    event.at_sleep = 1;
+    WANT(enters(NEVER), QOLB_GRANTED);
+    WANT(slept_at[0] != slept_at[1] && slept_at[1] != slept_at[2] && slept_at[2] != slept_at[0], 1);
+    WANT(wakes, 1 + has_slept);
+    for (unsigned k = 0; k < wakes; k++) WANT(woken_at[k] == slept_at[k], 1);
+    return is_left_by_other();
+}
+
+int main(void) {
+    alarm(60); /* who never looks at the clock, or never rests, does not end */
+    if (with_one_processor()) return 1;
+    atomic_store(&qolb_pauses_, 80); /* also where there is one processor */
+    if (late(0) || late(64) || sleeps_on() || head_sleeps_on() || granted_awake() || far_from_its_turn()) return 1;
+    if (at_the_end(0) || at_the_end(1) || woken_for_nothing(0) || woken_for_nothing(64) || at_condition()) return 1;
+    if (wakes_in_order(0) || wakes_in_order(1)) return 1;
+    WANT(wrong, 0);
+    return 0;
+}
