@@ -1,6 +1,6 @@
-/* Times ways of taking turns, all in one program, in short phases that take turns; and what a hand-over and a pause take
- * on this machine. For nodes.c and speed.c: who includes it has an enum way that ends with WAYS, and the functions that
- * are declared here.
+/* Times ways of taking turns, all in one program, in short phases that take turns, and hand-overs between processors.
+ * For nodes.c and speed.c: who includes it has an enum way that ends with WAYS, and the functions that are declared
+ * here.
  *
  * Places in memory matter: each way has PLACES lines or locks, and takes one after the other. */
 #ifndef PHASES_H

@@ -7,14 +7,14 @@
  *
  * Thread k stays at the processor with that place in the list. MICROSECONDS is the length of a turn, in which the
  * holder adds 1 to a number beside the lock. With `loops` each of the processors also has a thread that does nothing
- * else than loop; with `one` the process may use the first processor alone, and two threads also hand over to each other
- * by semaphores.
+ * else than loop. With `one` the process may use the first processor alone, and two threads also hand over to each
+ * other by semaphores.
  *
- * It prints the time of a hand-over between each two of the processors, before and after, and then tab-separated for
- * each way: its name, the phases, nanoseconds a turn over all threads (the median of the phases, the quartiles, and of
- * all turns together), and of the waits whose time was taken the 99.9th of 100 and the longest of a phase, the median of
+ * It prints the time of a hand-over between each two of the processors, before and after. Then, tab-separated, for each
+ * way: its name, the phases, nanoseconds a turn over all threads (the median of the phases, the quartiles, and of all
+ * turns together), and of the waits whose time was taken the 99.9th of 100 and the longest of a phase, the median of
  * the phases, in microseconds. `machine` prints hand-overs and the time of a pause. `bytes` prints the bytes of a lock,
- * those of heap that so many take together, and how many bytes for each lock the process grows by. */
+ * and those of heap that so many take together. */
 #define _GNU_SOURCE
 #include <malloc.h>
 #include <qolb.h>
@@ -26,6 +26,11 @@ static const char *const names[WAYS] = {"strict", "bursts", "mutex", "MCS", "MCS
 #include "phases.h"
 
 enum { BURST = 1024 };
+#ifdef QOLB_SEATS /* a library before 2.0 */
+#define OF_BURSTS(turns) QOLB_LOCK_INIT_BURSTS(QOLB_LINK, 4, turns)
+#else
+#define OF_BURSTS(turns) QOLB_LOCK_INIT_BURSTS(turns)
+#endif
 static int by_one;
 
 /* MCS never sleeps: where a holder may wait for a processor, only one that yields is timed. */
@@ -113,8 +118,8 @@ static int all_are_there(void) {
 
 static void make_locks(void) {
     for (int at = 0; at < PLACES; at++) {
-        locks[at].strict = (qolb_lock)QOLB_LOCK_INIT_BURSTS(QOLB_DEFAULT, 4, 0);
-        locks[at].bursts = (qolb_lock)QOLB_LOCK_INIT_BURSTS(QOLB_DEFAULT, 4, BURST);
+        locks[at].strict = (qolb_lock)OF_BURSTS(0);
+        locks[at].bursts = (qolb_lock)OF_BURSTS(BURST);
         pthread_mutex_init(&locks[at].mutex, NULL);
     }
 }
@@ -136,26 +141,16 @@ static int of_machine(void) {
     return 0;
 }
 
-static long pages_of_process(void) {
-    long all_pages = 0, resident = 0;
-    FILE *file = fopen("/proc/self/statm", "r");
-    if (!file || fscanf(file, "%ld %ld", &all_pages, &resident) != 2) abort();
-    fclose(file);
-    return resident * sysconf(_SC_PAGESIZE);
-}
-
 static int of_bytes(size_t many) {
     qolb_lock *table = calloc(many, sizeof *table);
     if (!table) return 1;
-    for (size_t k = 0; k < many; k++) table[k] = (qolb_lock)QOLB_LOCK_INIT_BURSTS(QOLB_DEFAULT, 4, k % 2 ? BURST : 0);
+    for (size_t k = 0; k < many; k++) table[k] = (qolb_lock)OF_BURSTS(k % 2 ? BURST : 0);
     if (qolb_lock_enter(&table[0]) != QOLB_GRANTED || qolb_lock_leave(&table[0]) != QOLB_DONE) return 1;
-    long pages = pages_of_process();
     size_t heap = mallinfo2().uordblks + mallinfo2().hblkhd;
     for (size_t k = 0; k < many; k++)
         if (qolb_lock_enter(&table[k]) != QOLB_GRANTED || qolb_lock_leave(&table[k]) != QOLB_DONE) return 1;
     size_t more = mallinfo2().uordblks + mallinfo2().hblkhd - heap;
-    printf("bytes\t%zu\theap\t%zu\tpages\t%.1f\n", sizeof *table, more,
-           (double)(pages_of_process() - pages) / (double)many);
+    printf("bytes\t%zu\theap\t%zu\n", sizeof *table, more);
     return 0;
 }
 
