@@ -1,7 +1,7 @@
 """Edits of the lock on the core, for ../seats_core.py: file, function (empty: the file's other text), its text, and what stands in its place."""
 
 LOCK, WAITS, TURNS, OPENS, CONDITIONS, REGISTRY, TASKS, HEADER = (
-    f"core_lock/{name}" for name in ("lock.c", "waits.c", "turns.c", "opens.c", "conditions.c", "registry.c", "tasks.c", "lock.h")
+    f"lock/{name}" for name in ("lock.c", "waits.c", "turns.c", "opens.c", "conditions.c", "registry.c", "tasks.c", "lock.h")
 )
 
 # Less room and fewer looks before the same decisions; no clock in pauses, and each thread's data where core_holders.c has them. What limits tickets is by scenes,
@@ -86,7 +86,7 @@ FAULTS = {
     # Opening.
     "two open the lock": (1, "each enters", (OPENS, "claims", "    return __atomic_compare_exchange_n", "    if (!from) return __atomic_store_n((uintptr_t *)&lock->core.at, to, __ATOMIC_SEQ_CST), 1;\n    return __atomic_compare_exchange_n")),
     "who has opened wakes nobody": (2, "each enters", (OPENS, "open_core", "    if (was == AWAITED) qolb_unpark_((uint32_t *)&lock->core.at, 1);\n", "    (void)was;\n")),
-    "who meets one that opens does not say so": (2, "each enters", (OPENS, "qolb_opened_", "own_of(lock) == AWAITED || claims(lock, OPENING, AWAITED)", "own_of(lock) == OPENING"), (OPENS, "qolb_opened_", "AWAITED, 1, FOR_EVER", "OPENING, 1, FOR_EVER")),
+    "who meets one that opens does not say so": (2, "each enters", (OPENS, "qolb_open_", "own_of(lock) == AWAITED || claims(lock, OPENING, AWAITED)", "own_of(lock) == OPENING"), (OPENS, "qolb_open_", "AWAITED, 1, FOR_EVER", "OPENING, 1, FOR_EVER")),
     "the core is found by a relaxed load": (1, "each enters", (HEADER, "own_of", "__ATOMIC_ACQUIRE", "__ATOMIC_RELAXED")),
     "the core is shown before it is open": (1, "each enters", (OPENS, "open_core", "    lock->label =", "    __atomic_store_n(&lock->core.at, lock->block, __ATOMIC_SEQ_CST);\n    lock->label =")),
     "two openings have one label": (1, "holds three", (OPENS, "open_core", "atomic_fetch_add(&labels, 1) + 1", "atomic_load(&labels) + 1"), (TURNS, "is_free", "!(lock_at(at) & HELD) || holds_still(at, lock)", "1")),

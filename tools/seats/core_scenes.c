@@ -6,7 +6,6 @@
 
 struct it it;
 
-BY_THREAD struct room qolb_room_;
 BY_THREAD struct core_room qolb_core_room_;
 BY_THREAD unsigned qolb_learned_[2];
 unsigned model_near, model_sleepers, model_open;
@@ -715,12 +714,11 @@ static qolb_lock *unopened(const struct scene *scene, int k) {
     char *block = model_malloc(sizeof(qolb_lock) + PLACES * PLACE);
     qolb_lock *lock = (qolb_lock *)(block + PLACE * ((scene - scenes + k) % PLACES));
     if (k == 0) it.block = block;
-    *lock = (qolb_lock)QOLB_LOCK_INIT_BURSTS(QOLB_LINK, 4, scene->burst);
+    *lock = (qolb_lock)QOLB_LOCK_INIT_BURSTS(scene->burst);
     return lock;
 }
 
 void set_up(const struct scene *scene) {
-    qolb_bytes zeros = {{0}};
     memset(&it, 0, sizeof it), memset(order, 0, sizeof order);
     new_data_of_threads(asks_for_holder(scene->does));
     time_of_order = 0, it.users = scene->threads, model_near = scene->near, model_sleepers = scene->sleepers,
@@ -729,7 +727,7 @@ void set_up(const struct scene *scene) {
     for (int k = 0; k < LOCKS; k++) {
         it.locks[k] = unopened(scene, k);
         if (!scene->at_first_use)
-            MUST(qolb_lock_open(it.locks[k], QOLB_LINK, 0, QOLB_SEATS(4, scene->burst), &zeros) == QOLB_DONE);
+            MUST(qolb_lock_open(it.locks[k], scene->burst) == QOLB_DONE);
     }
     it.lock = it.locks[0];
 }

@@ -2,7 +2,7 @@
 #ifndef CORE_SCENES_H
 #define CORE_SCENES_H
 
-#include <core_lock/lock.h>
+#include <lock/lock.h>
 #include <sched.h>
 #include "explorer.h"
 

@@ -319,7 +319,7 @@ long model_syscall(long number, ...) {
         step(1); /* a sleep from which no thread wakes it */
     else if (what == WAITS || what == WAITS_IN_CLASSES) sleeps(word, value, time != NULL, classes);
     else wakes(word, (int)value, classes);
-#ifdef QOLB_LOCK_CORE
+#ifdef ONE_LOCK
     step(0); /* who is woken may be the next to go on */
 #endif
     va_end(rest);
@@ -330,7 +330,7 @@ long model_syscall(long number, ...) {
 
 static void body(int k) {
     scene->does(k);
-#ifdef QOLB_LOCK_CORE
+#ifdef ONE_LOCK
     end_thread();
 #endif
     step(0);

@@ -10,7 +10,7 @@ struct clock {
     unsigned at[THREADS + 1];
 };
 
-#ifdef QOLB_LOCK_CORE
+#ifdef ONE_LOCK
 /* What these threads do at the same time, each by its number, over a lock on the core with these bursts, which is
  * opened before or at its first use. A request can be withdrawn with at most so many rounds to go, so many threads may
  * announce a sleep at one cell, and with fewer rounds to go than so many a call with a limit draws a ticket. There may
