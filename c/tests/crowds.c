@@ -139,11 +139,11 @@ enum { SANITIZED = 0 };
 #endif
 static size_t bytes_in_use(void) { return SANITIZED ? 0 : mallinfo2().uordblks; }
 
-/* Nobody waits for them, and one leave passes them all; the best of three tries, as the machine may have other work. Of
- * more than may be open the others draw no ticket. A task is before them: with bursts it is the queue head, which
+/* Nobody waits for them, and one leave passes them all: the thread's own time, and the best of three tries, as the machine
+ * may have other work. Of more than may be open the others draw no ticket. A task is before them: with bursts it is the queue head, which
  * each would be otherwise. */
 static int passes(int given_up, uint32_t burst) {
-    double best = 1e9;
+    double best = 1e9, wall = 1e9;
     size_t taken = 0;
     for (int round = 0; round < 3; round++) {
         begin(burst);
@@ -154,16 +154,19 @@ static int passes(int given_up, uint32_t burst) {
         in_another(gives_up_often, given_up);
         taken = bytes_in_use() - before;
         WANT(SANITIZED || (taken > 20 * (size_t)GIVEN_UP && taken <= MOST_BYTES), 1);
-        double since = seconds(CLOCK_MONOTONIC);
+        double since = seconds(CLOCK_MONOTONIC), own_since = seconds(CLOCK_THREAD_CPUTIME_ID);
         MUST(qolb_lock_leave(&lock), QOLB_DONE);
-        double took = ms_since(since);
-        best = took < best ? took : best;
+        double took = ms_since(since), own = (seconds(CLOCK_THREAD_CPUTIME_ID) - own_since) * 1e3;
+        best = own < best ? own : best;
+        wall = took < wall ? took : wall;
         WANT(SANITIZED || bytes_in_use() < before + 4096, 1);
         MUST(qolb_lock_try(&lock), QOLB_GRANTED);
         MUST(qolb_lock_leave(&lock), QOLB_DONE);
         WANT(qolb_lock_close(&lock), QOLB_DONE);
     }
-    if (tells) printf("bursts %u: %d given up: %zu bytes, passed in %.3f ms\n", burst, given_up, taken, best);
+    if (tells)
+        printf("bursts %u: %d given up: %zu bytes, passed in %.3f ms, %.3f of its own\n", burst, given_up, taken, wall,
+               best);
     WANT(SANITIZED || best < PASSED_IN_MS, 1);
     return 0;
 }

@@ -5,7 +5,7 @@ LOCK, WAITS, TURNS, OPENS, CONDITIONS, REGISTRY, TASKS, HEADER = (
 )
 
 # Less room and fewer looks before the same decisions; no clock in pauses, and each thread's data where core_holders.c has them. What limits tickets is by scenes,
-# and so is the memory for entries. A ticket is withdrawn for the scenes when its entry is abandoned. The model has several threads in one, so what a thread keeps
+# and so is the memory for entries. All tasks have one key. A ticket is withdrawn for the scenes when its entry is abandoned. The model has several threads in one, so what a thread keeps
 # while it makes calls is its.
 HOOKED = [
     (HEADER, "", "MOST_HELD = 8", "MOST_HELD = 1"),
@@ -25,9 +25,10 @@ HOOKED = [
     (REGISTRY, "qolb_new_entry_", "struct entry *e = malloc(sizeof *e);", "void *model_entry(size_t size);\n    struct entry *e = model_entry(sizeof *e);"),
     (REGISTRY, "qolb_abandon_", "    return_row(row);\n", "    { void hook_withdraws(void); if (got == QOLB_ASLEEP_) hook_withdraws(); }\n    return_row(row);\n"),
     (REGISTRY, "withdraw", "        return (struct qolb_ticket){.state = QOLB_TICKET_FREE_};\n", "        { void hook_withdraws(void); hook_withdraws(); }\n        return (struct qolb_ticket){.state = QOLB_TICKET_FREE_};\n"),
-    (REGISTRY, "", "ROWS = 64, COLUMNS = 64", "ROWS = 1, COLUMNS = 2"),
+    (REGISTRY, "", "ROWS = 32, COLUMNS = 256", "ROWS = 1, COLUMNS = 2"),
     ("notify.c", "", "static BY_THREAD struct caller_of_notices *in_call;", "void **model_in_call(void);\n#define in_call (*(struct caller_of_notices **)model_in_call())"),
     ("bells.h", "", "enum { BELLS = 1024 };", "enum { BELLS = 2 };"),
+    (TASKS, "qolb_task_enter", "(uint64_t)(uintptr_t)me / sizeof *me << 32 | NO_WORD", "NO_WORD"),
     ("bells.h", "", "GUARD_LOOKS = 64", "GUARD_LOOKS = 1"),
 ]
 
@@ -117,12 +118,12 @@ FAULTS = {
     "where there is no memory a ticket is lost": (1, "far: no memory", (REGISTRY, "qolb_abandon_", "    if (!e) return QOLB_WAITING;\n", "    if (!e) return *ticket = (struct qolb_ticket){0}, QOLB_ASLEEP_;\n")),
     "where a cell is full a ticket is lost": (1, "far: ", (REGISTRY, "qolb_abandon_", "return got == QOLB_FULL_ ? (uint32_t)QOLB_WAITING : got;", "return got == QOLB_FULL_ ? *ticket = (struct qolb_ticket){0}, (uint32_t)QOLB_ASLEEP_ : got;")),
     "the last entry of a list stays its last": (1, "", (REGISTRY, "take_out", "    if (*list == e) set_last(list, before == e ? NULL : before);\n", "    if (before == e) set_last(list, NULL);\n")),
-    "a list forgets all but its last entry": (2, "tasks", (REGISTRY, "put_in", "    e->next = last ? last->next : e;\n    if (last) last->next = e;\n", "    e->next = e, (void)last;\n")),
+    "a list forgets all but its last entry": (2, "tasks: three tasks", (REGISTRY, "put_in", "    e->next = last ? last->next : e;\n    if (last) last->next = e;\n", "    e->next = e, (void)last;\n")),
     # A task as the queue head.
     "a queue head is told of before it is in its list": (2, "bursts: tasks", (REGISTRY, "stands_as_head", "    put_in(e);\n", ""), (REGISTRY, "stands_as_head", "            return 1;\n", "            return put_in(e), 1;\n"), (REGISTRY, "stands_as_head", "    take_out(e);\n", "")),
     "a task as the queue head requests no handoff": (2, "bursts: tasks", (REGISTRY, "stands_as_head", "qolb_core_request_handoff_proved_(core, ticket) == QOLB_DONE &&\n            ", "")),
     "a task as the queue head announces no sleep": (1, "bursts: tasks", (REGISTRY, "stands_as_head", " &&\n            qolb_core_announce_head_sleep_proved_(core, ticket) == QOLB_ASLEEP_", "")),
-    "a task as the queue head announces its sleep before it requests": (2, "bursts: tasks", (REGISTRY, "stands_as_head", "qolb_core_request_handoff_proved_(core, ticket) == QOLB_DONE &&\n            qolb_core_announce_head_sleep_proved_(core, ticket) == QOLB_ASLEEP_", "qolb_core_announce_head_sleep_proved_(core, ticket) == QOLB_ASLEEP_ &&\n            qolb_core_request_handoff_proved_(core, ticket) == QOLB_DONE")),
+    "a task as the queue head announces its sleep before it requests": (2, "bursts of four: tasks: a task beside threads", (REGISTRY, "stands_as_head", "qolb_core_request_handoff_proved_(core, ticket) == QOLB_DONE &&\n            qolb_core_announce_head_sleep_proved_(core, ticket) == QOLB_ASLEEP_", "qolb_core_announce_head_sleep_proved_(core, ticket) == QOLB_ASLEEP_ &&\n            qolb_core_request_handoff_proved_(core, ticket) == QOLB_DONE")),
     "a task as the queue head that is in stays in its list": (2, "bursts: tasks", (REGISTRY, "stands_as_head", "    take_out(e);\n", "")),
     "who leaves the outer word does not look for a task": (1, "bursts: tasks", (WAITS, "qolb_leave_outer_", "at->ticket.head_sleeps && qolb_find_head_(lock, &key) == NOBODY", "at->ticket.head_sleeps")),
     "who finds a task as the queue head leaves it in its list": (1, "bursts: tasks", (REGISTRY, "qolb_find_head_", "take_out(gone = e)", "gone = e")),
@@ -131,16 +132,16 @@ FAULTS = {
     "who passes on makes no call": (1, "tasks", (WAITS, "qolb_pass_on_", "    make_call(key);\n", "")),
     "who leaves the outer word makes no call": (1, "bursts: tasks", (WAITS, "qolb_leave_outer_", "    make_call(key);\n", "")),
     "a call is made under the registry's guard": (1, "tasks: turns in calls", (REGISTRY, "make_due", "    qolb_list_(&task->notice, key);\n", "    qolb_list_(&task->notice, key);\n    qolb_make_call_(bell_of_key(key), key);\n")),
-    "who makes a task due lists it first": (2, "tasks", (REGISTRY, "make_due", "    atomic_store(&task->state, DUE);\n", ""), (REGISTRY, "make_due", "    qolb_list_(&task->notice, key);\n", "    qolb_list_(&task->notice, key);\n    return_row(row_of(e->lock)), take_row(e->lock);\n    atomic_store(&task->state, DUE);\n")),
-    "a poll does not wait for who makes the task due": (2, "tasks", (TASKS, "qolb_task_poll", "qolb_state_of_(me, NULL)", "atomic_load(&me->state)")),
+    "who makes a task due lists it first": (2, "tasks: one task gives up", (REGISTRY, "make_due", "    atomic_store(&task->state, DUE);\n", ""), (REGISTRY, "make_due", "    qolb_list_(&task->notice, key);\n", "    qolb_list_(&task->notice, key);\n    return_row(row_of(e->lock)), take_row(e->lock);\n    atomic_store(&task->state, DUE);\n")),
+    "a poll does not wait for who makes the task due": (2, "tasks: the last that polls", (TASKS, "qolb_task_poll", "qolb_state_of_(me, NULL)", "atomic_load(&me->state)")),
     "a poll leaves the call to be made": (1, "tasks", (TASKS, "qolb_task_poll", "    qolb_unlist_(&me->notice);\n", "")),
-    "a cancel leaves the call to be made": (2, "tasks", (TASKS, "qolb_task_cancel", "    qolb_unlist_(&me->notice);\n", "")),
+    "a cancel leaves the call to be made": (2, "tasks: a task gives up", (TASKS, "qolb_task_cancel", "    qolb_unlist_(&me->notice);\n", "")),
     "a task does not look whether the lock is open": (1, "tasks", (TASKS, "settle", "got = qolb_core_check_open_proved_(&lock->core, &at.ticket)", "at.ticket.state = QOLB_TICKET_SERVED_")),
     "a task that is told of a shut keeps its turn": (1, "tasks", (TASKS, "settle", "    qolb_settle_(lock, &at, got);\n", "    if (got == QOLB_GRANTED) qolb_settle_(lock, &at, got);\n")),
     "a task that is told of a shut is not idle": (1, "tasks", (TASKS, "settle", "    if (got != QOLB_GRANTED) atomic_store(&me->state, IDLE);\n", "")),
     "a task that is in by the outer word keeps its turn of the queue": (1, "bursts: tasks", (TASKS, "settle", "    qolb_settle_(lock, &at, got);\n", "    if (got != QOLB_GRANTED || !burst_of(lock)) qolb_settle_(lock, &at, got);\n")),
-    "a task that gives up at its turn keeps it": (2, "tasks", (TASKS, "qolb_task_cancel", "        if (at.ticket.state == QOLB_TICKET_AT_TURN_) qolb_pass_on_(lock, &at);\n", "")),
-    "a task that gives up when it is due keeps its turn": (2, "tasks", (TASKS, "qolb_task_cancel", "    qolb_task_leave(task);\n", "    atomic_store(&me->state, IDLE);\n")),
+    "a task that gives up at its turn keeps it": (2, "tasks: a task gives up", (TASKS, "qolb_task_cancel", "        if (at.ticket.state == QOLB_TICKET_AT_TURN_) qolb_pass_on_(lock, &at);\n", "")),
+    "a task that gives up when it is due keeps its turn": (2, "tasks: a task gives up", (TASKS, "qolb_task_cancel", "    qolb_task_leave(task);\n", "    atomic_store(&me->state, IDLE);\n")),
     "a task that gives up is not withdrawn": (1, "tasks", (REGISTRY, "withdraw", "            qolb_core_withdraw_proved_(&lock->core, &ticket);\n", "            ticket.state = QOLB_TICKET_FREE_;\n")),
     "a task that gives up retracts no sleep": (1, "tasks", (REGISTRY, "withdraw", "        if (qolb_core_retract_sleep_proved_(&lock->core, &ticket) == QOLB_WAITING)\n            qolb_core_withdraw_proved_(&lock->core, &ticket);\n", "        ticket.state = QOLB_TICKET_WAITING_, ticket.rounds = 1;\n        qolb_core_withdraw_proved_(&lock->core, &ticket);\n")),
     "a task that gives up far leaves its entry to itself": (1, "far: tasks", (REGISTRY, "withdraw", "        e->task = NULL;\n", "")),
@@ -150,7 +151,7 @@ FAULTS = {
     "a task draws its ticket before its entry is allocated": (1, "tasks: no memory", (TASKS, "stand", "    struct entry *e = has_room(me->lock)", "    qolb_core_ask_proved_(&me->lock->core, ticket);\n    struct entry *e = has_room(me->lock)"), (TASKS, "stand", "    qolb_core_ask_proved_(&me->lock->core, ticket);\n    me->number", "    me->number")),
     "a task draws a ticket while too many are open": (1, "tasks: crowded", (TASKS, "stand", "has_room(me->lock) ? qolb_new_entry_(me->lock, me) : NULL", "qolb_new_entry_(me->lock, me)")),
     "a task that has left is the holder": (1, "tasks", (TASKS, "leave", "    atomic_store_explicit(&lock->beyond_by, 0, memory_order_relaxed);\n", "")),
-    "a task waits before its state says so": (2, "tasks", (TASKS, "stand", "    atomic_store(&me->state, WAITS);\n", ""), (TASKS, "stand", "    if (qolb_stand_for_(e, ticket) == QOLB_WAITING) return QOLB_WAITING;\n", "    if (qolb_stand_for_(e, ticket) == QOLB_WAITING) return atomic_store(&me->state, WAITS), QOLB_WAITING;\n")),
+    "a task waits before its state says so": (2, "tasks: a task each", (TASKS, "stand", "    atomic_store(&me->state, WAITS);\n", ""), (TASKS, "stand", "    if (qolb_stand_for_(e, ticket) == QOLB_WAITING) return QOLB_WAITING;\n", "    if (qolb_stand_for_(e, ticket) == QOLB_WAITING) return atomic_store(&me->state, WAITS), QOLB_WAITING;\n")),
     "a task's shut is told to nobody at a condition": (1, "tasks", (TASKS, "leave", "        qolb_tell_shut_(lock);\n", "")),
     "a task shuts nothing": (1, "tasks", (TASKS, "leave", "        qolb_core_shut_proved_(&lock->core, &at.ticket);\n", "")),
     "who waits at a condition keeps its place while calls are made": (1, "tasks: one waits while a call enters", (CONDITIONS, "qolb_cond_wait_within", "    struct turn turn = *at; /* not in the table: a call of a task may enter other locks */\n    at->ticket = (struct qolb_ticket){0};\n", ""), (CONDITIONS, "qolb_cond_wait_within", "qolb_cond_wait_at_(cond, lock, &turn, nanoseconds)", "qolb_cond_wait_at_(cond, lock, at, nanoseconds)"), (CONDITIONS, "qolb_cond_wait_within", "    at = qolb_place_for_(lock, &beyond);\n    at->ticket = turn.ticket;\n", "")),

@@ -19,7 +19,7 @@
 #include "lock.h"
 #include <stdlib.h>
 
-enum { ROWS = 64, COLUMNS = 64 };
+enum { ROWS = 32, COLUMNS = 256 };
 
 /* The number of a queue head's entry. */
 #define HEAD UINT64_MAX
@@ -220,7 +220,7 @@ enum found qolb_find_head_(struct lock *lock, uint64_t *key) {
 
 /* ---- A task gives up ---- */
 
-/* Of a task that waits. The ticket of one that is near is FREE afterwards, or AT_TURN, to be passed on, and the entry is
+/* Of a task that waits. The ticket of one that is near is FREE afterwards, or AT_TURN, to be passed on, and the entry
  * gone; of one that is far the entry stays, abandoned. */
 static struct qolb_ticket withdraw(struct task *task, struct entry **gone) {
     struct entry *e = task->entry;
