@@ -86,30 +86,29 @@ def waits():
     return table(["Turn, us", "Threads", *WAITS.values()], rows)
 
 
-def c_memory(word):
-    """The header's table of bytes by the number of nodes or seats: by kind, and by number."""
+def c_memory():
+    """The header's table of bytes by the number of nodes: by kind, and by number."""
     header = (ROOT / "c/include/qolb.h").read_text()
-    head, *rows = re.search(rf" \*     {word} (.*)\n((?: \*     \w+ .*\n)+)", header)[0].splitlines()
+    head, *rows = re.search(r" \*     nodes (.*)\n((?: \*     \w+ .*\n)+)", header)[0].splitlines()
     counts = head.split()[2:]
     return {row.split()[1]: dict(zip(counts, row.split()[2:])) for row in rows}
 
 
 def memory():
-    """The bytes of a line with its ports in Rattle, and of an open line and a lock from C."""
+    """The bytes of a line with its ports in Rattle, and of an open line from C."""
     found = {(row["name"], row["nodes"]): int(row["table"]) + int(row["ports"]) for row in rows_of("memory.tsv")}
-    nodes, seats = c_memory("nodes"), c_memory("seats")
-    counts = list(nodes["ring"])
+    in_c = c_memory()
+    counts = list(in_c["ring"])
     rows = [[f"{line}, Rattle", *(f"{found[line, count]:,}" for count in counts)] for line in LINES]
     for line in LINES:
-        rows.append([f"{line}, C", *nodes[line.split()[0]].values()])
-    rows.append(["`qolb_lock`, link line", *seats["link"].values()])
-    return table(["Nodes or seats", *counts], rows)
+        rows.append([f"{line}, C", *in_c[line.split()[0]].values()])
+    return table(["Nodes", *counts], rows)
 
 
 def for_two():
     """Kilobytes for two nodes, in Rattle and from C: a link line, a ticket line, a ring."""
     found = {row["name"]: int(row["table"]) + int(row["ports"]) for row in rows_of("memory.tsv") if row["nodes"] == "2"}
-    in_c = c_memory("nodes")
+    in_c = c_memory()
     lines = [(found[line], int(in_c[line.split()[0]]["2"].replace(",", ""))) for line in ("link line", "ticket line", "ring")]
     return tuple(f"{count / 1000:.{0 if count > 10000 else 1}f}" for pair in lines for count in pair)
 
@@ -117,10 +116,10 @@ def for_two():
 def of_mutex(count):
     """How many times as many empty turns as a strict `qolb_lock` a mutex has with that many threads, in each file that has both."""
     found = []
-    turns = {row["lock"]: float(row["figure"]) for row in rows_of("locks.tsv") if (row["measure"], row["library"], row["threads"], row["turn_us"]) == ("turns", "now", count, "0")}
-    found += [turns["mutex"] / turns["default"]] if turns else []
-    turns = {row["lock"]: float(row["turns_a_second"]) for row in rows_of("bursts.tsv") if (row["threads"], row["turn_us"]) == (count, "0")}
-    found += [turns["mutex"] / turns["default"]] if turns else []
+    turns = {row["lock"]: float(row["figure"]) for row in of_locks("locks.tsv") if (row["measure"], row["library"], row["threads"], row["turn_us"]) == ("turns", "now", count, "0")}
+    found += [turns["mutex"] / turns["strict"]] if turns else []
+    turns = {row["lock"]: float(row["turns_a_second"]) for row in of_locks("bursts.tsv") if (row["threads"], row["turn_us"]) == (count, "0")}
+    found += [turns["mutex"] / turns["strict"]] if turns else []
     rounds_of = {name: time for (name, threads), time in medians().items() if threads == count}
     found += [rounds_of["qolb_lock"] / rounds_of["pthread_mutex"]] if rounds_of else []
     turns = {row["name"]: float(row["turns_a_second"]) for row in rows_of("waits.tsv") if (row["threads"], row["turn_us"]) == (count, "0")}
@@ -138,12 +137,19 @@ def times_of_mutex():
     return tuple(ratio(of(of_mutex(count))) for count in ("2", "4", "8", "32") for of in (min, max))
 
 
-CHOICE = {"default": "strict", "link:4+1024": "bursts", "mutex": "mutex"}
+# The names that c/bench/lock.c had before, in figures that were measured then.
+BEFORE = {"default": "strict", "link:4+1024": "burst:1024"}
+CHOICE = {"strict": "strict", "burst:1024": "bursts", "mutex": "mutex"}
+
+
+def of_locks(name):
+    """The rows of a file of figures, with the locks' names as they are now."""
+    return [row | {"lock": BEFORE.get(row["lock"], row["lock"])} for row in rows_of(name)]
 
 
 def choice():
     """Thousands of turns a second and the longest wait in milliseconds, of a strict lock, one with bursts and a mutex."""
-    found = {(row["threads"], row["turn_us"], row["lock"]): row for row in rows_of("bursts.tsv")}
+    found = {(row["threads"], row["turn_us"], row["lock"]): row for row in of_locks("bursts.tsv")}
     turn_of = {"0": "empty", "10": "10 us", "1000": "1 ms, asleep"}
 
     def cell(*key):
@@ -179,7 +185,7 @@ def long_turns():
 
 def bursts():
     """Of a lock with bursts of 1,024 turns beside a mutex: the least and the most of its empty turns; with turns of 10 us turns and longest wait at most."""
-    rows = [row for row in rows_of("bursts.tsv") if row["lock"].startswith("link:4+")]
+    rows = [row for row in of_locks("bursts.tsv") if row["lock"] == "burst:1024"]
     empty = [float(row["of_mutex_turns"]) for row in rows if row["turn_us"] == "0"]
     waited = [float(row["of_mutex_wait"]) for row in rows if row["turn_us"] == "10"]
     return f"{min(empty):.1f}", f"{max(empty):.1f}", f"{1 // max(waited):.0f}"

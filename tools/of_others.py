@@ -64,7 +64,7 @@ OF_LOCKS = """#include <qolb.h>
 def headers():
     """The text of a header for ck's tests, by the name of the lock."""
     made = {f"qolb_node_{name}": OF_NODES.format(name=name, kind=kind) for name, kind in KINDS.items()}
-    starts = {name: f"QOLB_LOCK_INIT_OF({kind}, 8)" for name, kind in KINDS.items()} | {"default": "QOLB_LOCK_INIT_DEFAULT"}
+    starts = {"strict": "QOLB_LOCK_INIT", "bursts": "QOLB_LOCK_INIT_BURSTS(1024)"}
     return made | {f"qolb_lock_{name}": OF_LOCKS.format(name=name, start=start) for name, start in starts.items()}
 
 

@@ -1,14 +1,13 @@
-/* Times entering and leaving a lock that no other thread wants, by one thread: a qolb_lock beside a node of the same
- * line (qolb_acquire and qolb_deqolb); a lock as it is by default, also while a thread waits at its condition; one with
- * bursts; a pthread_mutex, and with -DMCS, which needs Debian's package libck-dev, Concurrency Kit's MCS lock. The
- * program has a second thread. With an older library there is no default lock.
+/* Times entering and leaving a lock that no other thread wants, by one thread: a strict qolb_lock, also while a thread
+ * waits at its condition, and one with bursts; a node of each kind of line (qolb_acquire and qolb_deqolb); a
+ * pthread_mutex, and with -DMCS, which needs Debian's package libck-dev, Concurrency Kit's MCS lock. The program has a
+ * second thread.
  *
  *   cc -std=c11 -O2 -pthread -Ic/include c/bench/enter.c c/build/libqolb.a -o enter && ./enter [BATCHES]
  *
  * Prints nanoseconds a round: the least and the median of BATCHES batches (101), in which the ways take turns, as
- * multiples of the mutex's, too, and each lock's as a multiple of those of its node. The least is the figure to take if
- * the machine has other work. With a second argument, ./enter 1 "qolb_lock, ticket", it does 10,000 rounds of that way
- * alone, to be counted by valgrind --tool=callgrind --toggle-collect='rounds_of*'. */
+ * multiples of the mutex's, too. The least is the figure to take if the machine has other work. With a second argument,
+ * ./enter 1 strict, it does 10,000 rounds of that way alone, to be counted by valgrind --tool=callgrind --toggle-collect='rounds_of*'. */
 #define _DEFAULT_SOURCE
 #include "kinds.h"
 #include <pthread.h>
@@ -26,8 +25,8 @@ static ck_spinlock_mcs_context_t context;
 enum { ROUNDS = 10000, MAX_BATCHES = 10001 };
 
 static _Alignas(QOLB_NODE_ALIGN) qolb_node nodes[QOLB_KINDS];
-/* Of each kind, the default, the default with a thread at its condition, and one with bursts. */
-enum { DEFAULT = QOLB_KINDS, WAITED, BURSTS, LOCKS };
+/* A strict one, another with a thread at its condition, and one with bursts. */
+enum { STRICT, WAITED, BURSTS, LOCKS };
 static _Alignas(QOLB_NODE_ALIGN) qolb_lock locks[LOCKS];
 static qolb_cond cond = QOLB_COND_INIT;
 static pthread_mutex_t mutex = PTHREAD_MUTEX_INITIALIZER;
@@ -48,7 +47,7 @@ ROUNDS_OF(mutex, pthread_mutex_lock(&mutex) != 0, pthread_mutex_unlock(&mutex) !
 ROUNDS_OF(mcs, (ck_spinlock_mcs_lock(&mcs, &context), 0), (ck_spinlock_mcs_unlock(&mcs, &context), 0))
 #endif
 
-enum { MAX_WAYS = 2 * QOLB_KINDS + 5 };
+enum { MAX_WAYS = QOLB_KINDS + 5 };
 
 static struct way {
     char name[32];
@@ -66,19 +65,11 @@ static void add_way(void (*rounds)(uint32_t kind), uint32_t kind, const char *na
     it->kind = kind;
 }
 
-/* The way of each node, and after it that of the lock of its kind. */
 static void add_ways(void) {
-    for (uint32_t kind = 0; kind < QOLB_KINDS; kind++) {
-        add_way(rounds_of_node, kind, "node, %s", qolb_kind_name(kind));
-        add_way(rounds_of_lock, kind, "qolb_lock, %s", qolb_kind_name(kind));
-    }
-#ifdef QOLB_LOCK_INIT_DEFAULT
-    add_way(rounds_of_lock, DEFAULT, "%s", "default");
-    add_way(rounds_of_lock, WAITED, "%s", "default, one waits");
-#endif
-#ifdef QOLB_LOCK_INIT_BURSTS
+    for (uint32_t kind = 0; kind < QOLB_KINDS; kind++) add_way(rounds_of_node, kind, "node, %s", qolb_kind_name(kind));
+    add_way(rounds_of_lock, STRICT, "%s", "strict");
+    add_way(rounds_of_lock, WAITED, "%s", "strict, one waits");
     add_way(rounds_of_lock, BURSTS, "%s", "bursts of 1,024");
-#endif
     add_way(rounds_of_mutex, 0, "%s", "pthread_mutex");
 #ifdef MCS
     add_way(rounds_of_mcs, 0, "%s", "MCS");
@@ -96,31 +87,21 @@ static int by_size(const void *one, const void *other) {
     return (a > b) - (a < b);
 }
 
-/* One node of three of each kind, and a lock of three seats. */
+/* One node of three of each kind. The strict locks are zeros. */
 static void opens(void) {
     const qolb_bytes zeros = {{0}};
     for (uint32_t kind = 0; kind < QOLB_KINDS; kind++) {
         qolb_node all[3] = {{0}};
         if (qolb_open(kind, kind, 3, QOLB_NO_LEASE, &zeros, all, 3) != QOLB_DONE) abort();
         nodes[kind] = qolb_move(&all[0]);
-        locks[kind] = (qolb_lock)QOLB_LOCK_INIT_OF(kind, 3);
     }
-#ifdef QOLB_LOCK_INIT_DEFAULT
-    locks[DEFAULT] = locks[WAITED] = (qolb_lock)QOLB_LOCK_INIT_DEFAULT;
-#endif
-#ifdef QOLB_LOCK_INIT_BURSTS
-    locks[BURSTS] = (qolb_lock)QOLB_LOCK_INIT_BURSTS(QOLB_LINK, 4, 1024);
-#endif
+    locks[BURSTS] = (qolb_lock)QOLB_LOCK_INIT_BURSTS(1024);
 }
 
 /* In a process of one thread the C library's mutex takes no locked instruction. */
 static void *sleeps(void *unused) {
-#ifdef QOLB_LOCK_INIT_DEFAULT
     if (qolb_lock_enter(&locks[WAITED]) != QOLB_GRANTED || qolb_cond_wait(&cond, &locks[WAITED]) != QOLB_GRANTED)
         abort();
-#else
-    pause();
-#endif
     return unused;
 }
 
@@ -155,12 +136,9 @@ int main(int argc, char **argv) {
         if (ways[k].rounds == rounds_of_mutex) mutexes = took[k];
     }
     for (int k = 0; k < count; k++) {
-        const double *it = took[k], *before = took[k - 1 + (k == 0)];
-        printf("%-18s least %5.1f median %5.1f   %.2f and %.2f of the mutex's", ways[k].name, it[0], it[batches / 2],
+        const double *it = took[k];
+        printf("%-18s least %5.1f median %5.1f   %.2f and %.2f of the mutex's\n", ways[k].name, it[0], it[batches / 2],
                it[0] / mutexes[0], it[batches / 2] / mutexes[batches / 2]);
-        if (ways[k].rounds == rounds_of_lock && ways[k].kind < QOLB_KINDS)
-            printf("   %.2f and %.2f of the node's", it[0] / before[0], it[batches / 2] / before[batches / 2]);
-        puts("");
     }
     return 0;
 }

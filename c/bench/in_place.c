@@ -18,9 +18,9 @@ static _Thread_local unsigned looks;
 #ifdef LOCK
 #include <qolb.h>
 #ifdef BURSTS
-static _Alignas(128) qolb_lock lock = QOLB_LOCK_INIT_BURSTS(QOLB_LINK, 4, BURSTS);
+static _Alignas(128) qolb_lock lock = QOLB_LOCK_INIT_BURSTS(BURSTS);
 #else
-static _Alignas(128) qolb_lock lock = QOLB_LOCK_INIT_DEFAULT;
+static _Alignas(128) qolb_lock lock = QOLB_LOCK_INIT;
 #endif
 #define CONTEXT uint64_t context
 #define OPEN(p) (void)(p)

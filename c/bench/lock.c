@@ -5,10 +5,9 @@
  *   ./lock NAME THREADS MICROSECONDS[s] SECONDS    prints turns a second and the longest wait in microseconds
  *   ./lock NAME table LOCKS ROUNDS                 prints nanoseconds a round, and bytes of heap of each lock
  *
- * NAME is default, ring, link or ticket with a number of seats (link:4) and perhaps of turns of a burst (link:4+1024),
- * node:ring, node:link or node:ticket, with a node for each thread, mutex, or with -DMCS, which needs Debian's package
- * libck-dev, mcs. The holder keeps its processor busy for MICROSECONDS, or with an s sleeps so long, and adds 1 to a
- * number. With an older library there is no default, and no burst. c/bench/locks and c/bench/bursts run it. */
+ * NAME is strict, burst:TURNS, node:ring, node:link or node:ticket, with a node for each thread, mutex, or with -DMCS,
+ * which needs Debian's package libck-dev, mcs. The holder keeps its processor busy for MICROSECONDS, or with an s sleeps so long, and adds 1 to a
+ * number. c/bench/locks and c/bench/bursts run it. */
 #define _DEFAULT_SOURCE
 #include "kinds.h"
 #include <malloc.h>
@@ -48,7 +47,8 @@ struct worker {
 };
 
 static enum way way;
-static qolb_lock as; /* the kind and the number of seats */
+static qolb_lock as;      /* strict, or with bursts */
+static uint32_t of_nodes; /* their kind */
 static struct { _Alignas(QOLB_NODE_ALIGN) struct object object; } only;
 static struct { _Alignas(QOLB_NODE_ALIGN) uint64_t number; } counted;
 static struct worker workers[MOST];
@@ -99,27 +99,15 @@ static void *works(void *argument) {
     return NULL;
 }
 
-/* A number of seats, or one with the turns of a burst, which older libraries refuse. */
-static uint32_t seats_of(const char *text) {
-    char *rest;
-    uint32_t seats = (uint32_t)strtoul(text, &rest, 10);
-    return *rest == '+' ? seats + ((uint32_t)strtoul(rest + 1, NULL, 10) << 16) : seats;
-}
-
 /* Returns whether there is a lock of this name. */
 static int take_lock(const char *name) {
     way = BY_LOCK;
-#ifdef QOLB_LOCK_INIT_DEFAULT
-    if (strcmp(name, "default") == 0) return as = (qolb_lock)QOLB_LOCK_INIT_DEFAULT, 1;
-#endif
-    for (uint32_t kind = 0; kind < QOLB_KINDS; kind++) {
-        const char *named = qolb_kind_name(kind);
-        size_t length = strlen(named);
-        if (strncmp(name, named, length) == 0 && name[length] == ':')
-            return as = (qolb_lock)QOLB_LOCK_INIT_OF(kind, seats_of(name + length + 1)), 1;
-        as.kind = kind;
-        if (strncmp(name, "node:", 5) == 0 && strcmp(name + 5, named) == 0) return way = BY_NODE, 1;
-    }
+    if (strcmp(name, "strict") == 0) return 1;
+    if (strncmp(name, "burst:", 6) == 0)
+        return as = (qolb_lock)QOLB_LOCK_INIT_BURSTS(strtoul(name + 6, NULL, 10)), 1;
+    way = BY_NODE;
+    for (of_nodes = 0; of_nodes < QOLB_KINDS; of_nodes++)
+        if (strncmp(name, "node:", 5) == 0 && strcmp(name + 5, qolb_kind_name(of_nodes)) == 0) return 1;
     if (strcmp(name, "mutex") == 0) return way = BY_MUTEX, 1;
 #ifdef MCS
     if (strcmp(name, "mcs") == 0) return way = BY_MCS, 1;
@@ -138,7 +126,7 @@ static int turns(int threads, double seconds) {
     qolb_node nodes[MOST] = {{0}};
     uint64_t sum = 0, longest = 0;
     make(&only.object);
-    if (way == BY_NODE && qolb_open(as.kind, 1, (uint64_t)threads, QOLB_NO_LEASE, &zeros, nodes, MOST) != QOLB_DONE)
+    if (way == BY_NODE && qolb_open(of_nodes, 1, (uint64_t)threads, QOLB_NO_LEASE, &zeros, nodes, MOST) != QOLB_DONE)
         return 1;
     for (int k = 0; k < threads; k++) {
         workers[k].node = qolb_move(&nodes[k]);

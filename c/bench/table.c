@@ -6,7 +6,7 @@
  *   cc -std=c11 -O2 -pthread -Ic/include c/bench/table.c c/build/libqolb.a -o table
  *   ./table LOCK THREADS BUCKETS SECONDS
  *
- * LOCK is ticket, link or ring, a qolb_lock of that kind, or mutex, a pthread_mutex; with -DMCS, which needs Debian's
+ * LOCK is strict or bursts, a qolb_lock, or mutex, a pthread_mutex; with -DMCS, which needs Debian's
  * package libck-dev, also MCS, Concurrency Kit's, whose waiters poll 256 times and then yield between two polls. Before
  * it ends it counts the entries, and compares their number with the additions and removals that were done.
  * c/bench/tables runs it with each. */
@@ -55,7 +55,7 @@ struct worker {
 static struct bucket *table;
 static unsigned buckets;
 static int by;
-static uint32_t kind;
+static qolb_lock as; /* strict, or with bursts */
 static atomic_int over;
 static struct worker workers[MOST];
 
@@ -128,12 +128,12 @@ static void *work(void *argument) {
     return NULL;
 }
 
-static void opens(unsigned threads) {
+static void opens(void) {
     table = aligned_alloc(QOLB_NODE_ALIGN, buckets * sizeof *table);
     if (!table) abort();
     for (unsigned k = 0; k < buckets; k++) {
         memset(&table[k], 0, sizeof table[k]); /* an MCS lock that is free is zeros */
-        table[k].lock = (qolb_lock)QOLB_LOCK_INIT_OF(kind, threads);
+        table[k].lock = as;
         pthread_mutex_init(&table[k].mutex, NULL);
     }
 }
@@ -154,8 +154,8 @@ static long entries(void) {
 /* Returns whether there is a lock of this name. */
 static int take_lock(const char *name) {
     by = BY_QOLB;
-    for (kind = 0; kind < QOLB_KINDS; kind++)
-        if (strcmp(name, qolb_kind_name(kind)) == 0) return 1;
+    if (strcmp(name, "strict") == 0) return 1;
+    if (strcmp(name, "bursts") == 0) return as = (qolb_lock)QOLB_LOCK_INIT_BURSTS(1024), 1;
     by = BY_MUTEX;
     if (strcmp(name, "mutex") == 0) return 1;
     by = BY_MCS;
@@ -195,7 +195,7 @@ int main(int argc, char **argv) {
     buckets = (unsigned)atoi(argv[3]);
     double seconds = atof(argv[4]);
     struct timespec rest = {(time_t)seconds, (long)((seconds - (double)(time_t)seconds) * 1e9)};
-    opens(threads);
+    opens();
     for (unsigned k = 0; k < threads; k++) {
         workers[k].drawn = k;
         if (pthread_create(&workers[k].id, NULL, work, &workers[k]) != 0) return 1;

@@ -76,9 +76,9 @@ struct port {
     char unused;
 };
 #ifdef BURSTS
-static void open_lock(int threads) { lock = (qolb_lock)QOLB_LOCK_INIT_BURSTS(QOLB_LINK, 4, BURSTS), (void)threads; }
+static void open_lock(int threads) { lock = (qolb_lock)QOLB_LOCK_INIT_BURSTS(BURSTS), (void)threads; }
 #else
-static void open_lock(int threads) { lock = (qolb_lock)QOLB_LOCK_INIT((uint32_t)threads); }
+static void open_lock(int threads) { lock = (qolb_lock)QOLB_LOCK_INIT, (void)threads; }
 #endif
 static void open_port(struct port *p, int thread) { (void)p, (void)thread; }
 static void close_port(struct port *p, int thread) { (void)p, (void)thread; }

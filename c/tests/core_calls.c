@@ -1,5 +1,5 @@
 /* Random calls of the proved lock (src/core.h) by one thread, each compared with the stand-in on which the lock's C is
- * explored (tools/seats/core.c): the answer, what the ticket says, and each word of the lock.
+ * explored (tools/explorer/core.c): the answer, what the ticket says, and each word of the lock.
  *
  *   build/core_calls_c [SCHEDULES [SEED]]        1,000,000 schedules, seed 1
  *
@@ -30,7 +30,7 @@
 #define qolb_core_announce_head_sleep_proved_ stand_in_announce_head_sleep
 #define qolb_core_shut_proved_ stand_in_shut
 #define qolb_core_reopen_proved_ stand_in_reopen
-#include "../../tools/seats/core.c"
+#include "../../tools/explorer/core.c"
 #undef qolb_core_open_proved_
 #undef qolb_core_ask_proved_
 #undef qolb_core_ask_near_proved_

@@ -23,7 +23,7 @@
         }                                                             \
     } while (0)
 
-enum { MS = 1000000, NOTED = 8 };
+enum { MS = 1000000, KEPT = 8 };
 #define NEVER UINT64_MAX
 
 /* How often a waiter polls before it sleeps, each 90 ns, as qolb.h says: for 50 us behind at most four others, and for
@@ -33,7 +33,7 @@ enum { NEAR = 555, FAR = 22, LESS = NEAR / 2 + NEAR / 2 / 8 };
 /* The time; and since `begins` the numbers of clock calls, sleeps, polls and wakes, the longest time that a sleep may
  * have lasted, and the calls that a waiter must not make. */
 static uint64_t now = 5000000000, clocks, sleeps, longest, polls, wakes, wrong;
-static const void *slept_at[NOTED], *woken_at[NOTED];
+static const void *slept_at[KEPT], *woken_at[KEPT];
 
 /* An action during this number of sleeps, before this number of polls, or before a request is withdrawn. It happens
  * once. */
@@ -72,7 +72,7 @@ int __wrap_sched_yield(void) { return wrong++, 0; }
 static void sleep_until(const void *word, uint64_t end) {
     uint64_t lasts = end == NEVER ? NEVER : end > now ? end - now : 0;
     if (lasts > longest) longest = lasts;
-    if (sleeps < NOTED) slept_at[sleeps] = word;
+    if (sleeps < KEPT) slept_at[sleeps] = word;
     if (++sleeps == event.at_sleep) happens();
     else if (end != NEVER && end > now) now = end;
     if (sleeps > 5000) puts("sleeps for ever"), exit(1);
@@ -102,7 +102,7 @@ long __wrap_syscall(long number, ...) {
         break;
     case 129: /* FUTEX_WAKE_PRIVATE */
     case 138: /* FUTEX_WAKE_BITSET_PRIVATE */
-        if (wakes < NOTED) woken_at[wakes] = word;
+        if (wakes < KEPT) woken_at[wakes] = word;
         wakes++;
         break;
     default: wrong++;

@@ -1,6 +1,6 @@
-/* What tasks do in the runs of the lock on the core (core_scenes.c). A task is its thread's, which makes its calls, but
+/* What tasks do in the runs of the lock (lock_scenes.c). A task is its thread's, which makes its calls, but
  * for those that other threads make for it. */
-#include "core_scenes.h"
+#include "lock_scenes.h"
 
 /* ---- A task's calls ---- */
 

@@ -1,12 +1,12 @@
-"""Edits of the lock on the core, for ../seats_core.py: file, function (empty: the file's other text), its text, and what stands in its place."""
+"""Edits of the lock, for ../explore_lock.py: file, function (empty: the file's other text), its text, and what stands in its place."""
 
 LOCK, WAITS, TURNS, OPENS, CONDITIONS, REGISTRY, TASKS, HEADER = (
     f"lock/{name}" for name in ("lock.c", "waits.c", "turns.c", "opens.c", "conditions.c", "registry.c", "tasks.c", "lock.h")
 )
 
-# Less room and fewer looks before the same decisions; no clock in pauses, and each thread's data where core_holders.c has them. What limits tickets is by scenes,
-# and so is the memory for entries. All tasks have one key. A ticket is withdrawn for the scenes when its entry is abandoned. The model has several threads in one, so what a thread keeps
-# while it makes calls is its.
+# Less room and fewer looks before the same decisions; no clock in pauses, and each thread's data where holder_scenes.c has them. What limits tickets is by scenes,
+# and so is the memory for entries. All tasks have one key. A ticket is withdrawn for the scenes when its entry is abandoned. The model has several threads in one,
+# so what a thread keeps while it makes calls is its.
 HOOKED = [
     (HEADER, "", "MOST_HELD = 8", "MOST_HELD = 1"),
     (HEADER, "", "CLASSES_OF_SLEEPERS = 32", "CLASSES_OF_SLEEPERS = 2"),

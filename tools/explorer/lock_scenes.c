@@ -1,7 +1,7 @@
-/* The actions of threads with a lock on the core, in the runs that explorer.c makes (../seats_core.py). The lock's own
+/* The actions of threads with a lock, in the runs that explorer.c makes (../explore_lock.py). The lock's own
  * files, or those that differ by a fault, and the stand-in for the proved calls are built with -fsanitize=thread, by
  * which the compiler reports each access to memory by a call, and explorer.c answers those calls. */
-#include "core_scenes.h"
+#include "lock_scenes.h"
 #include <errno.h>
 
 struct it it;

@@ -1,6 +1,6 @@
 /* Scenes of qolb_lock_holder, and what a thread keeps: its table of the locks that it holds, which other threads look
- * through, and a key whose destructor is called at its end (core_scenes.c). */
-#include "core_scenes.h"
+ * through, and a key whose destructor is called at its end (lock_scenes.c). */
+#include "lock_scenes.h"
 #include <pthread.h>
 
 /* ---- A thread's own data, and its end ---- */

@@ -1,5 +1,5 @@
-/* Makes runs of scenes.c on a model of the processor's memory: see ../seats.py, which builds and starts it. A run is
- * made anew from its start for each list of choices, of which a limited number may differ from the plain schedule. */
+/* Makes runs of scenes on a model of the processor's memory: see ../explore_nodes.py, which builds and starts it. A run
+ * is made anew from its start for each list of choices, of which a limited number may differ from the plain schedule. */
 #define _GNU_SOURCE
 #include "explorer.h"
 #include <qolb.h>
@@ -319,7 +319,7 @@ long model_syscall(long number, ...) {
         step(1); /* a sleep from which no thread wakes it */
     else if (what == WAITS || what == WAITS_IN_CLASSES) sleeps(word, value, time != NULL, classes);
     else wakes(word, (int)value, classes);
-#ifdef ONE_LOCK
+#ifdef OF_LOCKS
     step(0); /* who is woken may be the next to go on */
 #endif
     va_end(rest);
@@ -330,7 +330,7 @@ long model_syscall(long number, ...) {
 
 static void body(int k) {
     scene->does(k);
-#ifdef ONE_LOCK
+#ifdef OF_LOCKS
     end_thread();
 #endif
     step(0);
@@ -361,7 +361,7 @@ static void run(void) {
     check_end(scene);
 }
 
-/* seats MOST [BEGINNING]: all scenes, or those whose names begin so, with runs of at most MOST turns of the
+/* explorer MOST [BEGINNING]: all scenes, or those whose names begin so, with runs of at most MOST turns of the
  * schedule. */
 int main(int argc, char **argv) {
     most = argc > 1 ? atoi(argv[1]) : 2;

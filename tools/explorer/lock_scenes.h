@@ -1,4 +1,4 @@
-/* What the scenes of the lock on the core share (core_scenes.c, core_tasks.c). */
+/* What the scenes of the lock share (lock_scenes.c, task_scenes.c). */
 #ifndef CORE_SCENES_H
 #define CORE_SCENES_H
 
@@ -45,7 +45,7 @@ int enters_to_shut(int self);
 void last_frees(int self);
 void free_lock(void);
 
-/* ---- core_holders.c ---- */
+/* ---- holder_scenes.c ---- */
 
 /* New tables of all threads. Unless other threads look at them they are in no list, and no access to them is shared. */
 void new_data_of_threads(int looked_at);
@@ -57,7 +57,7 @@ void is_held_by(int self);
 #define DECLARED(name) void name(int self);
 HOLDER_SCENES(DECLARED)
 
-/* ---- core_tasks.c ---- */
+/* ---- task_scenes.c ---- */
 
 /* clang-format off */
 #define TASK_SCENES(of)                                                                                               \

@@ -10,11 +10,10 @@ struct clock {
     unsigned at[THREADS + 1];
 };
 
-#ifdef ONE_LOCK
-/* What these threads do at the same time, each by its number, over a lock on the core with these bursts, which is
- * opened before or at its first use. A request can be withdrawn with at most so many rounds to go, so many threads may
- * announce a sleep at one cell, and with fewer rounds to go than so many a call with a limit draws a ticket. There may
- * be no memory. */
+#ifdef OF_LOCKS
+/* What these threads do at the same time, each by its number, over a lock with these bursts, which is opened before or
+ * at its first use. A request can be withdrawn with at most so many rounds to go, so many threads may announce a sleep
+ * at one cell, and with fewer rounds to go than so many a call with a limit draws a ticket. There may be no memory. */
 struct scene {
     const char *name;
     void (*does)(int self);
@@ -25,7 +24,7 @@ struct scene {
     int no_memory;
 };
 
-/* Each thread's data have a place of their own (core_scenes.c). */
+/* Each thread's data have a place of their own (lock_scenes.c). */
 struct own_data {
     char none;
 };
@@ -33,27 +32,23 @@ struct own_data {
 /* The thread ends: destructors of its keys run, and its data are freed. */
 void end_thread(void);
 #else
-/* What these threads do at the same time, each by its number, over a lock of this kind with these seats and bursts,
- * which is opened at its first use or before; or with a node each of a line of this kind. The places of a line share
- * one bell or none. A lock whose line is never kept has had fewer turns than that takes. Of two lines the places share
- * their bells. */
-enum { AT_FIRST_USE, BEFORE, BEFORE_AT_ONE_BELL, NEVER_KEPT, WITH_NODES, AT_ONE_BELL, TWO_LINES };
+/* What these threads do at the same time, each by its number, with a node each of a line of this kind. The places of a
+ * line share one bell or none; of two lines the places share their bells. */
+enum { EACH_ITS_BELL, AT_ONE_BELL, TWO_LINES };
 struct scene {
     const char *name;
     void (*does)(int self);
-    uint32_t kind, seats;
-    int threads, opens;
-    unsigned burst;
+    uint32_t kind;
+    int threads, bells;
 };
 
-/* The data of a thread in the lock's files, which is in one place here. */
+/* The data of a thread in the library's files, which is in one place here: none. */
 struct own_data {
-    uint64_t number;
-    unsigned last_seat, by_seat;
+    char none;
 };
 #endif
 
-/* In scenes.c: all scenes, and a last one without a name. */
+/* In lock_scenes.c or node_scenes.c: all scenes, and a last one without a name. */
 extern const struct scene scenes[];
 void set_up(const struct scene *scene);
 void check_end(const struct scene *scene);

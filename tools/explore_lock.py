@@ -1,8 +1,8 @@
 #!/usr/bin/env python3
-"""Explores runs of the lock on the core (c/src/lock), with two and three threads, over the stand-in for its proved calls (tools/seats/core.c), on the model
-of the processor's memory that tools/seats.py says.
+"""Explores runs of the lock (c/src/lock), with two and three threads, over the stand-in for its proved calls (tools/explorer/core.c), on the model
+of the processor's memory that tools/explore_nodes.py says.
 
-tools/seats_core.py [MOST] [--scene BEGINNING ..] [--fault WORDS | --no-faults] [--jobs 2]
+tools/explore_lock.py [MOST] [--scene BEGINNING ..] [--fault WORDS | --no-faults] [--jobs 2]
     all runs of at most MOST turns of the schedule, 2, of the library as it is, where four tickets and where one ticket are in a round; and of each library
     with a fault, as many turns as it says. It needs GCC
 
@@ -25,17 +25,17 @@ import sys
 import tempfile
 import time
 
-sys.path.insert(0, str(pathlib.Path(__file__).resolve().parent / "seats"))
-from core_faults import FAULTS, HARMLESS, HOOKED  # noqa: E402
+sys.path.insert(0, str(pathlib.Path(__file__).resolve().parent / "explorer"))
+from lock_faults import FAULTS, HARMLESS, HOOKED  # noqa: E402
 
 ROOT = pathlib.Path(__file__).resolve().parent.parent
 SOURCE = ROOT / "c/src"
-MODEL = ROOT / "tools/seats"
-# What is built, in a copy of c/src; those of tools/seats beside it.
+MODEL = ROOT / "tools/explorer"
+# What is built, in a copy of c/src; those of tools/explorer beside it.
 LIBRARY = ("bells.c", "notify.c", *(f"lock/{name}.c" for name in ("conditions", "lock", "opens", "parks", "registry", "tasks", "turns", "waits")))
-SCENES = ("core.c", "core_scenes.c", "core_holders.c", "core_tasks.c", "explorer.c")
+SCENES = ("core.c", "lock_scenes.c", "holder_scenes.c", "task_scenes.c", "explorer.c")
 RENAMED = [f"-D{name}=model_{short}" for name, short in (("malloc", "malloc"), ("free", "free"), ("syscall", "syscall"), ("sched_yield", "yield"), ("clock_gettime", "clock"), ("pthread_once", "once"), ("pthread_key_create", "key"), ("pthread_setspecific", "set"), ("pthread_atfork", "atfork"))]
-BY_MODEL = ["-w", "-O1", "-DONE_LOCK", "-DWITHOUT_NODES", "-DEXPLORED", "-fsanitize=thread", "-U__SANITIZE_THREAD__", "-DQOLB_NO_PROBES", *RENAMED]
+BY_MODEL = ["-w", "-O1", "-DOF_LOCKS", "-DWITHOUT_NODES", "-DEXPLORED", "-fsanitize=thread", "-U__SANITIZE_THREAD__", "-DQOLB_NO_PROBES", *RENAMED]
 
 
 def functions(text):
@@ -70,14 +70,14 @@ def edit(folder, name, where, old, new):
 def built(folder, edits, width):
     """The explorer, built over the library with these edits, with so many tickets in a round."""
     shutil.copytree(SOURCE, folder, dirs_exist_ok=True)
-    for name in (*SCENES, "core_scenes.h", "explorer.h"):
+    for name in (*SCENES, "lock_scenes.h", "explorer.h"):
         shutil.copy(MODEL / name, folder)
     for change in (*edits, *HOOKED, ("core.c", "", "IN_ROUND = 4", f"IN_ROUND = {width}"), ("lock/lock.h", "", "TICKETS_IN_ROUND = 4", f"TICKETS_IN_ROUND = {width}")):
         edit(folder, *change)
     objects = []
     for name in (*LIBRARY, *SCENES):
         objects.append(folder / f"{name.replace('/', '_')}.o")
-        told = ["-O2", "-DONE_LOCK"] if name == "explorer.c" else BY_MODEL
+        told = ["-O2", "-DOF_LOCKS"] if name == "explorer.c" else BY_MODEL
         subprocess.run(["cc", "-std=c11", "-I", folder, "-I", ROOT / "c/include", *told, "-c", folder / name, "-o", objects[-1]], check=True)
     subprocess.run(["cc", *objects, "-pthread", "-o", folder / "explorer"], check=True)
     return folder / "explorer"
