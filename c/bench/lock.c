@@ -6,8 +6,8 @@
  *   ./lock NAME table LOCKS ROUNDS                 prints nanoseconds a round, and bytes of heap of each lock
  *
  * NAME is strict, burst:TURNS, node:ring, node:link or node:ticket, with a node for each thread, mutex, or with -DMCS,
- * which needs Debian's package libck-dev, mcs. The holder keeps its processor busy for MICROSECONDS, or with an s sleeps so long, and adds 1 to a
- * number. c/bench/locks and c/bench/bursts run it. */
+ * which needs Debian's package libck-dev, mcs. The holder keeps its processor busy for MICROSECONDS, or with an s
+ * sleeps so long, and adds 1 to a number. c/bench/locks and c/bench/bursts run it. */
 #define _DEFAULT_SOURCE
 #include "kinds.h"
 #include <malloc.h>

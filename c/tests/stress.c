@@ -1,5 +1,6 @@
-/* Two hundred threads at one lock for some time: each enters, waits at most some time, tries, and waits at a condition,
- * in a random order. No addition may be lost, no two threads be in at once, and each thread has to go on.
+/* Two hundred threads at one lock for some time: each enters, waits at most some time, tries, enters by a task, and
+ * waits at a condition, in a random order. No addition may be lost, no two threads be in at once, and each thread has
+ * to go on.
  *
  *   build/stress SECONDS BURST [SEED]     a thread that has no turn in ten times as long ends the program
  *
@@ -20,13 +21,15 @@ struct worker {
     _Alignas(QOLB_NODE_ALIGN) pthread_t id;
     uint32_t seed;
     long turns, late;
+    qolb_task task;
+    atomic_int due;
 };
 static struct worker workers[THREADS];
 
 static void turn(struct worker *me) {
     MUST(inside++, 0);
     additions++;
-    MUST(qolb_lock_is_mine(&lock), 1);
+    MUST(qolb_lock_is_mine(&lock) + qolb_task_holds(&me->task), 1);
     MUST(--inside, 0);
     me->turns++;
 }
@@ -49,10 +52,30 @@ static void waits(struct worker *me) {
     turn(me);
 }
 
+static void is_due(void *worker) { atomic_store(&((struct worker *)worker)->due, 1); }
+
+/* Polls when it is due, or once before, and gives up after some time. */
+static void by_task(struct worker *me) {
+    int naps = (int)(drawn(&me->seed) % 32);
+    atomic_store(&me->due, 0);
+    uint32_t got = qolb_task_enter(&me->task, &lock, is_due, me);
+    while (got == QOLB_WAITING && naps-- && !atomic_load(&me->due)) usleep(500);
+    if (got == QOLB_WAITING) got = qolb_task_poll(&me->task);
+    if (got == QOLB_WAITING) got = qolb_task_cancel(&me->task);
+    MUST(got == QOLB_GRANTED || got == QOLB_WITHDRAWN, 1);
+    if (got == QOLB_WITHDRAWN) return;
+    turn(me);
+    MUST(qolb_task_leave(&me->task), QOLB_DONE);
+}
+
 static void *works(void *argument) {
     struct worker *me = argument;
     while (!atomic_load(&over)) {
         unsigned way = drawn(&me->seed) % 16;
+        if (way == 9) {
+            by_task(me);
+            continue;
+        }
         if (!enters(me, way)) continue;
         turn(me);
         if (way == 0) waits(me);

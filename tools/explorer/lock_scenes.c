@@ -321,7 +321,7 @@ UNSEEN int had_turns(int turns) { return it.turns >= turns; }
 /* The lock is closed as soon as it may be, and used again at the same address, where another's ticket is abandoned. Who
  * left the first lock may be in that call still. */
 static void late_at_a_younger_lock(int self) {
-    if (self == 0) return enters(self);
+    if (self == 0) return enters_with(1);
     if (self == 2) {
         while (!atomic_fetch_add(&it.over, 0)) sched_yield();
         begins_call();
@@ -700,6 +700,13 @@ const struct scene scenes[] = {
     {"bursts: tasks: a call enters another lock", enters_another_in_call, 3, 2, 0, ROOMY},
     {"bursts: tasks: one waits while a call enters", waits_while_a_call_enters, 2, 2, 0, ROOMY},
     {"bursts: tasks: a task comes to a younger lock", a_task_comes_to_a_younger_lock, 3, 2, 0, ROOMY},
+    {"tasks: the last frees beside others' entries", last_frees_beside_entries, 3, 0, 0, ROOMY},
+    {"bursts: tasks: the last frees beside others' entries", last_frees_beside_entries, 3, 2, 0, ROOMY},
+    {"bursts of four: tasks: a task beside threads", a_task_beside_threads, 3, 4, 0, ROOMY},
+    {"bursts of four: tasks: tasks beside a thread", tasks_beside_a_thread, 3, 4, 0, ROOMY},
+    {"bursts of four: tasks: a task beside threads, twice", a_task_beside_threads_twice, 2, 4, 0, ROOMY},
+    {"bursts of three: tasks: a task beside one that stays", a_task_beside_one_that_stays, 3, 3, 0, ROOMY},
+    {"bursts of four: tasks: a task gives up and asks again", a_task_gives_up_and_asks_again, 2, 4, 0, ROOMY},
     {"tasks: no memory", a_task_finds_no_memory, 2, 0, 0, 15, MANY, MANY, NO_MEMORY},
     {"tasks: crowded", a_task_finds_no_memory, 2, 0, 0, 15, MANY, 0, 0},
     {"tasks: room for one sleeper", a_task_beside_one_that_yields, 3, 0, 0, 15, 1, MANY, 0},
@@ -717,7 +724,6 @@ static qolb_lock *unopened(const struct scene *scene, int k) {
 }
 
 void set_up(const struct scene *scene) {
-    qolb_bytes zeros = {{0}};
     memset(&it, 0, sizeof it), memset(order, 0, sizeof order);
     new_data_of_threads(asks_for_holder(scene->does));
     time_of_order = 0, it.users = scene->threads, model_near = scene->near, model_sleepers = scene->sleepers,

@@ -59,21 +59,20 @@ HOLDER_SCENES(DECLARED)
 
 /* ---- task_scenes.c ---- */
 
+/* clang-format off */
 #define TASK_SCENES(of)                                                                                               \
     of(by_task) of(by_task_twice) of(one_task_gives_up) of(a_task_beside_threads) of(tasks_beside_a_thread)           \
-        of(a_task_beside_threads_twice) of(tasks_beside_a_thread_twice) of(a_task_beside_one_that_yields)             \
-            of(tasks_beside_one_that_yields) of(a_task_beside_one_that_stays) of(a_task_gives_up_between_threads)     \
-                of(a_task_gives_up_beside_one_that_yields) of(a_task_gives_up_before_one_beside_one_that_yields)      \
-                    of(a_task_gives_up_and_asks_again) of(a_thread_is_late_between_tasks)                             \
-                        of(a_thread_is_late_before_a_task) of(a_thread_is_late_or_a_task_waits) of(both_give_up)      \
-                            of(one_tries_beside_a_task) of(two_tasks_of_one) of(first_of_two_gives_up)                \
-                                of(second_of_two_gives_up) of(both_of_two_give_up) of(tasks_until_shut)               \
-                                    of(a_task_until_shut) of(a_task_shuts) of(last_task_frees) of(last_of_both_frees) \
-                                        of(last_that_polls_frees) of(a_task_polls_early) of(one_closes_beside_a_task) \
-                                            of(closes_while_both_wait) of(a_task_signals) of(has_task_turn_in_call)   \
-                                                of(task_asks_again_in_call) of(enters_another_in_call)                \
-                                                    of(waits_while_a_call_enters) of(a_task_comes_to_a_younger_lock)  \
-                                                        of(a_task_finds_no_memory)
+    of(a_task_beside_threads_twice) of(tasks_beside_a_thread_twice) of(a_task_beside_one_that_yields)                 \
+    of(tasks_beside_one_that_yields) of(a_task_beside_one_that_stays) of(a_task_gives_up_between_threads)             \
+    of(a_task_gives_up_beside_one_that_yields) of(a_task_gives_up_before_one_beside_one_that_yields)                  \
+    of(a_task_gives_up_and_asks_again) of(a_thread_is_late_between_tasks) of(a_thread_is_late_before_a_task)          \
+    of(a_thread_is_late_or_a_task_waits) of(both_give_up) of(one_tries_beside_a_task) of(two_tasks_of_one)            \
+    of(first_of_two_gives_up) of(second_of_two_gives_up) of(both_of_two_give_up) of(tasks_until_shut)                 \
+    of(a_task_until_shut) of(a_task_shuts) of(last_task_frees) of(last_of_both_frees) of(last_that_polls_frees)       \
+    of(a_task_polls_early) of(one_closes_beside_a_task) of(closes_while_both_wait) of(a_task_signals)                 \
+    of(has_task_turn_in_call) of(task_asks_again_in_call) of(enters_another_in_call) of(waits_while_a_call_enters)    \
+    of(a_task_comes_to_a_younger_lock) of(a_task_finds_no_memory) of(last_frees_beside_entries)
+/* clang-format on */
 TASK_SCENES(DECLARED)
 
 #endif

@@ -247,9 +247,25 @@ void closes_while_both_wait(int self) {
     leave();
 }
 
+/* Two free a lock while tasks of the third wait at another, whose entries are in the same lists. */
+void last_frees_beside_entries(int self) {
+    if (self != 2) {
+        while (!atomic_fetch_add(&it.over, 0)) sched_yield();
+        return last_frees(0);
+    }
+    MUST(qolb_lock_enter(it.locks[1]) == QOLB_GRANTED);
+    for (int k = 2; k <= THREADS; k++)
+        MUST(qolb_task_enter(&it.task[k], it.locks[1], tells, (void *)(intptr_t)k) == QOLB_WAITING);
+    it.users--;
+    atomic_store(&it.over, 1);
+    while (!had_turns(2)) sched_yield();
+    for (int k = 2; k <= THREADS; k++) MUST(qolb_task_cancel(&it.task[k]) == QOLB_WITHDRAWN);
+    MUST(qolb_lock_leave(it.locks[1]) == QOLB_DONE);
+}
+
 /* As late_at_a_younger_lock, with a task. */
 void a_task_comes_to_a_younger_lock(int self) {
-    if (self == 0) return enters(self);
+    if (self == 0) return enters_with(1);
     if (self == 2) {
         while (!atomic_fetch_add(&it.over, 0)) sched_yield();
         uint32_t got = task_asks(2);

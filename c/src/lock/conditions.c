@@ -132,7 +132,8 @@ uint32_t qolb_cond_wait_within(qolb_cond *cond, qolb_lock *of, uint64_t nanoseco
     at->ticket = (struct qolb_ticket){0};
     uint32_t got = qolb_cond_wait_at_(cond, lock, &turn, nanoseconds);
     if (got != QOLB_GRANTED && got != QOLB_LATE) return got;
-    *(at = qolb_place_for_(lock, &beyond)) = turn;
+    at = qolb_place_for_(lock, &beyond);
+    at->ticket = turn.ticket;
     qolb_keep_turn_(lock, at, &beyond);
     return got;
 }

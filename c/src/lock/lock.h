@@ -108,8 +108,8 @@ static inline int32_t rounds_to_go(const struct lock *lock, uint64_t number) {
     return (int32_t)((uint32_t)rounds << (GRANTED_ROUNDS - 32)) >> (GRANTED_ROUNDS - 32);
 }
 
-/* The most rounds from which a request can be withdrawn; and the most requests that are open before a call with a limit,
- * or a task, draws a ticket. So the abandoned ones are few enough to be passed in 2 ms. */
+/* The most rounds from which a request can be withdrawn; and the most requests that are open when a call with a limit,
+ * or a task, draws a ticket: so that one release passes the abandoned ones in 2 ms. */
 enum { MOST_ROUNDS_NEAR = 15, MOST_OPEN = 16384 };
 
 static inline int has_room(const struct lock *lock) {

@@ -3,23 +3,23 @@
  * There are two such tickets. One is *abandoned*: its call gave up too far from its turn to withdraw it. The other is a
  * task's. Each has an entry, in a list by the lock's address and the ticket's number. The registry decides nothing:
  *
- * - An entry is put into its list, and then announces its ticket's sleep by the proved call. So who grants the ticket is
- *   told of a sleeper, looks, and finds the entry. If the ticket is at its turn already, the entry is taken out.
+ * - An entry is put into its list, and then announces its ticket's sleep by the proved call. So who grants the ticket
+ *   is told of a sleeper, looks, and finds the entry. If the ticket is at its turn already, the entry is taken out.
  * - Who grants has the lock's address alone: the lock may be gone. While an entry is in, its lock lives. Who finds one
  *   looks at its ticket's cell first, as it may be of a younger lock at that address, and wait.
  * - Who takes an entry out retracts its sleep, and only then passes its turn on, withdraws or tells: with any of these
  *   the lock may go. An abandoned turn is passed on. A task's is the task's, which is *due*: its call is made, and its
  *   poll, or whoever cancels, goes on from there.
  * - A task at its turn of the queue of a lock with bursts is the queue head, and watches nothing. If the outer word is
- *   held, its entry goes to the list of heads, and then requests the handoff, so that no newcomer follows who is in, and
- *   announces the head's sleep. Who leaves is told of that, looks there, and takes the word for the task.
+ *   held, its entry goes to the list of heads, and then requests the handoff, so that no newcomer follows who is in,
+ *   and announces the head's sleep. Who leaves is told of that, looks there, and takes the word for the task.
  *
  * All lists of a lock have one guard, which sleeps. No call of a task is made under it. A list is whole after each
  * store, for the child of a fork. */
 #include "lock.h"
 #include <stdlib.h>
 
-enum { ROWS = 64, COLUMNS = 64 };
+enum { ROWS = 32, COLUMNS = 256 };
 
 /* The number of a queue head's entry. */
 #define HEAD UINT64_MAX
@@ -34,7 +34,7 @@ struct entry {
 /* The lists of a lock are in one row. */
 static struct row {
     _Alignas(APART) atomic_uint guard;
-    struct entry *last[COLUMNS];
+    struct entry *last[COLUMNS], *heads;
 } rows[ROWS];
 
 static struct row *row_of(const struct lock *lock) {
@@ -56,7 +56,8 @@ void qolb_free_rows_(void) {
 /* ---- The lists ---- */
 
 static struct entry **list_of(const struct lock *lock, uint64_t number) {
-    return &row_of(lock)->last[number % COLUMNS];
+    struct row *row = row_of(lock);
+    return number == HEAD ? &row->heads : &row->last[number % COLUMNS];
 }
 
 static struct entry *last_of(const struct lock *lock, uint64_t number) {
@@ -94,7 +95,9 @@ static struct entry *find(const struct lock *lock, uint64_t number) {
     return before ? before->next : NULL;
 }
 
+/* Not under the guard: a program's own free may take locks. */
 static void free_entry(struct entry *e) {
+    if (!e) return;
     qolb_tell_acquire_(e);
     free(e);
 }
@@ -154,7 +157,6 @@ static uint64_t make_due(struct entry *e, const struct qolb_ticket *ticket) {
     task->turn = ticket->state;
     atomic_store(&task->state, DUE);
     qolb_list_(&task->notice, key);
-    free_entry(e);
     return key;
 }
 
@@ -183,6 +185,7 @@ uint32_t qolb_stand_for_(struct entry *e, struct qolb_ticket *ticket) {
 
 enum found qolb_find_granted_(struct lock *lock, uint64_t number, struct qolb_ticket *ticket, uint64_t *key) {
     enum found found = NOBODY;
+    struct entry *gone = NULL;
     *key = 0;
     if (!last_of(lock, number)) return NOBODY;
     struct row *row = take_row(lock);
@@ -192,10 +195,11 @@ enum found qolb_find_granted_(struct lock *lock, uint64_t number, struct qolb_ti
         take_out(e);
         *ticket = kept_ticket(lock, number, QOLB_TICKET_ASLEEP_);
         qolb_core_retract_sleep_proved_(&lock->core, ticket);
-        if (!e->task) free_entry(e);
-        else if (!waits_on(e, ticket)) *key = make_due(e, ticket);
+        if (found == ABANDONED) gone = e;
+        else if (!waits_on(e, ticket)) *key = make_due(gone = e, ticket);
     }
     return_row(row);
+    free_entry(gone);
     return found;
 }
 
@@ -203,20 +207,22 @@ enum found qolb_find_head_(struct lock *lock, uint64_t *key) {
     *key = 0;
     if (!last_of(lock, HEAD)) return NOBODY;
     struct row *row = take_row(lock);
-    struct entry *e = find(lock, HEAD);
+    struct entry *e = find(lock, HEAD), *gone = NULL;
     if (e) {
         struct qolb_ticket ticket = kept_ticket(lock, e->task->number, QOLB_TICKET_AT_TURN_);
-        if (qolb_core_take_outer_proved_(&lock->core, &ticket) != QOLB_WAITING) take_out(e), *key = make_due(e, &ticket);
+        if (qolb_core_take_outer_proved_(&lock->core, &ticket) != QOLB_WAITING) take_out(gone = e);
+        if (gone) *key = make_due(gone, &ticket);
     }
     return_row(row);
+    free_entry(gone);
     return e ? A_TASK : NOBODY;
 }
 
 /* ---- A task gives up ---- */
 
-/* Of a task that waits. The ticket of one that is near is FREE afterwards, or AT_TURN, to be passed on; of one that is
- * far the entry stays, abandoned. */
-static struct qolb_ticket withdraw(struct task *task) {
+/* Of a task that waits. The ticket of one that is near is FREE afterwards, or AT_TURN, to be passed on, and the entry
+ * gone; of one that is far the entry stays, abandoned. */
+static struct qolb_ticket withdraw(struct task *task, struct entry **gone) {
     struct entry *e = task->entry;
     struct lock *lock = e->lock;
     struct qolb_ticket ticket = kept_ticket(lock, task->number, QOLB_TICKET_AT_TURN_);
@@ -225,23 +231,24 @@ static struct qolb_ticket withdraw(struct task *task) {
         e->task = NULL;
         return (struct qolb_ticket){.state = QOLB_TICKET_FREE_};
     }
-    take_out(e);
+    take_out(*gone = e);
     if (e->number != HEAD) {
         ticket.state = QOLB_TICKET_ASLEEP_;
         if (qolb_core_retract_sleep_proved_(&lock->core, &ticket) == QOLB_WAITING)
             qolb_core_withdraw_proved_(&lock->core, &ticket);
     }
-    free_entry(e);
     return ticket;
 }
 
 unsigned qolb_state_of_(struct task *task, struct qolb_ticket *withdrawn) {
     struct row *row = take_row(task->lock);
+    struct entry *gone = NULL;
     unsigned state = atomic_load(&task->state);
     if (withdrawn && state == WAITS) {
         atomic_store(&task->state, IDLE);
-        *withdrawn = withdraw(task);
+        *withdrawn = withdraw(task, &gone);
     }
     return_row(row);
+    free_entry(gone);
     return state;
 }
