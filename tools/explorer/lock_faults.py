@@ -132,7 +132,7 @@ FAULTS = {
     "who passes on makes no call": (1, "tasks", (WAITS, "qolb_pass_on_", "    make_call(key);\n", "")),
     "who leaves the outer word makes no call": (1, "bursts: tasks", (WAITS, "qolb_leave_outer_", "    make_call(key);\n", "")),
     "a call is made under the registry's guard": (1, "tasks: turns in calls", (REGISTRY, "make_due", "    qolb_list_(&task->notice, key);\n", "    qolb_list_(&task->notice, key);\n    qolb_make_call_(bell_of_key(key), key);\n")),
-    "who makes a task due lists it first": (2, "tasks: one task gives up", (REGISTRY, "make_due", "    atomic_store(&task->state, DUE);\n", ""), (REGISTRY, "make_due", "    qolb_list_(&task->notice, key);\n", "    qolb_list_(&task->notice, key);\n    return_row(row_of(e->lock)), take_row(e->lock);\n    atomic_store(&task->state, DUE);\n")),
+    "who makes a task due lists it first": (2, "tasks: a task gives up beside one that yields", (REGISTRY, "make_due", "    atomic_store(&task->state, DUE);\n", ""), (REGISTRY, "make_due", "    qolb_list_(&task->notice, key);\n", "    qolb_list_(&task->notice, key);\n    return_row(row_of(e->lock)), take_row(e->lock);\n    atomic_store(&task->state, DUE);\n")),
     "a poll does not wait for who makes the task due": (2, "tasks: the last that polls", (TASKS, "qolb_task_poll", "qolb_state_of_(me, NULL)", "atomic_load(&me->state)")),
     "a poll leaves the call to be made": (1, "tasks", (TASKS, "qolb_task_poll", "    qolb_unlist_(&me->notice);\n", "")),
     "a cancel leaves the call to be made": (2, "tasks: a task gives up", (TASKS, "qolb_task_cancel", "    qolb_unlist_(&me->notice);\n", "")),
