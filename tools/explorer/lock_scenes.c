@@ -700,6 +700,8 @@ const struct scene scenes[] = {
     {"bursts: tasks: a call enters another lock", enters_another_in_call, 3, 2, 0, ROOMY},
     {"bursts: tasks: one waits while a call enters", waits_while_a_call_enters, 2, 2, 0, ROOMY},
     {"bursts: tasks: a task comes to a younger lock", a_task_comes_to_a_younger_lock, 3, 2, 0, ROOMY},
+    {"tasks: a task shuts beside a waiter", a_task_shuts_beside_a_waiter, 2, 0, 0, ROOMY},
+    {"bursts: tasks: a task shuts beside a waiter", a_task_shuts_beside_a_waiter, 2, 2, 0, ROOMY},
     {"tasks: the last frees beside others' entries", last_frees_beside_entries, 3, 0, 0, ROOMY},
     {"bursts: tasks: the last frees beside others' entries", last_frees_beside_entries, 3, 2, 0, ROOMY},
     {"bursts of four: tasks: a task beside threads", a_task_beside_threads, 3, 4, 0, ROOMY},
