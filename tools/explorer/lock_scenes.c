@@ -705,7 +705,7 @@ const struct scene scenes[] = {
     {"tasks: the last frees beside others' entries", last_frees_beside_entries, 3, 0, 0, ROOMY},
     {"bursts: tasks: the last frees beside others' entries", last_frees_beside_entries, 3, 2, 0, ROOMY},
     {"bursts of four: tasks: a task beside threads", a_task_beside_threads, 3, 4, 0, ROOMY},
-    {"bursts of four: tasks: a task beside one that yields", a_task_beside_one_that_yields, 3, 4, 0, ROOMY},
+    {"bursts of four: tasks: a task beside one that yields once", a_task_beside_one_that_yields_once, 3, 4, 0, ROOMY},
     {"bursts of four: tasks: tasks beside a thread", tasks_beside_a_thread, 3, 4, 0, ROOMY},
     {"bursts of four: tasks: a task beside threads, twice", a_task_beside_threads_twice, 2, 4, 0, ROOMY},
     {"bursts of three: tasks: a task beside one that stays", a_task_beside_one_that_stays, 3, 3, 0, ROOMY},

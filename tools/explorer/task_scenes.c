@@ -87,6 +87,8 @@ void tasks_beside_a_thread_twice(int self) { tasks_beside_a_thread(self), tasks_
 /* The first lets the others go on in its turn. */
 void a_task_beside_one_that_yields(int self) { self == 0 ? enters_with(3) : a_task_beside_threads(self); }
 
+void a_task_beside_one_that_yields_once(int self) { self == 0 ? enters_with(1) : a_task_beside_threads(self); }
+
 void tasks_beside_one_that_yields(int self) { self == 0 ? enters_with(3) : by_task(self); }
 
 void a_task_beside_one_that_stays(int self) { self == 1 ? by_task(self) : one_stays(self); }
