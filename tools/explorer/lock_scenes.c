@@ -734,8 +734,7 @@ void set_up(const struct scene *scene) {
     model_memory = !scene->no_memory, for_second = 0;
     for (int k = 0; k < LOCKS; k++) {
         it.locks[k] = unopened(scene, k);
-        if (!scene->at_first_use)
-            MUST(qolb_lock_open(it.locks[k], scene->burst) == QOLB_DONE);
+        if (!scene->at_first_use) MUST(qolb_lock_open(it.locks[k], scene->burst) == QOLB_DONE);
     }
     it.lock = it.locks[0];
 }
