@@ -6,8 +6,8 @@
  *   ./lock NAME table LOCKS ROUNDS                 prints nanoseconds a round, and bytes of heap of each lock
  *
  * NAME is strict, burst:TURNS, node:ring, node:link or node:ticket, with a node for each thread, mutex, or with -DMCS,
- * which needs Debian's package libck-dev, mcs. The holder keeps its processor busy for MICROSECONDS, or with an s sleeps so long, and adds 1 to a
- * number. c/bench/locks and c/bench/bursts run it. */
+ * which needs Debian's package libck-dev, mcs. The holder keeps its processor busy for MICROSECONDS, or with an s
+ * sleeps so long, and adds 1 to a number. c/bench/locks and c/bench/bursts run it. */
 #define _DEFAULT_SOURCE
 #include "kinds.h"
 #include <malloc.h>
@@ -103,8 +103,7 @@ static void *works(void *argument) {
 static int take_lock(const char *name) {
     way = BY_LOCK;
     if (strcmp(name, "strict") == 0) return 1;
-    if (strncmp(name, "burst:", 6) == 0)
-        return as = (qolb_lock)QOLB_LOCK_INIT_BURSTS(strtoul(name + 6, NULL, 10)), 1;
+    if (strncmp(name, "burst:", 6) == 0) return as = (qolb_lock)QOLB_LOCK_INIT_BURSTS(strtoul(name + 6, NULL, 10)), 1;
     way = BY_NODE;
     for (of_nodes = 0; of_nodes < QOLB_KINDS; of_nodes++)
         if (strncmp(name, "node:", 5) == 0 && strcmp(name + 5, qolb_kind_name(of_nodes)) == 0) return 1;

@@ -19,6 +19,29 @@ def machine():
     return f"{len(names)} processors of an {names[0]}"
 
 
+# A hand-over of a cache line between two hyperthreads of one core takes fewer nanoseconds than this, and between two cores more.
+QUICK = 60
+
+
+def least_of(*times):
+    """The least time of a hand-over between each two processors, of several that were taken."""
+    return {pair: min(of[pair] for of in times if pair in of) for pair in {pair for of in times for pair in of}}
+
+
+def quick_pairs(times, used):
+    """The pairs among these processors whose hand-over is that of one core."""
+    return [pair for pair, time in times.items() if time < QUICK and set(pair) <= set(used)]
+
+
+def apart(times):
+    """The processors in an order in which each is no quick pair with those before it, as far as there are such."""
+    left, order = sorted({it for pair in times for it in pair}), []
+    while left:
+        order.append(min(left, key=lambda it: (len(quick_pairs(times, [*order, it])), it)))
+        left.remove(order[-1])
+    return order
+
+
 def used_by_others():
     """Processor seconds of each other process and of its children that have ended, by its number."""
     found = {}

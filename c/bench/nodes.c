@@ -14,19 +14,7 @@
  * 100, and the longest of a phase, the median of the phases, in microseconds. Places in memory matter: each way has
  * PLACES lines or locks, and takes one after the other. */
 #define _GNU_SOURCE
-#include <ck_pr.h>
-#include <ck_spinlock.h>
-#include <pthread.h>
 #include <qolb.h>
-#include <sched.h>
-#include <stdatomic.h>
-#include <stdio.h>
-#include <stdlib.h>
-#include <string.h>
-#include <time.h>
-#include <unistd.h>
-
-enum { MOST = 64, PLACES = 8, PHASES = 20000, PROCESSORS = 4, PAGE = 4096, APART = 128, BINS = 976 };
 
 enum way { MCS, MCS_YIELDS, MUTEX, ACQUIRE, POLLS_4, POLLS_8, POLLS_16, WAYS };
 static const char *const names[WAYS] = {"MCS",
@@ -37,12 +25,10 @@ static const char *const names[WAYS] = {"MCS",
                                         "polls, 8 pauses",
                                         "polls, 16 pauses"};
 
-/* With more threads than processors only ways that sleep or yield are timed, and compared with the MCS that yields. */
-static int threads;
-static int is_timed(int by) { return threads <= PROCESSORS || (by >= MCS_YIELDS && by <= ACQUIRE); }
+#include "phases.h"
 
-/* Looks at MCS's word before its waiter yields. */
-enum { SPINS = 256 };
+/* With more threads than processors only ways that sleep or yield are timed, and compared with the MCS that yields. */
+static int is_timed(int by) { return threads <= many_processors || (by >= MCS_YIELDS && by <= ACQUIRE); }
 
 static struct {
     _Alignas(PAGE) ck_spinlock_mcs_t mcs;
@@ -56,59 +42,10 @@ struct of_thread {
         _Alignas(PAGE) qolb_node node;
         _Alignas(APART) ck_spinlock_mcs_context_t context;
     } at[PLACES];
-    uint64_t turns, longest;
-    unsigned waits[BINS]; /* how many waits took so long (bin_of) */
 };
 static struct of_thread all[MOST];
 
-/* Sixteen bins for each power of two. */
-static unsigned bin_of(uint64_t ns) {
-    unsigned log = 63 - (unsigned)__builtin_clzll(ns | 16);
-    return (log - 4) * 16 + (unsigned)(ns >> (log - 4) & 15);
-}
-
-static double least_of(unsigned bin) { return bin < 16 ? bin : (double)((uint64_t)(16 + bin % 16) << bin / 16); }
-
-static int pinned;
-static uint64_t turn_ns, phase_ns;
-/* The phase that begins, and its way and place; whether it is over; how many threads have begun and ended it; and its
- * length. */
-static _Alignas(APART) atomic_int phase;
-static enum way way;
-static int place;
-static _Alignas(APART) atomic_int over;
-static _Alignas(APART) atomic_int begun, ended;
-static uint64_t took;
-
-static uint64_t now(void) {
-    struct timespec time;
-    if (clock_gettime(CLOCK_MONOTONIC, &time)) abort();
-    return (uint64_t)time.tv_sec * 1000000000 + (uint64_t)time.tv_nsec;
-}
-
-static void stay_at(int processor) {
-    cpu_set_t set;
-    CPU_ZERO(&set);
-    CPU_SET(processor, &set);
-    if (sched_setaffinity(0, sizeof set, &set)) abort();
-}
-
 /* ---- The ways ---- */
-
-/* Concurrency Kit's lock, whose waiter yields once it has looked so often. */
-static void enter_mcs_yielding(ck_spinlock_mcs_t *lock, ck_spinlock_mcs_context_t *me) {
-    me->locked = 1;
-    me->next = NULL;
-    ck_pr_fence_store_atomic();
-    ck_spinlock_mcs_context_t *before = ck_pr_fas_ptr(lock, me);
-    if (before) {
-        ck_pr_store_ptr(&before->next, me);
-        for (int looks = 0; ck_pr_load_uint(&me->locked); looks++)
-            if (looks < SPINS) ck_pr_stall();
-            else sched_yield();
-    }
-    ck_pr_fence_lock();
-}
 
 static void enter_by_polls(qolb_node *node, int pauses) {
     uint32_t got;
@@ -120,7 +57,8 @@ static void enter_by_polls(qolb_node *node, int pauses) {
     if (got != QOLB_GRANTED) abort();
 }
 
-static void enter(struct of_thread *me, enum way by, int at) {
+static void enter(long thread, enum way by, int at) {
+    struct of_thread *me = &all[thread];
     qolb_node *node = &me->at[at].node;
     switch (by) {
     case MCS: ck_spinlock_mcs_lock(&locks[at].mcs, &me->at[at].context); break;
@@ -135,7 +73,8 @@ static void enter(struct of_thread *me, enum way by, int at) {
     }
 }
 
-static void leave(struct of_thread *me, enum way by, int at) {
+static void leave(long thread, enum way by, int at) {
+    struct of_thread *me = &all[thread];
     uint64_t was;
     if (by > MUTEX) {
         qolb_node *node = &me->at[at].node;
@@ -147,117 +86,10 @@ static void leave(struct of_thread *me, enum way by, int at) {
     else ck_spinlock_mcs_unlock(&locks[at].mcs, &me->at[at].context);
 }
 
-/* ---- Phases ---- */
-
-/* Reads the clock in each turn that has a length, else in each 64th. */
-static void take_turns(struct of_thread *me, int is_first) {
-    enum way by = way;
-    int at = place;
-    uint64_t turns = 0, longest = 0, since = now();
-    memset(me->waits, 0, sizeof me->waits);
-    for (; !atomic_load_explicit(&over, memory_order_relaxed); turns++) {
-        int timed = turn_ns || turns % 64 == 0;
-        uint64_t asked = timed ? now() : 0;
-        enter(me, by, at);
-        uint64_t came = timed ? now() : 0;
-        if (timed) me->waits[bin_of(came - asked)]++;
-        if (came - asked > longest) longest = came - asked;
-        while (turn_ns && now() - came < turn_ns) continue;
-        leave(me, by, at);
-        if (is_first && timed && now() - since > phase_ns) took = now() - since, atomic_store(&over, 1);
-    }
-    me->turns = turns;
-    me->longest = longest;
-}
-
-static void *work(void *number) {
-    long k = (long)number;
-    if (pinned) stay_at((int)k % PROCESSORS);
-    for (int p = 1;; p++) {
-        while (atomic_load(&phase) < p) usleep(20);
-        if (way == WAYS) return NULL;
-        atomic_fetch_add(&begun, 1);
-        while (atomic_load(&begun) < p * threads) sched_yield();
-        take_turns(&all[k], k == 0);
-        atomic_fetch_add(&ended, 1);
-    }
-}
-
-static void *loop(void *number) {
-    stay_at((int)(long)number);
-    for (;;) __asm__ volatile("");
-    return NULL;
-}
-
-static struct {
-    double times[PHASES], longest[PHASES], turns, took;
-    uint64_t waits[BINS], all_waits;
-    int many;
-} found[WAYS];
-
-static void run_phase(int number, enum way by, int at) {
-    way = by;
-    place = at;
-    atomic_store(&over, 0);
-    atomic_store(&ended, 0);
-    atomic_store(&phase, number);
-    while (atomic_load(&ended) < threads) usleep(50);
-    uint64_t turns = 0, longest = 0;
-    for (int k = 0; k < threads; k++) {
-        turns += all[k].turns;
-        if (all[k].longest > longest) longest = all[k].longest;
-        for (int bin = 0; bin < BINS; bin++) {
-            found[by].waits[bin] += all[k].waits[bin];
-            found[by].all_waits += all[k].waits[bin];
-        }
-    }
-    if (found[by].many == PHASES || turns == 0) return;
-    found[by].longest[found[by].many] = (double)longest / 1000;
-    found[by].times[found[by].many++] = (double)took / (double)turns;
-    found[by].turns += (double)turns;
-    found[by].took += (double)took;
-}
+static void begin_phase(enum way by, int at) { (void)by, (void)at; }
+static void end_phase(long thread, enum way by, int at) { (void)thread, (void)by, (void)at; }
 
 /* ---- The machine ---- */
-
-static atomic_int ball;
-enum { THROWS = 20000, WARM = 2000 };
-
-static void *throw_back(void *processor) {
-    stay_at((int)(long)processor);
-    for (int k = 0; k < THROWS; k++) {
-        while (atomic_load(&ball) != 2 * k + 1) continue;
-        atomic_store(&ball, 2 * k + 2);
-    }
-    return NULL;
-}
-
-/* The time of a hand-over of a cache line from one of these processors to the other, in nanoseconds. */
-static double hand_over(int a, int b) {
-    pthread_t other;
-    uint64_t since = 0;
-    atomic_store(&ball, 0);
-    if (pthread_create(&other, NULL, throw_back, (void *)(long)b)) abort();
-    stay_at(a);
-    for (int k = 0; k < THROWS; k++) {
-        if (k == WARM) since = now();
-        atomic_store(&ball, 2 * k + 1);
-        while (atomic_load(&ball) != 2 * k + 2) continue;
-    }
-    double each = (double)(now() - since) / (2 * (THROWS - WARM));
-    pthread_join(other, NULL);
-    return each;
-}
-
-static void print_hand_overs(void) {
-    cpu_set_t before;
-    if (sched_getaffinity(0, sizeof before, &before)) abort();
-    printf("# a hand-over between processors, ns:");
-    for (int a = 0; a < PROCESSORS; a++)
-        for (int b = a + 1; b < PROCESSORS; b++) printf(" %d-%d %.0f", a, b, hand_over(a, b));
-    puts("");
-    if (sched_setaffinity(0, sizeof before, &before)) abort();
-}
 
 /* The processor time of this machine until now, and the part of it that other machines took. */
 static void read_stolen(double *whole, double *stolen) {
@@ -273,27 +105,8 @@ static void read_stolen(double *whole, double *stolen) {
 
 /* ---- The program ---- */
 
-static int by_size(const void *a, const void *b) {
-    double x = *(const double *)a, y = *(const double *)b;
-    return (x > y) - (x < y);
-}
-
-static double part(double *sorted, int many, double of) { return many ? sorted[(int)((many - 1) * of)] : 0; }
-
-/* In microseconds, of the waits of this way whose time was taken. */
-static double wait_999(int by) {
-    uint64_t before = 0;
-    for (unsigned bin = 0; bin < BINS; bin++)
-        if ((before += found[by].waits[bin]) * 1000 >= found[by].all_waits * 999) return least_of(bin) / 1000;
-    return 0;
-}
-
 static void print_ways(const char *kind) {
-    for (int k = 0; k < WAYS; k++) {
-        int many = found[k].many;
-        qsort(found[k].times, (size_t)many, sizeof(double), by_size);
-        qsort(found[k].longest, (size_t)many, sizeof(double), by_size);
-    }
+    sort_phases();
     int than = is_timed(MCS) ? MCS : MCS_YIELDS;
     double mcs = part(found[than].times, found[than].many, .5);
     puts("kind\tthreads\tturn_us\tname\tphases\tmedian\tlow\thigh\tof_mcs\tmean\twait_999_us\tlongest_us");
@@ -329,19 +142,12 @@ int main(int argc, char **argv) {
     double seconds = atof(argv[5]), whole[2], stolen[2];
     if (threads < 1 || threads > MOST || !open_places(argv[1])) return 2;
     print_hand_overs();
-    pthread_t id;
     for (int k = 6; k < argc; k++) {
         if (strcmp(argv[k], "pinned") == 0) pinned = 1;
-        for (long p = 0; p < PROCESSORS && strcmp(argv[k], "loops") == 0; p++)
-            if (pthread_create(&id, NULL, loop, (void *)p)) return 3;
+        if (strcmp(argv[k], "loops") == 0) begin_loops();
     }
-    for (long k = 0; k < threads; k++)
-        if (pthread_create(&id, NULL, work, (void *)k)) return 3;
-    uint64_t since = now();
     read_stolen(&whole[0], &stolen[0]);
-    for (int round = 0, number = 0; (double)(now() - since) < seconds * 1e9; round++)
-        for (int k = 0; k < WAYS; k++)
-            if (is_timed((k + round) % WAYS)) run_phase(++number, (enum way)((k + round) % WAYS), round % PLACES);
+    run_phases(seconds);
     read_stolen(&whole[1], &stolen[1]);
     printf("# other machines had %.1f %%\n", (stolen[1] - stolen[0]) / (whole[1] - whole[0]) * 100);
     print_ways(argv[1]);

@@ -9,9 +9,9 @@
  *
  * As with the C library, any thread may unlock such a mutex, unlocking a free one changes nothing, and a thread that
  * locks one that it holds waits until another unlocks it. A mutex that a thread held when it forked is held in the
- * child, and those that waited are not there. A program that never destroys its mutexes keeps half a KB for each address
- * at which it locked one. A wait until a time of the clock CLOCK_REALTIME does not notice that this is set meanwhile. A
- * wait at a condition may return for no reason when another thread that waits is cancelled.
+ * child, and those that waited are not there. A program that never destroys its mutexes keeps half a KB for each
+ * address at which it locked one. A wait until a time of the clock CLOCK_REALTIME does not notice that this is set
+ * meanwhile. A wait at a condition may return for no reason when another thread that waits is cancelled.
  *
  * QOLB_BURST=TURNS is the hard limit of a burst (qolb.h, LOCKS): 1024, if it is not set, and 0 for strict order.
  *
@@ -129,10 +129,9 @@ __attribute__((destructor)) static void report(void) {
     qolb_process_();
     int file = counts() ? open(settings.report, O_WRONLY | O_APPEND | O_CREAT | O_CLOEXEC, 0666) : -1;
     if (file < 0) return;
-    int size = snprintf(
-        text, sizeof text,
-        "burst %u mutexes %llu at once %lld grants %llu late %llu not free %llu violations %llu\n", settings.burst,
-        mutexes, most_at_once, grants, late, not_free, violations);
+    int size = snprintf(text, sizeof text,
+                        "burst %u mutexes %llu at once %lld grants %llu late %llu not free %llu violations %llu\n",
+                        settings.burst, mutexes, most_at_once, grants, late, not_free, violations);
     if (write(file, text, (size_t)size) != size) perror(settings.report);
     close(file);
 }

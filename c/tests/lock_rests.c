@@ -1,7 +1,7 @@
 /* How a waiter for a lock rests, and at a condition, by a clock that the program advances: how often it polls, how long
  * it sleeps, and when it is late; its answer if the lock is granted, or shut, between the last poll and the withdrawal;
- * and whom a leave wakes. Linked with --wrap for clock_gettime, nanosleep, sched_yield, syscall and for the proved calls
- * that poll and withdraw. One thread does what several would: so it enters a lock that it holds as preload.c does.
+ * and whom a leave wakes. Linked with --wrap for clock_gettime, nanosleep, sched_yield, syscall and for the proved
+ * calls that poll and withdraw. One thread does what several would: so it enters a lock that it holds as preload.c does.
  * Prints only errors. */
 #define _GNU_SOURCE
 #include <lock/lock.h>

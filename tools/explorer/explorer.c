@@ -1,5 +1,6 @@
 /* Makes runs of scenes on a model of the processor's memory: see ../explore_nodes.py, which builds and starts it. A run
- * is made anew from its start for each list of choices, of which a limited number may differ from the plain schedule. */
+ * is made anew from its start for each list of choices, of which a limited number may differ from the plain
+ * schedule. */
 #define _GNU_SOURCE
 #include "explorer.h"
 #include <qolb.h>

@@ -31,7 +31,7 @@ const ABOUT: &str =
 
 /// What `--version` says after the name: the version, which `tools/sources` compares, and the kinds of lines. A program can't know which kit
 /// built it, nor whether it was proved: the script `qolb` adds that.
-const VERSION: &str = lock_names!(text, "1.8.0\nkinds of lines: plain, ");
+const VERSION: &str = lock_names!(text, "2.0.0\nkinds of lines: plain, ");
 
 const STATUSES: &str = "Exit statuses:
   0  done

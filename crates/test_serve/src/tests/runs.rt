@@ -239,7 +239,7 @@ static NOT_TAKEN: [(&[&str], &str); 31] = [
     (&["--help"], "\n  4  a failed read or write: "),
     (&["replay", "--help"], "--kind"),
     (&["--help"], "-V, --version"),
-    (&["-V"], "qolb 1.8.0\n"),
+    (&["-V"], "qolb 2.0.0\n"),
     (&["replay", "--version"], "--version"),
 ];
 
@@ -288,7 +288,7 @@ fn refuses_command_lines(rt: HostRuntime) -> Result<(), Fail> {
 }
 
 /// The output of `--version`.
-const VERSION: &str = "qolb 1.8.0\nkinds of lines: plain, ring, link, ticket\n";
+const VERSION: &str = "qolb 2.0.0\nkinds of lines: plain, ring, link, ticket\n";
 
 #[test]
 fn tells_its_version(rt: HostRuntime) -> Result<(), Fail> {

@@ -1,0 +1,243 @@
+/* Times ways of taking turns, all in one program, in short phases that take turns, and hand-overs between processors.
+ * For nodes.c and speed.c: who includes it has an enum way that ends with WAYS, and the functions that are declared
+ * here.
+ *
+ * Places in memory matter: each way has PLACES lines or locks, and takes one after the other. */
+#ifndef PHASES_H
+#define PHASES_H
+
+#include <ck_pr.h>
+#include <ck_spinlock.h>
+#include <pthread.h>
+#include <sched.h>
+#include <stdatomic.h>
+#include <stdint.h>
+#include <stdio.h>
+#include <stdlib.h>
+#include <string.h>
+#include <time.h>
+#include <unistd.h>
+
+enum { MOST = 64, PLACES = 8, PHASES = 20000, MOST_PROCESSORS = 8, PAGE = 4096, APART = 128, BINS = 976 };
+
+static int is_timed(int by);
+static void enter(long thread, enum way by, int at);
+static void leave(long thread, enum way by, int at);
+/* Before a phase, by the thread that begins it; and once a thread takes no more turns in it. */
+static void begin_phase(enum way by, int at);
+static void end_phase(long thread, enum way by, int at);
+
+/* ---- Time ---- */
+
+static uint64_t now(void) {
+    struct timespec time;
+    if (clock_gettime(CLOCK_MONOTONIC, &time)) abort();
+    return (uint64_t)time.tv_sec * 1000000000 + (uint64_t)time.tv_nsec;
+}
+
+static void stay_at(int processor) {
+    cpu_set_t set;
+    CPU_ZERO(&set);
+    CPU_SET(processor, &set);
+    if (sched_setaffinity(0, sizeof set, &set)) abort();
+}
+
+/* Sixteen bins for each power of two. */
+static unsigned bin_of(uint64_t ns) {
+    unsigned log = 63 - (unsigned)__builtin_clzll(ns | 16);
+    return (log - 4) * 16 + (unsigned)(ns >> (log - 4) & 15);
+}
+
+static double least_of(unsigned bin) { return bin < 16 ? bin : (double)((uint64_t)(16 + bin % 16) << bin / 16); }
+
+/* ---- Concurrency Kit's lock, whose waiter yields once it has looked so often ---- */
+
+enum { SPINS = 256 };
+
+static void enter_mcs_yielding(ck_spinlock_mcs_t *lock, ck_spinlock_mcs_context_t *me) {
+    me->locked = 1;
+    me->next = NULL;
+    ck_pr_fence_store_atomic();
+    ck_spinlock_mcs_context_t *before = ck_pr_fas_ptr(lock, me);
+    if (before) {
+        ck_pr_store_ptr(&before->next, me);
+        for (int looks = 0; ck_pr_load_uint(&me->locked); looks++)
+            if (looks < SPINS) ck_pr_stall();
+            else sched_yield();
+    }
+    ck_pr_fence_lock();
+}
+
+/* ---- Phases ---- */
+
+/* The processors, and whether thread k stays at the one of its number. */
+static int processors[MOST_PROCESSORS] = {0, 1, 2, 3}, many_processors = 4, pinned;
+static int threads;
+static uint64_t turn_ns, phase_ns;
+/* The phase that begins, and its way and place; whether it is over; how many threads have begun and ended it; and its
+ * length. */
+static _Alignas(APART) atomic_int phase;
+static enum way way;
+static int place;
+static _Alignas(APART) atomic_int over;
+static _Alignas(APART) atomic_int begun, ended;
+static uint64_t took;
+
+static struct {
+    _Alignas(PAGE) uint64_t turns, longest;
+    unsigned waits[BINS]; /* how many waits took so long (bin_of) */
+} did[MOST];
+
+/* Reads the clock in each turn that has a length, else in each 64th. */
+static void take_turns(long k) {
+    enum way by = way;
+    int at = place;
+    uint64_t turns = 0, longest = 0, since = now();
+    memset(did[k].waits, 0, sizeof did[k].waits);
+    for (; !atomic_load_explicit(&over, memory_order_relaxed); turns++) {
+        int timed = turn_ns || turns % 64 == 0;
+        uint64_t asked = timed ? now() : 0;
+        enter(k, by, at);
+        uint64_t came = timed ? now() : 0;
+        if (timed) did[k].waits[bin_of(came - asked)]++;
+        if (came - asked > longest) longest = came - asked;
+        while (turn_ns && now() - came < turn_ns) continue;
+        leave(k, by, at);
+        if (k == 0 && timed && now() - since > phase_ns) took = now() - since, atomic_store(&over, 1);
+    }
+    end_phase(k, by, at);
+    did[k].turns = turns;
+    did[k].longest = longest;
+}
+
+static void *work(void *number) {
+    long k = (long)number;
+    if (pinned) stay_at(processors[k % many_processors]);
+    for (int p = 1;; p++) {
+        while (atomic_load(&phase) < p) usleep(20);
+        if (way == WAYS) return NULL;
+        atomic_fetch_add(&begun, 1);
+        while (atomic_load(&begun) < p * threads) sched_yield();
+        take_turns(k);
+        atomic_fetch_add(&ended, 1);
+    }
+}
+
+static void *loop(void *number) {
+    stay_at((int)(long)number);
+    for (;;) __asm__ volatile("");
+    return NULL;
+}
+
+static struct {
+    double times[PHASES], longest[PHASES], turns, took;
+    uint64_t waits[BINS], all_waits;
+    int many;
+} found[WAYS];
+
+static void run_phase(int number, enum way by, int at) {
+    way = by;
+    place = at;
+    begin_phase(by, at);
+    atomic_store(&over, 0);
+    atomic_store(&ended, 0);
+    atomic_store(&phase, number);
+    while (atomic_load(&ended) < threads) usleep(50);
+    uint64_t turns = 0, longest = 0;
+    for (int k = 0; k < threads; k++) {
+        turns += did[k].turns;
+        if (did[k].longest > longest) longest = did[k].longest;
+        for (int bin = 0; bin < BINS; bin++) {
+            found[by].waits[bin] += did[k].waits[bin];
+            found[by].all_waits += did[k].waits[bin];
+        }
+    }
+    if (found[by].many == PHASES || turns == 0) return;
+    found[by].longest[found[by].many] = (double)longest / 1000;
+    found[by].times[found[by].many++] = (double)took / (double)turns;
+    found[by].turns += (double)turns;
+    found[by].took += (double)took;
+}
+
+/* All ways that are timed, for so many seconds, one phase after the other. */
+static void run_phases(double seconds) {
+    pthread_t id;
+    for (long k = 0; k < threads; k++)
+        if (pthread_create(&id, NULL, work, (void *)k)) exit(3);
+    uint64_t since = now();
+    for (int round = 0, number = 0; (double)(now() - since) < seconds * 1e9; round++)
+        for (int k = 0; k < WAYS; k++)
+            if (is_timed((k + round) % WAYS)) run_phase(++number, (enum way)((k + round) % WAYS), round % PLACES);
+}
+
+static void begin_loops(void) {
+    pthread_t id;
+    for (int p = 0; p < many_processors; p++)
+        if (pthread_create(&id, NULL, loop, (void *)(long)processors[p])) exit(3);
+}
+
+static int by_size(const void *a, const void *b) {
+    double x = *(const double *)a, y = *(const double *)b;
+    return (x > y) - (x < y);
+}
+
+static void sort_phases(void) {
+    for (int k = 0; k < WAYS; k++) {
+        qsort(found[k].times, (size_t)found[k].many, sizeof(double), by_size);
+        qsort(found[k].longest, (size_t)found[k].many, sizeof(double), by_size);
+    }
+}
+
+static double part(const double *sorted, int many, double of) { return many ? sorted[(int)((many - 1) * of)] : 0; }
+
+/* In microseconds, of the waits of this way whose time was taken. */
+static double wait_999(int by) {
+    uint64_t before = 0;
+    for (unsigned bin = 0; bin < BINS; bin++)
+        if ((before += found[by].waits[bin]) * 1000 >= found[by].all_waits * 999) return least_of(bin) / 1000;
+    return 0;
+}
+
+/* ---- The machine ---- */
+
+static atomic_int ball;
+enum { THROWS = 20000, WARM = 2000 };
+
+static void *throw_back(void *processor) {
+    stay_at((int)(long)processor);
+    for (int k = 0; k < THROWS; k++) {
+        while (atomic_load(&ball) != 2 * k + 1) continue;
+        atomic_store(&ball, 2 * k + 2);
+    }
+    return NULL;
+}
+
+/* The time of a hand-over of a cache line from one of these processors to the other, in nanoseconds. */
+static double hand_over(int a, int b) {
+    pthread_t other;
+    uint64_t since = 0;
+    atomic_store(&ball, 0);
+    if (pthread_create(&other, NULL, throw_back, (void *)(long)b)) abort();
+    stay_at(a);
+    for (int k = 0; k < THROWS; k++) {
+        if (k == WARM) since = now();
+        atomic_store(&ball, 2 * k + 1);
+        while (atomic_load(&ball) != 2 * k + 2) continue;
+    }
+    double each = (double)(now() - since) / (2 * (THROWS - WARM));
+    pthread_join(other, NULL);
+    return each;
+}
+
+static void print_hand_overs(void) {
+    cpu_set_t before;
+    if (sched_getaffinity(0, sizeof before, &before)) abort();
+    printf("# a hand-over between processors, ns:");
+    for (int a = 0; a < many_processors; a++)
+        for (int b = a + 1; b < many_processors; b++)
+            printf(" %d-%d %.0f", processors[a], processors[b], hand_over(processors[a], processors[b]));
+    puts("");
+    if (sched_setaffinity(0, sizeof before, &before)) abort();
+}
+
+#endif

@@ -1,0 +1,198 @@
+/* A qolb_lock, strict and with bursts of 1,024 turns, beside a pthread_mutex and Concurrency Kit's MCS lock: all in one
+ * program, in short phases that take turns. c/bench/speed builds and runs it.
+ *
+ *   ./speed THREADS MICROSECONDS PHASE_MS SECONDS at=0,2,1,3 [loops] [one]
+ *   ./speed machine at=0,1,2,3
+ *   ./speed bytes LOCKS
+ *
+ * Thread k stays at the processor with that place in the list. MICROSECONDS is the length of a turn, in which the
+ * holder adds 1 to a number beside the lock. With `loops` each of the processors also has a thread that does nothing
+ * else than loop. With `one` the process may use the first processor alone, and two threads also hand over to each
+ * other by semaphores.
+ *
+ * It prints the time of a hand-over between each two of the processors, before and after. Then, tab-separated, for each
+ * way: its name, the phases, nanoseconds a turn over all threads (the median of the phases, the quartiles, and of all
+ * turns together), and of the waits whose time was taken the 99.9th of 100 and the longest of a phase, the median of
+ * the phases, in microseconds. `machine` prints hand-overs and the time of a pause. `bytes` prints the bytes of a lock,
+ * and those of heap that so many take together. */
+#define _GNU_SOURCE
+#include <malloc.h>
+#include <qolb.h>
+#include <semaphore.h>
+
+enum way { STRICT, BURSTS, MUTEX, MCS, MCS_YIELDS, SEMAPHORES, WAYS };
+static const char *const names[WAYS] = {"strict", "bursts", "mutex", "MCS", "MCS that yields", "semaphores"};
+
+#include "phases.h"
+
+enum { BURST = 1024 };
+#ifdef QOLB_SEATS /* a library before 2.0 */
+#define OF_BURSTS(turns) QOLB_LOCK_INIT_BURSTS(QOLB_LINK, 4, turns)
+#else
+#define OF_BURSTS(turns) QOLB_LOCK_INIT_BURSTS(turns)
+#endif
+static int by_one;
+
+/* MCS never sleeps: where a holder may wait for a processor, only one that yields is timed. */
+static int has_processors(void) { return threads <= many_processors && !by_one; }
+
+static int is_timed(int by) {
+    if (by == SEMAPHORES) return by_one && threads == 2;
+    return by != MCS || has_processors();
+}
+
+static struct {
+    _Alignas(PAGE) qolb_lock strict;
+    _Alignas(PAGE) qolb_lock bursts;
+    _Alignas(PAGE) pthread_mutex_t mutex;
+    _Alignas(PAGE) ck_spinlock_mcs_t mcs;
+    _Alignas(PAGE) sem_t semaphore[2];
+    _Alignas(PAGE) uint64_t number[WAYS];
+} locks[PLACES];
+
+static struct {
+    struct {
+        _Alignas(APART) ck_spinlock_mcs_context_t context;
+    } at[PLACES];
+} all[MOST];
+
+/* Turns that were begun: each adds 1 to a number that nothing but the lock guards. */
+static _Alignas(APART) struct { _Alignas(APART) uint64_t of[WAYS]; } added[MOST];
+
+static void enter(long thread, enum way by, int at) {
+    switch (by) {
+    case STRICT:
+        if (qolb_lock_enter(&locks[at].strict) != QOLB_GRANTED) abort();
+        break;
+    case BURSTS:
+        if (qolb_lock_enter(&locks[at].bursts) != QOLB_GRANTED) abort();
+        break;
+    case MUTEX: pthread_mutex_lock(&locks[at].mutex); break;
+    case MCS: ck_spinlock_mcs_lock(&locks[at].mcs, &all[thread].at[at].context); break;
+    case MCS_YIELDS: enter_mcs_yielding(&locks[at].mcs, &all[thread].at[at].context); break;
+    default:
+        while (sem_wait(&locks[at].semaphore[thread]) != 0) continue;
+        break;
+    }
+}
+
+static void leave(long thread, enum way by, int at) {
+    locks[at].number[by]++;
+    added[thread].of[by]++;
+    switch (by) {
+    case STRICT:
+        if (qolb_lock_leave(&locks[at].strict) != QOLB_DONE) abort();
+        break;
+    case BURSTS:
+        if (qolb_lock_leave(&locks[at].bursts) != QOLB_DONE) abort();
+        break;
+    case MUTEX: pthread_mutex_unlock(&locks[at].mutex); break;
+    case MCS:
+    case MCS_YIELDS: ck_spinlock_mcs_unlock(&locks[at].mcs, &all[thread].at[at].context); break;
+    default: sem_post(&locks[at].semaphore[1 - thread]); break;
+    }
+}
+
+static void begin_phase(enum way by, int at) {
+    for (unsigned k = 0; k < 2 && by == SEMAPHORES; k++) sem_init(&locks[at].semaphore[k], 0, 1 - k);
+}
+
+/* The other thread may wait for its turn. */
+static void end_phase(long thread, enum way by, int at) {
+    if (by == SEMAPHORES && thread == 0) sem_post(&locks[at].semaphore[1]);
+}
+
+/* Whether the numbers are those of the turns. */
+static int all_are_there(void) {
+    for (int by = 0; by < WAYS; by++) {
+        uint64_t turns = 0, numbers = 0;
+        for (int k = 0; k < threads; k++) turns += added[k].of[by];
+        for (int at = 0; at < PLACES; at++) numbers += locks[at].number[by];
+        if (turns != numbers)
+            return printf("# %s: %llu of %llu turns\n", names[by], (unsigned long long)numbers,
+                          (unsigned long long)turns),
+                   0;
+    }
+    return 1;
+}
+
+static void make_locks(void) {
+    for (int at = 0; at < PLACES; at++) {
+        locks[at].strict = (qolb_lock)OF_BURSTS(0);
+        locks[at].bursts = (qolb_lock)OF_BURSTS(BURST);
+        pthread_mutex_init(&locks[at].mutex, NULL);
+    }
+}
+
+static int take_processors(const char *word) {
+    char *rest = (char *)(uintptr_t)word + 3;
+    if (strncmp(word, "at=", 3) != 0) return 0;
+    for (many_processors = 0; *rest && many_processors < MOST_PROCESSORS; rest += *rest == ',')
+        processors[many_processors++] = (int)strtol(rest, &rest, 10);
+    return many_processors > 0;
+}
+
+static int of_machine(void) {
+    enum { PAUSES = 100000 };
+    uint64_t since = now();
+    for (int k = 0; k < PAUSES; k++) __builtin_ia32_pause();
+    printf("# a pause, ns: %.1f\n", (double)(now() - since) / PAUSES);
+    print_hand_overs();
+    return 0;
+}
+
+static int of_bytes(size_t many) {
+    qolb_lock *table = calloc(many, sizeof *table);
+    if (!table) return 1;
+    for (size_t k = 0; k < many; k++) table[k] = (qolb_lock)OF_BURSTS(k % 2 ? BURST : 0);
+    if (qolb_lock_enter(&table[0]) != QOLB_GRANTED || qolb_lock_leave(&table[0]) != QOLB_DONE) return 1;
+    size_t heap = mallinfo2().uordblks + mallinfo2().hblkhd;
+    for (size_t k = 0; k < many; k++)
+        if (qolb_lock_enter(&table[k]) != QOLB_GRANTED || qolb_lock_leave(&table[k]) != QOLB_DONE) return 1;
+    size_t more = mallinfo2().uordblks + mallinfo2().hblkhd - heap;
+    printf("bytes\t%zu\theap\t%zu\n", sizeof *table, more);
+    return 0;
+}
+
+static void print_ways(void) {
+    sort_phases();
+    for (int k = 0; k < WAYS; k++) {
+        const double *times = found[k].times;
+        int many = found[k].many;
+        if (is_timed(k))
+            printf("%s\t%d\t%.1f\t%.1f\t%.1f\t%.1f\t%.1f\t%.1f\n", names[k], many, part(times, many, .5),
+                   part(times, many, .25), part(times, many, .75), found[k].took / found[k].turns, wait_999(k),
+                   part(found[k].longest, many, .5));
+    }
+}
+
+/* A second thread lives, or the C library's mutex takes no atomic step. */
+static void *lives(void *unused) {
+    pause();
+    return unused;
+}
+
+int main(int argc, char **argv) {
+    pthread_t id;
+    if (argc == 3 && strcmp(argv[1], "machine") == 0 && take_processors(argv[2])) return of_machine();
+    if (argc == 3 && strcmp(argv[1], "bytes") == 0) return of_bytes((size_t)atol(argv[2]));
+    if (argc < 6 || !take_processors(argv[5]) || atoi(argv[1]) < 1 || atoi(argv[1]) > MOST)
+        return fprintf(stderr, "speed THREADS MICROSECONDS PHASE_MS SECONDS at=0,2,1,3 [loops] [one]\n"), 2;
+    threads = atoi(argv[1]);
+    turn_ns = (uint64_t)(atof(argv[2]) * 1e3);
+    phase_ns = (uint64_t)(atof(argv[3]) * 1e6);
+    print_hand_overs();
+    pinned = 1;
+    for (int k = 6; k < argc; k++) {
+        if (strcmp(argv[k], "loops") == 0) begin_loops();
+        if (strcmp(argv[k], "one") == 0) by_one = 1, pinned = 0, stay_at(processors[0]);
+    }
+    if (pthread_create(&id, NULL, lives, NULL)) return 3;
+    make_locks();
+    run_phases(atof(argv[4]));
+    if (!all_are_there()) return 1;
+    if (argc < 7) print_hand_overs(); /* nothing loops, and all processors may be used */
+    print_ways();
+    fflush(stdout);
+    _exit(0);
+}
