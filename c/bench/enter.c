@@ -7,8 +7,8 @@
  *
  * Prints nanoseconds a round: the least and the median of BATCHES batches (101), in which the ways take turns, as
  * multiples of the mutex's, too. The least is the figure to take if the machine has other work. With a second argument,
- * ./enter 1 strict, it does 10,000 rounds of that way alone, to be counted by
- * valgrind --tool=callgrind --toggle-collect='rounds_of*'. */
+ * ./enter 1 strict, it does 10,000 rounds of that way alone, to be counted by valgrind --tool=callgrind
+ * --toggle-collect='rounds_of*'. */
 #define _DEFAULT_SOURCE
 #include "kinds.h"
 #include <pthread.h>

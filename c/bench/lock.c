@@ -103,8 +103,7 @@ static void *works(void *argument) {
 static int take_lock(const char *name) {
     way = BY_LOCK;
     if (strcmp(name, "strict") == 0) return 1;
-    if (strncmp(name, "burst:", 6) == 0)
-        return as = (qolb_lock)QOLB_LOCK_INIT_BURSTS(strtoul(name + 6, NULL, 10)), 1;
+    if (strncmp(name, "burst:", 6) == 0) return as = (qolb_lock)QOLB_LOCK_INIT_BURSTS(strtoul(name + 6, NULL, 10)), 1;
     way = BY_NODE;
     for (of_nodes = 0; of_nodes < QOLB_KINDS; of_nodes++)
         if (strncmp(name, "node:", 5) == 0 && strcmp(name + 5, qolb_kind_name(of_nodes)) == 0) return 1;

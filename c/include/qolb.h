@@ -53,7 +53,8 @@
  * of 64 bytes, as the last bytes of a lock may be in one cache line with what follows them.
  *
  * A thread that enters draws a ticket, by one step that never waits, and has its turn in the order of tickets. So no
- * call that begins after that is served before it, unless it gives up.
+ * call that begins after that is served before it, unless it gives up. While 16,384 tickets of a lock are out, a call
+ * with a time limit draws none, and looks again each millisecond; a task that would have to wait is told NO_MEMORY.
  *
  * Such a lock is strict: each turn is handed to the thread that has waited longest. If threads enter again and again, a
  * mutex has more turns, as it lets its last holder in again; but it bounds no wait. A lock with bursts is between the

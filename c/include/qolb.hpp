@@ -328,8 +328,8 @@ template <class Change> Got Node::with(Change change) {
     return got;
 }
 
-// The most turns of a burst (qolb.h, LOCKS): qolb::burst{1024}. With 0 or 1 a lock is strict. A number above 65,535
-// does not compile.
+// The most turns of a burst (qolb.h, LOCKS): qolb::burst{1024}. With 0 or 1 a lock is strict. More than 65,535 do not
+// compile.
 struct burst {
     std::uint16_t turns;
 };

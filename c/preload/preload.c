@@ -129,10 +129,9 @@ __attribute__((destructor)) static void report(void) {
     qolb_process_();
     int file = counts() ? open(settings.report, O_WRONLY | O_APPEND | O_CREAT | O_CLOEXEC, 0666) : -1;
     if (file < 0) return;
-    int size = snprintf(
-        text, sizeof text,
-        "burst %u mutexes %llu at once %lld grants %llu late %llu not free %llu violations %llu\n", settings.burst,
-        mutexes, most_at_once, grants, late, not_free, violations);
+    int size = snprintf(text, sizeof text,
+                        "burst %u mutexes %llu at once %lld grants %llu late %llu not free %llu violations %llu\n",
+                        settings.burst, mutexes, most_at_once, grants, late, not_free, violations);
     if (write(file, text, (size_t)size) != size) perror(settings.report);
     close(file);
 }

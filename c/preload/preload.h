@@ -40,9 +40,9 @@ HIDDEN void qolb_begin_(void);
  * a call on it does no harm. */
 struct line {
     qolb_lock lock;
-    struct line *next;  /* of those that serve none */
-    atomic_int inside;  /* the number of threads in it, if they are counted */
-    atomic_int waiting; /* the number of threads that left it to wait at a condition */
+    struct line *next;      /* of those that serve none */
+    atomic_int inside;      /* the number of threads in it, if they are counted */
+    atomic_int waiting;     /* the number of threads that left it to wait at a condition */
     struct turn at;         /* of its holder: any thread may unlock */
     _Atomic uint64_t owner; /* the number of that thread, or 0 */
     _Atomic uint64_t guess; /* of the outer word */

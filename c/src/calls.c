@@ -61,41 +61,23 @@ static inline uint32_t let_go(qolb_node *node, uint32_t got) {
 /* The answer of any other call. A node that is told that the line is closed has forwarded it. */
 static inline uint32_t told(qolb_node *node, uint32_t got) { return got == QOLB_CLOSED ? let_go(node, got) : got; }
 
-uint32_t qolb_enqolb(qolb_node *node) {
-    return told(node, qolb_enqolb_proved_(node));
-}
+uint32_t qolb_enqolb(qolb_node *node) { return told(node, qolb_enqolb_proved_(node)); }
 
-uint32_t qolb_poll(qolb_node *node) {
-    return told(node, qolb_poll_proved_(node));
-}
+uint32_t qolb_poll(qolb_node *node) { return told(node, qolb_poll_proved_(node)); }
 
-uint32_t qolb_withdraw(qolb_node *node) {
-    return told(node, qolb_withdraw_proved_(node));
-}
+uint32_t qolb_withdraw(qolb_node *node) { return told(node, qolb_withdraw_proved_(node)); }
 
-uint32_t qolb_prepend(qolb_node *node) {
-    return told(node, qolb_prepend_proved_(node));
-}
+uint32_t qolb_prepend(qolb_node *node) { return told(node, qolb_prepend_proved_(node)); }
 
-uint32_t qolb_link(qolb_node *node) {
-    return told(node, qolb_link_proved_(node));
-}
+uint32_t qolb_link(qolb_node *node) { return told(node, qolb_link_proved_(node)); }
 
-uint32_t qolb_deqolb(qolb_node *node) {
-    return let_go(node, qolb_deqolb_proved_(node));
-}
+uint32_t qolb_deqolb(qolb_node *node) { return let_go(node, qolb_deqolb_proved_(node)); }
 
-uint32_t qolb_shut(qolb_node *node) {
-    return let_go(node, qolb_shut_proved_(node));
-}
+uint32_t qolb_shut(qolb_node *node) { return let_go(node, qolb_shut_proved_(node)); }
 
-uint32_t qolb_wait(qolb_node *node, uint64_t polls) {
-    return told(node, qolb_wait_proved_(node, polls));
-}
+uint32_t qolb_wait(qolb_node *node, uint64_t polls) { return told(node, qolb_wait_proved_(node, polls)); }
 
-uint32_t qolb_clear(qolb_node *node) {
-    return qolb_clear_proved_(node);
-}
+uint32_t qolb_clear(qolb_node *node) { return qolb_clear_proved_(node); }
 
 static int may_close(qolb_node *node) {
     uint32_t state = qolb_state_proved_(node);
@@ -233,9 +215,7 @@ uint32_t qolb_notify_fd(qolb_node *node, int fd) {
 
 /* ---- The others ---- */
 
-uint32_t qolb_read(qolb_node *node, qolb_bytes *out) {
-    return qolb_read_proved_(node, out);
-}
+uint32_t qolb_read(qolb_node *node, qolb_bytes *out) { return qolb_read_proved_(node, out); }
 
 uint32_t qolb_write(qolb_node *node, uint64_t mask, const qolb_bytes *bytes) {
     return qolb_write_proved_(node, mask, bytes);
@@ -253,21 +233,13 @@ uint32_t qolb_add_lane(qolb_node *node, uint64_t lane, uint64_t by, uint64_t *wa
     return qolb_add_lane_proved_(node, lane, by, was);
 }
 
-uint64_t qolb_turns_left(qolb_node *node) {
-    return qolb_turns_left_proved_(node);
-}
+uint64_t qolb_turns_left(qolb_node *node) { return qolb_turns_left_proved_(node); }
 
-uint64_t qolb_number(qolb_node *node) {
-    return qolb_number_proved_(node);
-}
+uint64_t qolb_number(qolb_node *node) { return qolb_number_proved_(node); }
 
-uint64_t qolb_label(qolb_node *node) {
-    return qolb_label_proved_(node);
-}
+uint64_t qolb_label(qolb_node *node) { return qolb_label_proved_(node); }
 
-uint32_t qolb_state(qolb_node *node) {
-    return qolb_state_proved_(node);
-}
+uint32_t qolb_state(qolb_node *node) { return qolb_state_proved_(node); }
 
 /* ---- Memory ----
  *

@@ -34,8 +34,15 @@ static void *named(void *library, const char *name) {
 static int find_both(void) {
     void *library = dlopen(LIBRARY, RTLD_NOW | RTLD_LOCAL);
     if (!library) return puts(dlerror()), 1;
-    own = (struct copy){qolb_lock_enter, qolb_lock_leave, qolb_lock_close, qolb_lock_is_mine, qolb_lock_holder,
-                        qolb_open,       qolb_acquire,    qolb_deqolb,     qolb_close};
+    own = (struct copy){.enter = qolb_lock_enter,
+                        .leave = qolb_lock_leave,
+                        .close = qolb_lock_close,
+                        .is_mine = qolb_lock_is_mine,
+                        .holder = qolb_lock_holder,
+                        .open_line = qolb_open,
+                        .acquire = qolb_acquire,
+                        .deqolb = qolb_deqolb,
+                        .close_node = qolb_close};
     *(void **)&other.enter = named(library, "qolb_lock_enter");
     *(void **)&other.leave = named(library, "qolb_lock_leave");
     *(void **)&other.close = named(library, "qolb_lock_close");

@@ -154,9 +154,7 @@ static int lock_takes_none(unsigned way, uint64_t burst) {
     return taken || given_back ? printf("lock: %lu taken, %lu given back\n", taken, given_back), 1 : 0;
 }
 
-static int tried(uint32_t kind) {
-    return refused_in_turn(kind) || calls_take_none(kind) || puts_the_same_back(kind);
-}
+static int tried(uint32_t kind) { return refused_in_turn(kind) || calls_take_none(kind) || puts_the_same_back(kind); }
 
 int main(void) {
     for (uint32_t kind = 0; kind < QOLB_KINDS; kind++)

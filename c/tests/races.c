@@ -128,7 +128,7 @@ static void *second(void *unused) {
 
 /* Threads that end, one of them with a lock, while others do: nothing is used in a wrong way. */
 static void *ends(void *with) {
-    static qolb_lock kept = QOLB_LOCK_INIT(4);
+    static qolb_lock kept = QOLB_LOCK_INIT;
     enter(&other);
     leave(&other);
     if (with) enter(&kept);

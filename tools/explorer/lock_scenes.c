@@ -700,9 +700,12 @@ const struct scene scenes[] = {
     {"bursts: tasks: a call enters another lock", enters_another_in_call, 3, 2, 0, ROOMY},
     {"bursts: tasks: one waits while a call enters", waits_while_a_call_enters, 2, 2, 0, ROOMY},
     {"bursts: tasks: a task comes to a younger lock", a_task_comes_to_a_younger_lock, 3, 2, 0, ROOMY},
+    {"tasks: a task shuts beside a waiter", a_task_shuts_beside_a_waiter, 2, 0, 0, ROOMY},
+    {"bursts: tasks: a task shuts beside a waiter", a_task_shuts_beside_a_waiter, 2, 2, 0, ROOMY},
     {"tasks: the last frees beside others' entries", last_frees_beside_entries, 3, 0, 0, ROOMY},
     {"bursts: tasks: the last frees beside others' entries", last_frees_beside_entries, 3, 2, 0, ROOMY},
     {"bursts of four: tasks: a task beside threads", a_task_beside_threads, 3, 4, 0, ROOMY},
+    {"bursts of four: tasks: a task beside one that yields once", a_task_beside_one_that_yields_once, 3, 4, 0, ROOMY},
     {"bursts of four: tasks: tasks beside a thread", tasks_beside_a_thread, 3, 4, 0, ROOMY},
     {"bursts of four: tasks: a task beside threads, twice", a_task_beside_threads_twice, 2, 4, 0, ROOMY},
     {"bursts of three: tasks: a task beside one that stays", a_task_beside_one_that_stays, 3, 3, 0, ROOMY},
@@ -731,8 +734,7 @@ void set_up(const struct scene *scene) {
     model_memory = !scene->no_memory, for_second = 0;
     for (int k = 0; k < LOCKS; k++) {
         it.locks[k] = unopened(scene, k);
-        if (!scene->at_first_use)
-            MUST(qolb_lock_open(it.locks[k], scene->burst) == QOLB_DONE);
+        if (!scene->at_first_use) MUST(qolb_lock_open(it.locks[k], scene->burst) == QOLB_DONE);
     }
     it.lock = it.locks[0];
 }

@@ -71,7 +71,8 @@ HOLDER_SCENES(DECLARED)
     of(a_task_until_shut) of(a_task_shuts) of(last_task_frees) of(last_of_both_frees) of(last_that_polls_frees)       \
     of(a_task_polls_early) of(one_closes_beside_a_task) of(closes_while_both_wait) of(a_task_signals)                 \
     of(has_task_turn_in_call) of(task_asks_again_in_call) of(enters_another_in_call) of(waits_while_a_call_enters)    \
-    of(a_task_comes_to_a_younger_lock) of(a_task_finds_no_memory) of(last_frees_beside_entries)
+    of(a_task_comes_to_a_younger_lock) of(a_task_finds_no_memory) of(last_frees_beside_entries)                       \
+    of(a_task_shuts_beside_a_waiter) of(a_task_beside_one_that_yields_once)
 /* clang-format on */
 TASK_SCENES(DECLARED)
 

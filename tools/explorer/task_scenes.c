@@ -43,7 +43,9 @@ static uint32_t task_waits(int k, uint64_t time) {
         got = qolb_task_poll(&it.task[k]);
     }
     MUST(it.told[k].calls-- == 1);
-    if (got != QOLB_GRANTED) ends_call();
+    if (got == QOLB_GRANTED) return got;
+    MUST(got == QOLB_CLOSED && qolb_task_cancel(&it.task[k]) == QOLB_DONE);
+    ends_call();
     return got;
 }
 
@@ -84,6 +86,8 @@ void tasks_beside_a_thread_twice(int self) { tasks_beside_a_thread(self), tasks_
 
 /* The first lets the others go on in its turn. */
 void a_task_beside_one_that_yields(int self) { self == 0 ? enters_with(3) : a_task_beside_threads(self); }
+
+void a_task_beside_one_that_yields_once(int self) { self == 0 ? enters_with(1) : a_task_beside_threads(self); }
 
 void tasks_beside_one_that_yields(int self) { self == 0 ? enters_with(3) : by_task(self); }
 
@@ -280,6 +284,22 @@ void a_task_comes_to_a_younger_lock(int self) {
     while (atomic_fetch_add(&it.over, 0) < 2) sched_yield();
     sched_yield();
     leave();
+}
+
+/* A task shuts the lock, and tells a thread that waits at a condition. */
+void a_task_shuts_beside_a_waiter(int self) {
+    if (self == 1) {
+        MUST(qolb_lock_enter(it.lock) == QOLB_GRANTED);
+        it.has = 1;
+        while (qolb_cond_wait(&it.cond, it.lock) == QOLB_GRANTED) continue;
+        return;
+    }
+    for (int waits = 0; !waits;) {
+        MUST(task_enters(0, FOR_EVER) == QOLB_GRANTED);
+        waits = it.has;
+        MUST((waits ? qolb_task_shut : qolb_task_leave)(&it.task[0]) == QOLB_DONE);
+        if (!waits) sched_yield();
+    }
 }
 
 /* A task signals to a thread that waits at a condition. */
