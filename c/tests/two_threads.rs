@@ -165,5 +165,5 @@ fn main() {
         guards(kind);
         waiter_is_dropped(kind);
     }
-    assert_eq!(qolb::version(), 10800);
+    assert_eq!(qolb::version(), 20000);
 }
