@@ -59,7 +59,7 @@ def fastest():
 
 
 # Those of the table of rounds, as the page has them.
-OTHERS = {"qolb_lock": "`qolb_lock`", "qolb_lock, bursts": "`qolb_lock`, bursts", "MCS": "MCS", "CLH": "CLH", "ticket lock": "ticket lock",
+OTHERS = {"MCS": "MCS", "CLH": "CLH", "ticket lock": "ticket lock",
           "tbb::queuing_mutex": "`tbb::queuing_mutex`", "pthread_mutex": "`pthread_mutex`"}
 
 
@@ -72,7 +72,7 @@ def rounds():
     return table(["Threads", *threads], rows)
 
 
-WAITS = {"ticket line": "ticket line, spins", "ticket line, asleep": "ticket line, sleeps", "C, nodes": "C, nodes", "C, qolb_lock": "C, `qolb_lock`", "mutex": "mutex", "MCS": "MCS"}
+WAITS = {"ticket line": "ticket line, spins", "ticket line, asleep": "ticket line, sleeps", "C, nodes": "C, nodes", "mutex": "mutex", "MCS": "MCS"}
 
 
 def waits():
@@ -115,16 +115,9 @@ def for_two():
 
 def of_mutex(count):
     """How many times as many empty turns as a strict `qolb_lock` a mutex has with that many threads, in each file that has both."""
-    found = []
-    turns = {row["lock"]: float(row["figure"]) for row in of_locks("locks.tsv") if (row["measure"], row["library"], row["threads"], row["turn_us"]) == ("turns", "now", count, "0")}
-    found += [turns["mutex"] / turns["strict"]] if turns else []
-    turns = {row["lock"]: float(row["turns_a_second"]) for row in of_locks("bursts.tsv") if (row["threads"], row["turn_us"]) == (count, "0")}
-    found += [turns["mutex"] / turns["strict"]] if turns else []
-    rounds_of = {name: time for (name, threads), time in medians().items() if threads == count}
-    found += [rounds_of["qolb_lock"] / rounds_of["pthread_mutex"]] if rounds_of else []
-    turns = {row["name"]: float(row["turns_a_second"]) for row in rows_of("waits.tsv") if (row["threads"], row["turn_us"]) == (count, "0")}
-    found += [turns["mutex"] / turns["C, qolb_lock"]] if turns else []
-    return found
+    turns = {row["lock"]: float(row["turns_a_second"]) for row in rows_of("bursts.tsv") if (row["threads"], row["turn_us"]) == (count, "0")}
+    times = {row["lock"]: float(row["median"]) for row in rows_of("speed.tsv") if (row["part"], row["threads"]) == ("quiet", count)}
+    return ([turns["mutex"] / turns["strict"]] if turns else []) + ([times["strict"] / times["mutex"]] if times else [])
 
 
 def ratio(number):
@@ -137,27 +130,45 @@ def times_of_mutex():
     return tuple(ratio(of(of_mutex(count))) for count in ("2", "4", "8", "32") for of in (min, max))
 
 
-# The names that c/bench/lock.c had before, in figures that were measured then.
-BEFORE = {"default": "strict", "link:4+1024": "burst:1024"}
-CHOICE = {"strict": "strict", "burst:1024": "bursts", "mutex": "mutex"}
-
-
-def of_locks(name):
-    """The rows of a file of figures, with the locks' names as they are now."""
-    return [row | {"lock": BEFORE.get(row["lock"], row["lock"])} for row in rows_of(name)]
+CHOICE = {"strict": "strict, `QOLB_LOCK_INIT`", "bursts": "bursts, `QOLB_LOCK_INIT_BURSTS(1024)`", "mutex": "`pthread_mutex`"}
 
 
 def choice():
-    """Thousands of turns a second and the longest wait in milliseconds, of a strict lock, one with bursts and a mutex."""
-    found = {(row["threads"], row["turn_us"], row["lock"]): row for row in of_locks("bursts.tsv")}
-    turn_of = {"0": "empty", "10": "10 us", "1000": "1 ms, asleep"}
+    """A strict lock, one with bursts and a mutex: who may overtake, what is proved, bytes, nanoseconds of a turn, and the longest wait."""
+    times = {(row["part"], row["threads"], row["lock"]): row["median"] for row in rows_of("speed.tsv")}
+    waits = {(row["threads"], row["turn_us"], row["lock"].replace("burst:1024", "bursts")): float(row["longest_wait_us"]) for row in rows_of("bursts.tsv")}
+    bytes_of = next(row["ratio"] for row in rows_of("speed.tsv") if row["part"] == "bytes")
+    rows = [
+        ["may enter before a waiter", "nobody", "at most 1,023 turns for it and for each before it", "anybody, without a bound"],
+        ["proved", "one at a time, in order", "one at a time, waiters in order, the bound", "nothing"],
+        ["bytes, all in place", bytes_of, bytes_of, "40"],
+    ]
+    for title, part, threads in (("one thread", "alone", "1"), ("4 threads", "quiet", "4"), ("32 threads", "quiet", "32")):
+        rows.append([f"{title}, empty turns, ns", *(short(float(times[part, threads, lock])) for lock in CHOICE)])
+    rows.append(["32 threads, turns of 10 us, longest wait, ms", *(short(waits["32", "10", lock] / 1000) for lock in CHOICE)])
+    return table(["", *CHOICE.values()], rows)
 
-    def cell(*key):
-        return f"{short(float(found[key]['turns_a_second']) / 1000)}; {short(float(found[key]['longest_wait_us']) / 1000)}"
 
-    kinds = ("2", "0"), ("8", "0"), ("32", "0"), ("32", "10"), ("8", "1000")
-    rows = [[f"{threads}, {turn_of[turn]}", *(cell(threads, turn, lock) for lock in CHOICE)] for threads, turn in kinds]
-    return table(["Threads, turn", *CHOICE.values()], rows)
+PARTS = {"alone": "empty", "quiet": "empty", "long": "10 us"}
+
+
+def speed():
+    """Nanoseconds of a turn of a `qolb_lock`, a mutex and MCS."""
+    found = {}
+    for row in rows_of("speed.tsv"):
+        if row["part"] in PARTS:
+            found.setdefault((row["part"], row["threads"]), {})[row["lock"]] = row["median"]
+    rows = []
+    for (part, threads), of in found.items():
+        times = (of["strict"], of["bursts"], of["mutex"], of.get("MCS", of["MCS that yields"]))
+        rows.append([PARTS[part], threads, *(short(float(it)) for it in times)])
+    return table(["Turn", "Threads", "strict", "bursts", "mutex", "MCS"], rows)
+
+
+def beside_mcs():
+    """The ratio of a strict lock's time to MCS's by 2, 3 and 4 threads, and of its time alone to a mutex's."""
+    found = {(row["part"], row["threads"]): row["ratio"] for row in rows_of("speed.tsv") if row["lock"] == "strict"}
+    return *(found["quiet", count] for count in ("2", "3", "4")), found["alone", "1"]
 
 
 def alone():
@@ -175,17 +186,9 @@ def to_mcs():
     return threads[0], threads[-1], *(f"{of(each):.2f}" for each in ratios for of in (min, max))
 
 
-def long_turns():
-    """With turns of a millisecond by 32 threads: the share of a mutex's turns, and the two longest waits in milliseconds."""
-    found = {row["name"]: row for row in rows_of("waits.tsv") if (row["turn_us"], row["threads"]) == ("1000", "32")}
-    ours, mutex = found["ticket line, asleep"], found["mutex"]
-    share = 100 * float(ours["turns_a_second"]) / float(mutex["turns_a_second"])
-    return f"{share:.0f}", f"{float(ours['longest_us']) / 1000:.0f}", f"{float(mutex['longest_us']) / 1000:,.0f}"
-
-
 def bursts():
     """Of a lock with bursts of 1,024 turns beside a mutex: the least and the most of its empty turns; with turns of 10 us turns and longest wait at most."""
-    rows = [row for row in of_locks("bursts.tsv") if row["lock"] == "burst:1024"]
+    rows = [row for row in rows_of("bursts.tsv") if row["lock"] == "burst:1024"]
     empty = [float(row["of_mutex_turns"]) for row in rows if row["turn_us"] == "0"]
     waited = [float(row["of_mutex_wait"]) for row in rows if row["turn_us"] == "10"]
     return f"{min(empty):.1f}", f"{max(empty):.1f}", f"{1 // max(waited):.0f}"
@@ -196,14 +199,14 @@ def tests_with_a_proof():
     return (str(sum(len(takers_of_all(crate) & set(tests_of(crate))) for crate in read_crates().values())),)
 
 
-TABLES = {"rounds": rounds, "fastest": fastest, "waits": waits, "memory": memory, "choice": choice}
+TABLES = {"rounds": rounds, "fastest": fastest, "waits": waits, "memory": memory, "choice": choice, "speed": speed}
 # Of each sentence with figures: its page, the sentence with `{}` for each, and the figures.
 RATIOS = [
     ("README.md", "with {} to {} threads: the ticket line takes {} to {} times as long as MCS, the ring {} to {}, the link line {} to {}", to_mcs),
     ("README.md", "for two nodes {} and {} as a link line, {} and {} as a ticket line, {} and {} as a ring", for_two),
     ("README.md", "With one thread a turn takes {} to {} ns, from C {} to {}, MCS's {}", alone),
     ("README.md", "runs, without a proof, all tests but {},", tests_with_a_proof),
+    ("docs/LOCKS.md", "By 2, 3 and 4 threads a strict one takes {}, {} and {} of MCS's time, and alone {} of a mutex's", beside_mcs),
     ("docs/LOCKS.md", "a mutex makes {} to {} times the turns of a strict `qolb_lock` with 2 threads, {} to {} with 4, {} to {} with 8 and {} to {} with 32", times_of_mutex),
-    ("docs/LOCKS.md", "{} % of a mutex's turns; its longest wait is {} ms, the mutex's {} ms", long_turns),
     ("docs/LOCKS.md", "{} to {} times a mutex's empty turns; with turns of 10 us its longest wait is at most one {}th of a mutex's", bursts),
 ]
