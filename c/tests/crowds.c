@@ -82,25 +82,26 @@ static void all_are_late(int with_mutex, double *late) {
     qsort(late, WAITERS * ROUNDS, sizeof *late, by_value);
 }
 
-/* The median is within a millisecond, in the best of some tries, as the machine may have other work. */
+/* The median is within a millisecond, or twice a mutex's in the same try, as the machine may have other work; in the
+ * best of some tries. */
 static int late_in_time(uint32_t burst) {
     enum { ALL = WAITERS * ROUNDS, MEDIAN = ALL / 2, P99 = ALL * 99 / 100, TRIES = 5 };
     static double late[2][ALL];
-    double best = 1e9;
+    int in_time = 0;
     begin(burst);
     MUST(qolb_lock_enter(&lock), QOLB_GRANTED);
     pthread_mutex_lock(&mutex);
-    for (int k = 0; k < TRIES && best >= 1; k++) {
+    for (int k = 0; k < TRIES && !in_time; k++) {
         all_are_late(0, late[0]);
         all_are_late(1, late[1]);
-        best = late[0][MEDIAN] < best ? late[0][MEDIAN] : best;
+        in_time = late[0][MEDIAN] < 1 || late[0][MEDIAN] < 2 * late[1][MEDIAN];
     }
     pthread_mutex_unlock(&mutex);
     MUST(qolb_lock_leave(&lock), QOLB_DONE);
     if (tells)
         printf("bursts %u: late by %.3f ms (median), %.3f (p99), a mutex by %.3f, %.3f\n", burst, late[0][MEDIAN],
                late[0][P99], late[1][MEDIAN], late[1][P99]);
-    WANT(SANITIZED || best < 1, 1);
+    WANT(SANITIZED || in_time, 1);
     WANT(qolb_lock_close(&lock), QOLB_DONE);
     return 0;
 }
