@@ -370,9 +370,10 @@ fn moved_and_forgotten() {
         let mut moved = vec![mutex];
         moved.reserve(100);
         thread::scope(|scope| {
-            for _ in 0..4 {
-                scope.spawn(|| (0..100).for_each(|_| *moved[0].lock().unwrap() += 1));
-            }
+            let add = || (0..100).for_each(|_| *moved[0].lock().unwrap() += 1);
+            // The sanitizer sees the end of a thread that is joined, and not that of a scope.
+            let all: Vec<_> = (0..4).map(|_| scope.spawn(add)).collect();
+            all.into_iter().for_each(|it| it.join().unwrap());
         });
         let boxed = Box::new(moved.pop().unwrap());
         assert_eq!(*boxed.lock().unwrap(), 402);
