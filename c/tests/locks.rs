@@ -43,7 +43,7 @@ fn mutex_answers() {
     assert_eq!(mutex.try_lock_for(MS).err(), Some(Stopped::Misuse));
     assert!(mutex.try_lock().unwrap().is_none());
     thread::scope(|scope| {
-        scope.spawn(|| {
+        let other = scope.spawn(|| {
             assert!(mutex.try_lock().unwrap().is_none());
             let since = Instant::now();
             assert!(mutex.try_lock_for(20 * MS).unwrap().is_none());
@@ -53,6 +53,7 @@ fn mutex_answers() {
             assert!(mutex.try_lock_until(since).unwrap().is_none());
             assert_eq!(mutex.raw().leave(), Answer::Misuse);
         });
+        other.join().unwrap(); // the thread sanitizer sees this, and not the end of a scope
     });
     drop(held);
     *mutex.try_lock().unwrap().unwrap() += 1;
@@ -123,7 +124,7 @@ fn waits_of_others() {
     let (mutex, cond) = (Mutex::new(0), Condition::new());
     thread::scope(|scope| {
         let held = mutex.lock().unwrap();
-        scope.spawn(|| {
+        let other = scope.spawn(|| {
             for _ in 0..4 {
                 *mutex.lock().unwrap() += 1; // so the other waits
                 cond.notify_one();
@@ -134,6 +135,7 @@ fn waits_of_others() {
         assert!(*held >= 2);
         let (held, told) = cond.wait_timeout_while(held, 60_000 * MS, |it| *it < 4).unwrap();
         assert!(*held == 4 && !told.timed_out());
+        other.join().unwrap();
     });
     let (since, mut asked) = (Instant::now(), 0);
     let (held, told) = cond.wait_timeout(mutex.lock().unwrap(), 10 * MS).unwrap();
@@ -151,15 +153,16 @@ fn waits_of_others() {
     drop(held);
     thread::scope(|scope| {
         let held = mutex.lock().unwrap();
-        scope.spawn(|| mutex.lock().map(|_held| cond.notify_one()).unwrap());
+        let other = scope.spawn(|| mutex.lock().map(|_held| cond.notify_one()).unwrap());
         assert!(!cond.wait_timeout(held, 60_000 * MS).unwrap().1.timed_out());
+        other.join().unwrap();
     });
 }
 
 fn conditions() {
     let (place, changed) = (Mutex::new(None::<u64>), Condition::new());
     let sum = thread::scope(|scope| {
-        scope.spawn(|| {
+        let giver = scope.spawn(|| {
             for k in 1..=ROUNDS {
                 let mut held = place.lock().unwrap();
                 while held.is_some() {
@@ -183,6 +186,7 @@ fn conditions() {
             }
             sum
         });
+        giver.join().unwrap();
         taker.join().unwrap()
     });
     assert_eq!(sum, ROUNDS * (ROUNDS + 1) / 2);
@@ -192,12 +196,13 @@ fn conditions() {
     drop(held);
     thread::scope(|scope| {
         let held = place.lock().unwrap();
-        scope.spawn(|| {
+        let other = scope.spawn(|| {
             drop(place.lock().unwrap()); // so the other waits
             changed.notify_one();
         });
         let (_held, told) = changed.wait_for(held, 60_000 * MS).unwrap();
         assert!(told);
+        other.join().unwrap();
     });
     let enters = std::sync::atomic::AtomicBool::new(false);
     thread::scope(|scope| {
@@ -223,16 +228,15 @@ struct Count {
 fn values_of_any_size() {
     let lock: Lock<Count> = Mutex::new(Count { hits: 7, last: 0 });
     thread::scope(|scope| {
-        for thread in 0..THREADS {
-            let lock = &lock;
-            scope.spawn(move || {
-                for _ in 0..ROUNDS {
-                    let mut turn = lock.lock().unwrap();
-                    turn.hits += 1;
-                    turn.last = thread as u8;
-                }
-            });
-        }
+        let add = |thread: u64| {
+            for _ in 0..ROUNDS {
+                let mut turn = lock.lock().unwrap();
+                turn.hits += 1;
+                turn.last = thread as u8;
+            }
+        };
+        let all: Vec<_> = (0..THREADS).map(|thread| scope.spawn(move || add(thread))).collect();
+        all.into_iter().for_each(|it| it.join().unwrap());
     });
     let turn = lock.try_lock().unwrap().unwrap();
     assert_eq!(turn.hits, 7 + THREADS * ROUNDS);
@@ -308,10 +312,10 @@ fn is_signalled(time: Duration, soon: bool) -> bool {
     let (mutex, cond) = (Mutex::new(()), Condition::new());
     let held = mutex.lock().unwrap();
     thread::scope(|s| {
-        if soon {
-            s.spawn(|| mutex.lock().map(|_held| cond.notify_one()).unwrap());
-        }
-        cond.wait_for(held, time).unwrap().1
+        let other = soon.then(|| s.spawn(|| mutex.lock().map(|_held| cond.notify_one()).unwrap()));
+        let told = cond.wait_for(held, time).unwrap().1;
+        other.into_iter().for_each(|it| it.join().unwrap());
+        told
     })
 }
 
@@ -332,7 +336,7 @@ fn is_overtaken_within(burst: u16) {
     let mut later = 0;
     thread::scope(|scope| {
         let held = mutex.lock().unwrap();
-        scope.spawn(|| {
+        let other = scope.spawn(|| {
             tells.send(std::fs::read_link("/proc/thread-self").unwrap()).unwrap();
             *mutex.lock().unwrap() = true;
         });
@@ -341,6 +345,7 @@ fn is_overtaken_within(burst: u16) {
         while !*mutex.lock().unwrap() {
             later += 1;
         }
+        other.join().unwrap();
     });
     assert!(later < burst, "{later} turns in a burst of {burst}");
 }
@@ -371,7 +376,6 @@ fn moved_and_forgotten() {
         moved.reserve(100);
         thread::scope(|scope| {
             let add = || (0..100).for_each(|_| *moved[0].lock().unwrap() += 1);
-            // The sanitizer sees the end of a thread that is joined, and not that of a scope.
             let all: Vec<_> = (0..4).map(|_| scope.spawn(add)).collect();
             all.into_iter().for_each(|it| it.join().unwrap());
         });
