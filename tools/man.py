@@ -133,9 +133,9 @@ def calls(text):
 
 def types(text):
     """Each group of types and constants as a caller reads them, with the comment above it."""
-    comment, struct, constant = r"/\*(?:(?!\*/).)*\*/", r"typedef struct \w+ \{[^}]*\} \w+;", r"#define QOLB_[A-Z_]+[A-Z][ (][^\n]*"
+    comment, struct, constant = r"/\*(?:(?!\*/).)*\*/", r"typedef struct (?:__attribute__\(\([^\n]*?\)\) )?\w+ \{[^}]*\} \w+;", r"#define QOLB_[A-Z_]+[A-Z][ (][^\n]*"
     for match in re.finditer(rf"({comment})\n((?:(?:{struct}|{constant})\n)+)", text, re.S):
-        told = [re.sub(r"^#define (\w+(?:\([\w, ]*\))?).*", r"\1", made) for made in re.findall(f"{struct}|{constant}", match[2])]
+        told = [re.sub(r"^#define (\w+(?:\([\w, ]*\))?).*|__attribute__\S+ ", r"\1", made) for made in re.findall(f"{struct}|{constant}", match[2])]
         yield told, uncommented(match[1])
 
 

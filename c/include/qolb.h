@@ -53,8 +53,9 @@
  * of 64 bytes, as the last bytes of a lock may be in one cache line with what follows them.
  *
  * A thread that enters draws a ticket, by one step that never waits, and has its turn in the order of tickets. So no
- * call that begins after that is served before it, unless it gives up. While 16,384 tickets of a lock are out, a call
- * with a time limit draws none, and looks again each millisecond; a task that would have to wait is told NO_MEMORY.
+ * call that begins after that is served before it, unless it gives up. A ticket that is given up is out until a holder
+ * leaves. While some 16,300 tickets of a lock are out, a call with a time limit draws none, and looks again each
+ * millisecond; a task that would have to wait is told NO_MEMORY.
  *
  * Such a lock is strict: each turn is handed to the thread that has waited longest. If threads enter again and again, a
  * mutex has more turns, as it lets its last holder in again; but it bounds no wait. A lock with bursts is between the
@@ -556,7 +557,7 @@ typedef struct qolb_task {
  * the task waits or holds, or `call` is null. NO_MEMORY. */
 uint32_t qolb_task_enter(qolb_task *task, qolb_lock *lock, void (*call)(void *arg), void *arg) QOLB_LOOK;
 
-/* The same, and 1 is added to the eventfd `fd`, which is not negative, in place of a call. Close it only after the
+/* The same, and 1 is added to the eventfd `fd` in place of a call; MISUSE if `fd` is negative. Close it only after the
  * task's turn or qolb_task_cancel. */
 uint32_t qolb_task_enter_fd(qolb_task *task, qolb_lock *lock, int fd) QOLB_LOOK;
 

@@ -477,6 +477,7 @@ template <class T> class Guarded {
     }
 
     // The same, with a copy of the value, which is moved back at the end. If `change` throws, the value is as before.
+    // If that move throws, it is what the move left. `change` returns no reference: it would be to the copy.
     template <class Change> auto update(Change change) -> decltype(change(std::declval<T &>())) {
         std::lock_guard<Lock> held(lock_);
         T copy(value_);
