@@ -157,7 +157,7 @@ class Node {
     QOLB_NODISCARD qolb_answer withdraw() { return answer(qolb_withdraw(&node_)); }
     QOLB_NODISCARD qolb_answer prepend() { return answer(qolb_prepend(&node_)); }
     QOLB_NODISCARD qolb_answer link() { return answer(qolb_link(&node_)); }
-    // Have a call made, or 1 added to an eventfd, when the request is at its turn (EVENT LOOPS in qolb.h).
+    // Have a call made, or 1 added to an eventfd, when the request is at its turn (qolb_task(3)).
     QOLB_NODISCARD qolb_answer notify(void (*call)(void *arg), void *arg) {
         return answer(qolb_notify(&node_, call, arg));
     }
@@ -328,13 +328,13 @@ template <class Change> Got Node::with(Change change) {
     return got;
 }
 
-// The most turns of a burst (qolb.h, LOCKS): qolb::burst{1024}. With 0 or 1 a lock is strict. More than 65,535 do not
+// The most turns of a burst: qolb::burst{1024}. With 0 or 1 a lock is strict. More than 65,535 do not
 // compile.
 struct burst {
     std::uint16_t turns;
 };
 
-// A lock that any thread may enter, without a node for each (qolb.h, LOCKS). It is made at compile time, in its own 320
+// A lock that any thread may enter (qolb_lock(3)). It is made at compile time, in its own 320
 // bytes, and opens at its first use: so a static one needs no constructor at run time.
 //
 // It is a timed lock as the standard library means it: std::lock_guard, std::unique_lock, std::scoped_lock and
