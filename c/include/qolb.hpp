@@ -1,22 +1,23 @@
-// QOLB for C++14 and later: a node that moves and is never copied, and a guard. qolb.h has the answer of each call, and
-// the rules for its caller.
+// QOLB for C++14 and later: fair locks, which threads get in the order in which they asked. The manual pages
+// qolb_lock(3), qolb_node(3) and qolb_task(3) have what each call answers, and the rules for callers.
+//
+//     qolb::lock lock;                             // a timed mutex, for the standard library's guards
+//     qolb::lock often(qolb::burst{1024});         // later calls may be first, a bounded number of times
+//     qolb::Condition some;                        // as a std::condition_variable
+//     std::unique_lock<qolb::lock> held(lock);     // throws Closed after a shut, Deadlock if the thread holds it
+//     some.wait_for(held, std::chrono::milliseconds(1), [&] { return jobs > 0; });
+//
+//     qolb::guarded<Count> count;                  // a value that is used with its lock alone
+//     count.with([](Count &it) { it.hits++; });
+//
+// A node of a line moves and is never copied:
 //
 //     auto opened = qolb::Node::open(QOLB_DEFAULT, 1, 2, qolb_bytes{});
 //     if (opened.first != QOLB_DONE) return;
-//     std::vector<qolb::Node> &nodes = opened.second;
-//     {
-//         qolb::Guard turn(nodes[0]);                    // waits; throws qolb::Closed where the line is closed
-//         turn.set_lane(0, turn.lane(0) + 1);
-//     }                                                  // releases, also where an exception leaves the scope
-//     std::unique_lock<qolb::Node> lock(nodes[1], std::chrono::milliseconds(1));
-//     if (lock) ...                                      // a timed lock, as of any std::timed_mutex
+//     qolb::Guard turn(opened.second[0]);          // waits; releases at the end of its scope
+//     turn.set_lane(0, turn.lane(0) + 1);
 //
-// For threads that come and go, without a node for each:
-//
-//     qolb::lock lock;                                   // as a std::timed_mutex, first come, first served
-//     std::lock_guard<qolb::lock> turn(lock);
-//     qolb::guarded<Count> count;                        // a value that is used with its lock alone
-//     count.with([](Count &it) { it.hits++; });
+// In C++20 a coroutine waits by co_await qolb::enter(lock, loop): see Coroutines.
 #ifndef QOLB_HPP
 #define QOLB_HPP
 
@@ -334,8 +335,8 @@ struct burst {
     std::uint16_t turns;
 };
 
-// A lock that any thread may enter (qolb_lock(3)). It is made at compile time, in its own 320
-// bytes, and opens at its first use: so a static one needs no constructor at run time.
+// A lock that any thread may enter (qolb_lock(3)). It is made at compile time, in its own 320 bytes, and opens at its
+// first use: so a static one needs no constructor at run time.
 //
 // It is a timed lock as the standard library means it: std::lock_guard, std::unique_lock, std::scoped_lock and
 // std::condition_variable_any take it. The thread that entered must leave. It may be destroyed if no thread holds it or
@@ -529,11 +530,11 @@ template <class T> using guarded = Guarded<T>;
 // ---- Coroutines ----
 //
 //     qolb::Got got = co_await qolb::turn(node, loop);       // then qolb::Guard turn(node, std::adopt_lock)
-//     qolb::Entered turn = co_await qolb::enter(lock, loop); // leaves when it is destroyed, by any thread
+//     qolb::Entered turn = co_await qolb::enter(lock, loop); // true: entered; leaves when it is destroyed, by any thread
 //
-// A loop runs what was posted to it: `void post(Ready &)` from any thread, and `void unpost(Ready &)`, behind which it
-// will not run, by its own thread. A coroutine that waits may be destroyed by the loop's thread: its request is
-// withdrawn.
+// A loop is any class that runs what was posted to it: `void post(Ready &)` from any thread, and `void unpost(Ready &)`,
+// behind which it will not run, by its own thread. The example loop.cpp has one to copy; Inline is the least. A
+// coroutine that waits may be destroyed by the loop's thread: its request is withdrawn.
 class Ready {
   public:
     virtual void run() = 0;
