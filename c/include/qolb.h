@@ -271,7 +271,7 @@
  * thread writes beside another's handle slows its calls. So keep what it writes on its stack, or QOLB_NODE_ALIGN bytes
  * apart.
  *
- * Of these calls qolb_open, qolb_close and one with a limit use the heap.
+ * Only qolb_open, qolb_close and a limit use the heap.
  *
  * ==== qolb_task(3): event loops, which are notified and never wait ====
  *

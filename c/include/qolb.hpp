@@ -12,9 +12,8 @@
 //
 // A node of a line moves and is never copied:
 //
-//     auto opened = qolb::Node::open(QOLB_DEFAULT, 1, 2, qolb_bytes{});
-//     if (opened.first != QOLB_DONE) return;
-//     qolb::Guard turn(opened.second[0]);          // waits; releases at the end of its scope
+//     auto opened = qolb::Node::open(QOLB_DEFAULT, 1, 2, qolb_bytes{}); // first: QOLB_DONE; second: the nodes
+//     qolb::Guard turn(opened.second[0]);
 //     turn.set_lane(0, turn.lane(0) + 1);
 //
 // In C++20 a coroutine waits by co_await qolb::enter(lock, loop): see Coroutines.
@@ -194,8 +193,7 @@ class Node {
         return got(qolb_acquire_within(&node_, detail::nanoseconds(time)));
     }
 
-    // As a lock of the standard library: these throw Closed if the line is closed, so that a loop around them ends, and
-    // Misuse.
+    // As a lock of the standard library: these throw Misuse, and Closed, so that a loop around them ends.
     void lock() { locked(acquire()); }
     QOLB_NODISCARD bool try_lock() { return locked(try_acquire()); }
     template <class Rep, class Period>
@@ -400,8 +398,7 @@ using lock = Lock;
 // wakeups, and wakes the thread that has waited longest first. If the lock is shut meanwhile, a wait throws Closed, and
 // its unique_lock owns nothing.
 //
-// It has no std::notify_all_at_thread_exit: at its thread's end nothing of the library runs. For waits with a lock of
-// another type take a std::condition_variable_any.
+// For waits with a lock of another type take a std::condition_variable_any.
 class Condition {
   public:
     constexpr Condition() noexcept : cond_{nullptr} {}
@@ -529,12 +526,12 @@ template <class T> using guarded = Guarded<T>;
 
 // ---- Coroutines ----
 //
+//     qolb::Entered turn = co_await qolb::enter(lock, loop); // true if entered; leaves at its end, in any thread
 //     qolb::Got got = co_await qolb::turn(node, loop);       // then qolb::Guard turn(node, std::adopt_lock)
-//     qolb::Entered turn = co_await qolb::enter(lock, loop); // true: entered; leaves when it is destroyed, by any thread
 //
-// A loop is any class that runs what was posted to it: `void post(Ready &)` from any thread, and `void unpost(Ready &)`,
-// behind which it will not run, by its own thread. The example loop.cpp has one to copy; Inline is the least. A
-// coroutine that waits may be destroyed by the loop's thread: its request is withdrawn.
+// A loop runs what was posted to it: `void post(Ready &)` from any thread, and `void unpost(Ready &)`, behind which it
+// will not run, by its own thread. The example loop.cpp has one. A coroutine that waits may be destroyed by the loop's
+// thread: its request is withdrawn.
 class Ready {
   public:
     virtual void run() = 0;

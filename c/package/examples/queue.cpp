@@ -1,5 +1,5 @@
-// A queue of at most eight jobs, under a lock with two conditions. Who takes a job looks up each millisecond. At the end
-// the lock is shut, which ends all waits. Prints 4000.
+// A queue of at most eight jobs, under a lock with two conditions. Who takes a job looks up each millisecond. At the
+// end the lock is shut, which ends all waits. Prints 4000.
 #include <chrono>
 #include <cstdio>
 #include <deque>
