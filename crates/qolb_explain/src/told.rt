@@ -77,7 +77,7 @@ fn write_other<W: fmt::Write>(
     write!(f, "{script} begins with `{form}`")
 }
 
-/// Writes which byte is the first of a line that no script has, and what stands in its place where that is known.
+/// Writes which byte of a line is the first that no script has, and what to write in its place where that is known.
 fn write_byte<W: fmt::Write>(f: &mut fmt::Formatter<W>, line: &[u8]) -> fmt::Result {
     let mut place = 0u64;
     for byte in line.iter().copied() {
@@ -98,7 +98,7 @@ fn is_shown(byte: u8) -> bool {
     b' ' <= byte && byte <= b'~'
 }
 
-/// Returns what stands in the place of this byte, the first of a line that no script has.
+/// Returns what to write in the place of this byte, the first of a line that no script has; empty if that is not known.
 fn hint_of(line: &[u8], byte: u8) -> &'static str {
     match byte {
         b'\t' => "; spaces separate words",
