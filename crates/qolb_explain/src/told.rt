@@ -30,7 +30,7 @@ impl<'a> fmt::Display for Complaint<'a> {
             Reason::Fit(place) => {
                 write!(f, "the bytes of word {place} do not fit: a line has 64")
             }
-            Reason::TooMany => f.write_str("more than 100,000 commands"),
+            Reason::TooMany => f.write_str("more than 100,000 commands, events or jobs"),
         }
     }
 }

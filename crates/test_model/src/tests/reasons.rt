@@ -443,7 +443,7 @@ fn says_of_too_many_commands(rt: HostRuntime) -> Result<(), Fail> {
         reason: Reason::TooMany,
     };
     let text = format!(in rt.alloc(); "{complaint}")?;
-    let wanted = "    poll 1 0\nmore than 100,000 commands";
+    let wanted = "    poll 1 0\nmore than 100,000 commands, events or jobs";
     expect(&rt, "the text", text.as_str(), wanted);
     Ok(())
 }
