@@ -398,7 +398,7 @@ using lock = Lock;
 // wakeups, and wakes the thread that has waited longest first. If the lock is shut meanwhile, a wait throws Closed, and
 // its unique_lock owns nothing.
 //
-// For waits with a lock of another type take a std::condition_variable_any.
+// It has no std::notify_all_at_thread_exit. For waits with a lock of another type take a std::condition_variable_any.
 class Condition {
   public:
     constexpr Condition() noexcept : cond_{nullptr} {}
