@@ -17,8 +17,8 @@ use std::sync::Wait;
 impl<T> FairLock<T> {
     /// Enters, and waits for that as long as it takes: polls for some 20 us, and then sleeps. Blocks.
     ///
-    /// In a strict lock turns are in the order of requests. In one with bursts a newcomer may be served at once,
-    /// and who waits is overtaken by at most `turns` - 1 of them before each turn of the queue.
+    /// In a strict lock turns are in the order of requests. In one with bursts a newcomer may be served at once. Between a
+    /// request and its turn at most (p + 1) * (`turns` - 1) newcomers are served, with p requests before it.
     ///
     /// # Errors
     ///
