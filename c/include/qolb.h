@@ -37,8 +37,8 @@
  *
  * ==== qolb_lock(3): locks for any number of threads, with conditions ====
  *
- * A lock and the data that it guards lie where the program has them, as in a struct. It takes no heap, and need not be
- * freed. Its first use opens it, which can't fail: no call of a thread on a lock answers NO_MEMORY.
+ * A lock and the data that it guards lie where the program has them, as in a struct, the lock at a multiple of 16
+ * bytes. It takes no heap, and need not be freed. No call of a thread on a lock answers NO_MEMORY.
  *
  * INITIALISERS
  *
@@ -99,9 +99,9 @@
  *
  * LIMITS
  *
- * A limit is a length in nanoseconds from the call on, and UINT64_MAX is none. A thread that is late gives its ticket
- * up, which is out until a holder leaves. While some 16,300 tickets of a lock are out, a call with a limit draws none,
- * and looks again each millisecond.
+ * A limit is a length in nanoseconds from the call on, and UINT64_MAX is none. Of waits in a loop pass each what is
+ * left. A thread that is late gives its ticket up, which is out until a holder leaves. While some 16,300 tickets of a
+ * lock are out, a call with a limit draws none, and looks again each millisecond.
  *
  * SHUT AND CLOSE
  *
@@ -136,7 +136,7 @@
  * From pthread_mutex_t and pthread_cond_t:
  *
  * - Success is QOLB_GRANTED, which is 1; limits are lengths, not points in time.
- * - Order is that of the calls. There is no priority inheritance.
+ * - There is no priority inheritance.
  * - A thread that enters a lock which it holds is told MISUSE; none is recursive, robust or shared by processes.
  * - A lock can be shut. A wait at a condition is not a cancellation point, and does not end without a cause.
  *
