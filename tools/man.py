@@ -80,7 +80,7 @@ def items(lines, begins):
 def running(title, lines):
     """A block as troff: a sample, a list of dashes or, in WORDS, of words with a colon, or a paragraph."""
     if lines[0].startswith(SAMPLE):
-        return ".PP\n.in +4n\n.nf\n" + "\n".join(escaped(line[4:]) for line in lines) + "\n.fi\n.in"
+        return ".PP\n.EX\n" + "\n".join(map(escaped, lines)) + "\n.EE"
     if lines[0].startswith("- "):
         return "\n".join(f".IP \\(bu 2\n{filled(item[2:])}" for item in items(lines, "- "))
     if title == "WORDS":

@@ -26,8 +26,8 @@
  *
  * bpftrace, perf and gdb find probes where a thread waits (provider qolb: wait, sleep, wake, granted, withdrawn,
  * closed), if the library was built with <sys/sdt.h>. Their arguments are a line's label, the node's number, and a
- * number by which lines of one label differ. A lock has no label: there they are its address, the number of the
- * thread's ticket, from 1 on and 0 while it has none, and the address again.
+ * number by which lines of one label differ. A lock has no label: there they are its address, the thread's ticket,
+ * from 1 on or 0 for none, and the address again.
  *
  * PROCESSOR
  *
@@ -213,8 +213,8 @@
  *   qolb_prepend and qolb_link.
  * - QOLB_RING: a node takes a ticket and waits on a cell of its own. It takes 34 kilobytes or more.
  *
- * Bytes of heap that an open line keeps, as the library asks malloc for them (qolb_memory, for any number of nodes).
- * malloc takes some 16 more for each of its blocks, which are the number of nodes and 3:
+ * Bytes of heap that an open line keeps, as the library asks malloc for them (qolb_memory). malloc takes some 16 more
+ * for each of its blocks, which are the number of nodes and 3:
  *
  *     nodes                 1         2         8        64       200
  *     ring             33,792    34,176    36,480    57,984   110,208
@@ -224,13 +224,13 @@
  * WHAT YOU MUST KEEP
  *
  * - Start a handle as zeros: `qolb_node node = {0};`.
- * - Move a handle, never copy it: qolb_move. Only these calls read or change its contents.
+ * - Move a handle by qolb_move, never copy it.
  * - Pass no null pointer, no freed one, and no two arguments that overlap.
  * - One call at a time for a handle. Different handles, also of one line, may be called by different threads at the
  *   same time.
  * - Hand a handle to another thread by a lock, a thread's start or join, or a sequentially consistent atomic.
  * - The program's malloc, realloc and free are of one allocator, which aligns as C asks.
- * - Of signal handlers, forks and copies of the library qolb_lock(3) says the same.
+ * - For signal handlers, forks and copies of the library see qolb_lock(3).
  *
  * Every other call that its handle or node does not allow is MISUSE, or as the call says, and changes nothing.
  *
@@ -343,8 +343,7 @@
 #include <valgrind/drd.h>
 #endif
 
-/* The version of this header. QOLB_VERSION is one number, 10000 for each major version, 100 for each minor one;
- * qolb_version() returns that of the library that the program runs with. */
+/* The version of this header. QOLB_VERSION is one number, 10000 for each major version, 100 for each minor one. */
 #define QOLB_VERSION_MAJOR 2
 #define QOLB_VERSION_MINOR 0
 #define QOLB_VERSION_PATCH 0
@@ -630,7 +629,7 @@ uint32_t qolb_task_shut(qolb_task *task);
 /* 1 if the task holds a lock, and knows it, else 0. */
 int qolb_task_holds(const qolb_task *task);
 
-/* The version of the library, as QOLB_VERSION is that of the header. */
+/* The version of the library that the program runs with, as QOLB_VERSION is that of the header. */
 uint32_t qolb_version(void);
 
 /* Moves the node out of this handle, which is empty then, into the returned one. */
