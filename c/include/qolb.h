@@ -47,7 +47,7 @@
  *     QOLB_LOCK_INIT_BURSTS(turns)   bursts   2 to 65,535     320
  *     QOLB_COND_INIT                 strict                     8
  *
- * QOLB_LOCK_INIT and QOLB_COND_INIT are zeros, so memory of calloc has strict locks and conditions.
+ * Zeros are a strict lock or a condition, so calloc makes them, too.
  *
  * EXAMPLE
  *
@@ -100,8 +100,8 @@
  * LIMITS
  *
  * A limit is a length in nanoseconds from the call on, and UINT64_MAX is none. Of waits in a loop pass each what is
- * left. A thread that is late gives its ticket up, which is out until a holder leaves. While some 16,300 tickets of a
- * lock are out, a call with a limit draws none, and looks again each millisecond.
+ * left. A late thread gives its ticket up, which is out until a holder leaves. While some 16,300 tickets of a lock are
+ * out, a call with a limit draws none, and looks again each millisecond.
  *
  * SHUT AND CLOSE
  *
