@@ -26,7 +26,7 @@ PARTS = ["qolb", "qolb_lock", "qolb_node", "qolb_task"]
 OF_PAGE = {"qolb": "qolb_version|qolb_answer", "qolb_lock": "qolb_lock|qolb_cond", "qolb_task": "qolb_task|qolb_notify"}
 # The sections that a page has before its calls.
 FIRST = ["DESCRIPTION", "PROOFS", "INITIALISERS", "EXAMPLE", "ORDER AND BURSTS", "WORDS", "KINDS"]
-OF_ANSWERS = "An answer, as DONE, is QOLB_DONE of qolb(3)."
+OF_ANSWERS = "DONE is the answer QOLB_DONE of qolb(3)."
 # The blanks before a sample; the columns of a declaration, which is indented by seven.
 SAMPLE, WIDTH = "    ", 72
 MEMORY = ROOT / "c/build/tests/memory"

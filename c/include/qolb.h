@@ -47,7 +47,7 @@
  *     QOLB_LOCK_INIT_BURSTS(turns)   bursts   2 to 65,535     320
  *     QOLB_COND_INIT                 strict                     8
  *
- * Zeros are a strict lock or a condition, so calloc makes them, too.
+ * Zeros are a strict lock or a condition, so calloc makes them.
  *
  * EXAMPLE
  *
