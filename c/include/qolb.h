@@ -67,7 +67,7 @@
  *         qolb_lock_leave(&queue.lock);
  *     }
  *
- *     int take(uint64_t nanoseconds) { // 0 if there was none in time
+ *     int take(uint64_t nanoseconds) { // 0 if a wait took so long
  *         uint32_t got = qolb_lock_enter(&queue.lock);
  *         if (got != QOLB_GRANTED) abort();
  *         while (!queue.jobs && got == QOLB_GRANTED)
