@@ -1,0 +1,9 @@
+/* The kinds and their names, also over the header of an older library, which has neither. */
+#include <qolb.h>
+#ifndef QOLB_KINDS
+#define QOLB_KINDS 3
+static inline const char *qolb_kind_name(uint32_t kind) {
+    static const char *const names[QOLB_KINDS] = {"ring", "link", "ticket"};
+    return kind < QOLB_KINDS ? names[kind] : "?";
+}
+#endif
