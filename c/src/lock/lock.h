@@ -124,9 +124,9 @@ static inline uint32_t class_of(uint64_t number) {
 /* Sleeps for a millisecond, or until then if that is sooner: nobody wakes it. */
 enum { NAP = 1000000 };
 static inline void nap(uint64_t until) {
-    uint32_t nobody_wakes = 0;
-    uint64_t end = end_of(NAP);
-    qolb_park_(&nobody_wakes, 0, 1, until < end ? until : end);
+    atomic_uint nobody_wakes = 0;
+    uint64_t now = until == FOR_EVER ? 0 : qolb_now_(), time = until <= now ? 0 : until - now;
+    if (time) qolb_sleep_at_(&nobody_wakes, 0, time < NAP ? time : NAP);
 }
 
 /* ---- Lists: each entry has the next, and the last the first; a list is its last. Whole after each store, for the
