@@ -23,7 +23,8 @@ static inline _Atomic uint64_t *entry_of(const struct hints *hints, uint64_t nod
     return hints->home + PLACE_WORDS * node;
 }
 
-/* Before a poll: a node that is granted the line will write the bytes and its own entry. */
+/* Before a poll: a node that is granted the line will write the bytes and its own entry. The word of the last request
+ * is still wanted by who handed over, to ask again. */
 static inline void hint_turn(const struct hints *hints) {
     if (!hints->home) return;
     _Atomic uint64_t *own = entry_of(hints, hints->node);
@@ -32,7 +33,7 @@ static inline void hint_turn(const struct hints *hints) {
     will_write(own);
 }
 
-/* Before a release that others wait for. */
+/* Before a release that others wait for: one may have linked, by the entry. */
 static inline void hint_release(const struct hints *hints) {
     _Atomic uint64_t *own = entry_of(hints, hints->node);
     will_write(own);

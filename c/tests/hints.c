@@ -1,5 +1,5 @@
-/* Whether the hints of a link line's nodes (../src/hints.h) are the words and the slot that a handoff writes, and a node
- * of another line has none. Prints only errors. */
+/* Whether the hints of a link line's nodes (../src/hints.h) are the words and the slot that a handoff writes, and a
+ * node of another line has none. Prints only errors. */
 #include <hints.h>
 #include <stdio.h>
 #include <stdlib.h>
