@@ -2,7 +2,7 @@
 """Checks the pages as a whole; docs/compare runs it.
 
     tools/pages.py            words of each page, of three paths and of the manuals, each with its limit; links, names, figures and what is claimed of a lock
-    tools/pages.py --write    also writes tables and sentences of figures anew, from c/bench/figures/*.tsv
+    tools/pages.py --write    also writes tables and sentences of figures anew, from c/bench/figures/*.tsv, and whether explored code has changed since
 
 A word is what stands between blanks and has a letter or a digit. A name in code font must stand in a file that is no page, too. A ratio in a sentence
 is computed again from the table that it is of (`RATIOS` of tools/figures.py), and so is each table behind a line `<!-- figures: NAME -->`. It ends with 1 if a limit is
@@ -44,6 +44,8 @@ CLAIMING = ["README.md", "c/include/qolb.h", "c/rust/qolb.rs", "c/package/README
 CLAIMING_SHORT = ["c/package/qolb.pc.in", "c/rust/Cargo.toml.in"]
 # Sentences that claim more.
 TOO_MUCH = re.compile(r"library is proved|proved (?:queue )?locks?\b(?!_)|(?:nobody|no thread) is overtaken|no wake-up is lost")
+# What an exploration runs: each row of PROVED's table begins with one of these, and ends with the commit whose code it ran.
+EXPLORED = {"lock": ["c/src/lock", "c/src/bells.c", "c/src/bells.h", "c/src/notify.c"], "nodes": ["c/src/calls.c", "c/src/bells.c", "c/src/bells.h", "c/src/notify.c"]}
 # A number in a sentence.
 FIGURE = r"(?:\d[\d.,]*)?\d"
 faults = []
@@ -169,10 +171,25 @@ def check_claims(pages):
             faults.append(f"{name} claims too much: {found[0]}")
 
 
+def check_explored(is_write):
+    """Each row of the table of explorations says whether the code has changed since, where its commit is known."""
+    path = ROOT / "docs/PROVED.md"
+    before = text = path.read_text()
+    for row, what, commit in re.findall(r"(?m)^(\| (lock|nodes), .*\| ([0-9a-f]{8}))(?:: changed since)? \|$", text):
+        differs = subprocess.run(["git", "diff", "--quiet", commit, "--", *EXPLORED[what]], cwd=ROOT, stderr=subprocess.DEVNULL, check=False).returncode
+        if differs in (0, 1):
+            text = re.sub(rf"(?m)^{re.escape(row)}(?:: changed since)? \|$", f"{row}{': changed since' if differs else ''} |", text)
+    if is_write:
+        path.write_text(text)
+    elif text != before:
+        faults.append("docs/PROVED.md says of other code than c/src has that it is explored: run tools/pages.py --write")
+
+
 def main():
     files = tracked()
     pages = [name for name in files if name.endswith(".md")]
     check_figures("--write" in sys.argv[1:])
+    check_explored("--write" in sys.argv[1:])
     count_words(pages)
     check_claims(pages)
     check_links(pages)

@@ -1,4 +1,4 @@
-/* The lock: what it has, and what its files call of each other (qolb.h, LOCKS). One of the library's internal files.
+/* The lock: what it has, and what its files call of each other (qolb_lock(3)). One of the library's internal files.
  *
  * What decides is proved: each step on a shared word that grants, passes, withdraws, shuts or counts is a call of
  * core.h, by the lock and a ticket. The files here find the ticket, spin, sleep and wake. They call downwards only:
