@@ -32,7 +32,7 @@ static uint32_t open_noted(uint32_t kind, uint64_t label, uint64_t nodes, uint64
 
 /* The hints of the first node of the line that open_noted opened. */
 static struct hints first_hints(void) {
-    struct hints none = {0}, hints = {noted_block(WORDS), noted_block(SLOTS), 1};
+    struct hints none = {0}, hints = {noted_block(NOTED_WORDS), noted_block(NOTED_SLOTS), 1};
     qolb_noted_blocks_ = (struct noted_blocks){0};
     return hints.home && hints.bytes ? hints : none;
 }

@@ -33,14 +33,14 @@ static struct before *before(void *block) { return (struct before *)block - 1; }
 
 static void *noted(void *block, size_t size) {
     struct noted_blocks *blocks = &qolb_noted_blocks_;
-    for (int k = 0; k < NOTED; k++)
+    for (int k = 0; k < NOTED_SIZES; k++)
         if (size == blocks->size[k]) blocks->block[k][blocks->block[k][0] != NULL] = block;
     return block;
 }
 
 static void forget(const void *block) {
     void **noted = qolb_noted_blocks_.block[0];
-    for (int k = 0; k < 2 * NOTED; k++)
+    for (int k = 0; k < 2 * NOTED_SIZES; k++)
         if (noted[k] == block) noted[k] = NULL;
 }
 

@@ -44,10 +44,10 @@ extern BY_THREAD __attribute__((visibility("hidden"))) struct core_room qolb_cor
 
 /* The blocks of two sizes that a thread has allocated and not freed since it set the sizes: up to two of each, as
  * opening allocates a table's contents twice and frees one. */
-enum { WORDS, SLOTS, NOTED };
+enum { NOTED_WORDS, NOTED_SLOTS, NOTED_SIZES };
 struct noted_blocks {
-    size_t size[NOTED];
-    void *block[NOTED][2];
+    size_t size[NOTED_SIZES];
+    void *block[NOTED_SIZES][2];
 };
 
 extern BY_THREAD __attribute__((visibility("hidden"))) struct noted_blocks qolb_noted_blocks_;
