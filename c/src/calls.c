@@ -23,22 +23,27 @@ static struct { _Alignas(APART) atomic_uint waiting; } anywhere;
  * part of all bells. */
 enum { NEXT_BELLS = 633 };
 
-/* Hints of the first node of the line that this thread opened last; none if it is no link line. */
-static struct hints first_hints(uint32_t kind, uint64_t nodes) {
-    struct hints none = {0};
-    _Atomic uint64_t *home = qolb_noted_block_(WORDS, (nodes + 1) * PLACE_WORDS * sizeof(uint64_t));
-    const void *bytes = qolb_noted_block_(SLOTS, SLOT_BYTES);
-    return kind == QOLB_LINK && home && bytes ? (struct hints){home, bytes, 1} : none;
+static uint32_t open_noted(uint32_t kind, uint64_t label, uint64_t nodes, uint64_t lease, const qolb_bytes *opening,
+                           qolb_node *out, size_t handles) {
+    struct noted_blocks none = {0}, of_link = {.size = {(nodes + 1) * PLACE_WORDS * sizeof(uint64_t), SLOT_BYTES}};
+    qolb_noted_blocks_ = kind == QOLB_LINK ? of_link : none;
+    return qolb_open_proved_(kind, label, nodes, lease, opening, out, handles);
+}
+
+/* The hints of the first node of the line that open_noted opened. */
+static struct hints first_hints(void) {
+    struct hints none = {0}, hints = {noted_block(NOTED_WORDS), noted_block(NOTED_SLOTS), 1};
+    qolb_noted_blocks_ = (struct noted_blocks){0};
+    return hints.home && hints.bytes ? hints : none;
 }
 
 uint32_t qolb_open(uint32_t kind, uint64_t label, uint64_t nodes, uint64_t lease, const qolb_bytes *opening,
                    qolb_node *out, size_t handles) {
     static atomic_uint drawn;
-    qolb_noted_blocks_.many = 0;
-    uint32_t got = qolb_open_proved_(kind, label, nodes, lease, opening, out, handles);
+    uint32_t got = open_noted(kind, label, nodes, lease, opening, out, handles);
+    struct hints hints = first_hints();
     if (got != QOLB_DONE) return got;
     uint32_t bell = atomic_fetch_add(&drawn, NEXT_BELLS);
-    struct hints hints = first_hints(kind, nodes);
     for (uint64_t k = 0; k < nodes; k++, hints.node++) {
         *first_bell_of(&out[k]) = bell;
         *nodes_beside(&out[k]) = (uint32_t)nodes;

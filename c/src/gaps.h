@@ -42,18 +42,21 @@ struct core_room {
 
 extern BY_THREAD __attribute__((visibility("hidden"))) struct core_room qolb_core_room_;
 
-/* The first blocks that a thread allocates while it opens a line: two that opening frees again, and the table's words
- * and slots. It notes none while `many` is that many. */
-enum { WORDS = 2, SLOTS, NOTED };
+/* The blocks of two sizes that a thread has allocated and not freed since it set the sizes: up to two of each, as
+ * opening allocates a table's contents twice and frees one. */
+enum { NOTED_WORDS, NOTED_SLOTS, NOTED_SIZES };
 struct noted_blocks {
-    void *block[NOTED];
-    int many;
+    size_t size[NOTED_SIZES];
+    void *block[NOTED_SIZES][2];
 };
 
 extern BY_THREAD __attribute__((visibility("hidden"))) struct noted_blocks qolb_noted_blocks_;
 
-/* The noted block, if it is the one of this size; else NULL. */
-__attribute__((visibility("hidden"))) void *qolb_noted_block_(int place, size_t size);
+/* The one block of that size; NULL if there is none, or two. */
+static inline void *noted_block(int k) {
+    void **block = qolb_noted_blocks_.block[k];
+    return !block[0] ? block[1] : !block[1] ? block[0] : NULL;
+}
 
 /* Where a node of a link line finds the words that its handoff writes (hints.h). */
 struct hints {
