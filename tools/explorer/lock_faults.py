@@ -53,7 +53,7 @@ FAULTS = {
     "who gives up after a shut is told that it is late": (1, "", (WAITS, "give_up", "closed_or(QOLB_LATE, my->lock)", "QOLB_LATE"), (LOCK, "ask_later", "closed_or(QOLB_LATE, my->lock)", "(uint32_t)QOLB_LATE")),
     # The queue head, and the outer word.
     "who leaves the outer word wakes nobody": (1, "bursts", (WAITS, "qolb_end_inside_", "        qolb_unpark_(outer_half(words_of(lock)), UINT32_MAX);\n", "        (void)lock;\n")),
-    "who leaves the outer word gives up where it is another": (1, "bursts", (WAITS, "qolb_end_inside_", "    while (got == QOLB_BUSY) got =", "    if (got == QOLB_BUSY)"), (LOCK, "leave_on", "    if (has_bursts(lock)) qolb_end_inside_(lock, at, got);\n", "    if (has_bursts(lock)) qolb_end_inside_(lock, at, QOLB_DONE);\n")),
+    "who leaves the outer word gives up where it is another": (1, "bursts", (WAITS, "qolb_end_inside_", "    while (got == QOLB_BUSY) got =", "    if (got == QOLB_BUSY)"), (LOCK, "leave_on", "qolb_end_inside_(lock, at, got);", "qolb_end_inside_(lock, at, QOLB_DONE);")),
     "who leaves the outer word reads the lock afterwards": (2, "bursts: the last frees", (WAITS, "qolb_end_inside_", "qolb_unpark_(outer_half(words_of(lock))", "qolb_unpark_(outer_half(qolb_core_words_(&lock->core))")),
     "the queue head sleeps at the value that it finds": (1, "bursts", (WAITS, "sleep_as_head", "(uint32_t)ticket_of(my)->outer", "(uint32_t)outer_word(my->lock)")),
     "the queue head sleeps where it could not announce it": (1, "bursts", (WAITS, "sleep_as_head", " != QOLB_ASLEEP_) return;", " == QOLB_MISUSE) return;\n    ticket_of(my)->outer = outer_word(my->lock);")),
@@ -75,6 +75,7 @@ FAULTS = {
     "who has no ticket stays a guest": (1, "crowded", (LOCK, "await", "    be_no_guest(my);\n", "")),
     "who could not be withdrawn waits for ever": (1, "far: ", (LOCK, "ask_later", "got == QOLB_FAR_ && !is_over(my->until)", "got == QOLB_FAR_ && my->until")),
     # Leaving, shutting and closing.
+    "who leaves looks afterwards whether the lock has bursts": (1, "crowded: the last frees", (LOCK, "leave_on", "if (with_bursts)", "if (has_bursts(lock))")),
     "a shut is told to nobody by the core": (1, "", (LOCK, "qolb_shut_at_", "    qolb_core_shut_proved_(&lock->core, &at->ticket);\n", "")),
     "a shut tells nobody at a condition": (1, "", (LOCK, "qolb_shut_at_", "    qolb_tell_shut_(lock);\n", "")),
     "a shut leaves nothing": (1, "", (LOCK, "qolb_shut_at_", "    qolb_leave_at_(lock, at);\n", "")),

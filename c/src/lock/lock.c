@@ -201,18 +201,19 @@ SLOW static uint32_t leave_slowly(struct lock *lock) {
     return QOLB_DONE;
 }
 
-/* In the thread's own place for the lock, after a proved call that answered this. */
-SLOW static uint32_t leave_on(struct turn *at, uint32_t got) {
+/* In the thread's own place for the lock, after a proved call that answered this. The lock may be gone, but for
+ * MISUSE. */
+SLOW static uint32_t leave_on(struct turn *at, uint32_t got, int with_bursts) {
     struct lock *lock = lock_by(at);
     if (got == QOLB_MISUSE) return hold_by(at, lock), leave_slowly(lock);
-    if (has_bursts(lock)) qolb_end_inside_(lock, at, got);
+    if (with_bursts) qolb_end_inside_(lock, at, got);
     else qolb_end_turn_(lock, at, got);
     return QOLB_DONE;
 }
 
 static uint32_t leave_burst(struct turn *at) {
     uint32_t got = qolb_core_leave_proved_(&lock_by(at)->core, &at->ticket);
-    return likely(got == QOLB_DONE && !at->ticket.head_sleeps) ? got : leave_on(at, got);
+    return likely(got == QOLB_DONE && !at->ticket.head_sleeps) ? got : leave_on(at, got, 1);
 }
 
 FAST uint32_t qolb_lock_leave(qolb_lock *of) {
@@ -221,7 +222,7 @@ FAST uint32_t qolb_lock_leave(qolb_lock *of) {
     set_core(at, core_at(at) + LAST - HELD);
     if (!likely(!has_bursts(lock_of(of)))) return leave_burst(at);
     uint32_t got = qolb_core_release_proved_(&lock_of(of)->core, &at->ticket);
-    return likely(got == QOLB_DONE && !at->ticket.sleepers) ? got : leave_on(at, got);
+    return likely(got == QOLB_DONE && !at->ticket.sleepers) ? got : leave_on(at, got, 0);
 }
 
 uint32_t qolb_lock_shut(qolb_lock *of) {

@@ -35,7 +35,7 @@ struct __attribute__((may_alias)) lock {
     char block[CORE_BLOCK_BYTES]; /* the core's: never written after opening */
     uint64_t label;               /* by who opens it: no other opening of the process has it */
     struct waiter *waits;         /* by the holder: those that wait at a condition */
-    /* By the holder: its number, if its thread's table has no room for this turn (`struct beyond`); BY_TASK; else 0. */
+    /* By the holder: its number, if this turn is in no thread's table; BY_TASK; else 0. */
     _Atomic uint64_t beyond_by;
     uint64_t words[CORE_WORDS + SPARE_WORDS]; /* the core's, and around them what spare_of says */
     /* The number of threads in a call that have no ticket yet or any more: they wait at a condition, or until a request
@@ -186,7 +186,7 @@ enum { LAST = 1, HELD = 2, SLEPT = 4, MARKS = 7, MOST_HELD = 8 };
 enum { SYSTEM_BITS = 22 };
 
 struct own {
-    struct turn table[MOST_HELD];
+    _Alignas(LINE) struct turn table[MOST_HELD];
     uint64_t number;                      /* 0 until it is drawn */
     unsigned beyond;                      /* the number of locks that it holds by themselves, not by the table */
     enum { UNKNOWN, KNOWN, ENDED } known; /* to qolb_lock_holder: from the first use to the thread's end */

@@ -95,9 +95,20 @@ static void know_this_table_alone(void) {
     it->before = &tables.first;
 }
 
+/* glibc and musl run destructors in the order of their keys' numbers. Behind 31 others a table is forgotten in the same
+ * round as theirs: also in the last one, if a lock is first used there. */
+static int make_key(void) {
+    enum { KEYS_BEFORE = 31 };
+    pthread_key_t lower[KEYS_BEFORE];
+    int many = 0, got;
+    while (!(got = pthread_key_create(&at_end, forget_table)) && at_end < KEYS_BEFORE) lower[many++] = at_end;
+    if (got && many) at_end = lower[--many], got = 0;
+    while (many) pthread_key_delete(lower[--many]);
+    return got;
+}
+
 static void begin(void) {
-    if (pthread_key_create(&at_end, forget_table) != 0 || pthread_atfork(NULL, NULL, know_this_table_alone) != 0)
-        abort();
+    if (make_key() != 0 || pthread_atfork(NULL, NULL, know_this_table_alone) != 0) abort();
 }
 
 /* Without memory its end would not be noticed: so it counts as one that has ended. */
