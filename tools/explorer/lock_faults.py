@@ -95,7 +95,7 @@ FAULTS = {
     # The thread's table.
     "a turn goes to a place that is taken": (1, "", (TURNS, "is_free", "!has(at, HELD) || says_held(at, lock)", "1")),
     "a turn beyond the table is not counted": (1, "holds three", (TURNS, "move_into", "    this_thread()->beyond++;\n", "")),
-    "a turn beyond the table has no holder": (1, "holds three", (TURNS, "move_into", "    atomic_store_explicit(&lock->beyond_by, this_thread()->number, memory_order_relaxed);\n", "")),
+    "a turn beyond the table has no holder": (1, "holds three", (TURNS, "move_into", "    atomic_store_explicit(&lock->beyond_by, own_number(), memory_order_relaxed);\n", "")),
     "a turn beyond the table keeps its holder": (1, "holds three", (TURNS, "qolb_take_turn_", "    atomic_store_explicit(&lock->beyond_by, 0, memory_order_relaxed);\n", "")),
     "a turn beyond the table forgets its ticket": (1, "holds three", (TURNS, "move_into", "= at->ticket.number;", "= 0;")),
     "a turn beyond the table forgets its lock": (1, "holds three", (TURNS, "qolb_take_turn_", "    this_thread()->beyond--;\n", "    this_thread()->beyond--;\n    beyond->ticket.label = 0;\n")),
