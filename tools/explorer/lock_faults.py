@@ -39,7 +39,7 @@ FAULTS = {
     "who passes on wakes nobody": (1, "", (WAITS, "tell", "        if (found == NOBODY) qolb_unpark_(cell_half(words_of(lock), number), class_of(number));\n", "")),
     "who passes on wakes at its own cell": (1, "", (WAITS, "qolb_end_turn_", "key = tell(lock, at->ticket.number + 1);", "key = tell(lock, at->ticket.number);")),
     "who passes on wakes another class": (1, "", (WAITS, "tell", "class_of(number)", "class_of(number + TICKETS_IN_ROUND)")),
-    "who passes on wakes only if nobody was withdrawn": (2, "two are late beside", (WAITS, "qolb_end_turn_", "if (at->ticket.sleepers)", "if (at->ticket.sleepers && at->ticket.number + 2 == ahead)")),
+    "who passes on wakes only if nobody was withdrawn": (2, "two are late beside", (WAITS, "qolb_end_turn_", "if (at->ticket.sleepers)", "if (at->ticket.sleepers && at->ticket.number + 2 == ahead)"), (LOCK, "leave_on", "    else qolb_end_turn_(lock, at, got);\n", "    else if (got != QOLB_UNFINISHED_) qolb_end_turn_(lock, at, got);\n    else while (qolb_core_release_proved_(&lock->core, &at->ticket) == QOLB_UNFINISHED_) continue;\n")),
     "who passes on stops at the first that was withdrawn": (1, "", (WAITS, "release", "    while (got == QOLB_UNFINISHED_) got =", "    if (got == QOLB_UNFINISHED_)")),
     "who passes on reads the lock afterwards": (1, "the last frees", (WAITS, "tell", "qolb_unpark_(cell_half(words_of(lock), number)", "qolb_unpark_(cell_half(qolb_core_words_(&lock->core), number)")),
     "who passes on looks afterwards whether one sleeps ahead": (2, "the last frees, and each yields", (WAITS, "qolb_end_turn_", "    if (at->ticket.sleepers) key", "    set_core(at, core_at(at) | SLEPT), wakes = wakes_ahead(lock, at), set_core(at, core_at(at) - SLEPT);\n    if (at->ticket.sleepers) key")),
@@ -95,7 +95,7 @@ FAULTS = {
     # The thread's table.
     "a turn goes to a place that is taken": (1, "", (TURNS, "is_free", "!has(at, HELD) || says_held(at, lock)", "1")),
     "a turn beyond the table is not counted": (1, "holds three", (TURNS, "move_into", "    this_thread()->beyond++;\n", "")),
-    "a turn beyond the table has no holder": (1, "holds three", (TURNS, "move_into", "    atomic_store_explicit(&lock->beyond_by, this_thread()->number, memory_order_relaxed);\n", "")),
+    "a turn beyond the table has no holder": (1, "holds three", (TURNS, "move_into", "    atomic_store_explicit(&lock->beyond_by, own_number(), memory_order_relaxed);\n", "")),
     "a turn beyond the table keeps its holder": (1, "holds three", (TURNS, "qolb_take_turn_", "    atomic_store_explicit(&lock->beyond_by, 0, memory_order_relaxed);\n", "")),
     "a turn beyond the table forgets its ticket": (1, "holds three", (TURNS, "move_into", "= at->ticket.number;", "= 0;")),
     "a turn beyond the table forgets its lock": (1, "holds three", (TURNS, "qolb_take_turn_", "    this_thread()->beyond--;\n", "    this_thread()->beyond--;\n    beyond->ticket.label = 0;\n")),
