@@ -28,7 +28,7 @@ LIMITS = {
     "docs/SCRIPTS.md": 2000,
     "CHANGELOG.md": 1500,
 }
-# All pages but the CHANGELOG; the READMEs of crates, all and the lines of each; a call of qolb(3).
+# All pages but the CHANGELOG; the READMEs of crates, all and the lines of each; a call of the manual's third section.
 ALL, CRATES, CRATE_LINES, CALL = 26500, 5400, 25, 112
 # Three readers: who needs a lock, who wants the theorems, who carries it on.
 PATHS = {
@@ -95,9 +95,9 @@ def count_words(pages):
     limit("all pages but CHANGELOG.md", sum(counts[page] for page in pages if page != "CHANGELOG.md"), ALL)
     for reader, (parts, most) in PATHS.items():
         limit(f"{reader}: {', '.join(parts)}", sum(words(part_of(part)) for part in parts), most)
-    manual = (ROOT / "docs/man/qolb.3").read_text()
-    calls = manual.split("\n.SH NAME\n", 1)[1].split(" \\- ", 1)[0].count(",") + 1
-    limit("docs/man/qolb.3, a call", -(-words(re.sub(r"(?m)^\.[A-Z]+ ?", "", manual)) // calls), CALL)
+    manual = [page.read_text() for page in (ROOT / "docs/man").glob("*.3")]
+    calls = sum(page.split("\n.SH NAME\n", 1)[1].split(" \\- ", 1)[0].count(",") for page in manual)
+    limit("docs/man/*.3, a call", -(-sum(words(re.sub(r"(?m)^\.[A-Za-z]+ ?", "", page)) for page in manual) // calls), CALL)
     for page in crates:
         lines = (ROOT / page).read_text().count("\n")
         if lines > CRATE_LINES:
