@@ -26,7 +26,7 @@ PARTS = ["qolb", "qolb_lock", "qolb_node", "qolb_task"]
 OF_PAGE = {"qolb": "qolb_version|qolb_answer", "qolb_lock": "qolb_lock|qolb_cond", "qolb_task": "qolb_task|qolb_notify"}
 # The sections that a page has before its calls.
 FIRST = ["DESCRIPTION", "PROOFS", "INITIALISERS", "EXAMPLE", "ORDER AND BURSTS", "WORDS", "KINDS"]
-OF_ANSWERS = "An answer, as DONE, is QOLB_DONE of qolb(3)."
+OF_ANSWERS = "DONE is the answer QOLB_DONE of qolb(3)."
 # The blanks before a sample; the columns of a declaration, which is indented by seven.
 SAMPLE, WIDTH = "    ", 72
 MEMORY = ROOT / "c/build/tests/memory"
@@ -80,7 +80,7 @@ def items(lines, begins):
 def running(title, lines):
     """A block as troff: a sample, a list of dashes or, in WORDS, of words with a colon, or a paragraph."""
     if lines[0].startswith(SAMPLE):
-        return ".PP\n.in +4n\n.nf\n" + "\n".join(escaped(line[4:]) for line in lines) + "\n.fi\n.in"
+        return ".PP\n.EX\n" + "\n".join(map(escaped, lines)) + "\n.EE"
     if lines[0].startswith("- "):
         return "\n".join(f".IP \\(bu 2\n{filled(item[2:])}" for item in items(lines, "- "))
     if title == "WORDS":

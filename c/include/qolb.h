@@ -26,8 +26,8 @@
  *
  * bpftrace, perf and gdb find probes where a thread waits (provider qolb: wait, sleep, wake, granted, withdrawn,
  * closed), if the library was built with <sys/sdt.h>. Their arguments are a line's label, the node's number, and a
- * number by which lines of one label differ. A lock has no label: there they are its address, the number of the
- * thread's ticket, from 1 on and 0 while it has none, and the address again.
+ * number by which lines of one label differ. A lock has no label: there they are its address, the thread's ticket,
+ * from 1 on or 0 for none, and the address again.
  *
  * PROCESSOR
  *
@@ -37,8 +37,8 @@
  *
  * ==== qolb_lock(3): locks for any number of threads, with conditions ====
  *
- * A lock and the data that it guards lie where the program has them, as in a struct. It takes no heap, and need not be
- * freed. Its first use opens it, which can't fail: no call of a thread on a lock answers NO_MEMORY.
+ * A lock and the data that it guards lie where the program has them, as in a struct, the lock at a multiple of 16
+ * bytes. It takes no heap, and need not be freed. No call of a thread on a lock answers NO_MEMORY.
  *
  * INITIALISERS
  *
@@ -47,7 +47,7 @@
  *     QOLB_LOCK_INIT_BURSTS(turns)   bursts   2 to 65,535     320
  *     QOLB_COND_INIT                 strict                     8
  *
- * QOLB_LOCK_INIT and QOLB_COND_INIT are zeros, so memory of calloc has strict locks and conditions.
+ * Zeros are a strict lock or a condition, so calloc makes them.
  *
  * EXAMPLE
  *
@@ -67,7 +67,7 @@
  *         qolb_lock_leave(&queue.lock);
  *     }
  *
- *     int take(uint64_t nanoseconds) { // 0 if there was none in time
+ *     int take(uint64_t nanoseconds) { // 0 if a wait took so long
  *         uint32_t got = qolb_lock_enter(&queue.lock);
  *         if (got != QOLB_GRANTED) abort();
  *         while (!queue.jobs && got == QOLB_GRANTED)
@@ -99,9 +99,9 @@
  *
  * LIMITS
  *
- * A limit is a length in nanoseconds from the call on, and UINT64_MAX is none. A thread that is late gives its ticket
- * up, which is out until a holder leaves. While some 16,300 tickets of a lock are out, a call with a limit draws none,
- * and looks again each millisecond.
+ * A limit is a length in nanoseconds from the call on, and UINT64_MAX is none. Of waits in a loop pass each what is
+ * left. A late thread gives its ticket up, which is out until a holder leaves. While some 16,300 tickets of a lock are
+ * out, a call with a limit draws none, and looks again each millisecond.
  *
  * SHUT AND CLOSE
  *
@@ -136,7 +136,7 @@
  * From pthread_mutex_t and pthread_cond_t:
  *
  * - Success is QOLB_GRANTED, which is 1; limits are lengths, not points in time.
- * - Order is that of the calls. There is no priority inheritance.
+ * - There is no priority inheritance.
  * - A thread that enters a lock which it holds is told MISUSE; none is recursive, robust or shared by processes.
  * - A lock can be shut. A wait at a condition is not a cancellation point, and does not end without a cause.
  *
@@ -213,8 +213,8 @@
  *   qolb_prepend and qolb_link.
  * - QOLB_RING: a node takes a ticket and waits on a cell of its own. It takes 34 kilobytes or more.
  *
- * Bytes of heap that an open line keeps, as the library asks malloc for them (qolb_memory, for any number of nodes).
- * malloc takes some 16 more for each of its blocks, which are the number of nodes and 3:
+ * Bytes of heap that an open line keeps, as the library asks malloc for them (qolb_memory). malloc takes some 16 more
+ * for each of its blocks, which are the number of nodes and 3:
  *
  *     nodes                 1         2         8        64       200
  *     ring             33,792    34,176    36,480    57,984   110,208
@@ -224,13 +224,13 @@
  * WHAT YOU MUST KEEP
  *
  * - Start a handle as zeros: `qolb_node node = {0};`.
- * - Move a handle, never copy it: qolb_move. Only these calls read or change its contents.
+ * - Move a handle by qolb_move, never copy it.
  * - Pass no null pointer, no freed one, and no two arguments that overlap.
  * - One call at a time for a handle. Different handles, also of one line, may be called by different threads at the
  *   same time.
  * - Hand a handle to another thread by a lock, a thread's start or join, or a sequentially consistent atomic.
  * - The program's malloc, realloc and free are of one allocator, which aligns as C asks.
- * - Of signal handlers, forks and copies of the library qolb_lock(3) says the same.
+ * - For signal handlers, forks and copies of the library see qolb_lock(3).
  *
  * Every other call that its handle or node does not allow is MISUSE, or as the call says, and changes nothing.
  *
@@ -343,8 +343,7 @@
 #include <valgrind/drd.h>
 #endif
 
-/* The version of this header. QOLB_VERSION is one number, 10000 for each major version, 100 for each minor one;
- * qolb_version() returns that of the library that the program runs with. */
+/* The version of this header. QOLB_VERSION is one number, 10000 for each major version, 100 for each minor one. */
 #define QOLB_VERSION_MAJOR 2
 #define QOLB_VERSION_MINOR 0
 #define QOLB_VERSION_PATCH 0
@@ -630,7 +629,7 @@ uint32_t qolb_task_shut(qolb_task *task);
 /* 1 if the task holds a lock, and knows it, else 0. */
 int qolb_task_holds(const qolb_task *task);
 
-/* The version of the library, as QOLB_VERSION is that of the header. */
+/* The version of the library that the program runs with, as QOLB_VERSION is that of the header. */
 uint32_t qolb_version(void);
 
 /* Moves the node out of this handle, which is empty then, into the returned one. */

@@ -15,6 +15,7 @@ HIDDEN void *qolb_realloc_(void *block, size_t size);
 HIDDEN void qolb_free_(void *block);
 
 BY_THREAD struct core_room qolb_core_room_;
+BY_THREAD struct noted_blocks qolb_noted_blocks_ = {.many = NOTED};
 
 /* The place of a block of a lock's core, or NULL: each is given once. */
 static void *given_by_lock(size_t size) {
@@ -30,6 +31,17 @@ static void *given_by_lock(size_t size) {
 
 static struct before *before(void *block) { return (struct before *)block - 1; }
 
+static void *noted(void *block) {
+    struct noted_blocks *blocks = &qolb_noted_blocks_;
+    if (blocks->many < NOTED) blocks->block[blocks->many++] = block;
+    return block;
+}
+
+void *qolb_noted_block_(int place, size_t size) {
+    void *block = qolb_noted_blocks_.many == NOTED ? qolb_noted_blocks_.block[place] : NULL;
+    return block && before(block)->size == size ? block : NULL;
+}
+
 /* If nothing can be added to the size, the allocation fails. What malloc gives is a multiple of 16, so there is room
  * for a `struct before`. */
 void *qolb_malloc_(size_t size) {
@@ -39,7 +51,7 @@ void *qolb_malloc_(size_t size) {
     if (!given) return NULL;
     void *block = given + GAP_BYTES - (uintptr_t)given % GAP_BYTES;
     *before(block) = (struct before){given, size};
-    return block;
+    return noted(block);
 }
 
 void *qolb_realloc_(void *block, size_t size) {

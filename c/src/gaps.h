@@ -9,6 +9,7 @@ enum {
     TABLE_BLOCKS = 2,  /* the words, and the slots */
     LINE_BYTES = 112,  /* of the block with the line, which all nodes share, and the count of those that do */
     NODE_BYTES = 160,  /* of the block of each node, to which its handle points */
+    SLOT_BYTES = 128,  /* of each slot */
     NOTICE_BYTES = 56, /* behind a node's data, for its notice */
     GAP_BYTES = QOLB_NODE_ALIGN
 };
@@ -41,8 +42,28 @@ struct core_room {
 
 extern BY_THREAD __attribute__((visibility("hidden"))) struct core_room qolb_core_room_;
 
+/* The first blocks that a thread allocates while it opens a line: two that opening frees again, and the table's words
+ * and slots. It notes none while `many` is that many. */
+enum { WORDS = 2, SLOTS, NOTED };
+struct noted_blocks {
+    void *block[NOTED];
+    int many;
+};
+
+extern BY_THREAD __attribute__((visibility("hidden"))) struct noted_blocks qolb_noted_blocks_;
+
+/* The noted block, if it is the one of this size; else NULL. */
+__attribute__((visibility("hidden"))) void *qolb_noted_block_(int place, size_t size);
+
+/* Where a node of a link line finds the words that its handoff writes (hints.h). */
+struct hints {
+    _Atomic uint64_t *home; /* the first of the line's words: of the last request. NULL: there are no hints */
+    const void *bytes;      /* the line's slot */
+    uint64_t node;          /* the node's number */
+};
+
 _Static_assert(NOTICE_BYTES <= GAP_BYTES / 2, "it is before the number");
-_Static_assert(NODE_BYTES % GAP_BYTES + GAP_BYTES / 2 + 2 * sizeof(uint32_t) + sizeof(struct before) <= GAP_BYTES,
+_Static_assert(NODE_BYTES % GAP_BYTES + GAP_BYTES / 2 + 2 * sizeof(uint32_t) + sizeof(struct hints) <= GAP_BYTES,
                "all has room there");
 
 /* The first bytes behind a node's data. */
@@ -57,6 +78,9 @@ static inline uint32_t *first_bell_of(const qolb_node *node) {
 
 /* The number of the line's nodes, behind that number. */
 static inline uint32_t *nodes_beside(const qolb_node *node) { return first_bell_of(node) + 1; }
+
+/* Its hints, behind both. */
+static inline struct hints *hints_of(const qolb_node *node) { return (struct hints *)(nodes_beside(node) + 1); }
 
 /* The node's notice (bells.h), before that number. */
 static inline struct notice *notice_of(const qolb_node *node) { return behind(node); }
