@@ -239,8 +239,7 @@ static int holder_that_ended(void) {
 
 /* ---- Destructors of a thread's keys ----
  *
- * Those of keys that are newer than the library's run after its own, in at most PTHREAD_DESTRUCTOR_ITERATIONS
- * rounds. */
+ * They run in at most PTHREAD_DESTRUCTOR_ITERATIONS rounds. In the first the library's own runs behind them. */
 
 enum { LEAVES, WAITS, ENTERS, ENTERS_AND_STAYS };
 #ifdef __SANITIZE_THREAD__
@@ -307,6 +306,34 @@ static int after_the_librarys_destructor(int rounds, int does) {
         WANT(qolb_lock_holder(&held[k]), does < ENTERS ? 0 : end.thread);
         WANT(qolb_lock_close(&held[k]), does < ENTERS ? QOLB_DONE : QOLB_MISUSE);
     }
+    return pthread_key_delete(end.key);
+}
+
+/* ---- A first use in a destructor ---- */
+
+static void *ends_without_locks(void *unused) {
+    end.thread = gettid();
+    MUST(pthread_setspecific(end.key, (void *)1), 0);
+    return unused;
+}
+
+/* The thread's memory is gone when the next one begins there, and when it is asked who holds a lock. */
+static int first_use_in_a_destructor(int rounds, int does) {
+    static _Alignas(4096) char stack[1 << 20];
+    pthread_attr_t at_stack;
+    pthread_t id;
+    struct user next = {.lock = &(qolb_lock)QOLB_LOCK_INIT, .count = &(long){0}, .turns = 1};
+    end.rounds = rounds, end.does = does, end.other = of_bursts(does % 2 ? 0 : 16);
+    WANT(pthread_attr_init(&at_stack) | pthread_attr_setstack(&at_stack, stack, sizeof stack), 0);
+    WANT(pthread_key_create(&end.key, in_a_destructor), 0);
+    MUST(pthread_create(&id, &at_stack, ends_without_locks, NULL), 0);
+    pthread_join(id, NULL);
+    memset(stack, 0xa5, sizeof stack);
+    WANT(qolb_lock_holder(&end.other), does == ENTERS_AND_STAYS ? end.thread : 0);
+    MUST(pthread_create(&id, &at_stack, counts, &next), 0);
+    pthread_join(id, NULL);
+    WANT(qolb_lock_close(&end.other), does == ENTERS_AND_STAYS ? QOLB_MISUSE : QOLB_DONE);
+    WANT(pthread_attr_destroy(&at_stack), 0);
     return pthread_key_delete(end.key);
 }
 
@@ -379,7 +406,9 @@ int main(int argc, char **argv) {
     if (opened_once(0) || opened_once(2) || holder_that_ended() || another_in_the_same_bytes()) return 1;
     for (int round = 1; round <= ROUNDS; round++)
         for (int does = LEAVES; does <= ENTERS_AND_STAYS; does++)
-            if (after_the_librarys_destructor(round, does)) return 1;
+            if (after_the_librarys_destructor(round, does) ||
+                (does >= ENTERS && first_use_in_a_destructor(round, does)))
+                return 1;
     for (int shut = 0; shut < 2; shut++)
         if (limits_behind_many(0, shut) || limits_behind_many(64, shut)) return 1;
     return 0;

@@ -4,6 +4,7 @@
  * calls that poll and withdraw. One thread does what several would: so it enters a lock that it holds as preload.c
  * does. Prints only errors. */
 #define _GNU_SOURCE
+#include "want.h"
 #include <lock/lock.h>
 #include <sched.h>
 #include <stdarg.h>
@@ -13,15 +14,6 @@
 #include <sys/wait.h>
 #include <time.h>
 #include <unistd.h>
-
-#define WANT(call, wanted)                                            \
-    do {                                                              \
-        unsigned long long got_ = (unsigned long long)(call);         \
-        if (got_ != (unsigned long long)(wanted)) {                   \
-            printf("line %d: %s gave %llu\n", __LINE__, #call, got_); \
-            return 1;                                                 \
-        }                                                             \
-    } while (0)
 
 enum { MS = 1000000, KEPT = 8 };
 #define NEVER UINT64_MAX

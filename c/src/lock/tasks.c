@@ -1,4 +1,4 @@
-/* Tasks at a lock: who enters it without a thread that waits (qolb.h, EVENT LOOPS). Tested and explored, not proved.
+/* Tasks at a lock: who enters it without a thread that waits (qolb_task(3)). Tested and explored, not proved.
  *
  * A task draws a ticket as a thread does. While it waits the registry has its ticket. Who grants that, or leaves the
  * outer word, makes it due, and then its call (../notify.c). From there on the turn is the task's: its poll looks
