@@ -111,6 +111,7 @@ void qolb_pass_on_(struct lock *lock, struct turn *at) {
 /* How the queue head has watched the outer word. */
 struct watch {
     uint64_t first, had; /* the newcomers since the last head when it began, and at its last look */
+    uint64_t begun;      /* the same when its spin began */
     uint64_t since;      /* when it first slept, or 0 */
     unsigned spun;       /* nanoseconds since it began, or slept */
 };
@@ -141,13 +142,9 @@ static void watch_held(struct request *my, struct watch *watch, uint64_t outer) 
     int requested = outer & HANDOFF_REQUESTED;
     if (!requested && is_long(my, watch, outer))
         requested = qolb_core_request_handoff_proved_(core_of(my), ticket_of(my)) == QOLB_DONE;
-    unsigned pause = requested ? POLL_PAUSE : WATCH_PAUSE;
-    if (watch->spun < SPIN_NEAR && qolb_pause_(pause)) {
-        watch->spun += pause;
-    } else {
-        sleep_as_head(my, watch);
-        watch->spun = 0;
-    }
+    if (watch->spun == 0) watch->begun = outer / NEWCOMER;
+    int moved = outer / NEWCOMER != watch->begun;
+    if (!qolb_watch_once_(&watch->spun, requested ? POLL_PAUSE : WATCH_PAUSE, moved)) sleep_as_head(my, watch);
 }
 
 uint32_t qolb_await_outer_(struct request *my) {
