@@ -183,7 +183,7 @@ def longest_schedule():
 
 def one_command_too_many(program):
     """A script of one command more than there may be, and its explanation."""
-    complaint = f"bad line {MOST + 2}\n    enq 1 0\nmore than {MOST:,} commands\n"
+    complaint = f"bad line {MOST + 2}\n    enq 1 0\nmore than {MOST:,} commands, events or jobs\n"
     expect("one command too many", (1, "", complaint), run(program, ["replay", "--kind", "plain", "--explain"], longest_schedule() + b"\nenq 1 0\n"))
 
 

@@ -27,6 +27,11 @@ def short(number):
     return f"{number:,.0f}" if number >= 100 else f"{number:.3g}"
 
 
+def span(least, most):
+    """Two figures in a sentence; one, if they are the same."""
+    return least if least == most else f"{least} to {most}"
+
+
 def table(heads, rows):
     """A table of a page."""
     return "\n".join("| " + " | ".join(row) + " |" for row in (heads, ["---"] * len(heads), *rows))
@@ -127,7 +132,7 @@ def ratio(number):
 
 def times_of_mutex():
     """The least and the most of these with 2, 4, 8 and 32 threads."""
-    return tuple(ratio(of(of_mutex(count))) for count in ("2", "4", "8", "32") for of in (min, max))
+    return tuple(span(ratio(min(each)), ratio(max(each))) for each in map(of_mutex, ("2", "4", "8", "32")))
 
 
 CHOICE = {"strict": "strict, `QOLB_LOCK_INIT`", "bursts": "bursts, `QOLB_LOCK_INIT_BURSTS(1024)`", "mutex": "`pthread_mutex`"}
@@ -175,7 +180,7 @@ def alone():
     """Nanoseconds of a round by one thread: the lines in Rattle, from C, and MCS."""
     found = medians()
     lines, from_c = [found[line, "1"] for line in LINES], [found[f"{line} from C", "1"] for line in LINES]
-    return *(f"{time:.0f}" for time in (min(lines), max(lines), min(from_c), max(from_c), found["MCS", "1"])),
+    return *(span(f"{min(times):.0f}", f"{max(times):.0f}") for times in (lines, from_c)), f"{found['MCS', '1']:.0f}"
 
 
 def to_mcs():
@@ -183,7 +188,7 @@ def to_mcs():
     found = medians()
     threads = sorted({count for _, count in found}, key=int)
     ratios = [[found[line, count] / found["MCS", count] for count in threads] for line in ("ticket line", "ring", "link line")]
-    return threads[0], threads[-1], *(f"{of(each):.2f}" for each in ratios for of in (min, max))
+    return span(threads[0], threads[-1]), *(span(f"{min(each):.2f}", f"{max(each):.2f}") for each in ratios)
 
 
 def bursts():
@@ -191,7 +196,7 @@ def bursts():
     rows = [row for row in rows_of("bursts.tsv") if row["lock"] == "burst:1024"]
     empty = [float(row["of_mutex_turns"]) for row in rows if row["turn_us"] == "0"]
     waited = [float(row["of_mutex_wait"]) for row in rows if row["turn_us"] == "10"]
-    return f"{min(empty):.1f}", f"{max(empty):.1f}", f"{1 // max(waited):.0f}"
+    return span(f"{min(empty):.1f}", f"{max(empty):.1f}"), f"{1 // max(waited):.0f}"
 
 
 def tests_with_a_proof():
@@ -202,11 +207,11 @@ def tests_with_a_proof():
 TABLES = {"rounds": rounds, "fastest": fastest, "waits": waits, "memory": memory, "choice": choice, "speed": speed}
 # Of each sentence with figures: its page, the sentence with `{}` for each, and the figures.
 RATIOS = [
-    ("README.md", "with {} to {} threads: the ticket line takes {} to {} times as long as MCS, the ring {} to {}, the link line {} to {}", to_mcs),
+    ("README.md", "with {} threads: the ticket line takes {} times as long as MCS, the ring {}, the link line {}", to_mcs),
     ("README.md", "for two nodes {} and {} as a link line, {} and {} as a ticket line, {} and {} as a ring", for_two),
-    ("README.md", "With one thread a turn takes {} to {} ns, from C {} to {}, MCS's {}", alone),
+    ("README.md", "With one thread a turn takes {} ns, from C {}, MCS's {}", alone),
     ("README.md", "runs, without a proof, all tests but {},", tests_with_a_proof),
     ("docs/LOCKS.md", "By 2, 3 and 4 threads a strict one takes {}, {} and {} of MCS's time, and alone {} of a mutex's", beside_mcs),
-    ("docs/LOCKS.md", "a mutex makes {} to {} times the turns of a strict `qolb_lock` with 2 threads, {} to {} with 4, {} to {} with 8 and {} to {} with 32", times_of_mutex),
-    ("docs/LOCKS.md", "{} to {} times a mutex's empty turns; with turns of 10 us its longest wait is at most one {}th of a mutex's", bursts),
+    ("docs/LOCKS.md", "a mutex makes {} times the turns of a strict `qolb_lock` with 2 threads, {} with 4, {} with 8 and {} with 32", times_of_mutex),
+    ("docs/LOCKS.md", "{} times a mutex's empty turns; with turns of 10 us its longest wait is at most one {}th of a mutex's", bursts),
 ]

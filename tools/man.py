@@ -1,21 +1,34 @@
 #!/usr/bin/env python3
-"""Writes the manual pages: docs/man/qolb.3 from the text of c/include/qolb.h, and docs/man/qolb.1 from the help of the program.
+"""Writes the manual pages: docs/man/qolb*.3 from the text of c/include/qolb.h, and docs/man/qolb.1 from the help of the program.
 
-tools/man.py [PROGRAM]      writes both; without a program, and none at crates/qolb/out/qolb, qolb(3) alone
+tools/man.py [PROGRAM]      writes all; without a program, and none at crates/qolb/out/qolb, those of the header
 tools/man.py --check [PROGRAM]      compares them with the header and the program: writes nothing, and ends with 1 if one differs
+
+A part of the header's comment between two lines of `====` is a page. None may have a line of more than 80 columns, a list that breaks a sentence, or a warning.
 
 The header's table of memory is the one that c/build/tests/memory counts, once it is built (make -C c/tests manual): it is written and compared, too.
 """
 
+import os
 import pathlib
 import re
+import shutil
 import subprocess
 import sys
+import tempfile
 import textwrap
 
 ROOT = pathlib.Path(__file__).resolve().parent.parent
 HEADER = ROOT / "c/include/qolb.h"
 PAGES = ROOT / "docs/man"
+# The pages of the header, and what belongs to each but qolb_node: calls, types and constants.
+PARTS = ["qolb", "qolb_lock", "qolb_node", "qolb_task"]
+OF_PAGE = {"qolb": "qolb_version|qolb_answer", "qolb_lock": "qolb_lock|qolb_cond", "qolb_task": "qolb_task|qolb_notify"}
+# The sections that a page has before its calls.
+FIRST = ["DESCRIPTION", "PROOFS", "INITIALISERS", "EXAMPLE", "ORDER AND BURSTS", "WORDS", "KINDS"]
+OF_ANSWERS = "DONE is the answer QOLB_DONE of qolb(3)."
+# The blanks before a sample; the columns of a declaration, which is indented by seven.
+SAMPLE, WIDTH = "    ", 72
 MEMORY = ROOT / "c/build/tests/memory"
 SUBCOMMANDS = ["replay", "draw", "steps", "board", "bank"]
 
@@ -37,89 +50,78 @@ def uncommented(comment):
     return [re.sub(r"^ ?\* ?", "", line).rstrip() for line in body.split("\n")]
 
 
-def paragraphs(lines):
-    """Groups of lines without an empty line in between."""
+def blocks(lines):
+    """Groups of lines without an empty line in between; a sample goes on behind one, but for that of a command."""
     run = []
     for line in [*lines, ""]:
-        if line.strip():
-            run.append(line)
+        is_sample = bool(run) and run[0].startswith(SAMPLE)
+        if line and (not is_sample or line.startswith(SAMPLE)):
+            run += [line]
+        elif is_sample and not line and run[-1]:
+            run += [""]
         elif run:
-            yield run
-            run = []
+            yield run[:-1] if not run[-1] else run
+            run = [line] if line else []
+    if run:
+        yield run[:-1] if not run[-1] else run
 
 
-def running(lines):
-    """A paragraph, an indented sample, a list of dashes or of words with a colon, as troff."""
-    if all(line.startswith("    ") for line in lines):
-        return ".PP\n.in +4n\n.nf\n" + "\n".join(escaped(line[4:]) for line in lines) + "\n.fi\n.in"
-    out, text = [], []
-
-    def flush():
-        if text:
-            out.append(filled(" ".join(text)))
-            text.clear()
-
-    of_words = re.match(r"[\w, ]+: ", lines[0])
-    if not of_words and not lines[0].startswith("- "):
-        out.append(".PP")
+def items(lines, begins):
+    """The items of a list: each begins with a line of this form, and goes on in those below."""
+    found = []
     for line in lines:
-        line = line.strip()
-        if line.startswith("- "):
-            flush()
-            out.append(".IP \\(bu 2")
-            text.append(line[2:])
-        elif of_words and re.match(r"[a-z]+(, [a-z]+)?: ", line):
-            flush()
-            word, rest = line.split(": ", 1)
-            out.append(f".TP\n.B {word}")
-            text.append(rest)
+        if re.match(begins, line):
+            found.append(line)
         else:
-            text.append(line)
-    flush()
-    return "\n".join(out)
+            found[-1] += " " + line.strip()
+    return found
 
 
-def sections(lines):
-    """The header's sections: a title in capitals, and its paragraphs. The first has no title."""
-    title, runs = "DESCRIPTION", []
-    for run in paragraphs(lines):
-        if len(run) == 1 and re.fullmatch(r"[A-Z ]+", run[0]):
-            yield title, runs
-            title, runs = run[0], []
-        else:
-            runs.append(run)
-    yield title, runs
-
-
-def samples_joined(runs):
-    """Joins a sample that has empty lines in it."""
-    joined = []
-    for run in runs:
-        is_sample = all(line.startswith("    ") for line in run)
-        if joined and is_sample and all(not line or line.startswith("    ") for line in joined[-1]):
-            joined[-1] += ["", *run] if run[0].strip()[:3] != "cc " else []
-            if run[0].strip()[:3] == "cc ":
-                joined.append(run)
-        else:
-            joined.append(run)
-    return joined
+def running(title, lines):
+    """A block as troff: a sample, a list of dashes or, in WORDS, of words with a colon, or a paragraph."""
+    if lines[0].startswith(SAMPLE):
+        return ".PP\n.EX\n" + "\n".join(map(escaped, lines)) + "\n.EE"
+    if lines[0].startswith("- "):
+        return "\n".join(f".IP \\(bu 2\n{filled(item[2:])}" for item in items(lines, "- "))
+    if title == "WORDS":
+        return "\n".join(tagged(*item.split(": ", 1)) for item in items(lines, r"[a-z]+: "))
+    return ".PP\n" + filled(" ".join(lines))
 
 
 def section(title, runs):
-    out = []
-    for run in samples_joined(runs):
-        if "" in run:
-            out.append(".PP\n.in +4n\n.nf\n" + "\n".join(escaped(line[4:]) for line in run) + "\n.fi\n.in")
+    """A section of a page."""
+    return f".SH {title}\n" + "\n".join(running(title, run) for run in runs).removeprefix(".PP\n")
+
+
+def parts(lines):
+    """The parts of the header's comment: a page, its title, and its sections, each a title in capitals and its blocks."""
+    of = {"qolb": (lines[0].partition(": ")[2].rstrip("."), {"DESCRIPTION": []})}
+    page = "qolb"
+    for run in blocks(lines[1:]):
+        head = re.fullmatch(r"=+ (\w+)\(3\): (.*?) =+", run[0])
+        if head:
+            page = head[1]
+            of[page] = (head[2], {"DESCRIPTION": []})
+        elif len(run) == 1 and re.fullmatch(r"[A-Z ]+", run[0]):
+            of[page][1][run[0]] = []
         else:
-            out.append(running(run))
-    return f".SH {title}\n" + "\n".join(out).removeprefix(".PP\n")
+            list(of[page][1].values())[-1].append(run)
+    return of
+
+
+def page_of(name):
+    """The page of a call, a type or a constant."""
+    for page, begins in OF_PAGE.items():
+        if re.match(begins, name, re.I):
+            return page
+    return "qolb_node"
 
 
 def prototype(line):
     """A declaration as a caller reads it, or nothing if the line is none."""
     line = re.sub(r"^QOLB_LOOK static inline |^static inline ", "", line.strip())
     match = re.match(r"([\w ]+\*?[\w ]*\*?)(qolb_\w+[a-z])\((.*)\)( QOLB_LOOK)?( ?[;{].*)?$", line)
-    return f"{match[1]}{match[2]}({match[3]});" if match else None
+    return (match[2], f"{match[1]}{match[2]}({match[3]});") if match else None
 
 
 def calls(text):
@@ -132,16 +134,37 @@ def calls(text):
 
 
 def types(text):
-    """Each group of types and constants as a caller reads them, with the comment above it."""
+    """Each group of types and constants as a caller reads them, with the comment above it. Of a type that only calls read there is the name."""
     comment, struct, constant = r"/\*(?:(?!\*/).)*\*/", r"typedef struct (?:__attribute__\(\([^\n]*?\)\) )?\w+ \{[^}]*\} \w+;", r"#define QOLB_[A-Z_]+[A-Z][ (][^\n]*"
     for match in re.finditer(rf"({comment})\n((?:(?:{struct}|{constant})\n)+)", text, re.S):
-        told = [re.sub(r"^#define (\w+(?:\([\w, ]*\))?).*|__attribute__\S+ ", r"\1", made) for made in re.findall(f"{struct}|{constant}", match[2])]
-        yield told, uncommented(match[1])
+        told = [re.sub(r"^#define (\w+(?:\([\w, ]*\))?).*|^typedef struct (?:__attribute__\S+ )?(\w+) \{\n    void \*own.*", r"\1\2", made, flags=re.S) for made in re.findall(f"{struct}|{constant}", match[2])]
+        yield re.search(r"(?:struct )?(\w+)(?: \{|\(|$)", told[0])[1], told, uncommented(match[1])
+
+
+def narrow(made):
+    """A declaration in lines of a page of 80 columns, broken behind commas between its parameters."""
+    lines = made.split("\n")
+    if len(lines) > 1 or len(made) <= WIDTH:
+        return lines
+    for part in re.findall(r"(?:[^,()]|\([^()]*\))+[,)]?[;]?", made[made.index("(") + 1 :]):
+        joined = f"{lines[-1]} {part.strip()}"
+        if lines[0] == made:
+            lines = [made[: made.index("(") + 1] + part]
+        elif len(joined) > WIDTH:
+            lines.append("    " + part.strip())
+        else:
+            lines[-1] = joined
+    return lines
 
 
 def declared(made):
     """A declaration in bold, with the blanks that a request would drop."""
-    return "\n".join(".B " + escaped(line).replace("    ", "\\ " * 4) for line in made.split("\n"))
+    return "\n".join(".B " + escaped(line).replace("    ", "\\ " * 4) for line in narrow(made))
+
+
+def explained(made, said):
+    """Declarations, and what the header says of them."""
+    return ".PP\n.nf\n" + "\n".join(map(declared, made)) + "\n.fi\n.RS 4\n" + filled(" ".join(said)) + "\n.RE"
 
 
 def values(text, name):
@@ -182,30 +205,51 @@ def released(version):
     return re.search(rf"(?m)^## {re.escape(version.rsplit('.', 1)[0])} \((.*)\)$", (ROOT / "CHANGELOG.md").read_text())[1]
 
 
-def page_of_header():
+def page_of_header(name, rest, version, part):
+    """A page of the header: what its part says, with the calls, types and constants that belong there."""
+    title, sections = part
+    of_page = [(told, said) for told, said in calls(rest) if page_of(told[0][0]) == name]
+    prototypes = [made for told, _ in of_page for made in told]
+    names = ", ".join([name, *(call for call, _ in prototypes)])
+    out = [f'.TH {name.upper()} 3 "{released(version)}" "qolb {version}"', ".nh", ".ad l", f".SH NAME\n{names} \\- {escaped(title)}"]
+    out.append(".SH SYNOPSIS\n.nf\n.B #include <qolb.h>\n.PP\n" + "\n".join(declared(made) for _, made in prototypes) + "\n.fi")
+    out += [section(head, sections.pop(head)) for head in FIRST if head in sections]
+    told = [explained(made, said) for key, made, said in types(rest) if page_of(key) == name]
+    out.append(".SH TYPES\n" + "\n".join(told).removeprefix(".PP\n"))
+    told = [explained([made for _, made in of], said) for of, said in of_page]
+    out.append(".SH CALLS\n" + "\n".join([filled(OF_ANSWERS), *told] if name != "qolb" else told).removeprefix(".PP\n"))
+    for head, enum, page in (("ANSWERS", "qolb_answer", "qolb"), ("STATES", "qolb_node_state", "qolb_node")):
+        if page == name:
+            out.append(f".SH {head}\n" + "\n".join(tagged(f"{value} ({number})", said) for value, number, said in values(rest, enum)))
+    out += [section(head, runs) for head, runs in sections.items()]
+    others = [".BR qolb (1)"] if name == "qolb" else []
+    others += [f".BR {page} (3)" for page in PARTS if page != name] + ([".BR pthread_mutex_lock (3)"] if name == "qolb_lock" else [])
+    out.append(".SH SEE ALSO\n" + ",\n".join(others))
+    return "\n".join(out) + "\n"
+
+
+def pages_of_header():
+    """The pages of the third section, by their files' names."""
     head, rest = HEADER.read_text().split("#ifndef QOLB_H", 1)
-    parts = dict(sections(uncommented(head)))
     version = ".".join(re.search(rf"QOLB_VERSION_{part} (\d+)", rest)[1] for part in ("MAJOR", "MINOR", "PATCH"))
-    what, _, of_what = parts["DESCRIPTION"][0][0].partition(": ")
-    name = ", ".join(sorted({re.search(r"(qolb_\w+)\(", made)[1] for told, _ in calls(rest) for made in told}))
-    out = [f'.TH QOLB 3 "{released(version)}" "qolb {version}"', f".SH NAME\n{escaped(name)} \\- {escaped(of_what.rstrip('.'))}"]
-    prototypes = [made for told, _ in calls(rest) for made in told]
-    out.append(".SH SYNOPSIS\n.nf\n.B #include <qolb.h>\n.PP\n" + "\n".join(f".B {escaped(made)}" for made in prototypes) + "\n.PP\n" + escaped("cc prog.c $(pkg-config --cflags --libs qolb)") + "\n.fi")
-    out.append(section("DESCRIPTION", parts.pop("DESCRIPTION")[1:]))
-    example = parts.pop("EXAMPLE")
-    out.append(section("WORDS", parts.pop("WORDS")))
-    out.append(".SH TYPES")
-    for told, said in types(rest):
-        out.append(".PP\n.nf\n" + "\n".join(map(declared, told)) + "\n.fi\n.RS 4\n" + filled(" ".join(said)) + "\n.RE")
-    out.append(".SH CALLS")
-    for told, said in calls(rest):
-        out.append(".PP\n.nf\n" + "\n".join(f".B {escaped(made)}" for made in told) + "\n.fi\n.RS 4\n" + filled(" ".join(said)) + "\n.RE")
-    out.append(".SH ANSWERS\n" + "\n".join(tagged(f"{name} ({number})", said) for name, number, said in values(rest, "qolb_answer")))
-    out.append(".SH STATES\n" + "\n".join(tagged(f"{name} ({number})", said) for name, number, said in values(rest, "qolb_node_state")))
-    out += [section(title, runs) for title, runs in parts.items()]
-    out.append(section("EXAMPLE", example))
-    out.append(".SH SEE ALSO\n.BR qolb (1),\n.BR pthread_mutex_lock (3)")
-    return "\n".join(out).replace(".SH TYPES\n.PP\n", ".SH TYPES\n").replace(".SH CALLS\n.PP\n", ".SH CALLS\n") + "\n"
+    found = parts(uncommented(head))
+    if list(found) != PARTS:
+        sys.exit(f"man.py: c/include/qolb.h has the parts {', '.join(found)}, and not {', '.join(PARTS)}")
+    return {f"{name}.3": page_of_header(name, rest, version, found[name]) for name in PARTS}
+
+
+def faults_of(name, page):
+    """What a reader of 80 columns would stumble at: a sentence that breaks into a list, a wide line, a warning of man."""
+    for before in re.findall(r"(?m)^([^.\n].*)\n\.IP", page):
+        if not before.endswith((".", ":", ";", "?")):
+            yield f"a list breaks a sentence: {before}"
+    if shutil.which("man") and shutil.which("groff"):
+        with tempfile.TemporaryDirectory() as folder:
+            file = pathlib.Path(folder) / name
+            file.write_text(page)
+            told = subprocess.run(["man", "--warnings", "-l", file], env={**os.environ, "MANWIDTH": "80", "MAN_KEEP_FORMATTING": "", "LC_ALL": "C.UTF-8"}, capture_output=True, text=True, check=False)
+        yield from told.stderr.splitlines()
+        yield from (f"a line is wider than 80: {line}" for line in told.stdout.expandtabs().splitlines() if len(line) > 80)
 
 
 def told_by(program, mark, *words):
@@ -241,12 +285,14 @@ def main():
     named = words[1:] if is_check else words
     program = pathlib.Path(named[0]) if named else ROOT / "crates/qolb/out/qolb"
     check_memory(is_check)
-    pages = {"qolb.3": page_of_header()}
+    pages = pages_of_header()
     if program.exists():
         pages["qolb.1"] = page_of_program(program)
     else:
-        print(f"man.py: no program at {program}: qolb(3) alone was {'compared' if is_check else 'written'}", file=sys.stderr)
+        print(f"man.py: no program at {program}: only the pages of qolb.h were {'compared' if is_check else 'written'}", file=sys.stderr)
     for name, page in pages.items():
+        for fault in faults_of(name, page):
+            sys.exit(f"man.py: {name}: {fault}")
         if not is_check:
             (PAGES / name).write_text(page)
         elif (PAGES / name).read_text() != page:

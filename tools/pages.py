@@ -1,8 +1,8 @@
 #!/usr/bin/env python3
 """Checks the pages as a whole; docs/compare runs it.
 
-    tools/pages.py            words of each page, of three paths and of the manuals, each with its limit; links, names and figures
-    tools/pages.py --write    also writes tables and sentences of figures anew, from c/bench/figures/*.tsv
+    tools/pages.py            words of each page, of three paths and of the manuals, each with its limit; links, names, figures and what is claimed of a lock
+    tools/pages.py --write    also writes tables and sentences of figures anew, from c/bench/figures/*.tsv, and whether explored code has changed since
 
 A word is what stands between blanks and has a letter or a digit. A name in code font must stand in a file that is no page, too. A ratio in a sentence
 is computed again from the table that it is of (`RATIOS` of tools/figures.py), and so is each table behind a line `<!-- figures: NAME -->`. It ends with 1 if a limit is
@@ -19,17 +19,17 @@ import figures
 ROOT = pathlib.Path(__file__).resolve().parent.parent
 LIMITS = {
     "README.md": 900,
-    "docs/ARCHITECTURE.md": 1650,
-    "docs/USING.md": 2500,
+    "docs/ARCHITECTURE.md": 1550,
+    "docs/USING.md": 2450,
     "docs/LOCKS.md": 1200,
     "docs/PROVED.md": 4250,
-    "docs/CHANGING.md": 2000,
-    "docs/DECISIONS.md": 3400,
+    "docs/CHANGING.md": 1850,
+    "docs/DECISIONS.md": 2800,
     "docs/SCRIPTS.md": 2000,
     "CHANGELOG.md": 1500,
 }
-# All pages but the CHANGELOG; the READMEs of crates, all and the lines of each; a call of qolb(3).
-ALL, CRATES, CRATE_LINES, CALL = 26500, 5400, 25, 112
+# All pages but the CHANGELOG; the READMEs of crates, all and the lines of each; a call of the manual's third section.
+ALL, CRATES, CRATE_LINES, CALL = 23000, 4600, 25, 105
 # Three readers: who needs a lock, who wants the theorems, who carries it on.
 PATHS = {
     "lock user": (["README.md", "docs/USING.md#locks"], 2500),
@@ -38,6 +38,16 @@ PATHS = {
 }
 # Names of other projects, of the system, and of what a reader makes.
 ELSEWHERE = {"ck_spinlock_mcs", "eh_frame", "my_program", "overcommit_memory", "queuing_mutex", "transparent_hugepage"}
+# What is claimed of a lock: the paragraph of PROVED that begins so is in each of these files, and the short form in those.
+CLAIM, SHORT_CLAIM = "Proved of a lock: ", "Fair locks: who has the turn is proved"
+CLAIMING = ["README.md", "c/include/qolb.h", "c/rust/qolb.rs", "c/package/README", "c/package/control.in"]
+CLAIMING_SHORT = ["c/package/qolb.pc.in", "c/rust/Cargo.toml.in"]
+# Sentences that claim more.
+TOO_MUCH = re.compile(r"library is proved|proved (?:queue )?locks?\b(?!_)|(?:nobody|no thread) is overtaken|no wake-up is lost")
+# What an exploration runs: each row of PROVED's table begins with one of these, and ends with the commit whose code it ran.
+EXPLORED = {"lock": ["c/src/lock", "c/src/bells.c", "c/src/bells.h", "c/src/notify.c"], "nodes": ["c/src/calls.c", "c/src/bells.c", "c/src/bells.h", "c/src/notify.c"]}
+# A number in a sentence.
+FIGURE = r"(?:\d[\d.,]*)?\d"
 faults = []
 
 
@@ -95,9 +105,9 @@ def count_words(pages):
     limit("all pages but CHANGELOG.md", sum(counts[page] for page in pages if page != "CHANGELOG.md"), ALL)
     for reader, (parts, most) in PATHS.items():
         limit(f"{reader}: {', '.join(parts)}", sum(words(part_of(part)) for part in parts), most)
-    manual = (ROOT / "docs/man/qolb.3").read_text()
-    calls = manual.split("\n.SH NAME\n", 1)[1].split(" \\- ", 1)[0].count(",") + 1
-    limit("docs/man/qolb.3, a call", -(-words(re.sub(r"(?m)^\.[A-Z]+ ?", "", manual)) // calls), CALL)
+    manual = [page.read_text() for page in (ROOT / "docs/man").glob("*.3")]
+    calls = sum(page.split("\n.SH NAME\n", 1)[1].split(" \\- ", 1)[0].count(",") for page in manual)
+    limit("docs/man/*.3, a call", -(-sum(words(re.sub(r"(?m)^\.[A-Za-z]+ ?", "", page)) for page in manual) // calls), CALL)
     for page in crates:
         lines = (ROOT / page).read_text().count("\n")
         if lines > CRATE_LINES:
@@ -138,7 +148,7 @@ def check_figures(is_write):
             text = re.sub(rf"(<!-- figures: {name} -->\n\n).*?\n\n", lambda found: found[1] + table() + "\n\n", text, flags=re.S)
         for of_page, sentence, numbers in figures.RATIOS:
             if of_page == page:
-                pattern = re.escape(sentence).replace(r"\{\}", r"(?:\d[\d.,]*)?\d")
+                pattern = re.escape(sentence).replace(r"\{\}", rf"{FIGURE}(?: to {FIGURE})?")
                 text, count = re.subn(pattern, sentence.format(*numbers()), text)
                 if not count:
                     faults.append(f"{page} has no sentence of the form: {sentence}")
@@ -149,11 +159,39 @@ def check_figures(is_write):
             faults.append(f"{page} has other figures than c/bench/figures; tools/pages.py --write would write: {changed[0][:150]}")
 
 
+def check_claims(pages):
+    """What is claimed of a lock is the same everywhere, and no page claims more."""
+    claim = next(line for line in (ROOT / "docs/PROVED.md").read_text().split("\n") if line.startswith(CLAIM))
+    for name in [*CLAIMING, *CLAIMING_SHORT]:
+        text = " ".join(re.sub(r"(?m)^ *(?:\*|//!?)", " ", (ROOT / name).read_text()).split())
+        if (claim if name in CLAIMING else SHORT_CLAIM) not in text:
+            faults.append(f"{name} does not claim of a lock what docs/PROVED.md does")
+    for name in {*pages, *CLAIMING} - {"CHANGELOG.md"}:
+        for found in TOO_MUCH.finditer((ROOT / name).read_text()):
+            faults.append(f"{name} claims too much: {found[0]}")
+
+
+def check_explored(is_write):
+    """Each row of the table of explorations says whether the code has changed since, where its commit is known."""
+    path = ROOT / "docs/PROVED.md"
+    before = text = path.read_text()
+    for row, what, commit in re.findall(r"(?m)^(\| (lock|nodes), .*\| ([0-9a-f]{8}))(?:: changed since)? \|$", text):
+        differs = subprocess.run(["git", "diff", "--quiet", commit, "--", *EXPLORED[what]], cwd=ROOT, stderr=subprocess.DEVNULL, check=False).returncode
+        if differs in (0, 1):
+            text = re.sub(rf"(?m)^{re.escape(row)}(?:: changed since)? \|$", f"{row}{': changed since' if differs else ''} |", text)
+    if is_write:
+        path.write_text(text)
+    elif text != before:
+        faults.append("docs/PROVED.md says of other code than c/src has that it is explored: run tools/pages.py --write")
+
+
 def main():
     files = tracked()
     pages = [name for name in files if name.endswith(".md")]
     check_figures("--write" in sys.argv[1:])
+    check_explored("--write" in sys.argv[1:])
     count_words(pages)
+    check_claims(pages)
     check_links(pages)
     check_names(pages, files)
     for fault in faults:

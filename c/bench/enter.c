@@ -10,8 +10,8 @@
  * ./enter 1 strict, it does 10,000 rounds of that way alone, to be counted by valgrind --tool=callgrind
  * --toggle-collect='rounds_of*'. */
 #define _DEFAULT_SOURCE
-#include "kinds.h"
 #include <pthread.h>
+#include <qolb.h>
 #include <stdio.h>
 #include <stdlib.h>
 #include <string.h>

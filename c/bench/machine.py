@@ -82,23 +82,25 @@ def shares(seconds, others, stolen):
 
 class Quiet:
     """Runs the parts of a measurement. If it is strict, a part during which other programs or other machines took more than 2 % of the processors is
-    thrown away, and run again."""
+    thrown away, and run again, until so many were."""
 
-    LIMIT = 2
+    LIMIT, MOST = 2, 40
 
     def __init__(self, is_strict):
-        self.is_strict, self.sums, self.thrown_away = is_strict, (0, 0, 0), 0
+        self.is_strict, self.sums, self.thrown_away, self.kept = is_strict, (0, 0, 0), 0, 0
 
     def __call__(self, part, *words):
         while True:
             load = Load()
             result = part(*words)
             took = load.parts()
-            if not self.is_strict or max(took[1:]) <= self.LIMIT / 100 * took[0] * len(names_of_processors()):
+            is_quiet = max(took[1:]) <= self.LIMIT / 100 * took[0] * len(names_of_processors())
+            if not self.is_strict or is_quiet or self.thrown_away == self.MOST:
                 self.sums = tuple(map(sum, zip(self.sums, took)))
+                self.kept += not is_quiet
                 return result
             self.thrown_away += 1
 
     def __str__(self):
-        again = f"; {self.thrown_away} parts with more than {self.LIMIT} % were run again" if self.is_strict else ""
+        again = f"; {self.thrown_away} parts with more than {self.LIMIT} % were run again, {self.kept} were kept" if self.is_strict else ""
         return shares(*self.sums) + again

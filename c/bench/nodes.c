@@ -1,34 +1,36 @@
 /* Nodes of a line that threads acquire by qolb_acquire, or by polls and pauses of their own, beside MCS locks and a
- * mutex: all in one program, in short phases that take turns.
+ * mutex: all in one program, in short phases that take turns. c/bench/nodes builds and runs it.
  *
- *   make -C c && clang -O3 -march=x86-64-v2 -pthread -Ic/include -o nodes c/bench/nodes.c c/build/libqolb.a
- *   ./nodes KIND THREADS MICROSECONDS PHASE_MS SECONDS [pinned] [loops]
+ *   ./nodes THREADS MICROSECONDS PHASE_MS SECONDS at=0,2,1,3 KIND [loops] [polls] [acquire]
+ *   ./nodes machine at=0,1,2,3
  *
- * needs Debian's package libck-dev. KIND is ring, link or ticket. MICROSECONDS is the length of a turn, in which the
- * holder adds 1 to a lane of the line, or to a number beside the lock. With `pinned` thread k stays at processor k.
- * With `loops` each of four processors also has a thread that does nothing else than loop.
+ * Thread k stays at the processor with that place in the list. KIND is ring, link or ticket. MICROSECONDS is the length
+ * of a turn, in which the holder adds 1 to a lane of the line, or to a number beside the lock. With `loops` each of the
+ * processors also has a thread that does nothing else than loop, and qolb_acquire is timed beside MCS alone. With
+ * `polls` loops of polls by hand are timed too, with `acquire` nothing but qolb_acquire.
  *
- * It prints the time of a hand-over between each two of four processors, the part of the time that other machines had,
- * and for each way nanoseconds a turn, over all threads: the median of the phases, the quartiles, the ratio of the
- * median to that of MCS, and the same of all turns together. Of the waits whose time was taken it prints the 99.9th of
- * 100, and the longest of a phase, the median of the phases, in microseconds. Places in memory matter: each way has
- * PLACES lines or locks, and takes one after the other. */
+ * It prints the time of a hand-over between each two of the processors, before and after. Then, tab-separated, for each
+ * way: its name, the phases, nanoseconds a turn over all threads (the median of the phases, the quartiles, and of all
+ * turns together), and of the waits whose time was taken the 99.9th of 100 and the longest of a phase, the median of
+ * the phases, in microseconds. `machine` prints hand-overs and the time of a pause. */
 #define _GNU_SOURCE
-#include <qolb.h>
+#include "kinds.h"
 
 enum way { MCS, MCS_YIELDS, MUTEX, ACQUIRE, POLLS_4, POLLS_8, POLLS_16, WAYS };
-static const char *const names[WAYS] = {"MCS",
-                                        "MCS that yields",
-                                        "pthread_mutex",
-                                        "qolb_acquire",
-                                        "polls, 4 pauses",
-                                        "polls, 8 pauses",
-                                        "polls, 16 pauses"};
+static const char *const names[WAYS] = {
+    "MCS", "MCS that yields", "mutex", "qolb_acquire", "polls, 4 pauses", "polls, 8 pauses", "polls, 16 pauses"};
 
 #include "phases.h"
 
-/* With more threads than processors only ways that sleep or yield are timed, and compared with the MCS that yields. */
-static int is_timed(int by) { return threads <= many_processors || (by >= MCS_YIELDS && by <= ACQUIRE); }
+static int has_loops, has_polls, acquires_alone;
+
+/* MCS and loops of polls never sleep: with more threads than processors only ways that sleep or yield are timed. */
+static int is_timed(int by) {
+    if (acquires_alone) return by == ACQUIRE;
+    if (has_loops) return by == ACQUIRE || by == MCS;
+    if (by > ACQUIRE && !has_polls) return 0;
+    return threads <= many_processors || (by >= MCS_YIELDS && by <= ACQUIRE);
+}
 
 static struct {
     _Alignas(PAGE) ck_spinlock_mcs_t mcs;
@@ -89,36 +91,7 @@ static void leave(long thread, enum way by, int at) {
 static void begin_phase(enum way by, int at) { (void)by, (void)at; }
 static void end_phase(long thread, enum way by, int at) { (void)thread, (void)by, (void)at; }
 
-/* ---- The machine ---- */
-
-/* The processor time of this machine until now, and the part of it that other machines took. */
-static void read_stolen(double *whole, double *stolen) {
-    FILE *file = fopen("/proc/stat", "r");
-    double part_of = 0;
-    *whole = 0;
-    if (!file || fscanf(file, "cpu") != 0) abort();
-    for (int k = 0; k < 8; k++, *whole += part_of)
-        if (fscanf(file, "%lf", &part_of) != 1) abort();
-    fclose(file);
-    *stolen = part_of;
-}
-
 /* ---- The program ---- */
-
-static void print_ways(const char *kind) {
-    sort_phases();
-    int than = is_timed(MCS) ? MCS : MCS_YIELDS;
-    double mcs = part(found[than].times, found[than].many, .5);
-    puts("kind\tthreads\tturn_us\tname\tphases\tmedian\tlow\thigh\tof_mcs\tmean\twait_999_us\tlongest_us");
-    for (int k = 0; k < WAYS; k++) {
-        if (!is_timed(k)) continue;
-        double *times = found[k].times, median = part(times, found[k].many, .5);
-        printf("%s\t%d\t%llu\t%s\t%d\t%.1f\t%.1f\t%.1f\t%.2f\t%.1f\t%.0f\t%.0f\n", kind, threads,
-               (unsigned long long)turn_ns / 1000, names[k], found[k].many, median, part(times, found[k].many, .25),
-               part(times, found[k].many, .75), median / mcs, found[k].took / found[k].turns, wait_999(k),
-               part(found[k].longest, found[k].many, .5));
-    }
-}
 
 static int open_places(const char *named) {
     uint32_t kind = QOLB_KINDS;
@@ -135,22 +108,21 @@ static int open_places(const char *named) {
 }
 
 int main(int argc, char **argv) {
-    if (argc < 6) return fprintf(stderr, "nodes KIND THREADS MICROSECONDS PHASE_MS SECONDS [pinned] [loops]\n"), 2;
-    threads = atoi(argv[2]);
-    turn_ns = (uint64_t)(atof(argv[3]) * 1e3);
-    phase_ns = (uint64_t)(atof(argv[4]) * 1e6);
-    double seconds = atof(argv[5]), whole[2], stolen[2];
-    if (threads < 1 || threads > MOST || !open_places(argv[1])) return 2;
-    print_hand_overs();
-    for (int k = 6; k < argc; k++) {
-        if (strcmp(argv[k], "pinned") == 0) pinned = 1;
-        if (strcmp(argv[k], "loops") == 0) begin_loops();
+    if (argc == 3 && strcmp(argv[1], "machine") == 0 && take_processors(argv[2])) return print_machine();
+    if (argc < 7 || !take_arguments(argc, argv) || !open_places(argv[6]))
+        return fprintf(stderr,
+                       "nodes THREADS MICROSECONDS PHASE_MS SECONDS at=0,2,1,3 KIND [loops] [polls] [acquire]\n"),
+               2;
+    for (int k = 7; k < argc; k++) {
+        has_loops |= strcmp(argv[k], "loops") == 0;
+        has_polls |= strcmp(argv[k], "polls") == 0;
+        acquires_alone |= strcmp(argv[k], "acquire") == 0;
     }
-    read_stolen(&whole[0], &stolen[0]);
-    run_phases(seconds);
-    read_stolen(&whole[1], &stolen[1]);
-    printf("# other machines had %.1f %%\n", (stolen[1] - stolen[0]) / (whole[1] - whole[0]) * 100);
-    print_ways(argv[1]);
+    print_hand_overs();
+    if (has_loops) begin_loops();
+    run_phases(atof(argv[4]));
+    if (!has_loops) print_hand_overs();
+    print_ways();
     fflush(stdout);
     _exit(0);
 }

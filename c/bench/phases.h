@@ -1,6 +1,6 @@
 /* Times ways of taking turns, all in one program, in short phases that take turns, and hand-overs between processors.
- * For nodes.c and speed.c: who includes it has an enum way that ends with WAYS, and the functions that are declared
- * here.
+ * For nodes.c and speed.c, which phases.py runs: who includes it has an enum way that ends with WAYS, their names, and
+ * the functions that are declared here.
  *
  * Places in memory matter: each way has PLACES lines or locks, and takes one after the other. */
 #ifndef PHASES_H
@@ -238,6 +238,47 @@ static void print_hand_overs(void) {
             printf(" %d-%d %.0f", processors[a], processors[b], hand_over(processors[a], processors[b]));
     puts("");
     if (sched_setaffinity(0, sizeof before, &before)) abort();
+}
+
+static int print_machine(void) {
+    enum { PAUSES = 100000 };
+    uint64_t since = now();
+    for (int k = 0; k < PAUSES; k++) __builtin_ia32_pause();
+    printf("# a pause, ns: %.1f\n", (double)(now() - since) / PAUSES);
+    print_hand_overs();
+    return 0;
+}
+
+/* ---- The program ---- */
+
+/* Takes the list of processors from a word as at=0,2,1,3, and has thread k stay at the one with that place. */
+static int take_processors(const char *word) {
+    char *rest = (char *)(uintptr_t)word + 3;
+    if (strncmp(word, "at=", 3) != 0) return 0;
+    for (many_processors = 0; *rest && many_processors < MOST_PROCESSORS; rest += *rest == ',')
+        processors[many_processors++] = (int)strtol(rest, &rest, 10);
+    return pinned = many_processors > 0;
+}
+
+/* Takes THREADS MICROSECONDS PHASE_MS SECONDS at=.. */
+static int take_arguments(int argc, char **argv) {
+    if (argc < 6 || !take_processors(argv[5]) || atoi(argv[1]) < 1 || atoi(argv[1]) > MOST) return 0;
+    threads = atoi(argv[1]);
+    turn_ns = (uint64_t)(atof(argv[2]) * 1e3);
+    phase_ns = (uint64_t)(atof(argv[3]) * 1e6);
+    return 1;
+}
+
+static void print_ways(void) {
+    sort_phases();
+    for (int k = 0; k < WAYS; k++) {
+        const double *times = found[k].times;
+        int many = found[k].many;
+        if (is_timed(k))
+            printf("%s\t%d\t%.1f\t%.1f\t%.1f\t%.1f\t%.1f\t%.1f\n", names[k], many, part(times, many, .5),
+                   part(times, many, .25), part(times, many, .75), found[k].took / found[k].turns, wait_999(k),
+                   part(found[k].longest, many, .5));
+    }
 }
 
 #endif

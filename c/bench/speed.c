@@ -124,23 +124,6 @@ static void make_locks(void) {
     }
 }
 
-static int take_processors(const char *word) {
-    char *rest = (char *)(uintptr_t)word + 3;
-    if (strncmp(word, "at=", 3) != 0) return 0;
-    for (many_processors = 0; *rest && many_processors < MOST_PROCESSORS; rest += *rest == ',')
-        processors[many_processors++] = (int)strtol(rest, &rest, 10);
-    return many_processors > 0;
-}
-
-static int of_machine(void) {
-    enum { PAUSES = 100000 };
-    uint64_t since = now();
-    for (int k = 0; k < PAUSES; k++) __builtin_ia32_pause();
-    printf("# a pause, ns: %.1f\n", (double)(now() - since) / PAUSES);
-    print_hand_overs();
-    return 0;
-}
-
 static int of_bytes(size_t many) {
     qolb_lock *table = calloc(many, sizeof *table);
     if (!table) return 1;
@@ -154,18 +137,6 @@ static int of_bytes(size_t many) {
     return 0;
 }
 
-static void print_ways(void) {
-    sort_phases();
-    for (int k = 0; k < WAYS; k++) {
-        const double *times = found[k].times;
-        int many = found[k].many;
-        if (is_timed(k))
-            printf("%s\t%d\t%.1f\t%.1f\t%.1f\t%.1f\t%.1f\t%.1f\n", names[k], many, part(times, many, .5),
-                   part(times, many, .25), part(times, many, .75), found[k].took / found[k].turns, wait_999(k),
-                   part(found[k].longest, many, .5));
-    }
-}
-
 /* A second thread lives, or the C library's mutex takes no atomic step. */
 static void *lives(void *unused) {
     pause();
@@ -174,15 +145,11 @@ static void *lives(void *unused) {
 
 int main(int argc, char **argv) {
     pthread_t id;
-    if (argc == 3 && strcmp(argv[1], "machine") == 0 && take_processors(argv[2])) return of_machine();
+    if (argc == 3 && strcmp(argv[1], "machine") == 0 && take_processors(argv[2])) return print_machine();
     if (argc == 3 && strcmp(argv[1], "bytes") == 0) return of_bytes((size_t)atol(argv[2]));
-    if (argc < 6 || !take_processors(argv[5]) || atoi(argv[1]) < 1 || atoi(argv[1]) > MOST)
+    if (!take_arguments(argc, argv))
         return fprintf(stderr, "speed THREADS MICROSECONDS PHASE_MS SECONDS at=0,2,1,3 [loops] [one]\n"), 2;
-    threads = atoi(argv[1]);
-    turn_ns = (uint64_t)(atof(argv[2]) * 1e3);
-    phase_ns = (uint64_t)(atof(argv[3]) * 1e6);
     print_hand_overs();
-    pinned = 1;
     for (int k = 6; k < argc; k++) {
         if (strcmp(argv[k], "loops") == 0) begin_loops();
         if (strcmp(argv[k], "one") == 0) by_one = 1, pinned = 0, stay_at(processors[0]);

@@ -1,112 +1,220 @@
-/* QOLB for C and C++: a queue lock that hands over 64 bytes with the lock.
+/* QOLB for C and C++: fair locks, which threads get in the order in which they asked.
  *
- * A line is 64 bytes that 1 to 200 nodes share. A node requests it, waits for its turn, reads and writes it, and
- * releases it: lock and bytes are handed to the oldest request. No request is overtaken; a thread may be (BUSY;
- * bursts, in LOCKS). What calls do to a line is proved, and of a lock who is served, in which order. Waits, wakes,
- * tasks, notifications and memory are C, tested, not proved.
+ * A lock (qolb_lock) guards any data, for any number of threads, as a mutex does. A line is a lock that hands over 64
+ * bytes, among 1 to 200 nodes (qolb_node). A task (qolb_task) enters a lock from an event loop, which must not wait.
+ * Each is a part below, and a manual page: qolb_lock(3), qolb_node(3), qolb_task(3).
+ *
+ *     cc -pthread prog.c $(pkg-config --cflags --libs qolb)
+ *     cc -pthread -I PREFIX/include prog.c PREFIX/lib/libqolb.a
+ *
+ * PROOFS
+ *
+ * Proved of a lock: who has the turn (one thread at a time, in order, within the bound of bursts), and that a release
+ * is told of a sleeper. Explored with two and three threads, and tested: that the sleeper wakes, conditions, tasks.
+ * Argued: that a holder sees what the last one wrote. No proof speaks of the data.
+ *
+ * What calls do to a line, with its 64 bytes, is proved. Their waits, notifications and memory are C: explored and
+ * tested.
+ *
+ * SANITIZERS AND DEBUGGERS
+ *
+ * The thread sanitizer (-fsanitize=thread) is told of each grant and release. Each lock is separate; lines of one
+ * label are one to it, and so are a few of different labels: between these it may miss a race. Helgrind and drd of
+ * valgrind are told the same in files that are compiled with -DQOLB_HELGRIND or -DQOLB_DRD, and must suppress the
+ * library's own words: valgrind --tool=helgrind --suppressions=PREFIX/share/qolb/valgrind.supp. The library has no
+ * unwind tables, so a backtrace from inside its calls may end there.
+ *
+ * bpftrace, perf and gdb find probes where a thread waits (provider qolb: wait, sleep, wake, granted, withdrawn,
+ * closed), if the library was built with <sys/sdt.h>. Their arguments are a line's label, the node's number, and a
+ * number by which lines of one label differ. A lock has no label: there they are its address, the thread's ticket,
+ * from 1 on or 0 for none, and the address again.
+ *
+ * PROCESSOR
+ *
+ * Linux on x86-64, with the instructions of x86-64-v2 (SSE4.2 and POPCNT among them), which processors have since
+ * 2009. On an older one the first call that needs one ends the program by SIGILL. If yours may run there, ask first:
+ * __builtin_cpu_supports("sse4.2") && __builtin_cpu_supports("popcnt").
+ *
+ * ==== qolb_lock(3): locks for any number of threads, with conditions ====
+ *
+ * A lock and the data that it guards lie where the program has them, as in a struct, the lock at a multiple of 16
+ * bytes. It takes no heap, and need not be freed. No call of a thread on a lock answers NO_MEMORY.
+ *
+ * INITIALISERS
+ *
+ *     initialiser                    order    turns         bytes
+ *     QOLB_LOCK_INIT                 strict                   320
+ *     QOLB_LOCK_INIT_BURSTS(turns)   bursts   2 to 65,535     320
+ *     QOLB_COND_INIT                 strict                     8
+ *
+ * Zeros are a strict lock or a condition, so calloc makes them.
  *
  * EXAMPLE
  *
  *     #include <qolb.h>
- *     #include <stdio.h>
+ *     #include <stdlib.h>
+ *
+ *     static struct {
+ *         qolb_lock lock;
+ *         qolb_cond some;
+ *         long jobs;
+ *     } queue = {QOLB_LOCK_INIT, QOLB_COND_INIT, 0};
+ *
+ *     void put(void) {
+ *         if (qolb_lock_enter(&queue.lock) != QOLB_GRANTED) abort();
+ *         queue.jobs++;
+ *         qolb_cond_signal(&queue.some);
+ *         qolb_lock_leave(&queue.lock);
+ *     }
+ *
+ *     int take(uint64_t nanoseconds) { // 0 if a wait took so long
+ *         uint32_t got = qolb_lock_enter(&queue.lock);
+ *         if (got != QOLB_GRANTED) abort();
+ *         while (!queue.jobs && got == QOLB_GRANTED)
+ *             got = qolb_cond_wait_within(&queue.some, &queue.lock,
+ *                                         nanoseconds);
+ *         if (got == QOLB_CLOSED) return 0; // the lock is not held
+ *         int is_some = queue.jobs > 0;
+ *         queue.jobs -= is_some;
+ *         qolb_lock_leave(&queue.lock);
+ *         return is_some;
+ *     }
+ *
+ * ORDER AND BURSTS
+ *
+ * A thread that enters draws a ticket, by one step that never waits, and has its turn in the order of tickets. In a
+ * strict lock no call that begins after that is served before it, unless it gives up.
+ *
+ * A lock with bursts stays open when its holder leaves, though threads wait, for whoever enters next: that is one
+ * burst, of at most `turns` turns. Those that wait keep their order. Before a thread with p threads before it there
+ * are at most
+ *
+ *     (p + 1) * (turns - 1)
+ *
+ * turns of calls that began later: to enter, to try, or the end of a wait at a condition. Usually there are fewer: the
+ * first waiter watches, and while it runs asks for the lock after a sixteenth of `turns`, or after 1 ms. More than
+ * 65,535 count as 65,535; with 0 or 1 a lock is strict.
+ *
+ * Take strict order if each wait counts, 1,024 turns for many short turns, and fewer if turns are long.
+ *
+ * LIMITS
+ *
+ * A limit is a length in nanoseconds from the call on, and UINT64_MAX is none. Of waits in a loop pass each what is
+ * left. A late thread gives its ticket up, which is out until a holder leaves. While some 16,300 tickets of a lock are
+ * out, a call with a limit draws none, and looks again each millisecond.
+ *
+ * SHUT AND CLOSE
+ *
+ * qolb_lock_shut ends the use of a lock: who waits, or enters later, is answered CLOSED. qolb_lock_close makes a lock
+ * unopened, for another use of it.
+ *
+ * FORK
+ *
+ * A lock or a line is of one process. A fork copies it, in the same state; the copies guard nothing that both
+ * processes share. The child of a process with one thread may go on with its copy. In the child of a process with
+ * threads call nothing: another thread may have been in a call.
+ *
+ * WAITING
+ *
+ * A waiter polls each 90 ns, for at most 50 us with at most four threads before it, and 2 us with more; then it sleeps
+ * by a futex until its turn. At a condition it sleeps at once. After polls without success a thread polls for less the
+ * next time. It never yields, so a real-time thread may wait for another. A process that may use one processor only
+ * sleeps at once.
+ *
+ * Leaving wakes the next holder, and, if the leaver slept while it waited, the waiter behind it, too; in a burst only
+ * the thread that watches. It calls the system only if it may have to wake a sleeper.
+ *
+ * A granted lock is its thread's, even before that runs: all behind wait until it has woken up and had its turn. No
+ * turn is promised: a thread has its turn once each earlier one has ended.
+ *
+ * No wait is a cancellation point. A thread that is cancelled while it waits is granted the lock or is late, and ends
+ * at its next cancellation point. A thread that may be cancelled at any instruction (PTHREAD_CANCEL_ASYNCHRONOUS) must
+ * make no call.
+ *
+ * DIFFERENCES
+ *
+ * From pthread_mutex_t and pthread_cond_t:
+ *
+ * - Success is QOLB_GRANTED, which is 1; limits are lengths, not points in time.
+ * - There is no priority inheritance.
+ * - A thread that enters a lock which it holds is told MISUSE; none is recursive, robust or shared by processes.
+ * - A lock can be shut. A wait at a condition is not a cancellation point, and does not end without a cause.
+ *
+ * From std::mutex and std::condition_variable, in qolb.hpp:
+ *
+ * - qolb::lock, a timed mutex, throws qolb::Closed after a shut, and qolb::Deadlock if the thread holds it.
+ * - wait_for without a predicate returns whether there was a signal, wait_for_status a cv_status.
+ *
+ * From std::sync::Mutex and Condvar, in the crate:
+ *
+ * - qolb::Mutex is not poisoned. lock() fails with Stopped::Closed or Stopped::Misuse.
+ * - Its lock is on the heap from the first use on, since a value may move.
+ *
+ * WHAT YOU MUST KEEP
+ *
+ * - Start a lock and a condition by an initialiser or zeros. Do not move or copy them once they are used.
+ * - The thread that entered leaves, before it ends. If it ends as the holder, all others wait; qolb_lock_holder
+ *   returns its number, on Linux gettid's.
+ * - Close a lock only if no thread is about to call it. Its memory may go when it is closed, or when nobody holds it,
+ *   waits for it or is about to call it: also while a thread that left it is still in that call. That of a condition
+ *   may go when no thread is in a call on it.
+ * - Call nothing from a signal handler, nor in the forked child of a process with threads.
+ * - Use one copy of the library for a lock: not the static one in the program and another one in what it opens at run
+ *   time.
+ *
+ * Every other call that a lock does not allow is MISUSE, and changes nothing.
+ *
+ * All that a thread wrote before it left is seen by the next holder, and by those that are answered CLOSED. Data that
+ * many threads change begins best at a multiple of 64 bytes, as a lock's last bytes may be in one cache line with what
+ * follows them.
+ *
+ * ==== qolb_node(3): nodes, which share the 64 bytes of a line ====
+ *
+ * A line is 64 bytes that 1 to 200 nodes share. A node requests it, waits for its turn, reads and writes it, and
+ * releases it: lock and bytes are handed to the oldest request. No request is overtaken; a thread may be (BUSY).
+ *
+ * EXAMPLE
+ *
+ *     #include <qolb.h>
  *
  *     int main(void) {
  *         qolb_bytes zeros = {{0}};
  *         qolb_node node[2] = {{0}};
- *         if (qolb_open(QOLB_DEFAULT, 1, 2, QOLB_NO_LEASE, &zeros, node, 2) != QOLB_DONE) return 1;
+ *         if (qolb_open(QOLB_DEFAULT, 1, 2, QOLB_NO_LEASE, &zeros, node,
+ *                       2) != QOLB_DONE) return 1;
  *
- *         // each thread has a node of its own: qolb_move(&node[0]), qolb_move(&node[1])
- *         uint32_t got = qolb_acquire_within(&node[0], 1000000);   // at most 1 ms; qolb_acquire has no limit
+ *         // a thread takes its node by qolb_move(&node[0])
+ *         uint32_t got = qolb_acquire_within(&node[0], 1000000); // 1 ms
  *         if (got == QOLB_GRANTED) {
  *             uint64_t was;
- *             qolb_add_lane(&node[0], 0, 1, &was);                 // what the last holder left, and one more
- *             qolb_deqolb(&node[0]);                               // lock and bytes go to the oldest request
- *         } else {
- *             puts(qolb_answer_name(got));                         // QOLB_LATE or QOLB_CLOSED
+ *             qolb_add_lane(&node[0], 0, 1, &was);
+ *             qolb_deqolb(&node[0]);
  *         }
  *         qolb_close(&node[0]);
  *         qolb_close(&node[1]);
  *         return 0;
  *     }
  *
- *     cc prog.c $(pkg-config --cflags --libs qolb)
- *     cc -IFOLDER_OF_qolb.h prog.c libqolb.a -pthread      // with the archive alone
- *
- * LOCKS
- *
- * If threads come and go, take a lock, which any thread may enter and leave:
- *
- *     static qolb_lock lock = QOLB_LOCK_INIT;              // for any number of threads, first come, first served
- *
- *     if (qolb_lock_enter(&lock) != QOLB_GRANTED) abort(); // CLOSED after a shut, MISUSE if this thread holds it
- *     table[key % SIZE] = value;
- *     qolb_lock_leave(&lock);
- *
- * So a pthread_mutex_t becomes a qolb_lock by type, initialiser, names of calls and tests of answers: success is
- * QOLB_GRANTED, not 0. A condition, qolb_cond, is for a lock what a pthread_cond_t is for a mutex. Times are lengths in
- * nanoseconds from the call on, not points in time. A lock in a struct starts as the same value, which is all zeros:
- *
- *     bucket->lock = (qolb_lock)QOLB_LOCK_INIT;            // in C++ qolb_lock QOLB_LOCK_INIT; calloc makes locks, too
- *
- * A lock is the 320 bytes of its qolb_lock, at a multiple of 16, and takes no heap. Its first use opens it there, which
- * can't fail: no call of a thread on a lock answers NO_MEMORY. Data that many threads change begins best at a multiple
- * of 64 bytes, as the last bytes of a lock may be in one cache line with what follows them.
- *
- * A thread that enters draws a ticket, by one step that never waits, and has its turn in the order of tickets. So no
- * call that begins after that is served before it, unless it gives up. A ticket that is given up is out until a holder
- * leaves. While some 16,300 tickets of a lock are out, a call with a time limit draws none, and looks again each
- * millisecond; a task that would have to wait is told NO_MEMORY.
- *
- * Such a lock is strict: each turn is handed to the thread that has waited longest. If threads enter again and again, a
- * mutex has more turns, as it lets its last holder in again; but it bounds no wait. A lock with bursts is between the
- * two:
- *
- *     static qolb_lock lock = QOLB_LOCK_INIT_BURSTS(1024); // bursts of at most 1024 turns
- *
- * Its holder leaves it open, though threads wait, for whoever enters next: that is one burst. Those that wait keep
- * their order. Before a thread with p threads before it there are at most
- *
- *     (p + 1) * (turns - 1)
- *
- * turns of calls that began later: to enter, to try, or the end of a wait at a condition. The hard limit, `turns`, is 2
- * to 65,535; more count as 65,535, and with 0 or 1 a lock is strict. Usually fewer are made: the first of those that
- * wait watches, and while it runs asks for the lock after a sixteenth of the limit, or after 1 ms, and takes it once it
- * finds it free and unused.
- *
- * Only the thread that entered may leave. A thread that enters a lock which it holds is told MISUSE. A thread that ends
- * while it holds a lock releases nothing, and all others wait; qolb_lock_holder returns its number, on Linux gettid's.
- *
- * That at most one is served, in the order of tickets, and the bound of bursts are proved. Sleeping, waking, conditions
- * and tasks are C, explored with two and three threads and tested, not proved.
- *
  * WORDS
  *
- * node: one of the users of a line, numbered from 1. A thread that uses a line has a node of its own.
- * handle: a qolb_node, by which C has a node. A handle of zeros is empty.
- * turn: the time from the grant of the line to its release. The node at its turn holds the line, and is its holder.
+ * node: a user of a line, numbered from 1. Each thread has its own.
  * lane: one of the line's eight numbers of 64 bits. Lane k is bytes 8k to 8k + 7, the lowest first.
  * lease: the number of turns of a line. At the end of the last one it closes.
- * closed: no later request is served, and each is answered CLOSED, in their order. A holder closes the line
- * (qolb_shut), or its lease is used up.
- * predecessor, successor: the nodes whose requests are right before a node's own in the queue, and right behind.
- * withdrawn: taken back by its node, of a request. The release that reaches it passes it.
- * busy: not allowed to make a request yet, of a node (BUSY, below).
+ * closed: no later request is served, and each is answered CLOSED. qolb_shut closes a line, or the end of its lease.
  * label: a number that the caller chooses, and that qolb_label returns.
  *
  * KINDS
  *
- * A line is of one of three kinds, all under the same calls and promises:
+ * A line is of one of three kinds:
  *
- * - QOLB_RING: a node takes a ticket and waits on a cell of its own. It takes at least 34 kilobytes, for any number of
- *   nodes.
- * - QOLB_LINK: a link line, whose queue is a linked list: a node links itself to its predecessor. Only this kind has
- *   requests in two calls, qolb_prepend and qolb_link.
- * - QOLB_TICKET: a ticket line, a ring whose cells are granted by a number and never cleared. A release that passes no
- *   withdrawn request takes one step on shared words, where a ring's takes two. Take this one, by the name
- *   QOLB_DEFAULT, unless memory is short or you want requests in two calls.
+ * - QOLB_TICKET: a ticket line, whose nodes wait on numbered cells. Its release takes one step on shared words, a
+ *   ring's two. Take this one, by the name QOLB_DEFAULT, unless memory is short or you want requests in two calls.
+ * - QOLB_LINK: a link line: a node links itself to the one before it. Only this kind has requests in two calls,
+ *   qolb_prepend and qolb_link.
+ * - QOLB_RING: a node takes a ticket and waits on a cell of its own. It takes 34 kilobytes or more.
  *
- * Bytes of heap that an open line keeps, as the library asks malloc for them (qolb_memory, for any number of nodes).
- * malloc takes some 16 more for each of its blocks, which are the number of nodes and 3:
+ * Bytes of heap that an open line keeps, as the library asks malloc for them (qolb_memory). malloc takes some 16 more
+ * for each of its blocks, which are the number of nodes and 3:
  *
  *     nodes                 1         2         8        64       200
  *     ring             33,792    34,176    36,480    57,984   110,208
@@ -116,177 +224,126 @@
  * WHAT YOU MUST KEEP
  *
  * - Start a handle as zeros: `qolb_node node = {0};`.
- * - Move a handle, never copy it: qolb_move. Only these calls read or change its contents.
+ * - Move a handle by qolb_move, never copy it.
  * - Pass no null pointer, no freed one, and no two arguments that overlap.
  * - One call at a time for a handle. Different handles, also of one line, may be called by different threads at the
  *   same time.
  * - Hand a handle to another thread by a lock, a thread's start or join, or a sequentially consistent atomic.
- * - Use one copy of the library for a line or a lock: not the static one in the program and another one in what it
- *   opens at run time.
- * - Start a lock by QOLB_LOCK_INIT, QOLB_LOCK_INIT_BURSTS or zeros, a condition by QOLB_COND_INIT or zeros. Close a
- *   lock only if no thread is about to call it.
- * - Do not move or copy a lock or a condition once it is used. The memory of a lock may go when it is closed, or when
- *   nobody holds it, waits for it or is about to call it: also while a thread that left it is still in that call. That
- *   of a condition may go when no thread is in a call on it. Until then put nothing else there.
- * - Leave a lock before the thread ends.
- * - Call nothing from a signal handler, nor in the forked child of a process with threads (PROCESSES, below).
  * - The program's malloc, realloc and free are of one allocator, which aligns as C asks.
+ * - For signal handlers, forks and copies of the library see qolb_lock(3).
  *
- * Every other call that its handle, node or lock does not allow is answered QOLB_MISUSE, or as the call says, and then
- * nothing has changed.
+ * Every other call that its handle or node does not allow is MISUSE, or as the call says, and changes nothing.
  *
  * MEMORY ORDER
  *
- * A line guards any data, as a mutex does. All that a thread wrote anywhere in memory before its node's release is seen
- * by the thread whose node is granted the line next, and by those whose requests are answered CLOSED.
- *
- * For the line's own 64 bytes this is proved. For other memory it is argued: a release takes a sequentially consistent
+ * A line guards other data, too, as a lock does. This is argued, not proved: a release takes a sequentially consistent
  * step after all that its holder wrote, and the next holder one on the same word before it reads.
  *
  * WAITING
  *
- * Of the calls on a node two wait for other threads: qolb_acquire and qolb_acquire_within. They poll each 90 ns, for at
- * most 50 us on a line of five nodes or fewer and 20 us on others, then sleep by a futex until the line is released;
- * then they poll anew. After polls without success a thread polls for less the next time. It never yields, so a
- * real-time thread may wait for another. A process that may use one processor only sleeps at once.
- *
- * A thread that waits for a lock polls in the same way: for at most 50 us with at most four threads before it, and 2 us
- * with more. At a condition it sleeps at once.
+ * Two of these calls wait for other threads: qolb_acquire and qolb_acquire_within. They poll each 90 ns, for at most
+ * 50 us on a line of five nodes or fewer and 20 us on others, then sleep by a futex until the line is released, and
+ * poll anew. What qolb_lock(3) says of waiting holds here, too.
  *
  * A call that releases the line (qolb_deqolb, qolb_shut, and any that answers CLOSED) wakes at most two sleepers: the
- * next holder, and the waiter behind it ahead of its turn. Leaving a lock wakes the next holder, and, if the leaver
- * slept while it waited, the waiter behind it, too; in a burst only the thread that watches. With thousands of threads
- * it wakes another one in excess for each 128 that wait.
+ * next holder, and the waiter behind it ahead of its turn.
  *
  * No call wakes, and no notification tells, the thread of a busy node: it asks again for 20 us, then every 200 us.
- *
- * A granted line is its node's, even before it polls: all behind wait until its thread has woken up and had its turn.
- *
- * No turn is promised: a request reaches its turn once each earlier one has ended.
- *
- * No wait is a cancellation point. A thread that is cancelled while it waits is granted the line or is late, and ends
- * at its next cancellation point. A thread that may be cancelled at any instruction (PTHREAD_CANCEL_ASYNCHRONOUS) must
- * make no call.
- *
- * EVENT LOOPS
- *
- * An event loop, which serves many tasks, must not wait for one of them. qolb_enqolb, qolb_poll and qolb_withdraw never
- * wait, and qolb_notify tells when the request is at its turn. Here an eventfd tells it, which epoll, poll or io_uring
- * watches:
- *
- *     uint32_t got = qolb_enqolb(&node);
- *     if (got == QOLB_QUEUED) got = qolb_notify_fd(&node, fd);   // WAITING: once readable, read fd, call this again
- *     if (got == QOLB_GRANTED) turn(&node);                      // and qolb_deqolb
- *
- * To give up, make qolb_notify_off first, as a wish that stays may be called for a later request; then qolb_withdraw,
- * and if that answers GRANTED, qolb_deqolb. None waits for a turn.
- *
- * A notification is one call, `call(arg)`. The thread that releases the line makes it, inside the call that released,
- * after the release, under whatever locks it holds. So:
- *
- * - The call passes the news on: it sets a flag, makes a task ready, writes to a descriptor. It does not wait for
- *   another thread, throw, jump out or end the thread, which is not cancelled in it.
- * - The call may use any node that its thread may use, by calls that do not wait. A release in it makes its own calls
- *   after this one has returned, or, if 32 are already put off, at once.
- * - qolb_notify, qolb_notify_fd, qolb_notify_off, qolb_close, qolb_task_poll and qolb_task_cancel wait for a call of
- *   the same node or task in another thread, until it has returned or said qolb_notify_done. A call says that before it
- *   takes a lock under which one of these six is made, before it resumes a coroutine, and before it makes one.
- * - A call may come before the call that asked for it has returned, and may use the node or task even then.
- * - A call may be early, though rarely: the request still waits. Call qolb_notify again, which polls and wants another
- *   call in one step.
- * - Poll after the call: all behind wait for it, also after a shut: each is told CLOSED once the one before has polled.
- * - A call may be late: after a turn that qolb_poll granted it is still made, until qolb_notify_off. `arg` must last
- *   until then; for a task until qolb_task_poll answers GRANTED or CLOSED, or qolb_task_cancel returns: then no call
- *   is made.
- * - Open an eventfd with EFD_NONBLOCK: else a full count makes the release wait. Take it off before you close it. After
- *   a fork a release in the child writes to the parent's eventfd, too.
- *
- * Tasks enter a lock, too, beside threads, in one queue. qolb_task_enter asks for it, and a call tells when the task
- * has it. No thread owns the turn: any may go on with the task, one call at a time, and leave for it.
- *
- *     uint32_t got = qolb_task_enter(&task, &lock, make_ready, &task);   // WAITING: after the call, qolb_task_poll
- *     if (got == QOLB_GRANTED) work(), qolb_task_leave(&task);
- *
- * What is said above of qolb_notify holds for that call. And:
- *
- * - Every call by which a thread or a task enters, leaves, gives up or closes a lock may make calls of tasks. A task
- *   that is the first of those that wait ends a burst with the turn of who is in.
- * - No call of a task waits for a turn.
- * - A lock that a task holds is not held by its thread: qolb_lock_enter there waits, for ever if that thread would have
- *   to leave for the task; qolb_lock_enter_within is LATE, qolb_lock_try BUSY; leave, shut and waits at a condition are
- *   MISUSE. In an event loop let only tasks enter.
- * - qolb_cond_wait is for threads alone. A task may signal.
- *
- * The thread sanitizer is told that what precedes qolb_notify precedes the call, and that the call precedes what
- * follows qolb_notify_off.
  *
  * BUSY
  *
  * A withdrawn request stays in the queue until another node's release passes it, and until then its node is busy. A
  * node of a link line may also be busy after its own release, until its successor has linked. So ask again later; if a
  * node before the withdrawn request never releases, for ever. qolb_acquire and qolb_acquire_within ask again by
- * themselves. qolb_clear tells if a node is busy, and makes no request.
+ * themselves.
  *
  * A thread with a busy node is in no queue, and may be overtaken. Of a pool, take a node for which qolb_clear answers
  * DONE.
  *
  * THREADS THAT END
  *
- * A thread that ends while its node holds the line, or waits for it, releases and withdraws nothing: the line stays
- * with that node, and all nodes behind it wait. Any thread that got the handle in one of the ways above may go on with
- * it: qolb_state tells its state.
- *
- * PROCESSES
- *
- * A line is of one process. A fork copies it: parent and child then have a line each, in the same state, which guards
- * nothing that both share. The child of a process with one thread may go on with its copy, and close its nodes. In the
- * child of a process with threads call nothing: another thread may have been in a call.
+ * If a thread ends while its node holds the line, or waits for it, the line stays with that node, and all behind it
+ * wait. Any thread that got the handle in one of the ways above may go on with it: qolb_state tells its state.
  *
  * SPEED
  *
  * Handles of different threads may be side by side: only qolb_open, qolb_close and qolb_move write to them. But what a
  * thread writes beside another's handle slows its calls. So keep what it writes on its stack, or QOLB_NODE_ALIGN bytes
- * apart:
+ * apart.
  *
- *     struct worker { _Alignas(QOLB_NODE_ALIGN) qolb_node node; long count; };
+ * Only qolb_open, qolb_close and a limit use the heap.
  *
- * A release calls the system only if it may have to wake a sleeper.
+ * ==== qolb_task(3): event loops, which are notified and never wait ====
  *
- * Only qolb_open, qolb_close, qolb_task_enter and a call with a time limit use the heap.
+ * An event loop must not wait for one of its tasks. Tasks enter a lock beside threads, in one queue. qolb_task_enter
+ * asks for it, and a call tells when the task has it. No thread owns the turn: any may go on with the task, one call
+ * at a time, and leave for it.
  *
- * SANITIZERS AND DEBUGGERS
+ *     uint32_t got = qolb_task_enter(&task, &lock, make_ready, &task);
+ *     if (got == QOLB_GRANTED) work(), qolb_task_leave(&task);
+ *     // WAITING: after the call of make_ready, qolb_task_poll
  *
- * The thread sanitizer (-fsanitize=thread) is told of each grant and release. Lines of one label are one to it, and so
- * are a few of different labels: between these it may miss a race. Each lock is separate. Helgrind and drd of valgrind
- * are told the same in files that are compiled with -DQOLB_HELGRIND or -DQOLB_DRD, and must suppress the library's own
- * words: valgrind --tool=helgrind --suppressions=PREFIX/share/qolb/valgrind.supp. The library has no unwind tables, so
- * a backtrace from inside its calls may end there.
+ * A node waits without a thread by qolb_enqolb and a notification. Here an eventfd tells it, which epoll, poll or
+ * io_uring watches:
  *
- * bpftrace, perf and gdb find probes where a thread waits (provider qolb: wait, sleep, wake, granted, withdrawn,
- * closed), if the library was built with <sys/sdt.h>. Their arguments are a line's label, the node's number, and a
- * number by which lines of one label differ. A lock has no label: there they are its address, the number of the
- * thread's ticket, from 1 on and 0 while it has none, and the address again.
+ *     uint32_t got = qolb_enqolb(&node);
+ *     if (got == QOLB_QUEUED) got = qolb_notify_fd(&node, fd);
+ *     if (got == QOLB_GRANTED) turn(&node); // and qolb_deqolb
+ *     // WAITING: once fd is readable, read it, call qolb_notify_fd again
  *
- * PROCESSOR
+ * To give up, make qolb_notify_off first, as a wish that stays may be called for a later request; then qolb_withdraw,
+ * and if that answers GRANTED, qolb_deqolb.
  *
- * Linux on x86-64, with the instructions of x86-64-v2 (SSE4.2 and POPCNT among them), which processors have since 2009.
- * On an older one the first call that needs one ends the program by SIGILL. If yours may run there, ask first:
- * __builtin_cpu_supports("sse4.2") && __builtin_cpu_supports("popcnt"). */
+ * NOTIFICATIONS
+ *
+ * A notification is one call, `call(arg)`, for a node or a task. The thread that releases makes it, inside the call
+ * that released, after the release, under whatever locks it holds. So:
+ *
+ * - The call passes the news on: it sets a flag, makes a task ready, writes to a descriptor. It does not wait for
+ *   another thread, throw, jump out or end the thread, which is not cancelled in it.
+ * - The call may use any node that its thread may use, by calls that do not wait. A release in it makes its own calls
+ *   after this one has returned, or, if 32 are already put off, at once.
+ * - qolb_notify, qolb_notify_fd, qolb_notify_off, qolb_close, qolb_task_poll and qolb_task_cancel wait for a call of
+ *   the same node or task in another thread, until it has returned or said qolb_notify_done. A call says that before
+ *   it takes a lock under which one of these six is made, before it resumes a coroutine, and before it makes one.
+ * - A call may come before the call that asked for it has returned, and may use the node or task even then.
+ * - A call may be early, though rarely: the request still waits. Call qolb_notify again, which polls and wants another
+ *   call in one step.
+ * - Poll after the call: all behind wait for it, also after a shut: each is told CLOSED once the one before has
+ *   polled.
+ * - A call may be late: after a turn that qolb_poll granted it is still made, until qolb_notify_off. `arg` must last
+ *   until then; for a task until qolb_task_poll answers GRANTED or CLOSED, or qolb_task_cancel returns: then no call
+ *   is made.
+ * - Open an eventfd with EFD_NONBLOCK: else a full count makes the release wait. Take it off before you close it.
+ *   After a fork a release in the child writes to the parent's eventfd, too.
+ *
+ * TASKS
+ *
+ * - Every call by which a thread or a task enters, leaves, gives up or closes a lock may make calls of tasks. A task
+ *   that is the first of those that wait ends a burst with the turn of who is in.
+ * - No call of a task waits for a turn. One that would have to wait is told NO_MEMORY without memory, or while some
+ *   16,300 tickets of the lock are out.
+ * - A lock that a task holds is not held by its thread: qolb_lock_enter there waits, for ever if that thread would
+ *   have to leave for the task; qolb_lock_enter_within is LATE, qolb_lock_try BUSY; leave, shut and waits at a
+ *   condition are MISUSE. In an event loop let only tasks enter.
+ * - qolb_cond_wait is for threads alone. A task may signal.
+ *
+ * The thread sanitizer is told that what precedes qolb_notify precedes the call, and that the call precedes what
+ * follows qolb_notify_off. */
 #ifndef QOLB_H
 #define QOLB_H
 
 #include <stddef.h>
 #include <stdint.h>
 
-/* For the tools of valgrind, of which each wants its own (SANITIZERS AND DEBUGGERS). */
+/* For the tools of valgrind, each with its own (SANITIZERS AND DEBUGGERS). */
 #if defined(QOLB_HELGRIND)
 #include <valgrind/helgrind.h>
 #elif defined(QOLB_DRD)
 #include <valgrind/drd.h>
 #endif
 
-/* The version of this header. QOLB_VERSION is one number, 10000 for each major version, 100 for each minor one;
- * qolb_version() returns that of the library that the program runs with. */
+/* The version of this header. QOLB_VERSION is one number, 10000 for each major version, 100 for each minor one. */
 #define QOLB_VERSION_MAJOR 2
 #define QOLB_VERSION_MINOR 0
 #define QOLB_VERSION_PATCH 0
@@ -298,7 +355,7 @@
 /* No lease: the number of turns never closes the line. */
 #define QOLB_NO_LEASE UINT64_MAX
 
-/* A caller that ignores this answer does not know whether the node holds the line. */
+/* Who ignores this answer does not know who holds the lock or line. */
 #if defined(__GNUC__)
 #define QOLB_LOOK __attribute__((warn_unused_result))
 #else
@@ -321,7 +378,7 @@
 extern "C" {
 #endif
 
-/* A handle of a node; empty if it is zeros. */
+/* A handle, by which C has a node. One of zeros is empty. */
 typedef struct qolb_node {
     void *own;
 } qolb_node;
@@ -331,8 +388,7 @@ typedef struct qolb_bytes {
     uint8_t byte[64];
 } qolb_bytes;
 
-/* The kinds of line: nodes wait on cells by tickets, in a link line by links, or on numbered cells by tickets. Take
- * QOLB_DEFAULT, a ticket line, unless memory is short or you want requests in two calls: then take a link line. */
+/* The kinds of line (KINDS). */
 enum qolb_kind { QOLB_RING = 0, QOLB_LINK = 1, QOLB_TICKET = 2, QOLB_DEFAULT = QOLB_TICKET };
 
 /* The number of kinds. Each number below it is a kind. */
@@ -341,21 +397,21 @@ enum qolb_kind { QOLB_RING = 0, QOLB_LINK = 1, QOLB_TICKET = 2, QOLB_DEFAULT = Q
 /* The answer of a call. */
 enum qolb_answer {
     QOLB_DONE = 0,
-    QOLB_GRANTED = 1,    /* the node holds the line */
-    QOLB_QUEUED = 2,     /* its request waits: poll again, by qolb_poll or qolb_wait */
-    QOLB_WAITING = 3,    /* its request still waits */
-    QOLB_LINKING = 4,    /* its request is behind another: link it */
-    QOLB_WITHDRAWN = 5,  /* its request is withdrawn */
-    QOLB_CLOSED = 6,     /* the line is closed, and the request has ended */
-    QOLB_BUSY = 7,       /* its last request is not cleared yet: ask again later. Of a try: another has it */
-    QOLB_MISUSE = 8,     /* the handle or its node does not allow the call; nothing changed */
-    QOLB_NO_MEMORY = 9,  /* of an opening, as the next five, and of a task that enters; nothing changed */
+    QOLB_GRANTED = 1,    /* the caller holds the lock, or its node the line */
+    QOLB_QUEUED = 2,     /* the node's request waits: poll again, by qolb_poll or qolb_wait */
+    QOLB_WAITING = 3,    /* the request of the node or task still waits */
+    QOLB_LINKING = 4,    /* the node's request is behind another: link it */
+    QOLB_WITHDRAWN = 5,  /* the request is withdrawn */
+    QOLB_CLOSED = 6,     /* the lock is shut or the line closed, and the request has ended */
+    QOLB_BUSY = 7,       /* of a try: another has it. Of a node: its last request is not cleared, ask again later */
+    QOLB_MISUSE = 8,     /* the lock, handle or task does not allow the call; nothing changed */
+    QOLB_NO_MEMORY = 9,  /* of qolb_open, as the next five, and of a task that enters; nothing changed */
     QOLB_BAD_NODES = 10, /* not 1 to 200 nodes */
     QOLB_BAD_LEASE = 11, /* a lease of 0 turns */
     QOLB_BAD_KIND = 12,  /* no such kind */
     QOLB_TOO_FEW = 13,   /* fewer handles than nodes */
     QOLB_OCCUPIED = 14,  /* one of the handles has a node; the lock is open */
-    QOLB_LATE = 15       /* the time is over. A node's request is withdrawn; at a condition the lock is held again */
+    QOLB_LATE = 15       /* the time is over, and the request withdrawn; at a condition the lock is held again */
 };
 
 /* The state of a node. In the states IDLE, LEFT, ROLLED and SHUT it may make a request. */
@@ -376,9 +432,8 @@ enum qolb_node_state {
 uint32_t qolb_open(uint32_t kind, uint64_t label, uint64_t nodes, uint64_t lease, const qolb_bytes *opening,
                    qolb_node *out, size_t handles) QOLB_LOOK;
 
-/* Returns the bytes of heap that an open line of this kind and this number of nodes keeps, as the library asks malloc
- * for them. 0 if opening answers BAD_KIND or BAD_NODES. Opening takes more for a moment. It allocates nothing, and
- * needs no line. */
+/* Returns the bytes of heap that an open line of this kind and number of nodes keeps (KINDS). 0 if opening answers
+ * BAD_KIND or BAD_NODES. Opening takes more for a moment. */
 uint64_t qolb_memory(uint32_t kind, uint64_t nodes);
 
 /* Requests the line, and does not wait. If the node may ask: GRANTED, QUEUED, CLOSED, BUSY. Else MISUSE. */
@@ -388,8 +443,7 @@ uint32_t qolb_enqolb(qolb_node *node) QOLB_LOOK;
 uint32_t qolb_poll(qolb_node *node) QOLB_LOOK;
 
 /* Polls at most `polls` times, with a pause between two. In the state QUEUED, with polls above 0: GRANTED, WAITING,
- * CLOSED. Else MISUSE. It spins meanwhile: with more threads than processors, wait for few polls, and yield the
- * processor between two waits. */
+ * CLOSED. Else MISUSE. It spins: with more threads than processors, wait for few polls, and yield between two waits. */
 uint32_t qolb_wait(qolb_node *node, uint64_t polls) QOLB_LOOK;
 
 /* Requests the line, and waits as long as it takes, also while the node is busy. If the node may ask: GRANTED, CLOSED.
@@ -397,9 +451,8 @@ uint32_t qolb_wait(qolb_node *node, uint64_t polls) QOLB_LOOK;
 uint32_t qolb_acquire(qolb_node *node) QOLB_LOOK;
 
 /* Requests the line, and waits at most this many nanoseconds, also while the node is busy; UINT64_MAX is as long as it
- * takes. If the node may ask: GRANTED, CLOSED, LATE. Else MISUSE.
- * After LATE the node is withdrawn: it gets no turn, and may ask again, but may be busy at first. It polls at least
- * once. */
+ * takes. If the node may ask: GRANTED, CLOSED, LATE. Else MISUSE. It polls at least once. After LATE the node may ask
+ * again, but may be busy at first. */
 uint32_t qolb_acquire_within(qolb_node *node, uint64_t nanoseconds) QOLB_LOOK;
 
 /* Polls whether the node is busy, and makes no request. If the node may ask: DONE, and it is not busy until it asks; or
@@ -441,12 +494,12 @@ uint32_t qolb_deqolb(qolb_node *node);
 /* Releases the line and closes it: no later request is served. In the state HOLDING: DONE. Else MISUSE. */
 uint32_t qolb_shut(qolb_node *node);
 
-/* Has `call(arg)` called once, when the request is at its turn or the line is closed (EVENT LOOPS, above). In the state
+/* Has `call(arg)` called once, when the request is at its turn or the line is closed (NOTIFICATIONS). In the state
  * QUEUED: WAITING, and the call will be made; GRANTED or CLOSED, as of qolb_poll, and it will not. Else MISUSE, also if
  * `call` is null. A second wish of a node replaces the first. */
 uint32_t qolb_notify(qolb_node *node, void (*call)(void *arg), void *arg) QOLB_LOOK;
 
-/* Has 1 added once to the eventfd `fd`, when qolb_notify would make its call. The same answers; MISUSE if `fd` is
+/* Has 1 added once to the eventfd `fd`, when qolb_notify would make its call, with the same answers; MISUSE if `fd` is
  * negative. */
 uint32_t qolb_notify_fd(qolb_node *node, int fd) QOLB_LOOK;
 
@@ -455,8 +508,8 @@ uint32_t qolb_notify_fd(qolb_node *node, int fd) QOLB_LOOK;
  * empty handle. */
 uint32_t qolb_notify_off(qolb_node *node);
 
-/* Says, in a notification's call, that from here on nobody has to wait for it: it does not touch its `arg` any more.
- * Elsewhere it does nothing. */
+/* Says, in a notification's call, that it does not touch its `arg` any more: nobody has to wait for it. Elsewhere it
+ * does nothing. */
 void qolb_notify_done(void);
 
 /* Frees the node and empties the handle. In the states IDLE, LEFT, ROLLED, SHUT: DONE; it makes qolb_notify_off first.
@@ -474,8 +527,7 @@ uint32_t qolb_state(qolb_node *node);
 
 /* clang-format off */
 
-/* A lock, unopened: strict, or with bursts of at most `turns` turns (LOCKS). Only these calls read or change its
- * contents. */
+/* A lock, unopened: strict, or with bursts of at most `turns` turns. Only these calls read or change its contents. */
 typedef struct __attribute__((aligned(16))) qolb_lock {
     void *own;
     uint64_t turns, more[38];
@@ -483,8 +535,8 @@ typedef struct __attribute__((aligned(16))) qolb_lock {
 #define QOLB_LOCK_INIT {QOLB_NULL_, 0, {0}}
 #define QOLB_LOCK_INIT_BURSTS(turns) {QOLB_NULL_, QOLB_AS_(uint64_t, turns), {0}}
 
-/* A condition: holders of a lock leave the lock and wait here until another thread signals. It may serve several locks.
- * It needs no freeing. */
+/* A condition, at which holders of a lock wait until another thread signals. It may serve several locks, and needs no
+ * freeing. */
 typedef struct qolb_cond {
     void *own;
 } qolb_cond;
@@ -492,19 +544,18 @@ typedef struct qolb_cond {
 
 /* clang-format on */
 
-/* Opens an unopened lock with bursts of at most `turns` turns, or strict with 0 or 1: for a number that is known at run
- * time. Else its first use opens it, as its initialiser says. DONE; OCCUPIED: it is open. */
+/* Opens an unopened lock, with bursts of a number of turns that is known at run time; with 0 or 1 it is strict. DONE;
+ * OCCUPIED: it is open. */
 uint32_t qolb_lock_open(qolb_lock *lock, uint64_t turns) QOLB_LOOK;
 
-/* Enters the lock, and waits as long as it takes: GRANTED, CLOSED; MISUSE, and nothing changed, if the calling thread
- * holds it. */
+/* Enters the lock, and waits as long as it takes: GRANTED, CLOSED; MISUSE if the calling thread holds it. */
 uint32_t qolb_lock_enter(qolb_lock *lock) QOLB_LOOK;
 
 /* Enters the lock if no thread has it: GRANTED, BUSY (also if the calling thread holds it), CLOSED. */
 uint32_t qolb_lock_try(qolb_lock *lock) QOLB_LOOK;
 
-/* Enters the lock, and waits at most this many nanoseconds (UINT64_MAX: as long as it takes): GRANTED, LATE, CLOSED;
- * MISUSE at once, and nothing changed, if the calling thread holds it. */
+/* Enters the lock, and waits at most this many nanoseconds: GRANTED, LATE, CLOSED; MISUSE at once if the calling thread
+ * holds it. */
 uint32_t qolb_lock_enter_within(qolb_lock *lock, uint64_t nanoseconds) QOLB_LOOK;
 
 /* Leaves the lock, which goes to the first thread in its queue. DONE; MISUSE if the calling thread does not hold it. */
@@ -514,9 +565,9 @@ uint32_t qolb_lock_leave(qolb_lock *lock);
  * one, each after the one before has polled. DONE; MISUSE if the calling thread does not hold it. */
 uint32_t qolb_lock_shut(qolb_lock *lock);
 
-/* Closes the lock: it is unopened again, and its memory may go. Its next use opens it with the bursts that it had.
- * Whoever was granted the lock last, and left it, may close it while another thread is still leaving it. DONE, also if
- * it was unopened; MISUSE, and nothing changed, if a thread or a task holds it or waits, also at a condition of it. */
+/* Closes the lock: it is unopened again, and its memory may go. Its next use opens it with the bursts that it had. Who
+ * was granted it last, and left it, may close it while another thread is still leaving it. DONE, also if it was
+ * unopened; MISUSE, and nothing changed, if a thread or a task holds it or waits, also at a condition of it. */
 uint32_t qolb_lock_close(qolb_lock *lock);
 
 /* 1 if the calling thread holds the lock, else 0. */
@@ -527,13 +578,12 @@ int qolb_lock_is_mine(const qolb_lock *lock);
 uint64_t qolb_lock_holder(const qolb_lock *lock);
 
 /* Leaves the lock, waits at the condition until a signal or a broadcast, and enters the lock again; no signal after the
- * leave is missed. Check the state that you wait for, and wait in a loop. GRANTED, and it holds the lock; CLOSED, and
- * it does not. MISUSE if the calling thread does not hold it. */
+ * leave is missed. Check what you wait for in a loop, as another thread may have been first. GRANTED, and it holds the
+ * lock; CLOSED, and it does not. MISUSE if the calling thread does not hold it. */
 uint32_t qolb_cond_wait(qolb_cond *cond, qolb_lock *lock) QOLB_LOOK;
 
-/* Waits as qolb_cond_wait, but for a signal at most this many nanoseconds from the call on (UINT64_MAX: as long as it
- * takes); then it enters the lock again, as long as that takes. GRANTED or LATE, and it holds the lock; CLOSED, and it
- * does not; MISUSE. */
+/* Waits as qolb_cond_wait, but for a signal at most this many nanoseconds; then it enters the lock again, as long as
+ * that takes. GRANTED or LATE, and it holds the lock; CLOSED, and it does not; MISUSE. */
 uint32_t qolb_cond_wait_within(qolb_cond *cond, qolb_lock *lock, uint64_t nanoseconds) QOLB_LOOK;
 
 /* A signal wakes the thread that has waited longest at the condition, a broadcast all. The caller may hold the lock or
@@ -543,8 +593,8 @@ uint32_t qolb_cond_broadcast(qolb_cond *cond);
 
 /* clang-format off */
 
-/* A task that enters locks: nobody waits in it. It starts as QOLB_TASK_INIT. It stays where it is while it waits. Only
- * these calls read or change its contents. */
+/* A task that enters locks. It starts as QOLB_TASK_INIT, and stays where it is while it waits. Only these calls read or
+ * change its contents. */
 typedef struct qolb_task {
     void *own[16];
 } qolb_task;
@@ -557,8 +607,8 @@ typedef struct qolb_task {
  * the task waits or holds, or `call` is null. NO_MEMORY. */
 uint32_t qolb_task_enter(qolb_task *task, qolb_lock *lock, void (*call)(void *arg), void *arg) QOLB_LOOK;
 
-/* The same, and 1 is added to the eventfd `fd` in place of a call; MISUSE if `fd` is negative. Close it only after the
- * task's turn or qolb_task_cancel. */
+/* Asks as qolb_task_enter, and has 1 added to the eventfd `fd` in place of a call; MISUSE if `fd` is negative. Close
+ * `fd` only after the task's turn or qolb_task_cancel. */
 uint32_t qolb_task_enter_fd(qolb_task *task, qolb_lock *lock, int fd) QOLB_LOOK;
 
 /* Polls for a task that waits: GRANTED, and it holds the lock; CLOSED; WAITING, and the call will be made; again, if it
@@ -579,7 +629,7 @@ uint32_t qolb_task_shut(qolb_task *task);
 /* 1 if the task holds a lock, and knows it, else 0. */
 int qolb_task_holds(const qolb_task *task);
 
-/* The version of the library, as QOLB_VERSION is that of the header. */
+/* The version of the library that the program runs with, as QOLB_VERSION is that of the header. */
 uint32_t qolb_version(void);
 
 /* Moves the node out of this handle, which is empty then, into the returned one. */
@@ -720,7 +770,7 @@ static inline uint32_t qolb_task_shut_(qolb_task *task) { return qolb_task_leave
 /* ---- For callers again. ---- */
 
 /* Requests the line, and withdraws the request if it is not granted at once. If the node may ask: GRANTED, BUSY,
- * CLOSED. Else MISUSE. Each later try answers BUSY until a release has passed the withdrawn request. */
+ * CLOSED. Else MISUSE. */
 QOLB_LOOK static inline uint32_t qolb_try(qolb_node *node) {
     uint32_t got = qolb_enqolb(node);
     if (got != QOLB_QUEUED) return got;

@@ -1,22 +1,22 @@
-// QOLB for C++14 and later: a node that moves and is never copied, and a guard. qolb.h has the answer of each call, and
-// the rules for its caller.
+// QOLB for C++14 and later: fair locks, which threads get in the order in which they asked. The manual pages
+// qolb_lock(3), qolb_node(3) and qolb_task(3) have what each call answers, and the rules for callers.
 //
-//     auto opened = qolb::Node::open(QOLB_DEFAULT, 1, 2, qolb_bytes{});
-//     if (opened.first != QOLB_DONE) return;
-//     std::vector<qolb::Node> &nodes = opened.second;
-//     {
-//         qolb::Guard turn(nodes[0]);                    // waits; throws qolb::Closed where the line is closed
-//         turn.set_lane(0, turn.lane(0) + 1);
-//     }                                                  // releases, also where an exception leaves the scope
-//     std::unique_lock<qolb::Node> lock(nodes[1], std::chrono::milliseconds(1));
-//     if (lock) ...                                      // a timed lock, as of any std::timed_mutex
+//     qolb::lock lock;                             // a timed mutex, for the standard library's guards
+//     qolb::lock often(qolb::burst{1024});         // later calls may be first, a bounded number of times
+//     qolb::Condition some;                        // as a std::condition_variable
+//     std::unique_lock<qolb::lock> held(lock);     // throws Closed after a shut, Deadlock if the thread holds it
+//     some.wait_for(held, std::chrono::milliseconds(1), [&] { return jobs > 0; });
 //
-// For threads that come and go, without a node for each:
-//
-//     qolb::lock lock;                                   // as a std::timed_mutex, first come, first served
-//     std::lock_guard<qolb::lock> turn(lock);
-//     qolb::guarded<Count> count;                        // a value that is used with its lock alone
+//     qolb::guarded<Count> count;                  // a value that is used with its lock alone
 //     count.with([](Count &it) { it.hits++; });
+//
+// A node moves and is never copied:
+//
+//     auto opened = qolb::Node::open(QOLB_DEFAULT, 1, 2, qolb_bytes{}); // first: QOLB_DONE; second: the nodes
+//     qolb::Guard turn(opened.second[0]);
+//     turn.set_lane(0, turn.lane(0) + 1);
+//
+// In C++20 a coroutine waits by co_await qolb::enter(lock, loop): see Coroutines.
 #ifndef QOLB_HPP
 #define QOLB_HPP
 
@@ -157,7 +157,7 @@ class Node {
     QOLB_NODISCARD qolb_answer withdraw() { return answer(qolb_withdraw(&node_)); }
     QOLB_NODISCARD qolb_answer prepend() { return answer(qolb_prepend(&node_)); }
     QOLB_NODISCARD qolb_answer link() { return answer(qolb_link(&node_)); }
-    // Have a call made, or 1 added to an eventfd, when the request is at its turn (EVENT LOOPS in qolb.h).
+    // Have a call made, or 1 added to an eventfd, when the request is at its turn (qolb_task(3)).
     QOLB_NODISCARD qolb_answer notify(void (*call)(void *arg), void *arg) {
         return answer(qolb_notify(&node_, call, arg));
     }
@@ -193,8 +193,7 @@ class Node {
         return got(qolb_acquire_within(&node_, detail::nanoseconds(time)));
     }
 
-    // As a lock of the standard library: these throw Closed if the line is closed, so that a loop around them ends, and
-    // Misuse.
+    // As a lock of the standard library: these throw Misuse, and Closed, so that a loop around them ends.
     void lock() { locked(acquire()); }
     QOLB_NODISCARD bool try_lock() { return locked(try_acquire()); }
     template <class Rep, class Period>
@@ -328,14 +327,14 @@ template <class Change> Got Node::with(Change change) {
     return got;
 }
 
-// The most turns of a burst (qolb.h, LOCKS): qolb::burst{1024}. With 0 or 1 a lock is strict. More than 65,535 do not
+// The most turns of a burst: qolb::burst{1024}. With 0 or 1 a lock is strict. More than 65,535 do not
 // compile.
 struct burst {
     std::uint16_t turns;
 };
 
-// A lock that any thread may enter, without a node for each (qolb.h, LOCKS). It is made at compile time, in its own 320
-// bytes, and opens at its first use: so a static one needs no constructor at run time.
+// A lock that any thread may enter (qolb_lock(3)). It is made at compile time, in its own 320 bytes, and opens at its
+// first use: so a static one needs no constructor at run time.
 //
 // It is a timed lock as the standard library means it: std::lock_guard, std::unique_lock, std::scoped_lock and
 // std::condition_variable_any take it. The thread that entered must leave. It may be destroyed if no thread holds it or
@@ -399,8 +398,7 @@ using lock = Lock;
 // wakeups, and wakes the thread that has waited longest first. If the lock is shut meanwhile, a wait throws Closed, and
 // its unique_lock owns nothing.
 //
-// It has no std::notify_all_at_thread_exit: at its thread's end nothing of the library runs. For waits with a lock of
-// another type take a std::condition_variable_any.
+// It has no std::notify_all_at_thread_exit. For waits with a lock of another type take a std::condition_variable_any.
 class Condition {
   public:
     constexpr Condition() noexcept : cond_{nullptr} {}
@@ -528,12 +526,12 @@ template <class T> using guarded = Guarded<T>;
 
 // ---- Coroutines ----
 //
+//     qolb::Entered turn = co_await qolb::enter(lock, loop); // true if entered; leaves at its end, in any thread
 //     qolb::Got got = co_await qolb::turn(node, loop);       // then qolb::Guard turn(node, std::adopt_lock)
-//     qolb::Entered turn = co_await qolb::enter(lock, loop); // leaves when it is destroyed, by any thread
 //
 // A loop runs what was posted to it: `void post(Ready &)` from any thread, and `void unpost(Ready &)`, behind which it
-// will not run, by its own thread. A coroutine that waits may be destroyed by the loop's thread: its request is
-// withdrawn.
+// will not run, by its own thread. The example loop.cpp has one. A coroutine that waits may be destroyed by the loop's
+// thread: its request is withdrawn.
 class Ready {
   public:
     virtual void run() = 0;

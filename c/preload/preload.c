@@ -13,7 +13,7 @@
  * address at which it locked one. A wait until a time of the clock CLOCK_REALTIME does not notice that this is set
  * meanwhile. A wait at a condition may return for no reason when another thread that waits is cancelled.
  *
- * QOLB_BURST=TURNS is the hard limit of a burst (qolb.h, LOCKS): 1024, if it is not set, and 0 for strict order.
+ * QOLB_BURST=TURNS is the hard limit of a burst (man 3 qolb_lock): 1024, if it is not set, and 0 for strict order.
  *
  * With QOLB_REPORT=FILE the program appends a line there at its end: the burst, how many mutexes were ours in all, and
  * at most at a time, how often one was granted, was late or was not free at once, and how often two threads were in one

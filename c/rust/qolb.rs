@@ -1,41 +1,73 @@
-//! QOLB for Rust: a node that is moved and never copied, and a guard. `qolb.h` describes the answers of each call.
+//! Fair locks, which threads get in the order in which they asked. A [`Mutex`] guards a value, as `std::sync::Mutex` does.
 //!
-//! A program takes this file as a module, `#[path = ".../qolb.rs"] mod qolb;`, and links with `-lqolb`; or it takes the crate that is installed
-//! beside it, `qolb = { path = "PREFIX/share/qolb/rust" }`, whose build script finds the library.
+//! ```
+//! use qolb::{Condition, Mutex, Stopped};
+//! use std::time::Duration;
 //!
-//! ```ignore
-//! let mut nodes = qolb::open(Kind::DEFAULT, 1, 2, None, &Bytes([0; 64]))?;
-//! let mut turn = nodes[0].lock()?;                 // waits; `Stopped::Closed` where the line is closed
-//! let count = turn.lane(0);
-//! turn.set_lane(0, count + 1);
-//! drop(turn);                                      // releases
-//! if let Some(turn) = nodes[1].try_lock_for(Duration::from_millis(1))? { .. }
+//! static JOBS: Mutex<Vec<u64>> = Mutex::new(Vec::new());
+//! static SOME: Condition = Condition::new();
+//!
+//! fn main() -> Result<(), Stopped> {
+//!     JOBS.lock()?.push(7);
+//!     SOME.notify_one();
+//!     let (mut jobs, timeout) = SOME.wait_timeout_while(JOBS.lock()?, Duration::from_millis(1), |jobs| jobs.is_empty())?;
+//!     assert_eq!(jobs.pop(), Some(7));
+//!     assert!(!timeout.timed_out());
+//!     Ok(())
+//! }
 //! ```
 //!
-//! For threads that come and go, without a node for each: `Mutex` guards a value of any size, which stays where it is. With the crate's feature `lock_api` (`qolb = { path = .., features = ["lock_api"] }`), `lock_api::Mutex<RawQolb, T>` is a mutex as those of
-//! `parking_lot`. So it is in a crate that takes this file as a module, and has the crate `lock_api` and a feature of that name.
+//! A program takes the crate that is installed, `qolb = { path = "PREFIX/share/qolb/rust" }`, whose build script finds the library; or this file as a
+//! module, `#[path = ".../qolb.rs"] mod qolb;`, and links with `-lqolb`. With the crate's feature `lock_api`, `lock_api::Mutex<RawQolb, T>` is a mutex as
+//! those of `parking_lot`.
 //!
-//! ```ignore
-//! static TABLE: Mutex<Table> = Mutex::new(Table::new());
-//! TABLE.lock()?.insert(key, value);                // first come, first served
+//! # Beside `std::sync::Mutex`
+//!
+//! - Turns are in the order of the calls. One made by [`Mutex::with_burst`] lets later calls in first, a bounded number of times.
+//! - [`Mutex::lock`] fails if the mutex was shut ([`MutexGuard::shut`]) or this thread holds it: [`Stopped`]. There is no poison.
+//! - [`Mutex::try_lock_for`] has a time limit, and [`Mutex::lock_async`] is for tasks.
+//! - The lock's 320 bytes are put in a box at its first use: as at any allocation, the process ends if there is no memory.
+//!
+//! # What is proved
+//!
+//! Proved of a lock: who has the turn (one thread at a time, in order, within the bound of bursts), and that a release is told of a sleeper. Explored with
+//! two and three threads, and tested: that the sleeper wakes, conditions, tasks. Argued: that a holder sees what the last one wrote. No proof speaks of the
+//! data.
+//!
+//! # Nodes
+//!
+//! A line is 64 bytes that 1 to 200 nodes share; whoever is granted the line is handed its bytes. A [`Node`] is moved and never copied.
+//!
+//! ```
+//! use qolb::{Answer, Bytes, Kind};
+//!
+//! fn main() -> Result<(), Answer> {
+//!     let mut nodes = qolb::open(Kind::DEFAULT, 1, 2, None, &Bytes([0; 64]))?;
+//!     nodes[0].lock()?.add_to_lane(0, 1); // waits; the guard releases
+//!     let mut turn = nodes[1].lock()?;
+//!     assert_eq!(turn.lane(0), 1);
+//!     turn.shut();
+//!     assert_eq!(nodes[0].acquire(), Answer::Closed);
+//!     Ok(())
+//! }
 //! ```
 //!
 //! # Tasks
 //!
-//! A task of an executor waits without a thread: `node.turn().await` gives a node's turn, `mutex.lock_async().await` one of a `Mutex`. These futures need no
-//! particular executor. They ask when they are first polled; tasks and threads stand in one queue, first come, first
-//! served. A future that is dropped withdraws its request. The guards of `lock_async` may go from thread to thread, if the value may.
+//! A task of an executor waits without a thread: `node.turn().await` gives a node's turn ([`Node::turn`]), `mutex.lock_async().await` one of a [`Mutex`].
+//! These futures need no particular executor. They ask when they are first polled; tasks and threads are in one queue. A future that is dropped withdraws
+//! its request. The guards of `lock_async` may go from thread to thread, if the value may.
 //!
 //! # A panic while a line or a mutex is held
 //!
 //! While the thread unwinds, the guard is dropped, which releases the line or the mutex; if a node's guard was leaked, the node releases the line when the
-//! node is dropped. The holder's writes until then stay, and the next holder is granted it as usual: nothing is poisoned, and no thread is told. If a half-made
-//! change must not be seen, change a copy and write it last. With `panic = "abort"` the process ends, and its lines with it.
+//! node is dropped. The holder's writes until then stay, and no thread is told. If a half-made change must not be seen, change a copy and write it last.
+//! With `panic = "abort"` the process ends, and its lines with it.
 //!
 //! # The thread sanitizer
 //!
-//! The sanitizer does not see into the library. With `--cfg qolb_tsan` beside `-Zsanitizer=thread` it is told of each turn of a `Mutex`, and of a
-//! `RawQolb`, and so does not report the data that these guard.
+//! The sanitizer does not see into the library. With `--cfg qolb_tsan` beside `-Zsanitizer=thread` it is told of each turn of a [`Mutex`], and of a
+//! [`RawQolb`], and so does not report the data that these guard.
 #![allow(dead_code, unexpected_cfgs)]
 
 use std::cell::UnsafeCell;
@@ -53,7 +85,7 @@ use std::sync::atomic::{AtomicPtr, Ordering};
 use std::task::{Context, Poll, Waker};
 use std::time::{Duration, Instant};
 
-/// The kind of a line. Take `Kind::DEFAULT`, a ticket line, unless memory is short.
+/// The kind of a line.
 #[derive(Clone, Copy, Debug, PartialEq, Eq)]
 #[repr(u32)]
 pub enum Kind {
@@ -67,6 +99,7 @@ pub enum Kind {
 }
 
 impl Kind {
+    /// The kind to take unless memory is short: a ticket line.
     pub const DEFAULT: Kind = Kind::Ticket;
     /// All kinds, each at the place of its number.
     pub const ALL: [Kind; 3] = [Kind::Ring, Kind::Link, Kind::Ticket];
@@ -93,23 +126,38 @@ impl Default for Kind {
     }
 }
 
-/// The answer of a call, as described in `qolb.h`.
+/// The answer of a call.
 #[derive(Clone, Copy, Debug, PartialEq, Eq)]
 pub enum Answer {
+    /// Done.
     Done,
+    /// The node holds the line, or the thread the lock.
     Granted,
+    /// The request waits.
     Queued,
+    /// The request still waits.
     Waiting,
+    /// The request is behind another, and not linked yet.
     Linking,
+    /// The request is withdrawn.
     Withdrawn,
+    /// The line is closed or the lock shut, and the request has ended.
     Closed,
+    /// Of a try: another has it. Of a node: its last request is not cleared yet.
     Busy,
+    /// The node or lock does not allow the call. Nothing changed.
     Misuse,
+    /// Out of memory. Nothing changed.
     NoMemory,
+    /// A line has 1 to 200 nodes.
     BadNodes,
+    /// A lease has at least one turn.
     BadLease,
+    /// No such kind of line.
     BadKind,
+    /// Fewer handles than nodes.
     TooFew,
+    /// A handle has a node already.
     Occupied,
     /// The time is over, and the request is withdrawn.
     Late,
@@ -138,13 +186,23 @@ impl fmt::Display for Answer {
     }
 }
 
-/// An error, so that `qolb::open(..)?` works in a function with any error type.
+/// An error, so that [`open`] may be called with `?` in a function with any error type.
 impl std::error::Error for Answer {}
 
-/// The cause for which a lock can't be had.
+/// So that `?` goes from a lock's error to that of [`open`].
+impl From<Stopped> for Answer {
+    fn from(stopped: Stopped) -> Answer {
+        match stopped {
+            Stopped::Closed => Answer::Closed,
+            Stopped::Misuse => Answer::Misuse,
+        }
+    }
+}
+
+/// The cause for which a line or a lock can't be had.
 #[derive(Clone, Copy, Debug, PartialEq, Eq)]
 pub enum Stopped {
-    /// The line is closed.
+    /// The line is closed, or the lock shut.
     Closed,
     /// The node waits or holds already, or the thread holds the lock. Nothing changed.
     Misuse,
@@ -164,13 +222,21 @@ impl std::error::Error for Stopped {}
 /// The state of a node.
 #[derive(Clone, Copy, Debug, PartialEq, Eq)]
 pub enum State {
+    /// There is no node.
     Empty,
+    /// It has made no request, or its turn is over.
     Idle,
+    /// It has made a request and must link it.
     Linking,
+    /// It waits.
     Queued,
+    /// It holds the line.
     Holding,
+    /// Its turn in a link line is over, and its successor had not linked yet.
     Left,
+    /// Its request was withdrawn.
     Rolled,
+    /// It knows that the line is closed.
     Shut,
 }
 
@@ -240,13 +306,13 @@ pub fn version() -> u32 {
 /// A node of a line. If it is dropped, it withdraws its request, or releases the line that it holds.
 pub struct Node(UnsafeCell<Handle>);
 
-// SAFETY: a handle may go to another thread (qolb.h, WHAT YOU MUST KEEP). Of the proved part that is proved, as `send` of `Handle` in crates/qolb_nodes;
+// SAFETY: a handle may go to another thread (qolb_node(3), WHAT YOU MUST KEEP). Of the proved part that is proved, as `send` of `Handle` in crates/qolb_nodes;
 // the C around it keeps what it has of a node in the node's block. No call takes a `&Node`, so nothing is shared.
 unsafe impl Send for Node {}
 
 /// Opens a line and returns its nodes in order.
 ///
-/// The line closes at the lease's last turn, if it has a lease. The caller chooses the label, which `Node::label` returns.
+/// The line closes at the lease's last turn, if it has a lease. The caller chooses the label, which [`Node::label`] returns.
 pub fn open(kind: Kind, label: u64, nodes: u64, lease: Option<u64>, opening: &Bytes) -> Result<Vec<Node>, Answer> {
     let mut handles: Vec<Handle> = (0..200).map(|_| Handle { own: null_mut() }).collect();
     // 2^64 - 1 means no lease; as a lease it is never used up.
@@ -264,7 +330,7 @@ pub fn open(kind: Kind, label: u64, nodes: u64, lease: Option<u64>, opening: &By
 
 /// Returns the bytes of heap that an open line of this kind and this number of nodes keeps, as the library asks `malloc` for them.
 ///
-/// `None` if `open` refuses: a line has 1 to 200 nodes. The `Vec` that `open` returns is not counted.
+/// `None` if [`open`] refuses: a line has 1 to 200 nodes. The `Vec` that [`open`] returns is not counted.
 pub fn memory(kind: Kind, nodes: u64) -> Option<u64> {
     Some(qolb_memory(kind as u32, nodes)).filter(|bytes| *bytes != 0)
 }
@@ -281,6 +347,7 @@ impl fmt::Debug for Node {
 
 // SAFETY of all calls: only this node has the handle, by `&mut self`, and the other references overlap nothing.
 impl Node {
+    /// Requests the line, and does not wait: `Granted`, `Queued`, `Closed`, `Busy`; `Misuse` if it waits or holds.
     #[must_use]
     pub fn enqolb(&mut self) -> Answer {
         told(unsafe { qolb_enqolb(self.0.get_mut()) })
@@ -292,26 +359,31 @@ impl Node {
         told(unsafe { qolb_clear(self.0.get_mut()) })
     }
 
+    /// Polls whether the request is at its turn: `Granted`, `Waiting`, `Closed`; `Misuse` if there is none.
     #[must_use]
     pub fn poll(&mut self) -> Answer {
         told(unsafe { qolb_poll(self.0.get_mut()) })
     }
 
+    /// Polls at most `polls` times, and spins between two: `Granted`, `Waiting`, `Closed`, `Misuse`.
     #[must_use]
     pub fn wait(&mut self, polls: u64) -> Answer {
         told(unsafe { qolb_wait(self.0.get_mut(), polls) })
     }
 
+    /// Withdraws the request, unless it is at its turn: `Withdrawn`, `Granted`, `Closed`; `Misuse` if there is none.
     #[must_use]
     pub fn withdraw(&mut self) -> Answer {
         told(unsafe { qolb_withdraw(self.0.get_mut()) })
     }
 
+    /// Takes the place in the queue of a link line, the first half of [`Node::enqolb`]: `Granted`, `Linking`, `Closed`, `Busy`, `Misuse`.
     #[must_use]
     pub fn prepend(&mut self) -> Answer {
         told(unsafe { qolb_prepend(self.0.get_mut()) })
     }
 
+    /// Tells the predecessor of a request that was prepended: `Granted`, `Queued`, `Closed`, `Misuse`.
     #[must_use]
     pub fn link(&mut self) -> Answer {
         told(unsafe { qolb_link(self.0.get_mut()) })
@@ -326,6 +398,7 @@ impl Node {
         }
     }
 
+    /// Writes byte k of `bytes` if bit k of `mask` is set: `Done`; `Misuse` if the node does not hold the line.
     pub fn write(&mut self, mask: u64, bytes: &Bytes) -> Answer {
         told(unsafe { qolb_write(self.0.get_mut(), mask, bytes) })
     }
@@ -339,6 +412,7 @@ impl Node {
         }
     }
 
+    /// Writes a lane: `Done`; `Misuse` if the node does not hold the line, or the lane is not below 8.
     pub fn write_lane(&mut self, lane: u64, value: u64) -> Answer {
         told(unsafe { qolb_write_lane(self.0.get_mut(), lane, value) })
     }
@@ -352,18 +426,22 @@ impl Node {
         }
     }
 
+    /// Releases the line: `Done`; `Misuse` if the node does not hold it.
     pub fn deqolb(&mut self) -> Answer {
         told(unsafe { qolb_deqolb(self.0.get_mut()) })
     }
 
+    /// Releases the line and closes it: `Done`; `Misuse` if the node does not hold it.
     pub fn shut(&mut self) -> Answer {
         told(unsafe { qolb_shut(self.0.get_mut()) })
     }
 
+    /// Returns the node's number, from 1.
     pub fn number(&mut self) -> u64 {
         unsafe { qolb_number(self.0.get_mut()) }
     }
 
+    /// Returns the state after the node's last call.
     pub fn state(&mut self) -> State {
         state_told(unsafe { qolb_state(self.0.get_mut()) })
     }
@@ -584,7 +662,7 @@ fn from_now_to(end: Instant) -> Duration {
     end.saturating_duration_since(Instant::now())
 }
 
-/// A lock that guards nothing by itself, as a `RawMutex` of `lock_api`: `Mutex` uses it.
+/// A lock that guards nothing by itself, as a `RawMutex` of `lock_api`: [`Mutex`] uses it.
 ///
 /// It is made at compile time, and in a box from its first use on, since a value may move and a lock may not. The thread that entered must leave. If it is
 /// dropped while a thread holds it or waits for it, which a leaked guard may cause, its box stays.
@@ -752,11 +830,30 @@ fn no_memory() -> ! {
     std::alloc::handle_alloc_error(std::alloc::Layout::new::<[Handle; 200]>())
 }
 
-/// A mutex that is first come, first served, for a value of any size, which stays in its place. The lock is in a box of its own.
+/// A mutex for a value of any size, which threads get in the order in which they asked. The lock is in a box of its own.
 ///
 /// Nothing is poisoned: a panic while it is held releases it, with the writes until then. A thread that locks a mutex that it holds is told
-/// `Stopped::Misuse`, and holds it as before; but if a task of that thread holds it, it waits, and for ever if that
-/// thread would have to drop the task's guard.
+/// [`Stopped::Misuse`], and holds it as before; but if a task of that thread holds it, it waits, and for ever if that thread would have to drop the task's
+/// guard.
+///
+/// ```
+/// use qolb::{Mutex, Stopped};
+/// use std::time::Duration;
+///
+/// struct Page {
+///     visits: u64,
+/// }
+///
+/// fn main() -> Result<(), Stopped> {
+///     let page = Mutex::new(Page { visits: 0 });
+///     page.lock()?.visits += 1;
+///     if let Some(mut page) = page.try_lock_for(Duration::from_millis(1))? {
+///         page.visits += 1;
+///     }
+///     assert_eq!(page.into_inner().visits, 2);
+///     Ok(())
+/// }
+/// ```
 pub struct Mutex<T: ?Sized> {
     raw: RawQolb,
     value: UnsafeCell<T>,
@@ -772,23 +869,27 @@ impl<T> Mutex<T> {
         Mutex::with_burst(value, 0)
     }
 
-    /// A mutex with bursts of at most `turns` turns, for threads that lock it again and again (`RawQolb::with_burst`); with 0 or 1 it is strict.
+    /// A mutex with bursts of at most `turns` turns, for threads that lock it again and again ([`RawQolb::with_burst`]); with 0 or 1 it is strict.
     pub const fn with_burst(value: T, turns: u16) -> Mutex<T> {
         Mutex { raw: RawQolb::with_burst(turns), value: UnsafeCell::new(value) }
     }
 
+    /// Returns the value.
     pub fn into_inner(self) -> T {
         self.value.into_inner()
     }
 }
 
 impl<T: ?Sized> Mutex<T> {
-    /// Waits as long as it takes.
+    /// Waits as long as it takes, and returns a guard that leaves when it is dropped.
+    ///
+    /// Fails with [`Stopped::Misuse`] if this thread holds the mutex, and with [`Stopped::Closed`] once it is shut. The first call of a mutex puts its lock in
+    /// a box, and ends the process if there is no memory for that.
     pub fn lock(&self) -> Result<MutexGuard<'_, T>, Stopped> {
         entered(self.raw.enter()).map(|_| self.guard())
     }
 
-    /// Returns a guard if no thread has it.
+    /// Returns a guard if no thread has it; `None` also if this thread does.
     pub fn try_lock(&self) -> Result<Option<MutexGuard<'_, T>>, Stopped> {
         entered(self.raw.try_enter()).map(|had| had.then(|| self.guard()))
     }
@@ -803,10 +904,12 @@ impl<T: ?Sized> Mutex<T> {
         self.try_lock_for(from_now_to(end))
     }
 
+    /// Returns the value, which no other thread can have now.
     pub fn get_mut(&mut self) -> &mut T {
         self.value.get_mut()
     }
 
+    /// Returns the lock, for its holder's number.
     pub fn raw(&self) -> &RawQolb {
         &self.raw
     }
@@ -965,13 +1068,14 @@ impl<T: ?Sized + fmt::Display> fmt::Display for MappedMutexGuard<'_, T> {
 pub struct WaitTimeoutResult(bool);
 
 impl WaitTimeoutResult {
+    /// Returns `true` if there was no signal in time.
     #[must_use]
     pub fn timed_out(&self) -> bool {
         self.0
     }
 }
 
-/// A condition of a `Mutex`. It has no spurious wakeups, and wakes the thread that has waited longest first.
+/// A condition of a [`Mutex`], as a `std::sync::Condvar` is. It has no spurious wakeups, and wakes the thread that has waited longest first.
 pub struct Condition(UnsafeCell<RawCond>);
 
 // SAFETY: as for `RawQolb`.
@@ -994,14 +1098,17 @@ impl Default for Condition {
 }
 
 impl Condition {
+    /// A condition at which no thread waits.
     pub const fn new() -> Condition {
         Condition(UnsafeCell::new(RawCond { own: null_mut() }))
     }
 
+    /// Wakes the thread that has waited longest, if one waits. The caller may hold the mutex or not.
     pub fn notify_one(&self) {
         unsafe { qolb_cond_signal(self.0.get()) };
     }
 
+    /// Wakes all threads that wait.
     pub fn notify_all(&self) {
         unsafe { qolb_cond_broadcast(self.0.get()) };
     }
@@ -1016,7 +1123,7 @@ impl Condition {
         self.waited(guard, Some(time))
     }
 
-    /// Waits as `wait_for`, and tells the same as `std::sync::Condvar` does.
+    /// Waits as [`Condition::wait_for`], and tells the same as `std::sync::Condvar` does.
     pub fn wait_timeout<'a, T: ?Sized>(&self, guard: MutexGuard<'a, T>, time: Duration) -> Result<(MutexGuard<'a, T>, WaitTimeoutResult), Stopped> {
         self.wait_for(guard, time).map(|(guard, told)| (guard, WaitTimeoutResult(!told)))
     }
@@ -1064,7 +1171,7 @@ impl Condition {
     }
 }
 
-/// The same.
+/// Another name of [`Mutex`].
 pub type Lock<T> = Mutex<T>;
 
 // ---- Tasks ----
@@ -1106,7 +1213,7 @@ unsafe extern "C" fn wake(slot: *mut c_void) {
 impl Node {
     /// Requests the line when it is first polled, and is ready when the line is granted or closed. Dropped before, it withdraws the request.
     ///
-    /// While the node is busy from a request that was withdrawn, it wakes its task again and again. So let tasks that give up often use a `Mutex`.
+    /// While the node is busy from a request that was withdrawn, it wakes its task again and again. So let tasks that give up often use a [`Mutex`].
     pub fn turn(&mut self) -> TurnFuture<'_> {
         TurnFuture { node: Some(self), waits: false, slot: Slot::default() }
     }
@@ -1123,7 +1230,7 @@ impl Node {
     }
 }
 
-/// A node's way to its turn (`Node::turn`).
+/// A node's way to its turn ([`Node::turn`]).
 #[must_use = "a future does nothing unless it is awaited"]
 pub struct TurnFuture<'a> {
     node: Option<&'a mut Node>,
@@ -1244,7 +1351,7 @@ impl<T: ?Sized> Mutex<T> {
     }
 }
 
-/// A task's way to a turn of a mutex (`Mutex::lock_async`).
+/// A task's way to a turn of a mutex ([`Mutex::lock_async`]).
 #[must_use = "a future does nothing unless it is awaited"]
 pub struct MutexFuture<'a, T: ?Sized> {
     mutex: &'a Mutex<T>,

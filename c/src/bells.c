@@ -1,5 +1,5 @@
-/* The bells, the clock, and the system calls of sleeping: Linux's futex. On other systems a sleeper polls again after
- * 200 us (bells.h). Tested, not proved. */
+/* The bells, the clock, and the system calls of sleeping: Linux's futex, for locks by classes. On other systems a
+ * sleeper polls again after 200 us (bells.h). Tested, not proved. */
 #define _GNU_SOURCE
 #include "bells.h"
 #include <errno.h>
@@ -19,19 +19,31 @@ uint64_t qolb_now_(void) {
     return (uint64_t)time.tv_sec * 1000000000 + (uint64_t)time.tv_nsec;
 }
 
+enum { IN_SECOND = 1000000000 };
+
 #ifdef __linux__
 
-void qolb_sleep_at_(atomic_uint *word, unsigned value, uint64_t nanoseconds) {
-    struct timespec most = {(time_t)(nanoseconds / 1000000000), (long)(nanoseconds % 1000000000)};
+static void futex(void *word, int what, unsigned value, const struct timespec *time, unsigned classes) {
     int kept = errno;
-    syscall(SYS_futex, word, 128 /* FUTEX_WAIT_PRIVATE */, value, nanoseconds == FOR_EVER ? NULL : &most, NULL, 0);
+    syscall(SYS_futex, word, what, value, time, NULL, classes);
     errno = kept;
 }
 
-void qolb_wake_at_(atomic_uint *word, int most) {
-    int kept = errno;
-    syscall(SYS_futex, word, 129 /* FUTEX_WAKE_PRIVATE */, most, NULL, NULL, 0);
-    errno = kept;
+void qolb_sleep_at_(atomic_uint *word, unsigned value, uint64_t nanoseconds) {
+    struct timespec most = {(time_t)(nanoseconds / IN_SECOND), (long)(nanoseconds % IN_SECOND)};
+    futex(word, 128 /* FUTEX_WAIT_PRIVATE */, value, nanoseconds == FOR_EVER ? NULL : &most, 0);
+}
+
+void qolb_wake_at_(atomic_uint *word, int most) { futex(word, 129 /* FUTEX_WAKE_PRIVATE */, (unsigned)most, NULL, 0); }
+
+void qolb_park_(uint32_t *half, uint32_t value, uint32_t classes, uint64_t until) {
+    struct timespec end = {(time_t)(until / IN_SECOND), (long)(until % IN_SECOND)};
+    futex(half, 137 /* FUTEX_WAIT_BITSET_PRIVATE, until a time of CLOCK_MONOTONIC */, value,
+          until == FOR_EVER ? NULL : &end, classes);
+}
+
+void qolb_unpark_(uint32_t *half, uint32_t classes) {
+    futex(half, 138 /* FUTEX_WAKE_BITSET_PRIVATE */, INT32_MAX, NULL, classes);
 }
 
 #else
@@ -48,6 +60,13 @@ void qolb_sleep_at_(atomic_uint *word, unsigned value, uint64_t nanoseconds) {
 }
 
 void qolb_wake_at_(atomic_uint *word, int most) { (void)word, (void)most; }
+
+void qolb_park_(uint32_t *half, uint32_t value, uint32_t classes, uint64_t until) {
+    (void)classes;
+    if (!is_over(until)) qolb_sleep_at_((atomic_uint *)half, value, FOR_EVER);
+}
+
+void qolb_unpark_(uint32_t *half, uint32_t classes) { (void)half, (void)classes; }
 
 #endif
 

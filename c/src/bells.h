@@ -45,11 +45,23 @@ static inline uint64_t left(const struct limit *limit) {
     return spent < limit->nanoseconds ? limit->nanoseconds - spent : 0;
 }
 
+/* The time that is so far away; FOR_EVER if there is none. */
+static inline uint64_t end_of(uint64_t nanoseconds) {
+    uint64_t now = nanoseconds == FOR_EVER ? 0 : qolb_now_();
+    return nanoseconds < FOR_EVER - now ? now + nanoseconds : FOR_EVER;
+}
+
+static inline int is_over(uint64_t until) { return until != FOR_EVER && qolb_now_() >= until; }
+
 /* Sleeps while the word has this value, at most this long; may return for no reason. No cancellation point. */
 HIDDEN void qolb_sleep_at_(atomic_uint *word, unsigned value, uint64_t nanoseconds);
 
 /* Wakes at most this many sleepers of the word, which need not exist any more. */
 HIDDEN void qolb_wake_at_(atomic_uint *word, int most);
+
+/* The same in these classes of 32, until then; and wakes all that sleep in one of these classes. */
+HIDDEN void qolb_park_(uint32_t *half, uint32_t value, uint32_t classes, uint64_t until);
+HIDDEN void qolb_unpark_(uint32_t *half, uint32_t classes);
 
 /* ---- Guards ---- */
 

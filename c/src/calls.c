@@ -6,6 +6,7 @@
  * table. */
 #define _GNU_SOURCE
 #include "bells.h"
+#include "hints.h"
 #include "probes.h"
 #include "spin.h"
 
@@ -22,17 +23,33 @@ static struct { _Alignas(APART) atomic_uint waiting; } anywhere;
  * part of all bells. */
 enum { NEXT_BELLS = 633 };
 
+static uint32_t open_noted(uint32_t kind, uint64_t label, uint64_t nodes, uint64_t lease, const qolb_bytes *opening,
+                           qolb_node *out, size_t handles) {
+    struct noted_blocks none = {0}, of_link = {.size = {(nodes + 1) * PLACE_WORDS * sizeof(uint64_t), SLOT_BYTES}};
+    qolb_noted_blocks_ = kind == QOLB_LINK ? of_link : none;
+    return qolb_open_proved_(kind, label, nodes, lease, opening, out, handles);
+}
+
+/* The hints of the first node of the line that open_noted opened. */
+static struct hints first_hints(void) {
+    struct hints none = {0}, hints = {noted_block(NOTED_WORDS), noted_block(NOTED_SLOTS), 1};
+    qolb_noted_blocks_ = (struct noted_blocks){0};
+    return hints.home && hints.bytes ? hints : none;
+}
+
 uint32_t qolb_open(uint32_t kind, uint64_t label, uint64_t nodes, uint64_t lease, const qolb_bytes *opening,
                    qolb_node *out, size_t handles) {
     static atomic_uint drawn;
-    uint32_t got = qolb_open_proved_(kind, label, nodes, lease, opening, out, handles);
+    uint32_t got = open_noted(kind, label, nodes, lease, opening, out, handles);
+    struct hints hints = first_hints();
     if (got != QOLB_DONE) return got;
     uint32_t bell = atomic_fetch_add(&drawn, NEXT_BELLS);
-    for (uint64_t k = 0; k < nodes; k++) {
+    for (uint64_t k = 0; k < nodes; k++, hints.node++) {
         *first_bell_of(&out[k]) = bell;
         *nodes_beside(&out[k]) = (uint32_t)nodes;
         *notice_of(&out[k]) = (struct notice){.in_line = &qolb_bells_[bell % BELLS].in_line,
                                               .in_all = &anywhere.waiting};
+        *hints_of(&out[k]) = hints;
     }
     return got;
 }
@@ -71,7 +88,18 @@ uint32_t qolb_prepend(qolb_node *node) { return told(node, qolb_prepend_proved_(
 
 uint32_t qolb_link(qolb_node *node) { return told(node, qolb_link_proved_(node)); }
 
-uint32_t qolb_deqolb(qolb_node *node) { return let_go(node, qolb_deqolb_proved_(node)); }
+/* The node with hints with which the thread waited for a turn last, by its address, until it releases. */
+static BY_THREAD const void *waited_with;
+
+__attribute__((noinline)) static void hint(const qolb_node *node) {
+    waited_with = NULL;
+    hint_release(hints_of(node));
+}
+
+uint32_t qolb_deqolb(qolb_node *node) {
+    if (waited_with && waited_with == node->own) hint(node);
+    return let_go(node, qolb_deqolb_proved_(node));
+}
 
 uint32_t qolb_shut(qolb_node *node) { return let_go(node, qolb_shut_proved_(node)); }
 
@@ -103,6 +131,7 @@ static uint64_t most_before(const qolb_node *node) {
 static uint32_t spin(qolb_node *node, const struct limit *limit, struct spin *spun) {
     uint64_t before = most_before(node);
     for (;;) {
+        hint_turn(hints_of(node));
         uint32_t got = qolb_poll_proved_(node);
         if (got != QOLB_WAITING || !left(limit) || !qolb_spin_once_(spun, before)) return got;
     }
@@ -174,6 +203,7 @@ static uint32_t waited(qolb_node *node, uint32_t got, const struct limit *limit)
 /* The answer of a waiting call, for a node that made a request and was not granted the line at once. */
 __attribute__((noinline)) static uint32_t acquired(qolb_node *node, uint32_t got, struct limit limit) {
     if (got == QOLB_BUSY || got == QOLB_QUEUED) got = waited(node, got, &limit);
+    if (got == QOLB_GRANTED && hints_of(node)->home) waited_with = node->own;
     return told(node, got);
 }
 

@@ -13,7 +13,9 @@
  * What no call can see, and the caller owes (docs/PROVED.md):
  *
  * - a `qolb_core` that opening wrote, or a copy of it;
- * - a ticket of zeros, or as its last call left it, in one call at a time, and not copied;
+ * - a ticket of zeros, or as its last call left it but for `outer`, in one call at a time, and not copied: it may be
+ *   moved. One that is not WAITING may be kept as its number, label and state, and made of them again with zeros: of
+ *   the rest a call reads the guess `outer` alone;
  * - for each opening a label of its own;
  * - nothing else in the lock's bytes while a call on it may be made, and none afterwards. A FREE ticket of such a lock
  *   may be used for another. */
@@ -51,7 +53,7 @@ struct qolb_core {
     const void *at;
 };
 
-/* A ticket, all zeros at first. Not to be copied; one call at a time. The caller may write `outer`, and no other
+/* A ticket, all zeros at first. The head of this file says what its caller owes, who may write `outer`, and no other
  * field. A FREE ticket may go to another lock, or be set to zeros. */
 struct qolb_ticket {
     uint64_t number;   /* from ask on: the ticket's number. After a release: the last number whose turn ended, so that

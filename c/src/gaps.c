@@ -15,6 +15,7 @@ HIDDEN void *qolb_realloc_(void *block, size_t size);
 HIDDEN void qolb_free_(void *block);
 
 BY_THREAD struct core_room qolb_core_room_;
+BY_THREAD struct noted_blocks qolb_noted_blocks_;
 
 /* The place of a block of a lock's core, or NULL: each is given once. */
 static void *given_by_lock(size_t size) {
@@ -30,6 +31,19 @@ static void *given_by_lock(size_t size) {
 
 static struct before *before(void *block) { return (struct before *)block - 1; }
 
+static void *noted(void *block, size_t size) {
+    struct noted_blocks *blocks = &qolb_noted_blocks_;
+    for (int k = 0; k < NOTED_SIZES; k++)
+        if (size == blocks->size[k]) blocks->block[k][blocks->block[k][0] != NULL] = block;
+    return block;
+}
+
+static void forget(const void *block) {
+    void **noted = qolb_noted_blocks_.block[0];
+    for (int k = 0; k < 2 * NOTED_SIZES; k++)
+        if (noted[k] == block) noted[k] = NULL;
+}
+
 /* If nothing can be added to the size, the allocation fails. What malloc gives is a multiple of 16, so there is room
  * for a `struct before`. */
 void *qolb_malloc_(size_t size) {
@@ -39,7 +53,7 @@ void *qolb_malloc_(size_t size) {
     if (!given) return NULL;
     void *block = given + GAP_BYTES - (uintptr_t)given % GAP_BYTES;
     *before(block) = (struct before){given, size};
-    return block;
+    return noted(block, size);
 }
 
 void *qolb_realloc_(void *block, size_t size) {
@@ -52,5 +66,7 @@ void *qolb_realloc_(void *block, size_t size) {
 }
 
 void qolb_free_(void *block) {
-    if (block) free(before(block)->given);
+    if (!block) return;
+    forget(block);
+    free(before(block)->given);
 }

@@ -9,6 +9,7 @@ enum {
     TABLE_BLOCKS = 2,  /* the words, and the slots */
     LINE_BYTES = 112,  /* of the block with the line, which all nodes share, and the count of those that do */
     NODE_BYTES = 160,  /* of the block of each node, to which its handle points */
+    SLOT_BYTES = 128,  /* of each slot */
     NOTICE_BYTES = 56, /* behind a node's data, for its notice */
     GAP_BYTES = QOLB_NODE_ALIGN
 };
@@ -41,8 +42,31 @@ struct core_room {
 
 extern BY_THREAD __attribute__((visibility("hidden"))) struct core_room qolb_core_room_;
 
+/* The blocks of two sizes that a thread has allocated and not freed since it set the sizes: up to two of each, as
+ * opening allocates a table's contents twice and frees one. */
+enum { NOTED_WORDS, NOTED_SLOTS, NOTED_SIZES };
+struct noted_blocks {
+    size_t size[NOTED_SIZES];
+    void *block[NOTED_SIZES][2];
+};
+
+extern BY_THREAD __attribute__((visibility("hidden"))) struct noted_blocks qolb_noted_blocks_;
+
+/* The one block of that size; NULL if there is none, or two. */
+static inline void *noted_block(int k) {
+    void **block = qolb_noted_blocks_.block[k];
+    return !block[0] ? block[1] : !block[1] ? block[0] : NULL;
+}
+
+/* Where a node of a link line finds the words that its handoff writes (hints.h). */
+struct hints {
+    _Atomic uint64_t *home; /* the first of the line's words: of the last request. NULL: there are no hints */
+    const void *bytes;      /* the line's slot */
+    uint64_t node;          /* the node's number */
+};
+
 _Static_assert(NOTICE_BYTES <= GAP_BYTES / 2, "it is before the number");
-_Static_assert(NODE_BYTES % GAP_BYTES + GAP_BYTES / 2 + 2 * sizeof(uint32_t) + sizeof(struct before) <= GAP_BYTES,
+_Static_assert(NODE_BYTES % GAP_BYTES + GAP_BYTES / 2 + 2 * sizeof(uint32_t) + sizeof(struct hints) <= GAP_BYTES,
                "all has room there");
 
 /* The first bytes behind a node's data. */
@@ -57,6 +81,9 @@ static inline uint32_t *first_bell_of(const qolb_node *node) {
 
 /* The number of the line's nodes, behind that number. */
 static inline uint32_t *nodes_beside(const qolb_node *node) { return first_bell_of(node) + 1; }
+
+/* Its hints, behind both. */
+static inline struct hints *hints_of(const qolb_node *node) { return (struct hints *)(nodes_beside(node) + 1); }
 
 /* The node's notice (bells.h), before that number. */
 static inline struct notice *notice_of(const qolb_node *node) { return behind(node); }

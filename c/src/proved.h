@@ -1,5 +1,9 @@
 /* For the library's internal files: the proved calls on nodes, as crates/qolb_c/src/lib.rt exports them. A call
- * of qolb.h has the same name without _proved_, and is in calls.c. */
+ * of qolb.h has the same name without _proved_, and is in calls.c. The calls on locks are in core.h.
+ *
+ * What no call can see, and the caller owes (docs/PROVED.md): a handle of zeros, or as its last call left it, in one
+ * call at a time, and not copied: it may be moved; other arguments that point to what their types say, and overlap
+ * neither one another nor the handle. */
 #ifndef QOLB_PROVED_H
 #define QOLB_PROVED_H
 

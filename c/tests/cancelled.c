@@ -2,6 +2,7 @@
  * cancellation point. So no request of an ended thread is in the queue, and the line is handed on. Prints only
  * errors. */
 #define _POSIX_C_SOURCE 200809L
+#include "want.h"
 #include <pthread.h>
 #include <qolb.h>
 #include <sched.h>
@@ -11,15 +12,6 @@
 #include <unistd.h>
 
 enum { FOR_EVER, LONG, SHORT };
-
-#define WANT(call, wanted)                                            \
-    do {                                                              \
-        unsigned long long got_ = (call);                             \
-        if (got_ != (wanted)) {                                       \
-            printf("line %d: %s gave %llu\n", __LINE__, #call, got_); \
-            return 1;                                                 \
-        }                                                             \
-    } while (0)
 
 struct waiter {
     _Alignas(QOLB_NODE_ALIGN) qolb_node node;

@@ -1,20 +1,12 @@
 /* After a fork parent and child have a line each, both in the same state, and neither sees what the other does. Prints
  * only errors. */
 #define _POSIX_C_SOURCE 200809L
+#include "want.h"
 #include <qolb.h>
 #include <stdio.h>
 #include <stdlib.h>
 #include <sys/wait.h>
 #include <unistd.h>
-
-#define WANT(call, wanted)                                            \
-    do {                                                              \
-        unsigned long long got_ = (call);                             \
-        if (got_ != (wanted)) {                                       \
-            printf("line %d: %s gave %llu\n", __LINE__, #call, got_); \
-            return 1;                                                 \
-        }                                                             \
-    } while (0)
 
 /* The first node holds the line, with this in its lane 0, and the second waits: it continues from there, and leaves its
  * own number in the line. */

@@ -4,6 +4,7 @@
  * The thread sanitizer sees the data, and must be quiet. Built with -DUNGUARDED each thread has its own line, so that
  * nothing guards the data, and then it must report. */
 #define _POSIX_C_SOURCE 200809L
+#include "want.h"
 #include <pthread.h>
 #include <qolb.h>
 #include <stdio.h>
@@ -12,15 +13,6 @@
 #include <unistd.h>
 
 enum { THREADS = 4, ROUNDS = 5000 };
-
-#define WANT(call, wanted)                                            \
-    do {                                                              \
-        unsigned long long got_ = (call);                             \
-        if (got_ != (wanted)) {                                       \
-            printf("line %d: %s gave %llu\n", __LINE__, #call, got_); \
-            return 1;                                                 \
-        }                                                             \
-    } while (0)
 
 /* The guarded data: ordinary, and too large for the line's own bytes. */
 static struct {

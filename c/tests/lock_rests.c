@@ -4,6 +4,7 @@
  * calls that poll and withdraw. One thread does what several would: so it enters a lock that it holds as preload.c
  * does. Prints only errors. */
 #define _GNU_SOURCE
+#include "want.h"
 #include <lock/lock.h>
 #include <sched.h>
 #include <stdarg.h>
@@ -13,15 +14,6 @@
 #include <sys/wait.h>
 #include <time.h>
 #include <unistd.h>
-
-#define WANT(call, wanted)                                            \
-    do {                                                              \
-        unsigned long long got_ = (unsigned long long)(call);         \
-        if (got_ != (unsigned long long)(wanted)) {                   \
-            printf("line %d: %s gave %llu\n", __LINE__, #call, got_); \
-            return 1;                                                 \
-        }                                                             \
-    } while (0)
 
 enum { MS = 1000000, KEPT = 8 };
 #define NEVER UINT64_MAX
@@ -226,7 +218,7 @@ static int granted_awake(void) {
 /* Behind more than four it polls for less. */
 static int far_from_its_turn(void) {
     enum { BEFORE = 7 };
-    struct turn before[BEFORE] = {{0}};
+    struct turn before[BEFORE] = {{.core = 0}};
     if (is_held(0)) return 1;
     for (int k = 0; k < BEFORE; k++)
         WANT(qolb_core_ask_proved_(&lock_of(&lock)->core, &before[k].ticket), QOLB_WAITING);
@@ -338,7 +330,7 @@ static int wakes_in_order(unsigned has_slept) {
     WANT(qolb_lock_open(&lock, 0), QOLB_DONE);
     holder = (struct turn){0};
     WANT(qolb_enter_at_(lock_of(&lock), &holder, NEVER, 0), QOLB_GRANTED);
-    holder.slept = has_slept;
+    if (has_slept) set_core(&holder, SLEPT);
     lets_go = holder_leaves;
     begins(next_sleeps);
     event.at_sleep = 1;

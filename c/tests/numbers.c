@@ -3,6 +3,7 @@
  * that to a new thread of the child. Here it gives each thread the same number: linked with --wrap for syscall. Prints
  * only errors. */
 #define _GNU_SOURCE
+#include "want.h"
 #include <pthread.h>
 #include <qolb.h>
 #include <stdarg.h>
@@ -13,15 +14,6 @@
 #include <unistd.h>
 
 enum { TURNS = 40, NUMBER = 7, MS = 1000000 };
-
-#define WANT(call, wanted)                                            \
-    do {                                                              \
-        unsigned long long got_ = (unsigned long long)(call);         \
-        if (got_ != (unsigned long long)(wanted)) {                   \
-            printf("line %d: %s gave %llu\n", __LINE__, #call, got_); \
-            exit(1);                                                  \
-        }                                                             \
-    } while (0)
 
 long __real_syscall(long number, ...);
 
@@ -40,39 +32,39 @@ static qolb_cond cond = QOLB_COND_INIT;
 
 /* Another thread holds the lock. */
 static void *holds_nothing(void *unused) {
-    WANT(qolb_lock_holder(&lock), NUMBER);
-    WANT(qolb_lock_is_mine(&lock), 0);
-    WANT(qolb_lock_leave(&lock), QOLB_MISUSE);
-    WANT(qolb_lock_shut(&lock), QOLB_MISUSE);
-    WANT(qolb_cond_wait(&cond, &lock), QOLB_MISUSE);
-    WANT(qolb_lock_try(&lock), QOLB_BUSY);
-    WANT(qolb_lock_enter_within(&lock, MS), QOLB_LATE);
+    MUST(qolb_lock_holder(&lock), NUMBER);
+    MUST(qolb_lock_is_mine(&lock), 0);
+    MUST(qolb_lock_leave(&lock), QOLB_MISUSE);
+    MUST(qolb_lock_shut(&lock), QOLB_MISUSE);
+    MUST(qolb_cond_wait(&cond, &lock), QOLB_MISUSE);
+    MUST(qolb_lock_try(&lock), QOLB_BUSY);
+    MUST(qolb_lock_enter_within(&lock, MS), QOLB_LATE);
     return unused;
 }
 
 static void *has_it(void *unused) {
-    WANT(qolb_lock_enter(&lock), QOLB_GRANTED);
-    WANT(qolb_lock_enter(&lock), QOLB_MISUSE);
-    WANT(qolb_lock_leave(&lock), QOLB_DONE);
+    MUST(qolb_lock_enter(&lock), QOLB_GRANTED);
+    MUST(qolb_lock_enter(&lock), QOLB_MISUSE);
+    MUST(qolb_lock_leave(&lock), QOLB_DONE);
     return unused;
 }
 
 static void in_another_thread(void *(*work)(void *)) {
     pthread_t id;
-    WANT(pthread_create(&id, NULL, work, NULL), 0);
-    WANT(pthread_join(id, NULL), 0);
+    MUST(pthread_create(&id, NULL, work, NULL), 0);
+    MUST(pthread_join(id, NULL), 0);
 }
 
 /* For the thread that holds it. */
 static void is_held(void) {
     in_another_thread(holds_nothing);
-    WANT(qolb_lock_enter(&lock), QOLB_MISUSE);
-    WANT(qolb_lock_is_mine(&lock), 1);
-    WANT(qolb_lock_leave(&lock), QOLB_DONE);
+    MUST(qolb_lock_enter(&lock), QOLB_MISUSE);
+    MUST(qolb_lock_is_mine(&lock), 1);
+    MUST(qolb_lock_leave(&lock), QOLB_DONE);
     in_another_thread(has_it);
-    WANT(qolb_lock_enter(&lock), QOLB_GRANTED);
-    WANT(qolb_lock_leave(&lock), QOLB_DONE);
-    WANT(qolb_lock_close(&lock), QOLB_DONE);
+    MUST(qolb_lock_enter(&lock), QOLB_GRANTED);
+    MUST(qolb_lock_leave(&lock), QOLB_DONE);
+    MUST(qolb_lock_close(&lock), QOLB_DONE);
 }
 
 /* The lock is held at the fork, at its first use or after turns that nobody else wanted. */
@@ -80,15 +72,15 @@ static void forks(qolb_lock as, int turns) {
     int ended;
     lock = as;
     for (int k = 0; k < turns; k++) {
-        WANT(qolb_lock_enter(&lock), QOLB_GRANTED);
-        WANT(qolb_lock_leave(&lock), QOLB_DONE);
+        MUST(qolb_lock_enter(&lock), QOLB_GRANTED);
+        MUST(qolb_lock_leave(&lock), QOLB_DONE);
     }
-    WANT(qolb_lock_enter(&lock), QOLB_GRANTED);
+    MUST(qolb_lock_enter(&lock), QOLB_GRANTED);
     pid_t child = fork();
-    WANT(child >= 0, 1);
+    MUST(child >= 0, 1);
     is_held();
     if (child == 0) exit(0);
-    WANT(waitpid(child, &ended, 0) == child && WIFEXITED(ended) && WEXITSTATUS(ended) == 0, 1);
+    MUST(waitpid(child, &ended, 0) == child && WIFEXITED(ended) && WEXITSTATUS(ended) == 0, 1);
 }
 
 int main(void) {

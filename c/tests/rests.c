@@ -4,6 +4,7 @@
  * sched_yield, syscall and for the proved calls that request, poll, withdraw and name the next holder. One thread does
  * what several would. Prints only errors. */
 #define _GNU_SOURCE
+#include "want.h"
 #include <proved.h>
 #include <sched.h>
 #include <spin.h>
@@ -16,15 +17,6 @@
 #include <sys/wait.h>
 #include <time.h>
 #include <unistd.h>
-
-#define WANT(call, wanted)                                            \
-    do {                                                              \
-        unsigned long long got_ = (call);                             \
-        if (got_ != (wanted)) {                                       \
-            printf("line %d: %s gave %llu\n", __LINE__, #call, got_); \
-            return 1;                                                 \
-        }                                                             \
-    } while (0)
 
 enum { US = 1000, MS = 1000000 };
 #define NEVER UINT64_MAX

@@ -1,6 +1,7 @@
 /* Two threads add to one lane of a line of each kind; then every mistake is made that the library must answer, and a
  * line of each number of nodes is opened; and a node is freed that has closed its line. Prints only errors. */
 #define _POSIX_C_SOURCE 200809L
+#include "want.h"
 #include <pthread.h>
 #include <qolb.h>
 #include <stdio.h>
@@ -8,15 +9,6 @@
 #include <unistd.h>
 
 enum { THREADS = 2, ROUNDS = 20000 };
-
-#define WANT(call, wanted)                                            \
-    do {                                                              \
-        unsigned long long got_ = (call);                             \
-        if (got_ != (wanted)) {                                       \
-            printf("line %d: %s gave %llu\n", __LINE__, #call, got_); \
-            return 1;                                                 \
-        }                                                             \
-    } while (0)
 
 /* A thread's own node, apart from others, so that the threads share no cache line but the line's. */
 struct adder {

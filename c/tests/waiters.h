@@ -2,6 +2,7 @@
 #ifndef WAITERS_H
 #define WAITERS_H
 
+#include "want.h"
 #include <pthread.h>
 #include <sched.h>
 #include <stdatomic.h>
@@ -13,25 +14,6 @@
 #include <unistd.h>
 
 enum { US = 1000, MS = 1000000 };
-
-#define WANT(call, wanted)                                            \
-    do {                                                              \
-        unsigned long long got_ = (unsigned long long)(call);         \
-        if (got_ != (unsigned long long)(wanted)) {                   \
-            printf("line %d: %s gave %llu\n", __LINE__, #call, got_); \
-            return 1;                                                 \
-        }                                                             \
-    } while (0)
-
-/* For a thread that cannot return an error. */
-#define MUST(call, wanted)                                            \
-    do {                                                              \
-        unsigned long long got_ = (unsigned long long)(call);         \
-        if (got_ != (unsigned long long)(wanted)) {                   \
-            printf("line %d: %s gave %llu\n", __LINE__, #call, got_); \
-            exit(1);                                                  \
-        }                                                             \
-    } while (0)
 
 static inline double seconds(clockid_t clock) {
     struct timespec time;

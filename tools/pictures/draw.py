@@ -12,14 +12,14 @@ import sys
 
 import handovers
 import layers
+import plots
 import states
-import turns
 
 FOLDER = pathlib.Path(__file__).resolve().parents[2] / "docs/figures"
 
 
 def main():
-    drawn = {**handovers.pictures(), **layers.pictures(), **states.pictures(), **turns.pictures()}
+    drawn = {**handovers.pictures(), **layers.pictures(), **plots.pictures(), **states.pictures()}
     stale = []
     for name, picture in drawn.items():
         path = FOLDER / f"{name}.svg"

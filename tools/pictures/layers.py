@@ -9,7 +9,7 @@ RIGHT = WIDTH - SIDE - MODEL - GAP
 # Of each layer its name, and its parts: a title, its crates or files, and a colour.
 LAYERS = (
     ("program and C", (("program", "qolb, qolb_serve, qolb_run", "a"), ("your program in Rattle", "line_board, line_accounts", "a"), ("calls for C", "qolb_c, qolb_nodes", "a"), ("C, C++, Rust", "c/src, c/rust", "c"))),
-    ("waits", (("Rattle", "line_blocking", "a"), ("C", "calls.c, bells.c, notify.c, lock", "c"))),
+    ("waits", (("Rattle", "line_blocking", "a"), ("C", "calls.c, bells.c, notify.c, lock/", "c"))),
     ("line body", (("Line<K, Q>: every call, once for all locks", "line_generic", "b"),)),
     ("discipline", (("ring", "ring_line, line_cells", "b"), ("ticket line", "ticket_line, line_cells", "b"), ("link line", "link_line, link_core", "b"))),
     ("words", (("one atomic operation on 64 bits each", "atomic_table, of the kit", "box"),)),
@@ -37,7 +37,7 @@ def five_layers():
     picture.box(WIDTH - SIDE - MODEL, 34, MODEL, tall, "d")
     for line, words in enumerate(("qolb_model", "the specification", "that all of these cite")):
         picture.text(WIDTH - SIDE - MODEL / 2, 34 + tall / 2 - 12 + 20 * line, words, "strong small" if line == 0 else "small")
-    legend = (("a", "proved, in Rattle"), ("b", "proved, the locks"), ("c", "C around proved calls: tested"), ("box", "trusted"))
+    legend = (("a", "proved, in Rattle"), ("b", "proved, the locks"), ("c", "C: explored and tested"), ("box", "trusted"))
     for k, (kind, says) in enumerate(legend):
         x = SIDE + NAMES + (0, 140, 280, 500)[k]
         picture.box(x, height - 24, 14, 12, kind, 3)

@@ -11,7 +11,11 @@
  * limit draws one: it waits without, as a guest, and looks every millisecond.
  *
  * Who is told that the lock is shut passes its turn on. Closing is a try that finds nobody: no holder, no waiter, no
- * guest. */
+ * guest.
+ *
+ * A thread that had this lock before has a place for it, and takes the short way, which checks no more than the proved
+ * calls: they refuse a ticket of another lock that lay in the same bytes, and then nothing has changed. What a short
+ * way needs after a call is in the place; so it saves one register. */
 #include "lock.h"
 
 #define likely(it) __builtin_expect(!!(it), 1)
@@ -24,8 +28,6 @@
 /* How often a newcomer goes to the outer word anew that changed while it was free, and a call with a limit to the tail,
  * before it waits. */
 enum { TRIES = 4 };
-
-static int has_bursts(const struct lock *lock) { return lock->turns > 1; }
 
 static int goes_in(struct lock *lock, struct turn *at) {
     for (int k = 0; k < TRIES; k++) {
@@ -67,11 +69,10 @@ static uint32_t ask_later(struct request *my) {
     uint32_t got = QOLB_FAR_;
     while (got == QOLB_FAR_ && !is_over(my->until)) {
         be_guest(my);
-        qolb_nap_(my->until);
+        nap(my->until);
         got = ask(my);
     }
-    if (got != QOLB_FAR_) return got;
-    return outer_word(my->lock) & OUTER_SHUT ? QOLB_CLOSED : QOLB_LATE;
+    return got == QOLB_FAR_ ? closed_or(QOLB_LATE, my->lock) : got;
 }
 
 /* Who comes by CLOSED to the outer word of a shut lock is in by it, and leaves it. */
@@ -81,10 +82,15 @@ void qolb_settle_(struct lock *lock, struct turn *at, uint32_t got) {
     if (is_in) qolb_leave_outer_(lock, at);
 }
 
+/* Looks at the outer word for a ticket at its turn of the queue: GRANTED, CLOSED; with bursts also WAITING. */
+static uint32_t look(struct lock *lock, struct turn *at) {
+    return has_bursts(lock) ? qolb_core_take_outer_proved_(&lock->core, &at->ticket)
+                            : qolb_core_check_open_proved_(&lock->core, &at->ticket);
+}
+
 /* Who is at its turn of the queue enters: GRANTED, CLOSED, or LATE at the outer word. */
 static uint32_t enter_at_turn(struct request *my) {
-    const struct qolb_core *core = &my->lock->core;
-    uint32_t got = has_bursts(my->lock) ? qolb_await_outer_(my) : qolb_core_check_open_proved_(core, &my->at->ticket);
+    uint32_t got = has_bursts(my->lock) ? qolb_await_outer_(my) : look(my->lock, my->at);
     qolb_settle_(my->lock, my->at, got);
     return got;
 }
@@ -115,79 +121,61 @@ SLOW uint32_t qolb_enter_at_(struct lock *lock, struct turn *at, uint64_t nanose
     return enter_by(&my, ask(&my));
 }
 
-SLOW static uint32_t enter_slowly(struct lock *lock, uint64_t nanoseconds) {
+/* What entering and trying have in common: the answer of a thread that holds the lock is `held`. */
+SLOW static uint32_t enter_or_try(struct lock *lock, uint64_t nanoseconds, uint32_t held) {
     struct turn beyond;
     qolb_open_(lock);
-    if (qolb_holds_(lock)) return QOLB_MISUSE;
+    if (qolb_holds_(lock)) return held;
     struct turn *at = qolb_place_for_(lock, &beyond);
-    uint32_t got = qolb_enter_at_(lock, at, nanoseconds, 0);
+    uint32_t got = held == QOLB_BUSY ? qolb_try_at_(lock, at) : qolb_enter_at_(lock, at, nanoseconds, 0);
     if (got == QOLB_GRANTED) qolb_keep_turn_(lock, at, &beyond);
     return got;
 }
 
-/* After a ticket was drawn in the thread's own place for the lock. */
-SLOW static uint32_t enter_later(struct lock *lock, struct turn *at, uint32_t got) {
-    struct request my = {lock, at, FOR_EVER, 0};
-    if (got == QOLB_CLOSED) qolb_pass_on_(lock, at);
+uint32_t qolb_lock_enter_within(qolb_lock *lock, uint64_t nanoseconds) {
+    return enter_or_try(lock_of(lock), nanoseconds, QOLB_MISUSE);
+}
+
+/* In the thread's own place for the lock, after a proved call that answered this. */
+SLOW static uint32_t enter_on(struct turn *at, uint32_t got) {
+    struct request my = {lock_by(at), at, FOR_EVER, 0};
+    if (got == QOLB_BUSY) got = ask(&my);
+    if (got == QOLB_CLOSED) qolb_pass_on_(my.lock, at);
     else got = enter_by(&my, got);
-    if (got == QOLB_GRANTED) set_lock(at, (uintptr_t)lock + HELD);
+    if (got == QOLB_GRANTED) hold_by(at, my.lock);
     return got;
 }
 
-/* A thread that held this lock last has it in its place, and so knows that it does not hold it. */
-FAST uint32_t qolb_lock_enter(qolb_lock *of) {
-    struct lock *lock = lock_of(of);
-    struct turn *at = home_of(lock);
-    if (!likely(last_had(at, lock) && is_open(lock))) return enter_slowly(lock, FOR_EVER);
-    if (!likely(!has_bursts(lock))) {
-        if (!likely(qolb_core_go_in_proved_(&lock->core, &at->ticket) == QOLB_GRANTED))
-            return enter_slowly(lock, FOR_EVER);
-    } else {
-        uint32_t got = qolb_core_ask_proved_(&lock->core, &at->ticket);
-        if (likely(got == QOLB_GRANTED)) got = qolb_core_check_open_proved_(&lock->core, &at->ticket);
-        if (!likely(got == QOLB_GRANTED)) return enter_later(lock, at, got);
-    }
-    set_lock(at, (uintptr_t)lock + HELD);
-    return QOLB_GRANTED;
+static uint32_t enter_burst(struct turn *at) {
+    uint32_t got = qolb_core_go_in_proved_(&lock_by(at)->core, &at->ticket);
+    if (!likely(got == QOLB_GRANTED)) return enter_on(at, got);
+    set_core(at, core_at(at) + HELD - LAST);
+    return got;
 }
 
-uint32_t qolb_lock_enter_within(qolb_lock *lock, uint64_t nanoseconds) {
-    return enter_slowly(lock_of(lock), nanoseconds);
+FAST uint32_t qolb_lock_enter(qolb_lock *of) {
+    struct turn *at = home_of(lock_of(of));
+    if (!likely(is_at(at, lock_of(of), LAST))) return enter_or_try(lock_of(of), FOR_EVER, QOLB_MISUSE);
+    if (!likely(!has_bursts(lock_of(of)))) return enter_burst(at);
+    uint32_t got = qolb_core_ask_proved_(&lock_of(of)->core, &at->ticket);
+    if (likely(got == QOLB_GRANTED)) got = qolb_core_check_open_proved_(&lock_by(at)->core, &at->ticket);
+    if (!likely(got == QOLB_GRANTED)) return enter_on(at, got);
+    set_core(at, core_at(at) + HELD - LAST);
+    return got;
 }
 
 /* ---- Trying ---- */
 
-static uint32_t busy_or_closed(const struct lock *lock) {
-    return outer_word(lock) & OUTER_SHUT ? QOLB_CLOSED : QOLB_BUSY;
-}
-
-/* At the turn of the queue. */
-static uint32_t try_outer(struct lock *lock, struct turn *at) {
-    uint32_t got = qolb_core_take_outer_proved_(&lock->core, &at->ticket);
-    if (got == QOLB_WAITING) got = busy_or_closed(lock);
+uint32_t qolb_try_at_(struct lock *lock, struct turn *at) {
+    if (has_bursts(lock) && goes_in(lock, at)) return QOLB_GRANTED;
+    if (qolb_core_try_ask_proved_(&lock->core, &at->ticket) != QOLB_GRANTED) return closed_or(QOLB_BUSY, lock);
+    uint32_t got = look(lock, at);
+    if (got == QOLB_WAITING) got = closed_or(QOLB_BUSY, lock);
     qolb_settle_(lock, at, got);
     return got;
 }
 
-uint32_t qolb_try_at_(struct lock *lock, struct turn *at) {
-    if (has_bursts(lock) && goes_in(lock, at)) return QOLB_GRANTED;
-    if (qolb_core_try_ask_proved_(&lock->core, &at->ticket) != QOLB_GRANTED) return busy_or_closed(lock);
-    if (has_bursts(lock)) return try_outer(lock, at);
-    uint32_t got = qolb_core_check_open_proved_(&lock->core, &at->ticket);
-    if (got != QOLB_GRANTED) qolb_pass_on_(lock, at);
-    return got;
-}
-
-uint32_t qolb_lock_try(qolb_lock *of) {
-    struct lock *lock = lock_of(of);
-    struct turn beyond;
-    qolb_open_(lock);
-    if (qolb_holds_(lock)) return QOLB_BUSY;
-    struct turn *at = qolb_place_for_(lock, &beyond);
-    uint32_t got = qolb_try_at_(lock, at);
-    if (got == QOLB_GRANTED) qolb_keep_turn_(lock, at, &beyond);
-    return got;
-}
+uint32_t qolb_lock_try(qolb_lock *lock) { return enter_or_try(lock_of(lock), 0, QOLB_BUSY); }
 
 /* ---- Leaving ---- */
 
@@ -200,6 +188,12 @@ void qolb_leave_at_(struct lock *lock, struct turn *at) {
     else qolb_leave_outer_(lock, at);
 }
 
+void qolb_shut_at_(struct lock *lock, struct turn *at) {
+    qolb_tell_shut_(lock);
+    qolb_core_shut_proved_(&lock->core, &at->ticket);
+    qolb_leave_at_(lock, at);
+}
+
 SLOW static uint32_t leave_slowly(struct lock *lock) {
     struct turn beyond, *at = qolb_take_turn_(lock, &beyond);
     if (!at) return QOLB_MISUSE;
@@ -207,22 +201,34 @@ SLOW static uint32_t leave_slowly(struct lock *lock) {
     return QOLB_DONE;
 }
 
-FAST uint32_t qolb_lock_leave(qolb_lock *of) {
-    struct lock *lock = lock_of(of);
-    struct turn *at = home_of(lock);
-    if (!likely(holds_by(at, lock) && is_open(lock) && at->ticket.label == lock->label)) return leave_slowly(lock);
-    set_lock(at, (uintptr_t)lock);
-    qolb_leave_at_(lock, at);
+/* In the thread's own place for the lock, after a proved call that answered this. The lock may be gone, but for
+ * MISUSE. */
+SLOW static uint32_t leave_on(struct turn *at, uint32_t got, int with_bursts) {
+    struct lock *lock = lock_by(at);
+    if (got == QOLB_MISUSE) return hold_by(at, lock), leave_slowly(lock);
+    if (with_bursts) qolb_end_inside_(lock, at, got);
+    else qolb_end_turn_(lock, at, got);
     return QOLB_DONE;
 }
 
+static uint32_t leave_burst(struct turn *at) {
+    uint32_t got = qolb_core_leave_proved_(&lock_by(at)->core, &at->ticket);
+    return likely(got == QOLB_DONE && !at->ticket.head_sleeps) ? got : leave_on(at, got, 1);
+}
+
+FAST uint32_t qolb_lock_leave(qolb_lock *of) {
+    struct turn *at = home_of(lock_of(of));
+    if (!likely(is_at(at, lock_of(of), HELD))) return leave_slowly(lock_of(of));
+    set_core(at, core_at(at) + LAST - HELD);
+    if (!likely(!has_bursts(lock_of(of)))) return leave_burst(at);
+    uint32_t got = qolb_core_release_proved_(&lock_of(of)->core, &at->ticket);
+    return likely(got == QOLB_DONE && !at->ticket.sleepers) ? got : leave_on(at, got, 0);
+}
+
 uint32_t qolb_lock_shut(qolb_lock *of) {
-    struct lock *lock = lock_of(of);
-    struct turn beyond, *at = qolb_take_turn_(lock, &beyond);
+    struct turn beyond, *at = qolb_take_turn_(lock_of(of), &beyond);
     if (!at) return QOLB_MISUSE;
-    qolb_tell_shut_(lock);
-    qolb_core_shut_proved_(&lock->core, &at->ticket);
-    qolb_leave_at_(lock, at);
+    qolb_shut_at_(lock_of(of), at);
     return QOLB_DONE;
 }
 
@@ -242,9 +248,7 @@ uint32_t qolb_lock_close(qolb_lock *of) {
     if (!own_of(lock)) return QOLB_DONE;
     if (!is_open(lock) || qolb_holds_(lock)) return QOLB_MISUSE;
     if (qolb_core_try_ask_proved_(&lock->core, &at->ticket) != QOLB_GRANTED) return QOLB_MISUSE;
-    uint32_t got = has_bursts(lock) ? qolb_core_take_outer_proved_(&lock->core, &at->ticket)
-                                    : qolb_core_check_open_proved_(&lock->core, &at->ticket);
-    int alone = is_alone(lock, at, got);
+    int alone = is_alone(lock, at, look(lock, at));
     qolb_pass_on_(lock, at);
     if (at->ticket.state != QOLB_TICKET_FREE_) qolb_leave_outer_(lock, at);
     if (!alone) return QOLB_MISUSE;

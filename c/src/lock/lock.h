@@ -1,4 +1,4 @@
-/* The lock: what it has, and what its files call of each other (qolb.h, LOCKS). One of the library's internal files.
+/* The lock: what it has, and what its files call of each other (qolb_lock(3)). One of the library's internal files.
  *
  * What decides is proved: each step on a shared word that grants, passes, withdraws, shuts or counts is a call of
  * core.h, by the lock and a ticket. The files here find the ticket, spin, sleep and wake. They call downwards only:
@@ -10,8 +10,7 @@
  *   registry.c     the tickets for which no thread waits: of tasks, and of calls that gave up
  *   turns.c        the thread's table of the locks that it holds; who holds a lock
  *   opens.c        opening a lock in its own bytes, at its first use
- *   parks.c        sleeping at a word, and waking
- *   ../core.h      the proved calls; ../spin.h how long to spin; ../bells.h the clock, guards, and calls of notices
+ *   ../core.h      the proved calls; ../spin.h how long to spin; ../bells.h the clock, sleep, guards, calls of notices
  *
  * Tested and explored (tools/explore_lock.py), not proved. */
 #ifndef QOLB_LOCK_H
@@ -24,7 +23,7 @@
 
 /* ---- A lock's bytes ---- */
 
-enum { MAX_BURST = 65535, LOCK_BYTES = 320, LINE = 64, WORDS_SLACK = 24 };
+enum { MAX_BURST = 65535, LOCK_BYTES = 320, LINE = 64, CORE_WORDS = CORE_WORDS_BYTES / 8, SPARE_WORDS = 3 };
 
 /* How a qolb_lock's bytes are used. The first part is written once, when it is opened; what the holder writes lies
  * behind it; and the core's words begin where the outer word shares no cache line with the first part, and the tail and
@@ -36,9 +35,9 @@ struct __attribute__((may_alias)) lock {
     char block[CORE_BLOCK_BYTES]; /* the core's: never written after opening */
     uint64_t label;               /* by who opens it: no other opening of the process has it */
     struct waiter *waits;         /* by the holder: those that wait at a condition */
-    /* By the holder: its number, if its thread's table has no room for this turn (`struct beyond`); BY_TASK; else 0. */
+    /* By the holder: its number, if this turn is in no thread's table; BY_TASK; else 0. */
     _Atomic uint64_t beyond_by;
-    char words[CORE_WORDS_BYTES + WORDS_SLACK]; /* the core's, a `struct beyond`, and the core's slots */
+    uint64_t words[CORE_WORDS + SPARE_WORDS]; /* the core's, and around them what spare_of says */
     /* The number of threads in a call that have no ticket yet or any more: they wait at a condition, or until a request
      * could be withdrawn. By each of them. A lock is not closed meanwhile. */
     atomic_uint guests;
@@ -50,35 +49,24 @@ _Static_assert(sizeof(struct lock) == LOCK_BYTES && sizeof(qolb_lock) == LOCK_BY
 /* A task holds the lock. */
 #define BY_TASK UINT64_MAX
 
-/* The part of a ticket that is kept in the lock. */
-struct beyond {
-    uint64_t number, state;
-};
-
 static inline struct lock *lock_of(const qolb_lock *lock) { return (struct lock *)(uintptr_t)lock; }
 
 /* The bound of bursts; 0 and 1: the lock is strict. */
 static inline uint64_t burst_of(const struct lock *lock) { return lock->turns < MAX_BURST ? lock->turns : MAX_BURST; }
+static inline int has_bursts(const struct lock *lock) { return lock->turns > 1; }
 
 /* The core's words. A function of the lock's address alone: so it can be used when the lock is gone. */
 static inline uint64_t *words_of(const struct lock *lock) {
     uintptr_t at = (uintptr_t)lock->words;
-    return (uint64_t *)(at % LINE <= WORDS_SLACK ? at : (at + LINE - 1) / LINE * LINE);
+    return (uint64_t *)(at % LINE <= SPARE_WORDS * sizeof(uint64_t) ? at : (at + LINE - 1) / LINE * LINE);
 }
 
-/* The rest of `words`: 24 bytes before the core's, 8 before and 16 behind them, or 24 behind. So there is one place for
- * 16 bytes, and one for 8. */
-static inline size_t bytes_before_words(const struct lock *lock) {
-    return (size_t)((char *)words_of(lock) - lock->words);
-}
-
-static inline struct beyond *beyond_of(struct lock *lock) {
-    int before = bytes_before_words(lock) >= sizeof(struct beyond);
-    return (struct beyond *)(before ? lock->words : (char *)words_of(lock) + CORE_WORDS_BYTES);
-}
-
-static inline void *slots_of(struct lock *lock) {
-    return bytes_before_words(lock) == CORE_SLOTS_BYTES ? (void *)lock->words : beyond_of(lock) + 1;
+/* What is kept in the words before and behind the core's: the number of the ticket of a turn that is in no table, and
+ * the core's slots, of which it has none. */
+enum spare { KEPT_NUMBER, SLOTS };
+static inline uint64_t *spare_of(struct lock *lock, enum spare which) {
+    ptrdiff_t before = words_of(lock) - lock->words;
+    return lock->words + (which < before ? which : which + CORE_WORDS);
 }
 
 /* ---- Looks at the words: hints for waiting, CLOSED for who gives up, and whether who closes is alone ---- */
@@ -94,16 +82,23 @@ static inline uint64_t tail_word(const struct lock *lock) {
     return __atomic_load_n(words_of(lock) + TAIL, __ATOMIC_SEQ_CST);
 }
 
+/* The answer of who gives up, while it may use the lock: CLOSED if that is shut. */
+static inline uint32_t closed_or(uint32_t answer, const struct lock *lock) {
+    return outer_word(lock) & OUTER_SHUT ? (uint32_t)QOLB_CLOSED : answer;
+}
+
+static inline uint64_t *cell_of(uint64_t *words, uint64_t number) {
+    return words + FIRST_CELL + number % TICKETS_IN_ROUND;
+}
+
 /* The 32 bits at which the queue head sleeps, and those of a ticket's cell at which a waiter sleeps. */
 static inline uint32_t *outer_half(uint64_t *words) { return (uint32_t *)words; }
-static inline uint32_t *cell_half(uint64_t *words, uint64_t number) {
-    return (uint32_t *)(words + FIRST_CELL + number % TICKETS_IN_ROUND) + 1;
-}
+static inline uint32_t *cell_half(uint64_t *words, uint64_t number) { return (uint32_t *)cell_of(words, number) + 1; }
 
 /* The rounds that are to be granted before this ticket is at its turn. Of a number that was read before its cell: less
  * than 0, if it was at its turn long ago. */
 static inline int32_t rounds_to_go(const struct lock *lock, uint64_t number) {
-    uint64_t cell = __atomic_load_n(words_of(lock) + FIRST_CELL + number % TICKETS_IN_ROUND, __ATOMIC_SEQ_CST);
+    uint64_t cell = __atomic_load_n(cell_of(words_of(lock), number), __ATOMIC_SEQ_CST);
     uint64_t rounds = number / TICKETS_IN_ROUND + 1 - (cell >> GRANTED_ROUNDS);
     return (int32_t)((uint32_t)rounds << (GRANTED_ROUNDS - 32)) >> (GRANTED_ROUNDS - 32);
 }
@@ -126,26 +121,37 @@ static inline uint32_t class_of(uint64_t number) {
     return (uint32_t)1 << number / TICKETS_IN_ROUND % CLASSES_OF_SLEEPERS;
 }
 
-/* ---- parks.c ---- */
-
-/* So far is the time at which a call gives up; FOR_EVER if it does not. */
-static inline uint64_t end_of(uint64_t nanoseconds) {
-    uint64_t now = nanoseconds == FOR_EVER ? 0 : qolb_now_();
-    return nanoseconds < FOR_EVER - now ? now + nanoseconds : FOR_EVER;
-}
-
-static inline int is_over(uint64_t until) { return until != FOR_EVER && qolb_now_() >= until; }
-
-/* Sleeps while these 32 bits have this value, until then, in these classes; may return for no reason. No cancellation
- * point. */
-HIDDEN void qolb_park_(uint32_t *half, uint32_t value, uint32_t classes, uint64_t until);
-
-/* Wakes all sleepers of these classes. The 32 bits need not exist any more: only their address is used. */
-HIDDEN void qolb_unpark_(uint32_t *half, uint32_t classes);
-
 /* Sleeps for a millisecond, or until then if that is sooner: nobody wakes it. */
 enum { NAP = 1000000 };
-HIDDEN void qolb_nap_(uint64_t until);
+static inline void nap(uint64_t until) {
+    atomic_uint nobody_wakes = 0;
+    uint64_t now = until == FOR_EVER ? 0 : qolb_now_(), time = until <= now ? 0 : until - now;
+    if (time) qolb_sleep_at_(&nobody_wakes, 0, time < NAP ? time : NAP);
+}
+
+/* ---- Lists: each entry has the next, and the last the first; a list is its last. Whole after each store, for the
+ * child of a fork. Under a guard, but to look whether one is empty ---- */
+
+struct link {
+    struct link *next;
+};
+
+static inline struct link *last_of(struct link *const *list) { return __atomic_load_n(list, __ATOMIC_SEQ_CST); }
+
+static inline void put_last(struct link **list, struct link *it) {
+    struct link *last = last_of(list);
+    it->next = last ? last->next : it;
+    if (last) last->next = it;
+    __atomic_store_n(list, it, __ATOMIC_SEQ_CST);
+}
+
+/* Takes out the one behind this. */
+static inline struct link *take_behind(struct link **list, struct link *before) {
+    struct link *it = before->next;
+    if (last_of(list) == it) __atomic_store_n(list, it == before ? NULL : before, __ATOMIC_SEQ_CST);
+    before->next = it->next;
+    return it;
+}
 
 /* ---- opens.c ---- */
 
@@ -164,14 +170,15 @@ HIDDEN void qolb_open_(struct lock *lock);
 
 /* A thread's turn at a lock, or its wait for one. */
 struct turn {
-    /* The lock's address, with HELD while the thread holds it, and NOTED at its end. It stays when the turn has ended:
-     * so one comparison says that this thread does not hold that lock. */
-    _Atomic uintptr_t lock;
-    uintptr_t slept; /* it slept while it waited */
     struct qolb_ticket ticket;
+    /* Of a place in a thread's table: the address of the core of the lock that it is or was last for, and marks. So one
+     * comparison with the lock's own `core.at` says that the lock is open, and whether this thread holds it. */
+    _Atomic uintptr_t core;
 };
 
-enum { MOST_HELD = 8, HELD = 1, NOTED = 2 };
+/* The marks. A turn has LAST or HELD while it is in a table; SLEPT if it slept while it waited, until it is passed
+ * on. */
+enum { LAST = 1, HELD = 2, SLEPT = 4, MARKS = 7, MOST_HELD = 8 };
 
 /* The number of a thread: the system's, 22 bits of it, and above them 22 bits of a count of the threads of this
  * process that have drawn one. A thread keeps it over a fork. So a thread of the child that the system gives the
@@ -179,9 +186,9 @@ enum { MOST_HELD = 8, HELD = 1, NOTED = 2 };
 enum { SYSTEM_BITS = 22 };
 
 struct own {
-    struct turn table[MOST_HELD];
+    _Alignas(LINE) struct turn table[MOST_HELD];
     uint64_t number;                      /* 0 until it is drawn */
-    unsigned beyond;                      /* the number of locks that it holds, for which the table has no room */
+    unsigned beyond;                      /* the number of locks that it holds by themselves, not by the table */
     enum { UNKNOWN, KNOWN, ENDED } known; /* to qolb_lock_holder: from the first use to the thread's end */
     struct own *next, **before;           /* of those that are */
 };
@@ -190,19 +197,34 @@ extern HIDDEN BY_THREAD struct own qolb_own_;
 
 static inline struct own *this_thread(void) { return &qolb_own_; }
 
+/* The compiler is kept from computing it again. */
 static inline struct turn *home_of(const struct lock *lock) {
-    return &this_thread()->table[(uintptr_t)lock / LINE % MOST_HELD];
+    struct turn *at = &this_thread()->table[(uintptr_t)lock / LINE % MOST_HELD];
+    __asm__("" : "+r"(at));
+    return at;
 }
 
-static inline uintptr_t lock_at(const struct turn *at) { return atomic_load_explicit(&at->lock, memory_order_relaxed); }
+static inline uintptr_t core_at(const struct turn *at) { return atomic_load_explicit(&at->core, memory_order_relaxed); }
 
-static inline void set_lock(struct turn *at, uintptr_t lock) {
-    atomic_store_explicit(&at->lock, lock, memory_order_relaxed);
+static inline void set_core(struct turn *at, uintptr_t core) {
+    atomic_store_explicit(&at->core, core, memory_order_relaxed);
 }
 
-static inline int last_had(const struct turn *at, const struct lock *lock) { return lock_at(at) == (uintptr_t)lock; }
-static inline int holds_by(const struct turn *at, const struct lock *lock) {
-    return lock_at(at) == (uintptr_t)lock + HELD;
+static inline int has(const struct turn *at, unsigned mark) { return (core_at(at) & mark) != 0; }
+
+/* Whether the place is for this lock, which is open, with these marks alone. */
+static inline int is_at(const struct turn *at, const struct lock *lock, unsigned marks) {
+    return core_at(at) == own_of(lock) + marks;
+}
+
+/* The lock of a place that has one. */
+static inline struct lock *lock_by(const struct turn *at) {
+    return (struct lock *)((core_at(at) & ~(uintptr_t)MARKS) - offsetof(struct lock, block));
+}
+
+/* The thread holds the lock by this place from now on. */
+static inline void hold_by(struct turn *at, const struct lock *lock) {
+    set_core(at, own_of(lock) + HELD + (core_at(at) & SLEPT));
 }
 
 HIDDEN uint64_t qolb_draw_number_(void);
@@ -251,17 +273,22 @@ HIDDEN uint32_t qolb_abandon_(struct lock *lock, struct qolb_ticket *ticket);
  * turn, with bursts in by the outer word. */
 HIDDEN uint32_t qolb_stand_for_(struct entry *e, struct qolb_ticket *ticket);
 
-/* Whom a granted ticket is of, or the queue head that sleeps: of a thread; abandoned, and here it is at its turn; of a
+/* In place of a ticket's number: the queue head's, which sleeps at the outer word. */
+#define HEAD UINT64_MAX
+
+/* Whom a granted ticket, or the queue head that sleeps, is of: of a thread; abandoned, and here it is at its turn; of a
  * task. The key is that of a call to make, or 0. The lock may be gone. */
 enum found { NOBODY, ABANDONED, A_TASK };
-HIDDEN enum found qolb_find_granted_(struct lock *lock, uint64_t number, struct qolb_ticket *ticket, uint64_t *key);
-HIDDEN enum found qolb_find_head_(struct lock *lock, uint64_t *key);
+HIDDEN enum found qolb_find_entry_(struct lock *lock, uint64_t number, struct qolb_ticket *ticket, uint64_t *key);
 
 /* The state of a task. With a ticket, a task that WAITS gives up, and is IDLE: the ticket is FREE, or AT_TURN. */
 HIDDEN unsigned qolb_state_of_(struct task *task, struct qolb_ticket *withdrawn);
 
-/* In the child of a fork: frees the registry's guards. */
-HIDDEN void qolb_free_rows_(void);
+/* Takes the guard of what lies at this address, which others may share: a lock's lists, or a condition's. */
+HIDDEN atomic_uint *qolb_guard_(const void *at);
+
+/* Frees these guards, in the child of a fork: threads of the parent that had one are not there. */
+HIDDEN void qolb_free_guards_(void);
 
 /* ---- waits.c ---- */
 
@@ -288,11 +315,14 @@ HIDDEN uint32_t qolb_await_outer_(struct request *my);
 
 /* Ends a turn of the queue, and wakes the next, and one ahead after a sleep; makes the call of a task that is due, in
  * which this thread may enter and leave locks. The lock may be gone afterwards, unless the ticket is in by the outer
- * word: then no task is due. */
-HIDDEN void qolb_pass_on_(struct lock *lock, struct turn *at);
+ * word: then no task is due. The first goes on after a release that answered this. */
+HIDDEN void qolb_end_turn_(struct lock *lock, struct turn *at, uint32_t got);
+static inline void qolb_pass_on_(struct lock *lock, struct turn *at) { qolb_end_turn_(lock, at, QOLB_UNFINISHED_); }
 
-/* Leaves the outer word, and wakes the queue head, or makes its call. The lock may be gone afterwards. */
-HIDDEN void qolb_leave_outer_(struct lock *lock, struct turn *at);
+/* Leaves the outer word, and wakes the queue head, or makes its call. The lock may be gone afterwards. The first goes
+ * on after a leave that answered this. */
+HIDDEN void qolb_end_inside_(struct lock *lock, struct turn *at, uint32_t got);
+static inline void qolb_leave_outer_(struct lock *lock, struct turn *at) { qolb_end_inside_(lock, at, QOLB_BUSY); }
 
 /* ---- lock.c ---- */
 
@@ -306,8 +336,9 @@ HIDDEN uint32_t qolb_try_at_(struct lock *lock, struct turn *at);
  * to keep. The lock may be gone after CLOSED. */
 HIDDEN void qolb_settle_(struct lock *lock, struct turn *at, uint32_t got);
 
-/* Leaves. The lock may be gone afterwards. */
+/* Leaves; and shuts before. The lock may be gone afterwards. */
 HIDDEN void qolb_leave_at_(struct lock *lock, struct turn *at);
+HIDDEN void qolb_shut_at_(struct lock *lock, struct turn *at);
 
 /* ---- conditions.c ---- */
 
@@ -316,9 +347,5 @@ HIDDEN void qolb_tell_shut_(struct lock *lock);
 
 /* As qolb_cond_wait_within, by a turn that is in no table. */
 HIDDEN uint32_t qolb_cond_wait_at_(qolb_cond *cond, struct lock *lock, struct turn *at, uint64_t nanoseconds);
-
-/* Frees the guards of conditions, in the child of a fork: threads of the parent that were in a call on a condition are
- * not there. */
-HIDDEN void qolb_free_guards_(void);
 
 #endif

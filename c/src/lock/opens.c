@@ -1,5 +1,4 @@
-/* Opening a lock in its own bytes, at its first use (lock.h). Tested, not proved; the opening of the core is a proved
- * call.
+/* Opening a lock in its own bytes, at its first use (lock.h). Tested and explored, not proved.
  *
  * The first that finds `core.at` NULL writes OPENING there, opens, and writes the core's address. Who finds OPENING
  * writes AWAITED and sleeps at that value; who has opened wakes if it found that. So the lock is opened once, and
@@ -12,13 +11,14 @@
 /* By who has written OPENING. */
 static void open_core(struct lock *lock) {
     static _Atomic uint64_t labels;
-    struct qolb_core core;
+    struct qolb_core core = {NULL};
     lock->label = atomic_fetch_add(&labels, 1) + 1;
     lock->waits = NULL;
-    atomic_init(&lock->beyond_by, 0);
+    atomic_store_explicit(&lock->beyond_by, 0, memory_order_relaxed);
     atomic_init(&lock->guests, 0);
-    qolb_core_room_ = (struct core_room){words_of(lock), slots_of(lock), lock->block};
-    if (qolb_core_open_proved_(burst_of(lock), lock->label, &core) != QOLB_DONE) __builtin_trap();
+    qolb_core_room_ = (struct core_room){words_of(lock), spare_of(lock, SLOTS), lock->block};
+    (void)qolb_core_open_proved_(burst_of(lock), lock->label, &core);
+    if (core.at != lock->block) __builtin_trap();
     qolb_core_room_ = (struct core_room){NULL, NULL, NULL};
     uintptr_t was = (uintptr_t)__atomic_exchange_n(&lock->core.at, core.at, __ATOMIC_SEQ_CST);
     if (was == AWAITED) qolb_unpark_((uint32_t *)&lock->core.at, 1);

@@ -14,18 +14,14 @@
  *   held, its entry goes to the list of heads, and then requests the handoff, so that no newcomer follows who is in,
  *   and announces the head's sleep. Who leaves is told of that, looks there, and takes the word for the task.
  *
- * All lists of a lock have one guard, which sleeps. No call of a task is made under it. A list is whole after each
- * store, for the child of a fork. */
+ * All lists of a lock have one guard, which sleeps. No call of a task is made under it. */
 #include "lock.h"
 #include <stdlib.h>
 
 enum { ROWS = 32, COLUMNS = 256 };
 
-/* The number of a queue head's entry. */
-#define HEAD UINT64_MAX
-
 struct entry {
-    struct entry *next; /* in its list; of the last, the first */
+    struct link link;
     struct lock *lock;
     uint64_t number;   /* its ticket's, or HEAD */
     struct task *task; /* NULL: it is abandoned */
@@ -34,65 +30,58 @@ struct entry {
 /* The lists of a lock are in one row. */
 static struct row {
     _Alignas(APART) atomic_uint guard;
-    struct entry *last[COLUMNS], *heads;
+    struct link *last[COLUMNS], *heads;
 } rows[ROWS];
 
-static struct row *row_of(const struct lock *lock) {
-    return &rows[(uintptr_t)lock / 16 * 0x9e3779b97f4a7c15 >> 32 & (ROWS - 1)];
+static struct row *row_of(const void *at) { return &rows[(uintptr_t)at / 16 * 0x9e3779b97f4a7c15 >> 32 & (ROWS - 1)]; }
+
+atomic_uint *qolb_guard_(const void *at) {
+    atomic_uint *guard = &row_of(at)->guard;
+    take_guard(guard);
+    return guard;
 }
 
-static struct row *take_row(const struct lock *lock) {
-    struct row *row = row_of(lock);
-    take_guard(&row->guard);
-    return row;
-}
-
-static void return_row(struct row *row) { return_guard(&row->guard); }
-
-void qolb_free_rows_(void) {
+void qolb_free_guards_(void) {
     for (int k = 0; k < ROWS; k++) atomic_store(&rows[k].guard, 0);
 }
 
 /* ---- The lists ---- */
 
-static struct entry **list_of(const struct lock *lock, uint64_t number) {
+static struct link **list_of(const struct lock *lock, uint64_t number) {
     struct row *row = row_of(lock);
     return number == HEAD ? &row->heads : &row->last[number % COLUMNS];
 }
 
-static struct entry *last_of(const struct lock *lock, uint64_t number) {
-    return __atomic_load_n(list_of(lock, number), __ATOMIC_SEQ_CST);
-}
-
-static void set_last(struct entry **list, struct entry *last) { __atomic_store_n(list, last, __ATOMIC_SEQ_CST); }
-
 static void put_in(struct entry *e) {
-    struct entry **list = list_of(e->lock, e->number), *last = *list;
-    e->next = last ? last->next : e;
-    if (last) last->next = e;
-    set_last(list, e);
+    put_last(list_of(e->lock, e->number), &e->link);
     qolb_tell_release_(e); /* another thread may free it */
 }
 
-/* The entry before that of this ticket, the oldest of the list first; NULL if there is none. */
-static struct entry *find_before(const struct lock *lock, uint64_t number) {
-    struct entry *last = last_of(lock, number), *it = last;
+/* What is before the entry of this ticket, the oldest of the list first; NULL if there is none. */
+static struct link *find_before(const struct lock *lock, uint64_t number) {
+    struct link *last = last_of(list_of(lock, number)), *it = last;
     if (it) do {
-            if (it->next->lock == lock && it->next->number == number) return it;
+            const struct entry *e = (struct entry *)it->next;
+            if (e->lock == lock && e->number == number) return it;
             it = it->next;
         } while (it != last);
     return NULL;
 }
 
-static void take_out(struct entry *e) {
-    struct entry **list = list_of(e->lock, e->number), *before = find_before(e->lock, e->number);
-    if (*list == e) set_last(list, before == e ? NULL : before);
-    before->next = e->next;
+static struct entry *find(const struct lock *lock, uint64_t number) {
+    struct link *before = find_before(lock, number);
+    return before ? (struct entry *)before->next : NULL;
 }
 
-static struct entry *find(const struct lock *lock, uint64_t number) {
-    struct entry *before = find_before(lock, number);
-    return before ? before->next : NULL;
+static void take_out(struct entry *e) { take_behind(list_of(e->lock, e->number), find_before(e->lock, e->number)); }
+
+/* Takes out an entry that has announced its sleep, and takes that back: the ticket, which WAITS or is AT_TURN. */
+static struct qolb_ticket out_of(struct entry *e) {
+    struct qolb_ticket ticket = kept_ticket(e->lock, e->number, QOLB_TICKET_ASLEEP_);
+    take_out(e);
+    if (e->number == HEAD) ticket.number = e->task->number, ticket.state = QOLB_TICKET_AT_TURN_;
+    else qolb_core_retract_sleep_proved_(&e->lock->core, &ticket);
+    return ticket;
 }
 
 /* Not under the guard: a program's own free may take locks. */
@@ -124,9 +113,9 @@ static uint32_t stand(struct entry *e, struct qolb_ticket *ticket) {
 uint32_t qolb_abandon_(struct lock *lock, struct qolb_ticket *ticket) {
     struct entry *e = qolb_new_entry_(lock, NULL);
     if (!e) return QOLB_WAITING;
-    struct row *row = take_row(lock);
+    atomic_uint *guard = qolb_guard_(lock);
     uint32_t got = stand(e, ticket);
-    return_row(row);
+    return_guard(guard);
     if (got != QOLB_ASLEEP_) free(e);
     if (got == QOLB_ASLEEP_) *ticket = (struct qolb_ticket){.outer = ticket->outer};
     return got == QOLB_FULL_ ? (uint32_t)QOLB_WAITING : got;
@@ -134,10 +123,11 @@ uint32_t qolb_abandon_(struct lock *lock, struct qolb_ticket *ticket) {
 
 /* ---- A task's turn ---- */
 
-/* A task as the queue head: takes the outer word, or stands in the list of heads. Whether it stands there. */
-static int stands_as_head(struct entry *e, struct qolb_ticket *ticket) {
+/* Of a task's ticket at its turn of the queue, whose entry is out: whether it waits on as the queue head, as it can't
+ * take the outer word. */
+static int waits_on(struct entry *e, struct qolb_ticket *ticket) {
     const struct qolb_core *core = &e->lock->core;
-    if (qolb_core_take_outer_proved_(core, ticket) != QOLB_WAITING) return 0;
+    if (!has_bursts(e->lock) || qolb_core_take_outer_proved_(core, ticket) != QOLB_WAITING) return 0;
     e->number = HEAD;
     put_in(e);
     do {
@@ -149,7 +139,7 @@ static int stands_as_head(struct entry *e, struct qolb_ticket *ticket) {
     return 0;
 }
 
-/* The task of an entry that is out is due: the key of its call. Once the row is returned the task may be gone. */
+/* The task of an entry that is out is due: the key of its call. Once the guard is returned the task may be gone. */
 static uint64_t make_due(struct entry *e, const struct qolb_ticket *ticket) {
     struct task *task = e->task;
     uint64_t key = task->notice.key;
@@ -160,22 +150,17 @@ static uint64_t make_due(struct entry *e, const struct qolb_ticket *ticket) {
     return key;
 }
 
-/* Whether a task's ticket at its turn of the queue, whose entry is out, waits on as the queue head. */
-static int waits_on(struct entry *e, struct qolb_ticket *ticket) {
-    return burst_of(e->lock) > 1 && stands_as_head(e, ticket);
-}
-
 uint32_t qolb_stand_for_(struct entry *e, struct qolb_ticket *ticket) {
-    struct row *row = take_row(e->lock);
+    atomic_uint *guard = qolb_guard_(e->lock);
     uint32_t got = ticket->state == QOLB_TICKET_WAITING_ ? stand(e, ticket) : (uint32_t)QOLB_GRANTED;
     while (got == QOLB_FULL_) { /* 65,535 threads sleep at its cell */
-        return_row(row);
-        qolb_nap_(FOR_EVER);
-        row = take_row(e->lock);
+        return_guard(guard);
+        nap(FOR_EVER);
+        take_guard(guard);
         got = stand(e, ticket);
     }
     if (got == QOLB_GRANTED && waits_on(e, ticket)) got = QOLB_ASLEEP_;
-    return_row(row);
+    return_guard(guard);
     if (got == QOLB_ASLEEP_) return QOLB_WAITING;
     free(e);
     return QOLB_GRANTED;
@@ -183,39 +168,22 @@ uint32_t qolb_stand_for_(struct entry *e, struct qolb_ticket *ticket) {
 
 /* ---- Who is granted, and who is told ---- */
 
-enum found qolb_find_granted_(struct lock *lock, uint64_t number, struct qolb_ticket *ticket, uint64_t *key) {
+enum found qolb_find_entry_(struct lock *lock, uint64_t number, struct qolb_ticket *ticket, uint64_t *key) {
     enum found found = NOBODY;
     struct entry *gone = NULL;
     *key = 0;
-    if (!last_of(lock, number)) return NOBODY;
-    struct row *row = take_row(lock);
+    if (!last_of(list_of(lock, number))) return NOBODY;
+    atomic_uint *guard = qolb_guard_(lock);
     struct entry *e = find(lock, number);
-    if (e && rounds_to_go(lock, number) == 0) {
+    if (e && (number == HEAD || rounds_to_go(lock, number) == 0)) {
         found = e->task ? A_TASK : ABANDONED;
-        take_out(e);
-        *ticket = kept_ticket(lock, number, QOLB_TICKET_ASLEEP_);
-        qolb_core_retract_sleep_proved_(&lock->core, ticket);
+        *ticket = out_of(e);
         if (found == ABANDONED) gone = e;
         else if (!waits_on(e, ticket)) *key = make_due(gone = e, ticket);
     }
-    return_row(row);
+    return_guard(guard);
     free_entry(gone);
     return found;
-}
-
-enum found qolb_find_head_(struct lock *lock, uint64_t *key) {
-    *key = 0;
-    if (!last_of(lock, HEAD)) return NOBODY;
-    struct row *row = take_row(lock);
-    struct entry *e = find(lock, HEAD), *gone = NULL;
-    if (e) {
-        struct qolb_ticket ticket = kept_ticket(lock, e->task->number, QOLB_TICKET_AT_TURN_);
-        if (qolb_core_take_outer_proved_(&lock->core, &ticket) != QOLB_WAITING) take_out(gone = e);
-        if (gone) *key = make_due(gone, &ticket);
-    }
-    return_row(row);
-    free_entry(gone);
-    return e ? A_TASK : NOBODY;
 }
 
 /* ---- A task gives up ---- */
@@ -224,31 +192,25 @@ enum found qolb_find_head_(struct lock *lock, uint64_t *key) {
  * gone; of one that is far the entry stays, abandoned. */
 static struct qolb_ticket withdraw(struct task *task, struct entry **gone) {
     struct entry *e = task->entry;
-    struct lock *lock = e->lock;
-    struct qolb_ticket ticket = kept_ticket(lock, task->number, QOLB_TICKET_AT_TURN_);
     task->entry = NULL;
-    if (e->number != HEAD && rounds_to_go(lock, task->number) > MOST_ROUNDS_NEAR) {
+    if (e->number != HEAD && rounds_to_go(e->lock, e->number) > MOST_ROUNDS_NEAR) {
         e->task = NULL;
         return (struct qolb_ticket){.state = QOLB_TICKET_FREE_};
     }
-    take_out(*gone = e);
-    if (e->number != HEAD) {
-        ticket.state = QOLB_TICKET_ASLEEP_;
-        if (qolb_core_retract_sleep_proved_(&lock->core, &ticket) == QOLB_WAITING)
-            qolb_core_withdraw_proved_(&lock->core, &ticket);
-    }
+    struct qolb_ticket ticket = out_of(*gone = e);
+    if (ticket.state == QOLB_TICKET_WAITING_) qolb_core_withdraw_proved_(&e->lock->core, &ticket);
     return ticket;
 }
 
 unsigned qolb_state_of_(struct task *task, struct qolb_ticket *withdrawn) {
-    struct row *row = take_row(task->lock);
     struct entry *gone = NULL;
+    atomic_uint *guard = qolb_guard_(task->lock);
     unsigned state = atomic_load(&task->state);
     if (withdrawn && state == WAITS) {
         atomic_store(&task->state, IDLE);
         *withdrawn = withdraw(task, &gone);
     }
-    return_row(row);
+    return_guard(guard);
     free_entry(gone);
     return state;
 }

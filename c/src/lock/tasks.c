@@ -1,4 +1,4 @@
-/* Tasks at a lock: who enters it without a thread that waits (qolb.h, EVENT LOOPS). Tested and explored, not proved.
+/* Tasks at a lock: who enters it without a thread that waits (qolb_task(3)). Tested and explored, not proved.
  *
  * A task draws a ticket as a thread does. While it waits the registry has its ticket. Who grants that, or leaves the
  * outer word, makes it due, and then its call (../notify.c). From there on the turn is the task's: its poll looks
@@ -93,7 +93,7 @@ uint32_t qolb_task_cancel(qolb_task *task) {
     if (state == HOLDS) return QOLB_MISUSE;
     struct lock *lock = me->lock;
     struct turn at = {0};
-    uint32_t told = outer_word(lock) & OUTER_SHUT ? QOLB_CLOSED : QOLB_WITHDRAWN;
+    uint32_t told = closed_or(QOLB_WITHDRAWN, lock);
     state = qolb_state_of_(me, &at.ticket);
     qolb_unlist_(&me->notice);
     if (state == WAITS) {
@@ -115,11 +115,8 @@ static uint32_t leave(struct task *me, int shuts) {
     struct turn at = {.ticket = kept_ticket(lock, me->number, me->turn)};
     atomic_store(&me->state, IDLE);
     atomic_store_explicit(&lock->beyond_by, 0, memory_order_relaxed);
-    if (shuts) {
-        qolb_tell_shut_(lock);
-        qolb_core_shut_proved_(&lock->core, &at.ticket);
-    }
-    qolb_leave_at_(lock, &at);
+    if (shuts) qolb_shut_at_(lock, &at);
+    else qolb_leave_at_(lock, &at);
     return QOLB_DONE;
 }
 

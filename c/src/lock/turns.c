@@ -1,12 +1,12 @@
-/* The thread's table of the locks that it holds, and who holds a lock (lock.h). Tested, not proved.
+/* The thread's table of the locks that it holds, and who holds a lock (lock.h). Tested and explored, not proved.
  *
  * A turn has a place of its own by the lock's address; if that is taken, any other; and if all are, the part of its
  * ticket that is needed moves into the lock itself, which nobody else may hold meanwhile. So a thread holds any number
  * of locks, without memory of its own for them.
  *
  * Tables are in a list, under a guard, for qolb_lock_holder: so no turn writes down who has it. A thread's table is in
- * it from its first use of a lock to its end. From then on each lock that it holds is noted in a list of its own, until
- * it leaves it: it may use locks in destructors of other keys. */
+ * it from its first use of a lock to its end. Then its turns move into their locks, and those that it has later, in
+ * destructors of other keys, are there from the start. */
 #define _GNU_SOURCE
 #include "lock.h"
 #include <errno.h>
@@ -19,60 +19,71 @@
 
 BY_THREAD struct own qolb_own_;
 
-/* ---- The list of tables ---- */
+/* ---- A thread's turns ---- */
 
-/* A lock that a thread holds at its end. */
-struct note {
-    struct note *next;
-    uintptr_t lock;
-    uint64_t label, number;
-};
+/* Whether a place says that its thread holds this lock. It says so of one that lay at this address before, too: their
+ * labels differ. */
+static int says_held(const struct turn *at, const struct lock *lock) {
+    return (core_at(at) & ~(uintptr_t)SLEPT) == own_of(lock) + HELD;
+}
+
+static int holds_at(const struct turn *at, const struct lock *lock) {
+    return says_held(at, lock) && at->ticket.label == lock->label;
+}
+
+static struct turn *find(const struct lock *lock) {
+    for (struct turn *at = this_thread()->table; at < this_thread()->table + MOST_HELD; at++)
+        if (holds_at(at, lock)) return at;
+    return NULL;
+}
+
+static int holds_beyond(const struct lock *lock) {
+    return this_thread()->beyond &&
+           atomic_load_explicit(&lock->beyond_by, memory_order_relaxed) == this_thread()->number;
+}
+
+int qolb_holds_(const struct lock *lock) { return find(lock) || holds_beyond(lock); }
+
+int qolb_lock_is_mine(const qolb_lock *lock) { return qolb_holds_(lock_of(lock)); }
+
+static void move_into(struct lock *lock, const struct turn *at) {
+    *spare_of(lock, KEPT_NUMBER) = at->ticket.number;
+    atomic_store_explicit(&lock->beyond_by, own_number(), memory_order_relaxed);
+    this_thread()->beyond++;
+}
+
+struct turn *qolb_take_turn_(struct lock *lock, struct turn *beyond) {
+    struct turn *at = find(lock);
+    if (at) return set_core(at, core_at(at) - HELD + LAST), at;
+    if (!holds_beyond(lock)) return NULL;
+    uint32_t state = has_bursts(lock) ? QOLB_TICKET_INSIDE_ : QOLB_TICKET_SERVED_;
+    *beyond = (struct turn){.ticket = kept_ticket(lock, *spare_of(lock, KEPT_NUMBER), state)};
+    atomic_store_explicit(&lock->beyond_by, 0, memory_order_relaxed);
+    this_thread()->beyond--;
+    return beyond;
+}
+
+/* ---- The list of tables ---- */
 
 static struct {
     atomic_uint guard;
     struct own *first;
-    struct note *notes;
 } tables;
 
 static pthread_key_t at_end;
 
-/* If there is no memory, the lock's holder is not known. */
-static void note_turn(const struct own *it, struct turn *at) {
-    int kept = errno;
-    struct note *note = malloc(sizeof *note);
-    errno = kept;
-    take_guard(&tables.guard);
-    if (note) {
-        *note = (struct note){tables.notes, lock_at(at) - HELD, at->ticket.label, it->number};
-        tables.notes = note;
-    }
-    set_lock(at, lock_at(at) + NOTED);
-    return_guard(&tables.guard);
-}
-
-static void take_note_back(struct turn *at) {
-    struct note **it = &tables.notes, *note;
-    take_guard(&tables.guard);
-    while (*it && (*it)->label != at->ticket.label) it = &(*it)->next;
-    note = *it;
-    if (note) *it = note->next;
-    return_guard(&tables.guard);
-    set_lock(at, 0);
-    free(note);
-}
-
-/* At the thread's end. Where no place names a lock, entering it takes the slow way, by which a turn is noted. */
+/* At the thread's end. Where no place names a lock, entering it takes the slow way. */
 static void forget_table(void *table) {
     struct own *it = table;
-    for (int k = 0; k < MOST_HELD; k++)
-        if (lock_at(&it->table[k]) & HELD) note_turn(it, &it->table[k]);
     take_guard(&tables.guard);
+    for (struct turn *at = it->table; at < it->table + MOST_HELD; at++) {
+        if (has(at, HELD) && holds_at(at, lock_by(at))) move_into(lock_by(at), at);
+        set_core(at, 0);
+    }
     *it->before = it->next;
     if (it->next) it->next->before = it->before;
     return_guard(&tables.guard);
     it->known = ENDED;
-    for (int k = 0; k < MOST_HELD; k++)
-        if (!(lock_at(&it->table[k]) & HELD)) set_lock(&it->table[k], 0);
 }
 
 /* The child of a fork has no other thread. */
@@ -125,89 +136,36 @@ uint64_t qolb_draw_number_(void) {
     return this_thread()->number = count % most * most + system % most;
 }
 
-/* ---- A thread's turns ---- */
-
-/* Also after the thread's end. */
-static int holds_still(const struct turn *at, const struct lock *lock) {
-    return (lock_at(at) & ~(uintptr_t)NOTED) == (uintptr_t)lock + HELD;
-}
-
-/* A place says so of a lock that lay at this address before, too; its label tells them apart. */
-static int holds_at(const struct turn *at, const struct lock *lock) {
-    return holds_still(at, lock) && at->ticket.label == lock->label;
-}
-
-static struct turn *find(const struct lock *lock) {
-    for (int k = 0; k < MOST_HELD; k++)
-        if (holds_at(&this_thread()->table[k], lock)) return &this_thread()->table[k];
-    return NULL;
-}
-
-static int holds_beyond(const struct lock *lock) {
-    return this_thread()->beyond &&
-           atomic_load_explicit(&lock->beyond_by, memory_order_relaxed) == this_thread()->number;
-}
-
-int qolb_holds_(const struct lock *lock) { return is_open(lock) && (find(lock) || holds_beyond(lock)); }
-
-struct turn *qolb_take_turn_(struct lock *lock, struct turn *beyond) {
-    struct turn *at = is_open(lock) ? find(lock) : NULL;
-    if (at && lock_at(at) & NOTED) return take_note_back(at), at;
-    if (at) return set_lock(at, (uintptr_t)lock), at;
-    if (!is_open(lock) || !holds_beyond(lock)) return NULL;
-    const struct beyond *kept = beyond_of(lock);
-    *beyond = (struct turn){.ticket = kept_ticket(lock, kept->number, (uint32_t)kept->state)};
-    atomic_store_explicit(&lock->beyond_by, 0, memory_order_relaxed);
-    this_thread()->beyond--;
-    return beyond;
-}
+/* ---- A place for a turn ---- */
 
 /* A place that says that the thread holds a lock which lay at this address before is free. */
-static int is_free(const struct turn *at, const struct lock *lock) {
-    return !(lock_at(at) & HELD) || holds_still(at, lock);
-}
+static int is_free(const struct turn *at, const struct lock *lock) { return !has(at, HELD) || says_held(at, lock); }
 
 struct turn *qolb_place_for_(const struct lock *lock, struct turn *beyond) {
+    struct own *me = this_thread();
     struct turn *at = home_of(lock);
-    if (this_thread()->known == UNKNOWN) own_number(), know_table(this_thread());
-    for (int k = 0; k < MOST_HELD && !is_free(at, lock); k++) at = &this_thread()->table[k];
-    if (!is_free(at, lock)) return *beyond = (struct turn){0}, beyond;
-    if (lock_at(at) & HELD) at->ticket = (struct qolb_ticket){0};
-    return set_lock(at, this_thread()->known == ENDED ? 0 : (uintptr_t)lock), at;
+    if (me->known == UNKNOWN) own_number(), know_table(me);
+    for (int k = 0; k < MOST_HELD && !is_free(at, lock); k++) at = &me->table[k];
+    if (me->known == ENDED || !is_free(at, lock)) return *beyond = (struct turn){0}, beyond;
+    if (has(at, HELD)) at->ticket = (struct qolb_ticket){0};
+    return set_core(at, own_of(lock) + LAST), at;
 }
 
 void qolb_keep_turn_(struct lock *lock, struct turn *at, const struct turn *beyond) {
-    if (at != beyond) {
-        set_lock(at, (uintptr_t)lock + HELD);
-        if (this_thread()->known == ENDED) note_turn(this_thread(), at);
-        return;
-    }
-    *beyond_of(lock) = (struct beyond){at->ticket.number, at->ticket.state};
-    atomic_store_explicit(&lock->beyond_by, own_number(), memory_order_relaxed);
-    this_thread()->beyond++;
+    if (at == beyond) move_into(lock, at);
+    else hold_by(at, lock);
 }
 
 /* ---- Who holds a lock ---- */
 
-static uint64_t number_in_tables(const struct lock *lock) {
-    for (const struct own *it = tables.first; it; it = it->next)
-        for (int k = 0; k < MOST_HELD; k++)
-            if (holds_by(&it->table[k], lock)) return it->number;
-    for (const struct note *it = tables.notes; it; it = it->next)
-        if (it->lock == (uintptr_t)lock && it->label == lock->label) return it->number;
-    return 0;
-}
-
 uint64_t qolb_lock_holder(const qolb_lock *of) {
-    struct lock *lock = lock_of(of);
+    const struct lock *lock = lock_of(of);
     if (!is_open(lock)) return 0;
+    take_guard(&tables.guard);
     uint64_t number = atomic_load_explicit(&lock->beyond_by, memory_order_relaxed);
-    if (!number) {
-        take_guard(&tables.guard);
-        number = number_in_tables(lock);
-        return_guard(&tables.guard);
-    }
+    for (const struct own *it = tables.first; it && !number; it = it->next)
+        for (int k = 0; k < MOST_HELD; k++)
+            if (says_held(&it->table[k], lock)) number = it->number;
+    return_guard(&tables.guard);
     return number == BY_TASK ? number : number % ((uint64_t)1 << SYSTEM_BITS);
 }
-
-int qolb_lock_is_mine(const qolb_lock *lock) { return qolb_holds_(lock_of(lock)); }

@@ -14,38 +14,33 @@
  * thread gets up during the turn before its own. */
 #include "lock.h"
 
-/* Between two looks of the queue head at the outer word, in nanoseconds; once it has requested the handoff POLL_PAUSE.
- * It requests it after so long, or after that part of the bound. */
-enum { WATCH_PAUSE = 300, PATIENCE = 1000000, REQUEST_PART = 16 };
-
 static inline const struct qolb_core *core_of(const struct request *my) { return &my->lock->core; }
 static inline struct qolb_ticket *ticket_of(const struct request *my) { return &my->at->ticket; }
 
-/* The answer to who gives up. It looks while it may use the lock. */
-static uint32_t late_or_closed(const struct lock *lock) {
-    return outer_word(lock) & OUTER_SHUT ? QOLB_CLOSED : QOLB_LATE;
+/* Sleeps at these 32 bits, with its sleep announced. */
+static void sleep_at(const struct request *my, uint32_t *half, uint32_t value, uint32_t classes, uint64_t until) {
+    set_core(my->at, core_at(my->at) | SLEPT);
+    PROBE(sleep, of_request(my));
+    qolb_park_(half, value, classes, until);
+    PROBE(wake, of_request(my));
 }
 
 /* ---- A turn of the queue ---- */
 
+/* Where 65,535 sleep at its cell it sleeps by time. */
 static uint32_t sleep_for_turn(const struct request *my, uint64_t until) {
     struct qolb_ticket *ticket = ticket_of(my);
     uint32_t got = qolb_core_announce_sleep_proved_(core_of(my), ticket);
-    if (got != QOLB_ASLEEP_ && got != QOLB_FULL_) return got;
-    my->at->slept = 1;
-    PROBE(sleep, of_request(my));
-    if (got == QOLB_FULL_) qolb_nap_(until);
-    else
-        qolb_park_(cell_half(words_of(my->lock), ticket->number), (uint32_t)(ticket->word >> 32),
-                   class_of(ticket->number), until);
-    PROBE(wake, of_request(my));
-    return got == QOLB_FULL_ ? qolb_core_poll_proved_(core_of(my), ticket)
-                             : qolb_core_retract_sleep_proved_(core_of(my), ticket);
+    if (got == QOLB_FULL_) return nap(until), qolb_core_poll_proved_(core_of(my), ticket);
+    if (got != QOLB_ASLEEP_) return got;
+    sleep_at(my, cell_half(words_of(my->lock), ticket->number), (uint32_t)(ticket->word >> 32),
+             class_of(ticket->number), until);
+    return qolb_core_retract_sleep_proved_(core_of(my), ticket);
 }
 
-/* Where the registry can't have the ticket it waits for a millisecond more. */
+/* Where the registry can't have the ticket it waits for a millisecond more. It looks at the lock while it may. */
 static uint32_t give_up(const struct request *my) {
-    uint32_t told = late_or_closed(my->lock), got = qolb_core_withdraw_proved_(core_of(my), ticket_of(my));
+    uint32_t told = closed_or(QOLB_LATE, my->lock), got = qolb_core_withdraw_proved_(core_of(my), ticket_of(my));
     if (got == QOLB_FAR_) got = qolb_abandon_(my->lock, ticket_of(my));
     if (got == QOLB_WAITING) return sleep_for_turn(my, end_of(NAP));
     return got == QOLB_GRANTED ? got : told;
@@ -68,8 +63,9 @@ uint32_t qolb_await_turn_(struct request *my) {
 
 /* ---- Passing a turn on ---- */
 
-static void release(struct lock *lock, struct qolb_ticket *ticket) {
-    while (qolb_core_release_proved_(&lock->core, ticket) == QOLB_UNFINISHED_) continue;
+/* From a release on that answered this. */
+static void release(struct lock *lock, struct qolb_ticket *ticket, uint32_t got) {
+    while (got == QOLB_UNFINISHED_) got = qolb_core_release_proved_(&lock->core, ticket);
 }
 
 /* A ticket was granted at whose cell somebody sleeps: passes it on while it is an abandoned one, and wakes its thread.
@@ -78,10 +74,10 @@ __attribute__((noinline)) static uint64_t tell(struct lock *lock, uint64_t numbe
     struct qolb_ticket ticket;
     uint64_t key;
     for (;; number = ticket.number + 1) {
-        enum found found = qolb_find_granted_(lock, number, &ticket, &key);
+        enum found found = qolb_find_entry_(lock, number, &ticket, &key);
         if (found == NOBODY) qolb_unpark_(cell_half(words_of(lock), number), class_of(number));
         if (found != ABANDONED) return key;
-        release(lock, &ticket);
+        release(lock, &ticket, QOLB_UNFINISHED_);
         if (!ticket.sleepers) return 0;
     }
 }
@@ -90,19 +86,19 @@ static void make_call(uint64_t key) {
     if (key) qolb_make_call_(bell_of_key(key), key);
 }
 
-/* Whether somebody sleeps at the cell of the ticket behind the next, if this one slept. */
-static int sleeps_ahead(struct lock *lock, const struct turn *at) {
-    const uint64_t *cell = words_of(lock) + FIRST_CELL + (at->ticket.number + 2) % TICKETS_IN_ROUND;
-    return at->slept && __atomic_load_n(cell, __ATOMIC_SEQ_CST) >> 16 & 0xffff;
+/* Whether this turn slept, and somebody sleeps at the cell of the ticket behind the next. */
+static int wakes_ahead(struct lock *lock, const struct turn *at) {
+    const uint64_t *cell = cell_of(words_of(lock), at->ticket.number + 2);
+    return has(at, SLEPT) && __atomic_load_n(cell, __ATOMIC_SEQ_CST) >> 16 & 0xffff;
 }
 
-void qolb_pass_on_(struct lock *lock, struct turn *at) {
+void qolb_end_turn_(struct lock *lock, struct turn *at, uint32_t got) {
     uint64_t *words = words_of(lock), ahead = at->ticket.number + 2, key = 0;
-    int wakes_ahead = __builtin_expect(at->slept != 0, 0) && sleeps_ahead(lock, at);
-    at->slept = 0;
-    release(lock, &at->ticket);
+    int wakes = wakes_ahead(lock, at);
+    set_core(at, core_at(at) & ~(uintptr_t)SLEPT);
+    release(lock, &at->ticket, got);
     if (at->ticket.sleepers) key = tell(lock, at->ticket.number + 1);
-    if (wakes_ahead) qolb_unpark_(cell_half(words, ahead), class_of(ahead));
+    if (wakes) qolb_unpark_(cell_half(words, ahead), class_of(ahead));
     make_call(key);
 }
 
@@ -118,7 +114,7 @@ struct watch {
 
 static int is_long(const struct request *my, const struct watch *watch, uint64_t outer) {
     if (outer / NEWCOMER - watch->first >= burst_of(my->lock) / REQUEST_PART + 1) return 1;
-    return watch->since && qolb_now_() - watch->since >= PATIENCE;
+    return watch->since && qolb_now_() - watch->since >= WATCH_PATIENCE;
 }
 
 /* At each look: whether the head may take the word. A shut one it may, to be told. */
@@ -132,10 +128,7 @@ static int may_take(struct watch *watch, uint64_t outer) {
 static void sleep_as_head(struct request *my, struct watch *watch) {
     if (!watch->since) watch->since = qolb_now_();
     if (qolb_core_announce_head_sleep_proved_(core_of(my), ticket_of(my)) != QOLB_ASLEEP_) return;
-    my->at->slept = 1;
-    PROBE(sleep, of_request(my));
-    qolb_park_(outer_half(words_of(my->lock)), (uint32_t)ticket_of(my)->outer, UINT32_MAX, my->until);
-    PROBE(wake, of_request(my));
+    sleep_at(my, outer_half(words_of(my->lock)), (uint32_t)ticket_of(my)->outer, UINT32_MAX, my->until);
 }
 
 static void watch_held(struct request *my, struct watch *watch, uint64_t outer) {
@@ -155,7 +148,7 @@ uint32_t qolb_await_outer_(struct request *my) {
             uint32_t got = qolb_core_take_outer_proved_(core_of(my), ticket_of(my));
             if (got != QOLB_WAITING) return got;
         } else if (is_over(my->until)) {
-            return late_or_closed(my->lock);
+            return closed_or(QOLB_LATE, my->lock);
         } else if ((outer & OUTER_STATE) == OUTER_HELD) {
             watch_held(my, &watch, outer);
         } else {
@@ -164,10 +157,11 @@ uint32_t qolb_await_outer_(struct request *my) {
     }
 }
 
-void qolb_leave_outer_(struct lock *lock, struct turn *at) {
+void qolb_end_inside_(struct lock *lock, struct turn *at, uint32_t got) {
+    struct qolb_ticket unused;
     uint64_t key = 0;
-    while (qolb_core_leave_proved_(&lock->core, &at->ticket) == QOLB_BUSY) continue;
-    if (at->ticket.head_sleeps && qolb_find_head_(lock, &key) == NOBODY)
+    while (got == QOLB_BUSY) got = qolb_core_leave_proved_(&lock->core, &at->ticket);
+    if (at->ticket.head_sleeps && qolb_find_entry_(lock, HEAD, &unused, &key) == NOBODY)
         qolb_unpark_(outer_half(words_of(lock)), UINT32_MAX);
     make_call(key);
 }

@@ -1,8 +1,8 @@
 -- What a thread knows that has no turn.
-use Rattle.std.specs.Prelude.{◌≡◌, ◌≤◌}
+use Rattle.std.specs.Prelude.{◌≡◌, ℕ, ◌≤◌}
 use Rattle.atomic_table.specs.declared.shared.Seat.{Seat}
 use Rattle.lock_core.specs.declared.view.View.{View}
-use Rattle.lock_core.specs.Views.{view_of, IsIdle, IsOutside, KnowsShut}
+use Rattle.lock_core.specs.Views.{view_of, IsSeatOf, IsIdle, IsOutside, IsNotServed, KnowsShut}
 use Rattle.fair_lock.specs.declared.lock.FairLock.{FairLock}
 use Rattle.fair_lock.specs.declared.closed.Closed.{Closed}
 use Rattle.fair_lock.specs.declared.closed.Busy.{Busy}
@@ -14,9 +14,13 @@ use Rattle.fair_lock.specs.declared.closed.EnterError.{EnterError}
 use Rattle.fair_lock.specs.declared.closed.EnterError.TheVariants as entered
 
 module _ {T : Type 0} where
-  -- it was told that this lock is shut
+  -- it has no request at this lock
+  abbrev pub AsksNothing : FairLock T → Seat T View → Type 0
+  AsksNothing lock seat = (seat.table_id ≡ lock.table.shared.table_id) × IsIdle (view_of seat)
+
+  -- it was told that this lock is shut, and has no turn
   abbrev pub IsToldShut : FairLock T → Closed T → Type 0
-  IsToldShut lock c = (c.seat.table_id ≡ lock.table.shared.table_id) × KnowsShut (view_of c.seat)
+  IsToldShut lock c = AsksNothing lock c.seat × IsNotServed (view_of c.seat) × KnowsShut (view_of c.seat)
 
   abbrev pub IfTryClosed : (Closed T → Type 0) → TryEnterError T → Type 0
   IfTryClosed P (tried.Busy b) = Unit {0}
@@ -34,10 +38,10 @@ module _ {T : Type 0} where
   IfEnterLate P (entered.Closed c) = Unit {0}
   IfEnterLate P (entered.Late l) = P l
 
-  -- it has no request at this lock
-  abbrev pub AsksNothing : FairLock T → Seat T View → Type 0
-  AsksNothing lock seat = (seat.table_id ≡ lock.table.shared.table_id) × IsIdle (view_of seat)
-
-  -- it has left this lock: its request has ended, or it is outside
+  -- it has left this lock: its request has ended, it is outside, and is not served
   abbrev pub HasLeft : FairLock T → Left T → Type 0
-  HasLeft lock l = (l.seat.table_id ≡ lock.table.shared.table_id) × (lock.burst ≤ 1 → IsIdle (view_of l.seat)) × (2 ≤ lock.burst → IsOutside (view_of l.seat))
+  HasLeft lock l = IsSeatOf lock.table.shared.table_id lock.table.shared.key l.seat × IsIdle (view_of l.seat) × IsNotServed (view_of l.seat) × (2 ≤ lock.burst → IsOutside (view_of l.seat))
+
+  -- the requests of smaller numbers than this have ended, as far as it knows
+  abbrev pub ended_by : Left T → ℕ
+  ended_by l = (view_of l.seat).ended

@@ -1,12 +1,11 @@
 //! A turn at a lock, with the right to its value.
-ghost use Rattle.std.specs.Prelude.{◌≡◌, ◌∷◌, [], IsTrue};
+ghost use Rattle.std.specs.Prelude.{◌≡◌, ◌<◌, ◌≤◌, ◌∷◌, [], IsTrue};
 ghost use Rattle.std.specs.Borrow.{sem, Lends};
 ghost use Rattle.lock_core.specs.Views.{view_of, InTime, IsSeatOf, KnowsShut};
-ghost use Rattle.fair_lock.specs.Closing.{HasLeft};
-ghost use Rattle.fair_lock.specs.Turns.{IsServed, IsGuard, IsOpen, LendsValue, SameValue, with_value};
+ghost use Rattle.fair_lock.specs.Closing.{HasLeft, ended_by};
+ghost use Rattle.fair_lock.specs.Turns.{IsServed, CameInOrder, IsGuard, IsInOrder, IsOpen, LendsValue, SameValue, number_of, with_value};
 
 use crate::closed::Left;
-use crate::found::InOrder;
 use crate::lock::FairLock;
 use crate::sleep::pass_on;
 use lock_core::ValueSeat;
@@ -17,23 +16,24 @@ pub struct Guard<'a, T> {
     pub(crate) lock: &'a FairLock<T>,
     pub(crate) seat: ValueSeat<T>,
     pub(crate) ticket: u64,
-    pub(crate) order: InOrder,
 }
 
 impl<T> FairLock<T> {
     /// The guard of a thread that is served, and came in its order.
     #[tactic(auto, unfolding(crate::specs::Turns::IsGuard))]
-    pub(crate) fn guard(&self, seat: ValueSeat<T>, ticket: u64, order: InOrder) -> Guard<'_, T>
+    pub(crate) fn guard(&self, seat: ValueSeat<T>, ticket: u64) -> Guard<'_, T>
         requires seat { IsSeatOf self.now.table.shared.table_id self.now.table.shared.key seat }
         requires served { InTime seat (IsServed self.now.burst ticket) }
+        requires order { InTime seat (CameInOrder self.now.burst ticket) }
         ensures guard { IsGuard result }
+        ensures order { IsInOrder result }
+        ensures lock { result.lock.now ≡ self.now }
         ensures seat { result.seat ≡ seat }
     {
         Guard {
             lock: self,
             seat,
             ticket,
-            order,
         }
     }
 }
@@ -56,6 +56,7 @@ impl<T> Guard<'_, T> {
         requires guard { IsGuard self.old }
         requires open { IsOpen self.old }
         ensures guard { IsGuard self.new }
+        ensures order { IsInOrder self.old → IsInOrder self.new }
         ensures value { SameValue self.old self.new }
         ensures knows { KnowsShut (view_of self.new.seat) }
     {
@@ -67,13 +68,9 @@ impl<T> Guard<'_, T> {
     pub fn leave<R: Wait>(self, rt: &R) -> Left<T>
         requires guard { IsGuard self }
         ensures left { HasLeft self.entry.lock.now result }
+        ensures over { self.entry.lock.now.burst ≤ 1 → number_of self.entry < ended_by result }
     {
-        let Guard {
-            lock,
-            seat,
-            ticket,
-            order: _,
-        } = self;
+        let Guard { lock, seat, ticket } = self;
         let mut seat = seat;
         if lock.burst < 2 {
             lock.wakes
@@ -82,5 +79,23 @@ impl<T> Guard<'_, T> {
             lock.wakes.wake(lock.leave_outer(rt, &mut seat));
         }
         Left { seat }
+    }
+
+    /// Shows in a proof that the turns of a strict lock are in the order of requests: each request that `left` knows to
+    /// have ended is before the guard's own. One load.
+    ///
+    /// So of two guards of one lock, the turn of the one with the smaller number ended before that of the other began.
+    #[tactic(auto, unfolding(crate::specs::Turns::IsGuard))]
+    pub fn learn_order(&mut self, left: Left<T>)
+        requires guard { IsGuard self.old }
+        requires strict { self.old.lock.now.burst ≤ 1 }
+        requires left { HasLeft self.old.lock.now left }
+        ensures guard { IsGuard self.new }
+        ensures number { number_of self.new ≡ number_of self.old }
+        ensures order { ended_by left ≤ number_of self.new }
+        ensures value { SameValue self.old self.new }
+    {
+        let Left { seat } = left;
+        lock_core::learn_order(&self.lock.table.shared, &mut self.seat, seat);
     }
 }

@@ -1,6 +1,6 @@
 //! The outer word of a lock with bursts: the queue head waits for it, and whoever is inside leaves it.
 ghost use Rattle.std.specs.Prelude.{◌≡◌, ◌≤◌, true, false};
-ghost use Rattle.lock_core.specs.Views.{view_of, InTime, LoadGrows, IsSeatOf, IsAtTurn, IsHeadInside, IsInside, IsOutside, IsOvertakenInBounds, ServedOpen, ServedShut, KnowsShut, SameKnown};
+ghost use Rattle.lock_core.specs.Views.{view_of, InTime, LoadGrows, IsSeatOf, IsAtTurn, IsHeadInside, IsInside, IsOutside, IsNotServed, IsOvertakenInBounds, ServedOpen, ServedShut, KnowsShut, SameKnown};
 ghost use Rattle.fair_lock.specs.Wakes.{IsToldOfHead};
 
 use crate::lock::FairLock;
@@ -70,6 +70,7 @@ impl<T> FairLock<T> {
         requires inside { InTime seat.old IsInside }
         ensures seat { IsSeatOf self.now.table.shared.table_id self.now.table.shared.key seat.new }
         ensures outside { InTime seat.new IsOutside }
+        ensures home { InTime seat.new IsNotServed }
         ensures known { SameKnown (view_of seat.old) (view_of seat.new) }
         ensures load { LoadGrows seat.old seat.new }
         ensures told { InTime seat.new (IsToldOfHead result) }

@@ -1,7 +1,7 @@
 //! A waiter announces its sleep, and a release says whom to wake.
-ghost use Rattle.std.specs.Prelude.{◌≡◌, ◌<◌, ◌%◌};
+ghost use Rattle.std.specs.Prelude.{◌≡◌, ◌<◌, ◌≤◌, ◌%◌};
 ghost use Rattle.lock_core.specs.Layout.{HasLockWords};
-ghost use Rattle.lock_core.specs.Views.{view_of, InTime, LoadGrows, IsSeatOf, IsIdle, IsQueued, IsQueuedWithin, IsAsleep, IsAtTurn, IsOvertakenInBounds, HasTurnOf, SameTurn, Kept};
+ghost use Rattle.lock_core.specs.Views.{view_of, InTime, InTimeFrom, LoadGrows, IsSeatOf, IsIdle, IsNotServed, HasEnded, SameOvertaking, IsQueued, IsQueuedWithin, IsAsleep, IsAtTurn, IsOvertakenInBounds, HasTurnOf, SameTurn, Kept};
 ghost use Rattle.fair_lock.specs.Wakes.{IfAnnouncedAtTurn, IfAnnounced, IfNotAnnounced, IsToldOf};
 
 use crate::wake::{Announced, Counted, HEAD, Seen, ToWake};
@@ -117,6 +117,10 @@ pub(crate) fn pass_on<T, R: Wait>(
     ensures load { LoadGrows seat.old seat.new }
     ensures turn { SameTurn (view_of seat.old) (view_of seat.new) }
     ensures idle { InTime seat.new IsIdle }
+    ensures ended { InTimeFrom seat.old seat.new HasEnded }
+    ensures later { InTimeFrom seat.old seat.new (λ v w. v.ticket ≤ w.ticket) }
+    ensures overtaking { InTimeFrom seat.old seat.new SameOvertaking }
+    ensures strict { table.now.key ≤ 1 → InTime seat.new IsNotServed }
     ensures told { InTime seat.new (IsToldOf result) }
 {
     let mut last = ticket;

@@ -1,11 +1,10 @@
 //! A thread enters within a limit of time.
 ghost use Rattle.std.specs.Prelude.{◌≡◌, ◌≤◌, IfOk, IfErr, true, false};
 ghost use Rattle.lock_core.specs.Views.{InTime, LoadGrows, IsSeatOf, IsQueued, IsQueuedWithin, IsAtTurn, IsIdle, IsHeadInside, IsOvertakenInBounds, ServedOpen, KnowsShut};
-ghost use Rattle.fair_lock.specs.Turns.{IsGuard, IsOpen};
+ghost use Rattle.fair_lock.specs.Turns.{IsGuard, IsInOrder, IsOpen};
 ghost use Rattle.fair_lock.specs.Closing.{IsToldShut, AsksNothing, IfEnterClosed, IfEnterLate};
 
 use crate::closed::{EnterError, Late};
-use crate::found::InOrder;
 use crate::guard::Guard;
 use crate::lock::FairLock;
 use crate::queue::pause;
@@ -43,6 +42,8 @@ impl<T> FairLock<T> {
         at_most: Duration,
     ) -> Result<Guard<'_, T>, EnterError<T>>
         ensures guard { IfOk result (λ guard. IsGuard guard × IsOpen guard) }
+        ensures order { IfOk result IsInOrder }
+        ensures lock { IfOk result (λ guard. guard.lock.now ≡ self.now) }
         ensures closed { IfErr result (IfEnterClosed (IsToldShut self.now)) }
         ensures late { IfErr result (IfEnterLate (λ late. AsksNothing self.now late.seat)) }
     {
@@ -51,8 +52,7 @@ impl<T> FairLock<T> {
         let backoff = Backoff::new();
         for _ in rt.forever() {
             if self.burst >= 2 && go_in(&self.table.shared, &mut seat) {
-                let order = InOrder::as_newcomer(&seat);
-                return Ok(self.guard(seat, 0, order));
+                return Ok(self.guard(seat, 0));
             }
             match ask_within(&self.table.shared, &mut seat, NEAR) {
                 AskWithinResult::AtTurn { ticket } => {
@@ -157,6 +157,8 @@ impl<T> FairLock<T> {
         requires at_turn { InTime seat (IsAtTurn ticket) }
         requires overtaken { InTime seat IsOvertakenInBounds }
         ensures guard { IfOk result (λ guard. IsGuard guard × IsOpen guard) }
+        ensures order { IfOk result IsInOrder }
+        ensures lock { IfOk result (λ guard. guard.lock.now ≡ self.now) }
         ensures closed { IfErr result (IfEnterClosed (IsToldShut self.now)) }
         ensures late { IfErr result (IfEnterLate (λ late. AsksNothing self.now late.seat)) }
     {

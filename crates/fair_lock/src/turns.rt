@@ -1,11 +1,11 @@
 //! A thread enters, and leaves.
 ghost use Rattle.std.specs.Prelude.{◌≡◌, ◌≤◌, IfOk, IfErr, true, false};
 ghost use Rattle.lock_core.specs.Views.{InTime, IsSeatOf, IsAtTurn, IsHeadInside, IsOvertakenInBounds, ServedOpen, KnowsShut};
-ghost use Rattle.fair_lock.specs.Turns.{IsGuard, IsOpen};
+ghost use Rattle.fair_lock.specs.Turns.{IsGuard, IsInOrder, IsOpen};
 ghost use Rattle.fair_lock.specs.Closing.{IsToldShut, AsksNothing, IfTryClosed, IfTryBusy};
 
 use crate::closed::{Busy, Closed, TryEnterError};
-use crate::found::{FoundTaken, InOrder};
+use crate::found::FoundTaken;
 use crate::guard::Guard;
 use crate::lock::FairLock;
 use crate::sleep::pass_on;
@@ -17,14 +17,16 @@ use std::sync::Wait;
 impl<T> FairLock<T> {
     /// Enters, and waits for that as long as it takes: polls for some 20 us, and then sleeps. Blocks.
     ///
-    /// In a strict lock turns are in the order of requests. In one with bursts a newcomer may be served at once,
-    /// and who waits is overtaken by at most `turns` - 1 of them before each turn of the queue.
+    /// In a strict lock turns are in the order of requests. In one with bursts a newcomer may be served at once. Between a
+    /// request and its turn at most (p + 1) * (`turns` - 1) newcomers are served, with p requests before it.
     ///
     /// # Errors
     ///
     /// If the lock is shut.
     pub fn enter<R: Wait>(&self, rt: &R) -> Result<Guard<'_, T>, Closed<T>>
         ensures guard { IfOk result (λ guard. IsGuard guard × IsOpen guard) }
+        ensures order { IfOk result IsInOrder }
+        ensures lock { IfOk result (λ guard. guard.lock.now ≡ self.now) }
         ensures closed { IfErr result (IsToldShut self.now) }
     {
         let mut seat = new_seat(&self.table.shared);
@@ -33,8 +35,7 @@ impl<T> FairLock<T> {
             return self.look_and_begin(rt, seat, ticket);
         }
         if go_in(&self.table.shared, &mut seat) {
-            let order = InOrder::as_newcomer(&seat);
-            return Ok(self.guard(seat, 0, order));
+            return Ok(self.guard(seat, 0));
         }
         let ticket = self.come_to_turn(rt, &mut seat);
         let open = self.go_in_as_head(rt, &mut seat, ticket);
@@ -48,13 +49,14 @@ impl<T> FairLock<T> {
     /// If the lock is shut, or another thread is served or waits.
     pub fn try_enter<R: Wait>(&self, rt: &R) -> Result<Guard<'_, T>, TryEnterError<T>>
         ensures guard { IfOk result (λ guard. IsGuard guard × IsOpen guard) }
+        ensures order { IfOk result IsInOrder }
+        ensures lock { IfOk result (λ guard. guard.lock.now ≡ self.now) }
         ensures closed { IfErr result (IfTryClosed (IsToldShut self.now)) }
         ensures busy { IfErr result (IfTryBusy (λ busy. AsksNothing self.now busy.seat)) }
     {
         let mut seat = new_seat(&self.table.shared);
         if self.burst >= 2 && go_in(&self.table.shared, &mut seat) {
-            let order = InOrder::as_newcomer(&seat);
-            return Ok(self.guard(seat, 0, order));
+            return Ok(self.guard(seat, 0));
         }
         let ticket = match ask_within(&self.table.shared, &mut seat, 0) {
             AskWithinResult::AtTurn { ticket } => ticket,
@@ -103,11 +105,12 @@ impl<T> FairLock<T> {
         requires at_turn { InTime seat (IsAtTurn ticket) }
         requires overtaken { InTime seat IsOvertakenInBounds }
         ensures guard { IfOk result (λ guard. IsGuard guard × IsOpen guard) }
+        ensures order { IfOk result IsInOrder }
+        ensures lock { IfOk result (λ guard. guard.lock.now ≡ self.now) }
         ensures closed { IfErr result (IsToldShut self.now) }
     {
-        let order = InOrder::by_ticket(&seat);
         if check_open(&self.table.shared, &mut seat, ticket) {
-            return Ok(self.guard(seat, ticket, order));
+            return Ok(self.guard(seat, ticket));
         }
         self.wakes
             .wake(pass_on(rt, &self.table.shared, &mut seat, ticket));
@@ -129,13 +132,14 @@ impl<T> FairLock<T> {
         requires open { is_open ≡ true → InTime seat ServedOpen }
         requires shut { is_open ≡ false → InTime seat KnowsShut }
         ensures guard { IfOk result (λ guard. IsGuard guard × IsOpen guard) }
+        ensures order { IfOk result IsInOrder }
+        ensures lock { IfOk result (λ guard. guard.lock.now ≡ self.now) }
         ensures closed { IfErr result (IsToldShut self.now) }
     {
-        let order = InOrder::by_ticket(&seat);
         self.wakes
             .wake(pass_on(rt, &self.table.shared, &mut seat, ticket));
         if is_open {
-            return Ok(self.guard(seat, ticket, order));
+            return Ok(self.guard(seat, ticket));
         }
         self.wakes.wake(self.leave_outer(rt, &mut seat));
         Err(Closed { seat })

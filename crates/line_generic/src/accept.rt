@@ -13,62 +13,83 @@ use crate::table::{LineSeat, LocalCopy, SharedTable};
 use crate::wake::WakePolicy;
 use qolb_model::{Keep, PortState};
 
+/// A request that has reached its turn.
+pub(crate) struct Arrival {
+    pub(crate) node: u64,
+    pub(crate) token: u64,
+    /// The number of word steps that the call has taken.
+    pub(crate) steps: u64,
+}
+
+/// What became of a request at its turn.
+#[derive(Drop)]
+pub(crate) struct Accepted<A> {
+    pub(crate) answer: A,
+    pub(crate) state: PortState,
+    /// The number of word steps of the whole call.
+    pub(crate) steps: u64,
+}
+
 impl<K: Keep, Q: Discipline<K>, W: WakePolicy> Line<K, Q, W> {
     /// Accepts the line at the request's turn: copies it to `payload`, or forwards it if it is closed.
     ///
-    /// An open line leaves the port `Holding`, costs no word step and returns `granted`. A closed line is forwarded at once, its steps are
-    /// added to `steps`, and `closed` is returned.
+    /// An open line leaves the port `Holding`, costs no word step and answers `granted`. A closed line is forwarded at once, its steps are
+    /// counted, and the answer is `closed`.
     #[inline(always)]
     pub(crate) fn accept<A: Copy>(
         &self,
         seat: &mut LineSeat<Q::Local>,
         payload: &mut LocalCopy,
-        state: &mut PortState,
-        steps: &mut u64,
         note: &mut W::Note,
-        node: u64,
-        token: u64,
+        arrival: Arrival,
         granted: A,
         closed: A,
-    ) -> A
+    ) -> Accepted<A>
         requires seat { IsSeated K.good K.allows self.now.table.shared.key
-            self.now.table.shared.table_id Q.phases.initial node seat.old }
-        requires at_turn { HasGrant Q.phases self.now.table.shared.key.config.nodes token seat.old }
-        requires no_overflow { steps.old ≤ 4 }
+            self.now.table.shared.table_id Q.phases.initial arrival.node seat.old }
+        requires at_turn { HasGrant Q.phases self.now.table.shared.key.config.nodes arrival.token
+            seat.old }
+        requires no_overflow { arrival.steps ≤ 4 }
         ensures seat { IsSeated K.good K.allows self.now.table.shared.key
-            self.now.table.shared.table_id Q.phases.initial node seat.new }
+            self.now.table.shared.table_id Q.phases.initial arrival.node seat.new }
         ensures port { (label : ℕ) → (ghost_of Q.phases.initial seat.old).view.label ≡ label
-            → IsPort Q.phases label node seat.new payload.new token state.new }
-        ensures more { steps.old ≤ steps.new }
+            → IsPort Q.phases label arrival.node seat.new payload.new arrival.token result.state }
+        ensures more { arrival.steps ≤ result.steps }
         ensures advances { SeatAdvances K.allows Q.phases.initial seat.old seat.new
-            (steps.new - steps.old) }
+            (result.steps - arrival.steps) }
         ensures count { (ghost_of Q.phases.initial seat.new).view.count
             ≡ (ghost_of Q.phases.initial seat.old).view.count }
-        ensures at_turn { IsGrantedOrTold granted closed result
+        ensures at_turn { IsGrantedOrTold granted closed result.answer
             (ghost_of Q.phases.initial seat.new).view (write_in payload.new) }
-        ensures steps { result ≢ closed → steps.new ≡ steps.old }
-        ensures bound { steps.new + 1 ≤ steps.old
+        ensures steps { result.answer ≢ closed → result.steps ≡ arrival.steps }
+        ensures bound { result.steps + 1 ≤ arrival.steps
             + Q.max_steps self.now.table.shared.key.config.nodes }
-        ensures went_to { granted ≢ closed → result ≡ closed
+        ensures went_to { granted ≢ closed → result.answer ≡ closed
             → Names (Q.wake_word (ghost_of Q.phases.initial seat.new).view) (W.went_to note.new) }
-        ensures keeps_note { result ≢ closed → note.new ≡ note.old }
+        ensures keeps_note { result.answer ≢ closed → note.new ≡ note.old }
     {
         let table = &self.table.shared;
         let cell_mask = self.width.cell_mask;
+        let Arrival { node, token, steps } = arrival;
         Q::take(table, seat, cell_mask, token, payload);
         if !payload.closed {
-            *state = PortState::Holding;
-            return granted;
+            return Accepted {
+                answer: granted,
+                state: PortState::Holding,
+                steps,
+            };
         }
         let Released {
             state: left,
             steps: more,
             unpark,
         } = forward_closed(table, seat, cell_mask, node, token);
-        *state = left;
-        *steps += more;
         self.sleepers.wake(&self.table, note, unpark);
-        closed
+        Accepted {
+            answer: closed,
+            state: left,
+            steps: steps + more,
+        }
     }
 }
 

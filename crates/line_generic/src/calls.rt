@@ -5,6 +5,7 @@ ghost use Rattle.qolb_model.specs.OneOwner.{turn_after};
 ghost use Rattle.line_generic.specs.Ports.{call_steps};
 ghost use Rattle.line_generic.specs.PortCalls.{IsPortOf, IsRestingPort, IsWaitingPort, IsHoldingPort, AreOwnPorts, HasFinished, MayNotFinish, HasEnqueued, HasPolled, HasWithdrawn, HasLookedIfClear, HasEndedTurn, HasMet};
 
+use crate::accept::Arrival;
 use crate::discipline::{Discipline, Enqueued, Released};
 use crate::line::Line;
 use crate::meeting::meet_seats;
@@ -101,17 +102,21 @@ impl<K: Keep, Q: Discipline<K>, W: WakePolicy> LineSync<K> for Line<K, Q, W> {
             }
             Enqueued::AtTurn => {
                 port.token = made.token;
-                self.accept(
+                let accepted = self.accept(
                     &mut port.seat,
                     &mut port.payload,
-                    &mut port.state,
-                    &mut port.steps,
                     &mut port.note,
-                    port.node,
-                    port.token,
+                    Arrival {
+                        node: port.node,
+                        token: port.token,
+                        steps: port.steps,
+                    },
                     Enq::Granted,
                     Enq::Closed,
-                )
+                );
+                port.state = accepted.state;
+                port.steps = accepted.steps;
+                accepted.answer
             }
         }
     }
@@ -133,17 +138,21 @@ impl<K: Keep, Q: Discipline<K>, W: WakePolicy> LineSync<K> for Line<K, Q, W> {
         ) {
             return Poll::Waiting;
         }
-        self.accept(
+        let accepted = self.accept(
             &mut port.seat,
             &mut port.payload,
-            &mut port.state,
-            &mut port.steps,
             &mut port.note,
-            port.node,
-            port.token,
+            Arrival {
+                node: port.node,
+                token: port.token,
+                steps: port.steps,
+            },
             Poll::Granted,
             Poll::Closed,
-        )
+        );
+        port.state = accepted.state;
+        port.steps = accepted.steps;
+        accepted.answer
     }
 
     fn withdraw(&self, port: &mut Port<Q, W>) -> Out
@@ -163,17 +172,21 @@ impl<K: Keep, Q: Discipline<K>, W: WakePolicy> LineSync<K> for Line<K, Q, W> {
             port.state = PortState::Rolled;
             return Out::Withdrawn;
         }
-        self.accept(
+        let accepted = self.accept(
             &mut port.seat,
             &mut port.payload,
-            &mut port.state,
-            &mut port.steps,
             &mut port.note,
-            port.node,
-            port.token,
+            Arrival {
+                node: port.node,
+                token: port.token,
+                steps: port.steps,
+            },
             Out::Granted,
             Out::Closed,
-        )
+        );
+        port.state = accepted.state;
+        port.steps = accepted.steps;
+        accepted.answer
     }
 
     fn is_clear(&self, port: &mut Port<Q, W>) -> bool

@@ -1,6 +1,7 @@
 //! `enqolb` in two calls, on lines whose queue is a list of links.
 ghost use Rattle.line_generic.specs.PortCalls.{IsRestingPort, IsLinkingPort, HasPutRequest, HasLinkedRequest};
 
+use crate::accept::Arrival;
 use crate::discipline::{Enqueued, SplitEnqueue};
 use crate::line::Line;
 use crate::port::Port;
@@ -28,17 +29,21 @@ impl<K: Keep, Q: SplitEnqueue<K>, W: WakePolicy> Line<K, Q, W> {
             }
             Enqueued::AtTurn => {
                 port.token = made.token;
-                self.accept(
+                let accepted = self.accept(
                     &mut port.seat,
                     &mut port.payload,
-                    &mut port.state,
-                    &mut port.steps,
                     &mut port.note,
-                    port.node,
-                    port.token,
+                    Arrival {
+                        node: port.node,
+                        token: port.token,
+                        steps: port.steps,
+                    },
                     Prep::Granted,
                     Prep::Closed,
-                )
+                );
+                port.state = accepted.state;
+                port.steps = accepted.steps;
+                accepted.answer
             }
         }
     }
@@ -55,16 +60,20 @@ impl<K: Keep, Q: SplitEnqueue<K>, W: WakePolicy> Line<K, Q, W> {
             port.state = PortState::Queued;
             return Enq::Queued;
         }
-        self.accept(
+        let accepted = self.accept(
             &mut port.seat,
             &mut port.payload,
-            &mut port.state,
-            &mut port.steps,
             &mut port.note,
-            port.node,
-            port.token,
+            Arrival {
+                node: port.node,
+                token: port.token,
+                steps: port.steps,
+            },
             Enq::Granted,
             Enq::Closed,
-        )
+        );
+        port.state = accepted.state;
+        port.steps = accepted.steps;
+        accepted.answer
     }
 }

@@ -45,7 +45,7 @@ shut_allowed {fl} id slots me served s r sized at low =
             asks = let k = (fits s r id v at le).asks in record { stamped = k.stamped; early = k.early; open_then = k.open_then; shut_then = λ q ne e. shut_; nobody_behind = λ one. absurd (omega arith) };
             others = λ j b ne there. asks_kept r.asked r.g (record r.g { outer = x }) b b.nobody_behind b.phase refl (λ z. shut_) (λ e. e) ((r.granted le).each j b there).asks;
           }),
-      ((refl, refl, known s r id v at, (omega arith)), (refl, refl, refl, refl, refl, refl, refl, (refl, refl, refl), (refl, refl)), (refl, refl), refl, refl, refl),
+      ((refl, refl, known s r id v at, (omega arith)), (refl, refl, refl, refl, refl, refl, refl, (refl, refl, refl), (refl, refl)), (refl, refl), refl, refl, refl, refl),
     )
 
 -- one at the door of a shut lock check_open it again
@@ -125,7 +125,7 @@ check_open_allowed {fl} id slots ticket me strict has s r sized at low =
             asks = let k = (fits s r id v at le).asks in record { stamped = k.stamped; early = k.early; open_then = k.open_then; shut_then = λ q ne e. ap shut_of is ∙ k.shut_then q ne e; nobody_behind = λ one. absurd (omega arith) };
             others = λ j b ne there. asks_kept r.asked r.g (record r.g { outer = outer }) b b.nobody_behind b.phase refl (λ z. omega arith) (λ e. e) ((r.granted le).each j b there).asks;
           }),
-      ((refl, refl, known s r id v at, (omega arith)), (refl, refl, refl, refl, refl, refl, refl, (refl, refl, refl), (refl, refl)), (refl, refl), (λ timely. (refl, refl, (fits s r id v at timely).outer.dated))),
+      ((refl, refl, known s r id v at, (omega arith)), (refl, refl, refl, refl, refl, refl, refl, (refl, refl, refl), (refl, refl)), (refl, refl), (λ timely. (refl, refl, (fits s r id v at timely).outer.dated)), refl),
     )
 
 -- the head notes at the outer word that it sleeps

@@ -1,15 +1,16 @@
 -- What two callers know of one another.
-use Rattle.std.proofs.Common.{◌≡◌, ◌≢◌, ℕ, ◌%◌, ◌<◌, ◌≤◌, List, [], ◌∷◌, ◌++◌, set, slice_index, sym, refl, ap, ◌∙◌, subst, arith, ⊎_elim}
+use Rattle.std.proofs.Common.{◌≡◌, ◌≢◌, ℕ, ◌%◌, ◌<◌, ◌≤◌, List, [], ◌∷◌, ◌++◌, set, slice_index, sym, refl, ap, ◌∙◌, subst, arith, ⊎_elim, max}
 use mathlib.Core.Option.{none, some}
 use lib.ListN.{get_elem?}
 use Rattle.atomic_table.specs.Table.{State, step, keeps, Allows, Joins, Splits, Me}
 use Rattle.atomic_table.proofs.Lists.{at_snoc, set_else, set_again}
 use Rattle.lock_core.specs.declared.view.View.{View}
-use Rattle.lock_core.specs.declared.view.Phase.TheVariants.{Asleep, Impossible}
+use Rattle.lock_core.specs.declared.view.Phase.{Phase}
+use Rattle.lock_core.specs.declared.view.Phase.TheVariants.{Idle, Queued, Asleep, AtTurn, Passing, HeadInside, Impossible}
 use Rattle.lock_core.specs.Layout.{cell_at}
-use Rattle.lock_core.specs.Views.{limit, Timely, initial_view, IsIdle, KnowsShut, ServedOpen, HasTurn, LeftQuietly, SleepsAtOuter}
-use Rattle.lock_core.specs.Invariant.{tally, Fits, Cell, Tickets}
-use Rattle.lock_core.specs.Meets.{Served, IsWaiting, GrantedToNobodyAsleepAt, IsStillAsleep, HadNewcomersTurn, IsWaitingOpen, IsWaitingShut, meet, tells_of_two, told_of, learns}
+use Rattle.lock_core.specs.Views.{limit, Timely, initial_view, IsIdle, KnowsShut, ServedOpen, HasTurn, HasTurnAwake, LeftQuietly, SleepsAtOuter}
+use Rattle.lock_core.specs.Invariant.{tally, Ghost, Place, Fits, Cell, Tickets}
+use Rattle.lock_core.specs.Meets.{Served, IsWaiting, GrantedToNobodyAsleepAt, IsStillAsleep, HadNewcomersTurn, IsWaitingOpen, IsWaitingShut, meet, tells_of_two, told_of, learns, learns_ended, tells_order}
 use Rattle.lock_core.proofs.Base.{idle_asks, each_after, tally_none, fits, place_of, turn_of_place, busy_of}
 use Rattle.lock_core.proofs.Tally.{tally_snoc}
 use Rattle.lock_core.proofs.Entering.{none_of}
@@ -202,3 +203,38 @@ learn_joins {fl} id other v w a b s r at apart at_other =
     let hw = r.heard other w there in
     let one = viewed s r id v at (learns v w) (omega arith) (omega arith) (λ le. (a (omega arith)).1) refl (λ le. let f = fits s r id v at le in let h = fits s r other w there le in record { knows = let x = f.knows in let y = h.knows in omega arith; lowest = omega arith; mine = λ ne. absurd (ne refl); place = tt; told_nobody = f.told_nobody; outer = record { turn_of = f.outer.turn_of; guest = λ e. absurd (omega arith); rests = record { takes_seen = let n = f.outer.rests.takes_seen in let m = h.outer.rests.takes_seen in omega arith; held = λ e. absurd (omega arith); lulls = f.outer.rests.lulls; sleeps_at_outer = f.outer.rests.sleeps_at_outer }; dated = f.outer.dated; barrier = f.outer.barrier }; door = λ ne. absurd (ne refl); tail_seen = f.tail_seen; asks = idle_asks r.asked r.g (learns v w) f.asks.early refl }) in
     viewed record { words = s.words; homes = s.homes; views = set s.views id (learns v w) } one other w at_other (initial_view 0) (omega arith) (omega arith) (λ le. (b (let k = one.seen other w at_other in omega arith)).1) refl (λ le. record { knows = omega arith; lowest = omega arith; mine = λ ne. absurd (ne refl); place = tt; told_nobody = λ e. absurd (omega arith); outer = record { turn_of = λ e. absurd (omega arith); guest = λ e. absurd (omega arith); rests = record { takes_seen = omega arith; held = λ e. absurd (omega arith); lulls = λ e. absurd (omega arith); sleeps_at_outer = λ e. absurd (omega arith) }; dated = omega arith; barrier = λ e. absurd (omega arith) }; door = λ ne. absurd (ne refl); tail_seen = record { probed = omega arith; next_is_at_turn = λ e. absurd (omega arith) }; asks = idle_asks one.asked one.g (initial_view 0) (omega arith) refl })
+
+-- what holds of one at its turn does not depend on which requests it knows to have ended
+place_learned : (fl : ℕ) (g : Ghost) (v : View) (ended most : ℕ) (p : Phase) → p ≢ Asleep → Place fl g v p → Place fl g (record v { ended = ended; counted = 0; most_open = most }) p
+place_learned fl g v ended most Idle ne k = k
+place_learned fl g v ended most Queued ne k = k
+place_learned fl g v ended most Asleep ne k = absurd (ne refl)
+place_learned fl g v ended most AtTurn ne k = k
+place_learned fl g v ended most Passing ne k = k
+place_learned fl g v ended most HeadInside ne k = k
+place_learned fl g v ended most Impossible ne k = k
+
+awake : (v : View) → HasTurn v → v.phase ≢ Asleep
+awake v has sleeps = ⊎_elim (λ e. cc) (λ e. cc) has
+
+-- one at its turn learns which requests have ended
+pub learn_ended_joins : {fl : ℕ} (id other : ℕ) (v w : View) → (Timely v → HasTurnAwake v) → (Timely w → IsIdle w) → Joins (Tickets fl) id v other w (learns_ended v w) (initial_view 0)
+learn_ended_joins {fl} id other v w a b s r at apart at_other =
+    let there : get_elem? s.views other ≡ some w = sym (set_else s.views id other (learns_ended v w) apart) ∙ at_other in
+    let sv = r.seen id v at in
+    let sw = r.seen other w there in
+    let one = viewed s r id v at (learns_ended v w) sv (r.heard id v at) (λ le. (a (omega arith)).1) refl (λ le. let f = fits s r id v at le in let h = fits s r other w there le in record { knows = let x = f.knows in let y = h.knows in omega arith; lowest = f.lowest; mine = f.mine; place = place_learned fl r.g v (max v.ended w.ended) v.most_open v.phase (awake v (a (omega arith)).0) f.place; told_nobody = f.told_nobody; outer = f.outer; door = f.door; tail_seen = f.tail_seen; asks = f.asks }) in
+    viewed record { words = s.words; homes = s.homes; views = set s.views id (learns_ended v w) } one other w at_other (initial_view 0) (omega arith) (omega arith) (λ le. (b (let k = one.seen other w at_other in omega arith)).1) refl (λ le. record { knows = omega arith; lowest = omega arith; mine = λ ne. absurd (ne refl); place = tt; told_nobody = λ e. absurd (omega arith); outer = record { turn_of = λ e. absurd (omega arith); guest = λ e. absurd (omega arith); rests = record { takes_seen = omega arith; held = λ e. absurd (omega arith); lulls = λ e. absurd (omega arith); sleeps_at_outer = λ e. absurd (omega arith) }; dated = omega arith; barrier = λ e. absurd (omega arith) }; door = λ ne. absurd (ne refl); tail_seen = record { probed = omega arith; next_is_at_turn = λ e. absurd (omega arith) }; asks = idle_asks one.asked one.g (initial_view 0) (omega arith) refl })
+
+-- and those are before its own
+pub order_tells : {fl : ℕ} (id slots : ℕ) (me : Me ℕ View) → (Timely me.0 → HasTurnAwake me.0) → Allows (Tickets fl) slots id me 0 (λ n. n) (tells_order (step slots 0 0 0 none) me)
+order_tells {fl} id slots me has s r sized at low =
+    let v : View = me.0 in
+    let k = r.seen id v at in
+    let w : View = record v { most_open = r.most_open; counted = 0 } in (
+      w,
+      keeps,
+      tt,
+      unchanged s r id v at 0 (slice_index s.words 0) (omega arith) refl w refl (r.heard id v at) (λ le. (has (omega arith)).1) (λ _. refl) (λ le. let f = fits s r id v at le in record { knows = f.knows; lowest = f.lowest; mine = f.mine; place = place_learned fl r.g v v.ended r.most_open v.phase (awake v (has (omega arith)).0) f.place; told_nobody = f.told_nobody; outer = f.outer; door = f.door; tail_seen = f.tail_seen; asks = f.asks }),
+      (refl, refl, k, (λ timely. let f = fits s r id v at timely in let t = turn_of_place fl r.g v (has (omega arith)).0 f.place in let x = f.knows in omega arith)),
+    )

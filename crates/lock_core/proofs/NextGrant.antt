@@ -13,8 +13,8 @@ use Rattle.lock_core.specs.declared.view.View.{View}
 use Rattle.lock_core.specs.declared.view.Phase.{Phase}
 use Rattle.lock_core.specs.declared.view.Phase.TheVariants.{Idle, Queued, Asleep, AtTurn, Passing, HeadInside, Impossible}
 use Rattle.lock_core.specs.Layout.{cell_at, bit_of, rounds, rounds_of, count_of}
-use Rattle.lock_core.specs.Views.{limit, Timely, HasTurnOf}
-use Rattle.lock_core.specs.Invariant.{tally, share, Ghost, Waiter, Holder, Place, Probe, Fits, Cell, Tickets}
+use Rattle.lock_core.specs.Views.{limit, Timely, HasTurnOf, SameOvertaking, IsNotServed}
+use Rattle.lock_core.specs.Invariant.{tally, share, Ghost, Late, Waiter, Holder, Place, Probe, Fits, Cell, Tickets}
 use Rattle.lock_core.specs.Steps.{same, grants, grants_to}
 use Rattle.lock_core.proofs.Base.{put, put_here, put_else, each_after, cells_after, tally_none, known, heard, fits, place_of, other, told_in, told_in_same, door_left, idle_asks}
 use Rattle.lock_core.proofs.Tally.{share_here, tally_has}
@@ -78,8 +78,8 @@ module _ {fl : ℕ} (s : State ℕ View) (r : Tickets fl s) (id slots i x ticket
     pub mask : x % 65536 ≡ found % 65536
     pub count : count_of x ≡ count_of found
 
-  pub granted_next : (r.most_open ≤ limit → Granting) → (w : View) × (a : Act ℕ) × Valid s.homes me.1 a × Tickets fl (stepped s i x id me.1 w a) × (same me (w, carried_after me.1 a) × (Timely w → grants_to v found w))
-  granted_next granting = dite (ℕ_discrete bit 0) left passes
+  pub granted_next : v.max_newcomers ≡ fl → (r.most_open ≤ limit → Granting) → (w : View) × (a : Act ℕ) × Valid s.homes me.1 a × Tickets fl (stepped s i x id me.1 w a) × (same me (w, carried_after me.1 a) × (Timely w → grants_to v found w) × SameOvertaking v w × (v.max_newcomers ≡ 0 → Timely w → IsNotServed w))
+  granted_next same_newcomers granting = dite (ℕ_discrete bit 0) left passes
     where
       bit : ℕ
       bit = bit_at found (bit_of n1)
@@ -179,7 +179,7 @@ module _ {fl : ℕ} (s : State ℕ View) (r : Tickets fl s) (id slots i x ticket
       }
 
       Goal : Type 0
-      Goal = (w : View) × (a : Act ℕ) × Valid s.homes me.1 a × Tickets fl (stepped s i x id me.1 w a) × (same me (w, carried_after me.1 a) × (Timely w → grants_to v found w))
+      Goal = (w : View) × (a : Act ℕ) × Valid s.homes me.1 a × Tickets fl (stepped s i x id me.1 w a) × (same me (w, carried_after me.1 a) × (Timely w → grants_to v found w) × SameOvertaking v w × (v.max_newcomers ≡ 0 → Timely w → IsNotServed w))
 
       probe_on : (le : r.most_open ≤ limit) → Probe r.asked g v
       probe_on le =
@@ -187,19 +187,29 @@ module _ {fl : ℕ} (s : State ℕ View) (r : Tickets fl s) (id slots i x ticket
           let t0 = (granting le).holder.turn in
           let z = (open_fits le).1 in record { probed = f.probed; next_is_at_turn = λ one e. let q = f.next_is_at_turn one e in absurd (omega arith) }
 
+      -- in a strict lock nobody is inside, so its turn ends its service
+      home : r.most_open ≤ limit → v.max_newcomers ≡ 0 → told_in v ≡ 0
+      home le none_ = ap (λ b. either b v.door 0) (ne_eqb v.inside 1 (λ one. let few = ((fits s r id v at le).outer.guest one).0 in omega arith))
+
+      -- it is overtaken as much as before
+      late_on : r.most_open ≤ limit → Late fl g v
+      late_on le =
+          let l = (granting le).holder.late in
+          let single = (r.granted le).counts.single in record { came = let c = l.came in omega arith; overtaken = let o = l.overtaken in let m = mul-le fl r.g.head_inside fl 1 (omega arith) single in omega arith }
+
       left : bit ≡ 0 → Goal
       left is_ =
-          let w : View = record v { most_open = r.most_open; ended = n1; rounds_seen = 0; phase = Idle; counted = 0; granted = n1; told_nobody = q; newcomers_at_ask = 0; first_pending = 0; door = told_in v; nobody_behind = 0 } in (
+          let w : View = record v { most_open = r.most_open; ended = n1; rounds_seen = 0; phase = Idle; counted = 0; granted = n1; told_nobody = q; door = told_in v; nobody_behind = 0 } in (
             w,
             keeps,
             tt,
             after r.owner w refl (let k = heard s r id v at in omega arith) refl (λ le. let t = (granting le).holder.turn in record { knows = omega arith; lowest = omega arith; mine = λ busy. absurd (busy refl); place = tt; told_nobody = λ e. (put_here r.g.nobody_asleep (r.g.turn + 1) q n1 (omega arith) ∙ e, (omega arith)); outer = (fits s r id v at le).outer; door = door_left r.g v v.phase Idle (fits s r id v at le).door; tail_seen = probe_on le; asks = idle_asks r.asked g w (fits s r id v at le).asks.early refl }) (λ le j b ne there busy. refl),
-            (((refl, refl, known s r id v at, (let k = heard s r id v at in omega arith)), ((refl, refl, refl), refl, (refl, refl), (refl, refl), (refl, refl), told_in_same v)), (λ timely. ((λ _. (((refl, refl), refl, refl), nobody_is found)), (λ one. absurd (omega arith))))),
+            (((refl, refl, known s r id v at, (let k = heard s r id v at in omega arith)), ((refl, refl, refl), refl, (refl, refl), (refl, refl), (refl, refl), told_in_same v)), (λ timely. ((λ _. (((refl, refl), refl, refl, refl), nobody_is found)), (λ one. absurd (omega arith)))), (refl, refl, refl), (λ none_ timely. home timely none_)),
           )
 
       passes : bit ≢ 0 → Goal
       passes ne =
-          let w : View = record v { most_open = r.most_open; ended = n1; rounds_seen = 0; ticket = n1; phase = Passing; counted = 0; granted = n1; told_nobody = 0; newcomers_at_ask = r.g.newcomers; first_pending = r.g.turn + 1; door = told_in v; asked_open = r.g.asked_open n1; nobody_behind = 0 } in
+          let w : View = record v { most_open = r.most_open; ended = n1; rounds_seen = 0; ticket = n1; phase = Passing; counted = 0; granted = n1; told_nobody = 0; door = told_in v; asked_open = r.g.asked_open n1; nobody_behind = 0 } in
           let one : bit ≡ 1 = (let lt = bit_at-lt found (bit_of n1) in omega arith) in (
             w,
             keeps,
@@ -209,7 +219,7 @@ module _ {fl : ℕ} (s : State ℕ View) (r : Tickets fl s) (id slots i x ticket
                   knows = omega arith;
                   lowest = omega arith;
                   mine = λ _. (omega arith, (dite (dec_le r.asked n1) (λ late. absurd (let z = (r.granted le).marks.future n1 late in omega arith)) (λ soon. omega arith)), put_here r.owner n1 id n1 refl);
-                  place = (record { turn = omega arith; mark = m; late = record { came = omega arith; overtaken = omega arith } }, refl);
+                  place = (record { turn = omega arith; mark = m; late = late_on le }, refl);
                   told_nobody = λ e. absurd (omega arith);
                   outer = (fits s r id v at le).outer;
                   door = door_left r.g v v.phase Passing (fits s r id v at le).door;
@@ -217,7 +227,7 @@ module _ {fl : ℕ} (s : State ℕ View) (r : Tickets fl s) (id slots i x ticket
                   asks = record { stamped = λ _. refl; early = (fits s r id v at le).asks.early; open_then = λ q. absurd (⊎_elim (λ e. cc) (λ e. cc) q); shut_then = λ q. absurd (⊎_elim (λ e. cc) (λ e. cc) q); nobody_behind = λ e. absurd (omega arith) };
                 })
                 (λ le j b ne' there busy. put_else r.owner n1 id b.ticket (λ e. owned le j b there busy ne' e)),
-            (((refl, refl, known s r id v at, (let k = heard s r id v at in omega arith)), ((refl, refl, refl), refl, (refl, refl), (refl, refl), (refl, refl), told_in_same v)), (λ timely. ((λ zero_. absurd (ne zero_)), (λ _. (refl, refl, refl))))),
+            (((refl, refl, known s r id v at, (let k = heard s r id v at in omega arith)), ((refl, refl, refl), refl, (refl, refl), (refl, refl), (refl, refl), told_in_same v)), (λ timely. ((λ zero_. absurd (ne zero_)), (λ _. (refl, refl, refl)))), (refl, refl, refl), (λ none_ timely. home timely none_)),
           )
         where
           -- no other open request has the marked ticket
@@ -228,9 +238,9 @@ module _ {fl : ℕ} (s : State ℕ View) (r : Tickets fl s) (id slots i x ticket
               let t = (granting le).holder.turn in
               ⊎_elim m (λ at_turn. omega arith) (unmarked_of fl r.g b b.phase busy f.place)
 
-pub grant_allowed : {fl : ℕ} (id slots i ticket next : ℕ) (me : Me ℕ View) → next ≡ (ticket + 1) % 18446744073709551616 → i ≡ cell_at next → (Timely me.0 → HasTurnOf ticket me.0)
+pub grant_allowed : {fl : ℕ} (id slots i ticket next : ℕ) (me : Me ℕ View) → me.0.max_newcomers ≡ fl → next ≡ (ticket + 1) % 18446744073709551616 → i ≡ cell_at next → (Timely me.0 → HasTurnOf ticket me.0)
     → Allows (Tickets fl) slots id me i (λ n. (n + 17179869184) % 18446744073709551616) (grants (step slots i 17179869184 0 none) me)
-grant_allowed id slots i ticket next me behind is has s r sized at low = granted_next s r id slots i ((slice_index s.words i + 17179869184) % 18446744073709551616) ticket next me at is behind
+grant_allowed id slots i ticket next me same_newcomers behind is has s r sized at low = granted_next s r id slots i ((slice_index s.words i + 17179869184) % 18446744073709551616) ticket next me at is behind same_newcomers
     (λ le. let h = has (let k = known s r id me.0 at in omega arith) in record {
       mine = h.1;
       none_counted = h.2;

@@ -160,9 +160,9 @@ check_open_noted {fl} id slots ticket me strict has = notes id 0 me (λ n. n) (s
 pub announce_head_sleep_noted : {fl : ℕ} (id slots old new : ℕ) (me : Me ℕ View) → state_of old ≡ 1 → new / 4 ≡ old / 4 → asleep_of new ≡ 1 → Allows (Tickets fl) slots id me 0 (λ n. either (eqb n old) new n) (noting exchanged_word announces_head_sleep (step slots 0 old new none) me)
 announce_head_sleep_noted {fl} id slots old new me held half sets = notes id 0 me (λ n. either (eqb n old) new n) (step slots 0 old new none) exchanged_word announces_head_sleep (λ n w c l told. told) (announce_head_sleep_allowed id slots old new me held half sets)
 
-pub grant_noted : {fl : ℕ} (id slots i ticket next : ℕ) (me : Me ℕ View) → next ≡ (ticket + 1) % 18446744073709551616 → i ≡ cell_at next → (Timely me.0 → HasTurnOf ticket me.0)
+pub grant_noted : {fl : ℕ} (id slots i ticket next : ℕ) (me : Me ℕ View) → me.0.max_newcomers ≡ fl → next ≡ (ticket + 1) % 18446744073709551616 → i ≡ cell_at next → (Timely me.0 → HasTurnOf ticket me.0)
     → Allows (Tickets fl) slots id me i (λ n. (n + 17179869184) % 18446744073709551616) (noting added_word grants (step slots i 17179869184 0 none) me)
-grant_noted id slots i ticket next me behind is has = notes id i me (λ n. (n + 17179869184) % 18446744073709551616) (step slots i 17179869184 0 none) added_word grants (λ n w c l told. told) (grant_allowed id slots i ticket next me behind is has)
+grant_noted id slots i ticket next me same_newcomers behind is has = notes id i me (λ n. (n + 17179869184) % 18446744073709551616) (step slots i 17179869184 0 none) added_word grants (λ n w c l told. told) (grant_allowed id slots i ticket next me same_newcomers behind is has)
 
 pub announce_sleep_noted : {fl : ℕ} (id slots i ticket old new : ℕ) (me : Me ℕ View) → me.0.max_newcomers ≡ fl → i ≡ cell_at ticket → count_of old < 65535 → new ≡ (old + 65536) % 18446744073709551616 → (Timely me.0 → IsQueued ticket me.0)
     → Allows (Tickets fl) slots id me i (λ n. either (eqb n old) new n) (noting exchanged_word announces_sleep (step slots i old new none) me)

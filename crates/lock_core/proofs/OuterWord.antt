@@ -498,7 +498,7 @@ leave_allowed {fl} id slots old new me same_ free few still_shut has s r sized a
                 asks = idle_asks r.asked (record r.g { outer = x; left_quietly = lulled }) w f.asks.early refl;
                 others = λ j b ne there. asks_kept r.asked r.g (record r.g { outer = x; left_quietly = lulled }) b b.nobody_behind b.phase refl (λ z. shut_ ∙ z) (λ e. e) (o.each j b there).asks;
               }),
-          ((refl, refl, known s r id v at, (let k = heard s r id v at in omega arith)), (refl, refl, refl), (refl, refl), refl, (λ timely. (holds_low timely, (λ _. ((refl, (refl, refl)), (λ z. omega arith))), (λ ne. absurd (ne is))))),
+          ((refl, refl, known s r id v at, (let k = heard s r id v at in omega arith)), (refl, refl, refl), (refl, refl), refl, (λ timely. (holds_low timely, (λ _. ((refl, (refl, refl)), (λ z. omega arith), refl)), (λ ne. absurd (ne is))))),
         )
 
     stays : outer ≢ old → Goal

@@ -11,16 +11,16 @@ use Rattle.atomic_table.proofs.Lists.{set_here, set_else, set_again, at_longer}
 use Rattle.lock_core.specs.declared.view.View.{View}
 use Rattle.lock_core.specs.declared.view.Phase.TheVariants.{Impossible}
 use Rattle.lock_core.specs.Layout.{asleep_of, bit_of, came_of, cell_at, count_of, shut_of, state_of}
-use Rattle.lock_core.specs.Views.{limit, Timely, Carries, initial_view, HasTurn, HasTurnOf, IsAsleep, IsAtTurn, IsIdle, IsInside, IsOutside, IsPassing, IsQueued, IsQueuedWithin, ServedOpen, ServedShut}
+use Rattle.lock_core.specs.Views.{limit, Timely, Carries, initial_view, HasTurn, HasTurnAwake, HasTurnOf, IsNotServed, IsAsleep, IsAtTurn, IsIdle, IsInside, IsOutside, IsPassing, IsQueued, IsQueuedWithin, ServedOpen, ServedShut}
 use Rattle.lock_core.specs.Invariant.{Tickets}
 use Rattle.lock_core.specs.Slots.{bare, bare_step, blanks, Slotted, with_slot}
 use Rattle.lock_core.specs.Steps.{noting, kept_word, added_word, subtracted_word, exchanged_word, comes, reads_outer, draws, reads, reads_cell, draws_granted, draws_near, looks, announces_sleep, sets_withdrawn, grants, clears_withdrawn, goes_in, takes_outer, leaves, checks_open, shuts, reopens, announces_head_sleep, requests_handoff}
-use Rattle.lock_core.specs.Meets.{meet, tells_of_two, told_of, learns}
+use Rattle.lock_core.specs.Meets.{meet, tells_of_two, told_of, learns, learns_ended, tells_order}
 use Rattle.lock_core.proofs.Base.{fits, door_apart}
 use Rattle.lock_core.proofs.Entering.{come_enters}
 use Rattle.lock_core.proofs.FirstState.{first_words, first_state}
 use Rattle.lock_core.proofs.Asking.{IsFew}
-use Rattle.lock_core.proofs.Meeting.{meet_tells, tell_splits, learn_joins}
+use Rattle.lock_core.proofs.Meeting.{meet_tells, tell_splits, learn_joins, learn_ended_joins, order_tells}
 use Rattle.lock_core.proofs.Noting.{set_there, read_outer_allowed, ask_noted, read_tail_noted, read_cell_noted, try_ask_noted, ask_near_noted, look_noted, request_handoff_noted, go_in_noted, take_outer_noted, leave_noted, shut_noted, reopen_noted, check_open_noted, announce_head_sleep_noted, grant_noted, announce_sleep_noted, retract_sleep_noted, withdraw_noted, clear_noted}
 
 -- an act leaves the number of slots
@@ -54,6 +54,10 @@ bare_length (x ∷ xs) = ap suc (bare_length xs)
 
 pub carries_nothing : {T : Type 0} (slots : ℕ) (me : Me T View) → slots ≡ 0 → me.1 ≡ [] → Carries slots me
 carries_nothing slots me none_ empty = record { nothing = λ _. empty; at_home = λ one. absurd (omega arith); carries = λ one. absurd (omega arith); timely = λ one. absurd (omega arith) }
+
+-- one that learns which requests have ended has the value that it had
+pub carries_learned : {T : Type 0} (slots : ℕ) (v w : View) (c : List (ℕ × T)) → Carries slots (v, c) → Carries slots (learns_ended v w, c)
+carries_learned slots v w c k = record { nothing = k.nothing; at_home = k.at_home; carries = k.carries; timely = k.timely }
 
 -- who is outside, and has no request, is not served
 outside_door : {fl : ℕ} (s : State ℕ View) (r : Tickets fl s) (id : ℕ) (v : View) (at : get_elem? s.views id ≡ some v) → r.most_open ≤ limit → IsOutside v → v.door ≡ 0
@@ -211,8 +215,8 @@ module _ {T : Type 0} {fl : ℕ} where
   pub announce_head_sleep_slotted : (id slots old new : ℕ) (me : Me T View) → Carries slots me → state_of old ≡ 1 → new / 4 ≡ old / 4 → asleep_of new ≡ 1 → Allows (Slotted {T = T} fl) slots id me 0 (λ n. either (eqb n old) new n) (with_slot (noting exchanged_word announces_head_sleep) (step slots 0 old new none) me)
   announce_head_sleep_slotted id slots old new me has_ held half sets = lifts id 0 me (λ n. either (eqb n old) new n) (step slots 0 old new none) (noting exchanged_word announces_head_sleep) (λ n w c told. told.1.0.0) has_ (announce_head_sleep_noted id slots old new (me.0, []) held half sets)
 
-  pub grant_slotted : (id slots i ticket next : ℕ) (me : Me T View) → Carries slots me → next ≡ (ticket + 1) % 18446744073709551616 → i ≡ cell_at next → (Timely me.0 → HasTurnOf ticket me.0) → Allows (Slotted {T = T} fl) slots id me i (λ n. (n + 17179869184) % 18446744073709551616) (with_slot (noting added_word grants) (step slots i 17179869184 0 none) me)
-  grant_slotted id slots i ticket next me has_ behind is has = lifts id i me (λ n. (n + 17179869184) % 18446744073709551616) (step slots i 17179869184 0 none) (noting added_word grants) (λ n w c told. told.1.0.0.0) has_ (grant_noted id slots i ticket next (me.0, []) behind is has)
+  pub grant_slotted : (id slots i ticket next : ℕ) (me : Me T View) → Carries slots me → me.0.max_newcomers ≡ fl → next ≡ (ticket + 1) % 18446744073709551616 → i ≡ cell_at next → (Timely me.0 → HasTurnOf ticket me.0) → Allows (Slotted {T = T} fl) slots id me i (λ n. (n + 17179869184) % 18446744073709551616) (with_slot (noting added_word grants) (step slots i 17179869184 0 none) me)
+  grant_slotted id slots i ticket next me has_ same_newcomers behind is has = lifts id i me (λ n. (n + 17179869184) % 18446744073709551616) (step slots i 17179869184 0 none) (noting added_word grants) (λ n w c told. told.1.0.0.0) has_ (grant_noted id slots i ticket next (me.0, []) same_newcomers behind is has)
 
   pub announce_sleep_slotted : (id slots i ticket old new : ℕ) (me : Me T View) → Carries slots me → me.0.max_newcomers ≡ fl → i ≡ cell_at ticket → count_of old < 65535 → new ≡ (old + 65536) % 18446744073709551616 → (Timely me.0 → IsQueued ticket me.0) → Allows (Slotted {T = T} fl) slots id me i (λ n. either (eqb n old) new n) (with_slot (noting exchanged_word announces_sleep) (step slots i old new none) me)
   announce_sleep_slotted id slots i ticket old new me has_ same_newcomers is few new_is waits = lifts id i me (λ n. either (eqb n old) new n) (step slots i old new none) (noting exchanged_word announces_sleep) (λ n w c told. told.1.0.0.0) has_ (announce_sleep_noted id slots i ticket old new (me.0, []) same_newcomers is few new_is waits)
@@ -228,6 +232,9 @@ module _ {T : Type 0} {fl : ℕ} where
 
   pub meet_slotted_tells : (id slots : ℕ) (me : Me T View) → Carries slots me → me.0.phase ≡ Impossible → me.0.counted ≡ 0 → Allows (Slotted {T = T} fl) slots id me 0 (λ n. n) (with_slot tells_of_two (step slots 0 0 0 none) me)
   meet_slotted_tells id slots me has_ met zero_ = lifts id 0 me (λ n. n) (step slots 0 0 0 none) tells_of_two (λ n w c told. told.0) has_ (meet_tells id slots (me.0, []) met zero_)
+
+  pub order_slotted : (id slots : ℕ) (me : Me T View) → Carries slots me → (Timely me.0 → HasTurnAwake me.0) → Allows (Slotted {T = T} fl) slots id me 0 (λ n. n) (with_slot tells_order (step slots 0 0 0 none) me)
+  order_slotted id slots me has_ has = lifts id 0 me (λ n. n) (step slots 0 0 0 none) tells_order (λ n w c told. told.0) has_ (order_tells id slots (me.0, []) has)
 
   pub come_slotted : (slots : ℕ) → Enters (Slotted {T = T} fl) slots 8 (λ n w. with_slot {T = T} comes (step slots 8 0 0 none) (initial_view fl, []) n (w, []))
   come_slotted slots s r sized low =
@@ -277,4 +284,17 @@ module _ {T : Type 0} {fl : ℕ} where
         (λ ne. dite (ℕ_discrete j other)
         (λ e. outside_door (bare s) r.lock j x there le (subst IsOutside (some-injective w x (sym at_w ∙ ap (get_elem? s.views) (sym e) ∙ there)) (b (let k = r.lock.seen other w at_w in omega arith))))
         (λ ne'. none_out j x (set_else (set s.views id (learns v w)) other j (initial_view 0) ne' ∙ set_else s.views id j (learns v w) ne ∙ there))));
+  }
+
+  pub learn_ended_slotted : (id other : ℕ) (v w : View) → (Timely v → HasTurnAwake v) → (Timely w → IsIdle w) → (Timely w → IsNotServed w) → Joins (Slotted {T = T} fl) id v other w (learns_ended v w) (initial_view 0)
+  learn_ended_slotted id other v w a b c s r at apart at_other = record {
+    lock = learn_ended_joins id other v w a b (bare s) r.lock at apart at_other;
+    home = λ slot none_out.
+        let le = (r.lock.guard (bare_length s.homes ∙ slot)).0 in
+        let at_w : get_elem? s.views other ≡ some w = sym (set_else s.views id other (learns_ended v w) apart) ∙ at_other in
+        r.home slot (λ j x there. dite (ℕ_discrete j id)
+        (λ e. ap (λ (z : View). z.door) (some-injective x v (sym there ∙ ap (get_elem? s.views) e ∙ at)) ∙ none_out id (learns_ended v w) (set_else (set s.views id (learns_ended v w)) other id (initial_view 0) (λ e'. apart (sym e')) ∙ set_there s.views id v (learns_ended v w) at))
+        (λ ne. dite (ℕ_discrete j other)
+        (λ e. ap (λ (z : View). z.door) (some-injective x w (sym there ∙ ap (get_elem? s.views) e ∙ at_w)) ∙ c (let k = r.lock.seen other w at_w in omega arith))
+        (λ ne'. none_out j x (set_else (set s.views id (learns_ended v w)) other j (initial_view 0) ne' ∙ set_else s.views id j (learns_ended v w) ne ∙ there))));
   }

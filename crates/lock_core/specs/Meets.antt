@@ -50,3 +50,15 @@ told_of v = record (initial_view v.max_newcomers) { most_open = v.most_open; end
 -- what it knows then
 abbrev pub learns : View → View → View
 learns v w = record v { most_open = max v.most_open w.most_open; ended = max v.ended w.ended; rounds_seen = 0; ticket = 0; phase = Idle; counted = 0; newcomers_at_ask = 0; first_pending = 0; newcomers_seen = max v.newcomers_seen w.newcomers_seen; takes_seen = max v.takes_seen w.takes_seen; inside = 0; door = 0; nobody_behind = 0 }
+
+-- one at its turn hears of the requests that another knows to have ended
+abbrev pub learns_ended : View → View → View
+learns_ended v w = record v { ended = max v.ended w.ended; counted = 0 }
+
+-- and nothing else is changed but the load that it knows of
+abbrev pub HasLearnedEnded : View → View → View → Type 0
+HasLearnedEnded v w u = u ≡ record v { ended = max v.ended w.ended; counted = 0; most_open = u.most_open }
+
+-- each request that it knows to have ended is before its own
+abbrev pub tells_order : Step ℕ → Me ℕ View → ℕ → Me ℕ View → Type 0
+tells_order st m n m' = (m'.1 ≡ m.1) × (m'.0 ≡ record m.0 { counted = 0; most_open = m'.0.most_open }) × (m.0.most_open ≤ m'.0.most_open) × (Timely m'.0 → m.0.ended ≤ m.0.ticket)

@@ -8,7 +8,7 @@ use Rattle.lock_core.specs.declared.view.Phase.{Phase}
 use Rattle.lock_core.specs.declared.view.Phase.TheVariants.{Idle, Queued, Asleep, AtTurn, Passing, HeadInside}
 use Rattle.lock_core.specs.Layout.{asleep_of, bit_of, count_of, rounds_of, shut_of, to_go}
 use Rattle.lock_core.specs.Looks.{looked}
-use Rattle.lock_core.specs.Views.{OnlyLooks, AsksAfter, IsAtTurn, GrantedToNobodyAsleep, HasGrantedNext, HasTurn, IsIdle, IsInside, IsNewcomersTurn, IsOutside, IsOvertakenInBounds, IsQueued, Kept, KnowsShut, LeftQuietly, SameKnown, SameNewcomerTurn, SameRequest, SameSleepAtOuter, SameTurn, ServedOpen, ServedShut, SleepsAtOuter, TakesOuter, Timely}
+use Rattle.lock_core.specs.Views.{OnlyLooks, AsksAfter, IsAtTurn, GrantedToNobodyAsleep, HasGrantedNext, HasTurn, IsIdle, IsInside, IsNewcomersTurn, IsNotServed, IsOutside, IsOvertakenInBounds, IsQueued, Kept, KnowsShut, LeftQuietly, SameKnown, SameNewcomersSeen, SameNewcomerTurn, SameOvertaking, SameRequest, SameSleepAtOuter, SameTurn, ServedOpen, ServedShut, SleepsAtOuter, TakesOuter, Timely}
 
 -- the word that a step leaves: after a load, a sum, a difference (of 0 too), an exchange where the word was the expected
 abbrev pub kept_word : Step ℕ → ℕ → ℕ
@@ -77,7 +77,7 @@ abbrev pub grants_to : View → ℕ → View → Type 0
 grants_to v n w = (bit_at n (bit_of (v.ticket + 1)) ≡ 0 → HasGrantedNext v w × (count_of n ≡ 0 → GrantedToNobodyAsleep w)) × (bit_at n (bit_of (v.ticket + 1)) ≡ 1 → (w.phase ≡ Passing) × (w.ticket ≡ v.ticket + 1) × (w.counted ≡ 0))
 
 abbrev pub grants : Step ℕ → Me ℕ View → ℕ → Me ℕ View → Type 0
-grants st m n m' = same m m' × (Timely m'.0 → grants_to m.0 n m'.0)
+grants st m n m' = same m m' × (Timely m'.0 → grants_to m.0 n m'.0) × SameOvertaking m.0 m'.0 × (m.0.max_newcomers ≡ 0 → Timely m'.0 → IsNotServed m'.0)
 
 abbrev pub clears_withdrawn : Step ℕ → Me ℕ View → ℕ → Me ℕ View → Type 0
 clears_withdrawn st m n m' = same m m' × (Timely m'.0 → (m'.0.ticket ≡ m.0.ticket) × (m'.0.phase ≡ AtTurn) × (m'.0.ended ≡ m'.0.ticket) × (m'.0.counted ≡ 0) × SameRequest m.0 m'.0 × (m'.0.newcomers_seen ≡ m.0.newcomers_seen))
@@ -93,13 +93,13 @@ abbrev pub takes_outer : Step ℕ → Me ℕ View → ℕ → Me ℕ View → Ty
 takes_outer st m n m' = more m m' × SameNewcomerTurn m.0 m'.0 × (Timely m'.0 → (m'.0.ticket ≡ m.0.ticket) × (m'.0.newcomers_at_ask ≡ m.0.newcomers_at_ask) × (m'.0.first_pending ≡ m.0.first_pending) × (m'.0.ended ≡ m.0.ended) × (m'.0.counted ≡ 0) × (n ≡ st.first → (m'.0.phase ≡ HeadInside) × (m'.0.inside ≡ 1) × IsOvertakenInBounds m'.0 × Told n m.0 m'.0 × TakesOuter m.0 m'.0) × (n ≢ st.first → (m'.0.phase ≡ AtTurn) × SameSleepAtOuter m.0 m'.0))
 
 abbrev pub leaves : Step ℕ → Me ℕ View → ℕ → Me ℕ View → Type 0
-leaves st m n m' = more m m' × SameNewcomerTurn m.0 m'.0 × SameKnown m.0 m'.0 × (m'.0.last_take ≡ m.0.last_take) × (Timely m'.0 → (m.0.takes_seen ≤ m'.0.last_take) × (n ≡ st.first → IsOutside m'.0 × (asleep_of n ≡ 0 → LeftQuietly m'.0)) × (n ≢ st.first → IsInside m'.0 × (m'.0.door ≡ m.0.door)))
+leaves st m n m' = more m m' × SameNewcomerTurn m.0 m'.0 × SameKnown m.0 m'.0 × (m'.0.last_take ≡ m.0.last_take) × (Timely m'.0 → (m.0.takes_seen ≤ m'.0.last_take) × (n ≡ st.first → IsOutside m'.0 × (asleep_of n ≡ 0 → LeftQuietly m'.0) × IsNotServed m'.0) × (n ≢ st.first → IsInside m'.0 × (m'.0.door ≡ m.0.door)))
 
 abbrev pub checks_open : Step ℕ → Me ℕ View → ℕ → Me ℕ View → Type 0
-checks_open st m n m' = more m m' × Kept m.0 m'.0 × SameSleepAtOuter m.0 m'.0 × (Timely m'.0 → Told n m.0 m'.0)
+checks_open st m n m' = more m m' × Kept m.0 m'.0 × SameSleepAtOuter m.0 m'.0 × (Timely m'.0 → Told n m.0 m'.0) × SameNewcomersSeen m.0 m'.0
 
 abbrev pub shuts : Step ℕ → Me ℕ View → ℕ → Me ℕ View → Type 0
-shuts st m n m' = more m m' × Kept m.0 m'.0 × SameSleepAtOuter m.0 m'.0 × ServedShut m'.0 × KnowsShut m'.0 × (m'.0.epoch ≡ m.0.epoch)
+shuts st m n m' = more m m' × Kept m.0 m'.0 × SameSleepAtOuter m.0 m'.0 × ServedShut m'.0 × KnowsShut m'.0 × (m'.0.epoch ≡ m.0.epoch) × SameNewcomersSeen m.0 m'.0
 
 abbrev pub reopens : Step ℕ → Me ℕ View → ℕ → Me ℕ View → Type 0
 reopens st m n m' = more m m' × Kept m.0 m'.0 × SameSleepAtOuter m.0 m'.0 × ServedOpen m'.0 × (m'.0.epoch ≡ m.0.epoch + 1)

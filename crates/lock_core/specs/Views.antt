@@ -110,7 +110,7 @@ IsOvertakenInBounds v = v.newcomers_seen ≤ v.newcomers_at_ask + v.max_newcomer
 
 -- its turn has ended, and the next ticket is granted
 abbrev pub HasGrantedNext : View → View → Type 0
-HasGrantedNext v w = IsIdle w × (w.ended ≡ v.ticket + 1) × (w.granted ≡ v.ticket + 1)
+HasGrantedNext v w = IsIdle w × (w.ended ≡ v.ticket + 1) × (w.granted ≡ v.ticket + 1) × (w.ticket ≡ v.ticket)
 
 abbrev pub GrantedAfter : ℕ → View → Type 0
 GrantedAfter ticket v = (ticket + 1) % 18446744073709551616 ≡ v.granted % 18446744073709551616
@@ -211,3 +211,15 @@ HasEnded v w = v.ticket < w.ended
 -- it knows of as many newcomers
 abbrev pub SameNewcomersSeen : View → View → Type 0
 SameNewcomersSeen v w = w.newcomers_seen ≡ v.newcomers_seen
+
+-- it knows of as many newcomers, and of the request that it made what it knew when it asked
+abbrev pub SameOvertaking : View → View → Type 0
+SameOvertaking v w = SameNewcomersSeen v w × (w.newcomers_at_ask ≡ v.newcomers_at_ask) × (w.first_pending ≡ v.first_pending)
+
+-- it is not served
+abbrev pub IsNotServed : View → Type 0
+IsNotServed v = v.door ≡ 0
+
+-- it has a turn of the queue, and is not counted as a sleeper
+abbrev pub HasTurnAwake : View → Type 0
+HasTurnAwake v = HasTurn v × (v.counted ≡ 0)

@@ -1,7 +1,7 @@
 //! A lock is shut, by whoever is served, and reopened, by whoever is at its turn with nobody behind.
 ghost use Rattle.std.specs.Prelude.{◌≡◌, ◌≢◌, ◌+◌, ◌%◌, ◌^◌, ◌≤◌, true, false};
 ghost use Rattle.lock_core.specs.Layout.{HasLockWords, tail_at};
-ghost use Rattle.lock_core.specs.Views.{view_of, InTime, InTimeFrom, LoadGrows, IsSeatOf, IsAtTurn, HasTurnOf, Kept, KnowsShut, ServedOpen, ServedShut, SameKnown, SameSleepAtOuter, IsLaterEpoch, KeepsValue};
+ghost use Rattle.lock_core.specs.Views.{view_of, InTime, InTimeFrom, LoadGrows, IsSeatOf, IsAtTurn, HasTurnOf, Kept, KnowsShut, ServedOpen, ServedShut, SameKnown, SameNewcomersSeen, SameSleepAtOuter, IsLaterEpoch, KeepsValue};
 ghost use Rattle.lock_core.specs.Looks.{StepsLater, Found};
 
 use crate::layout::{OUTER, SHUT, TAIL, is_shut};
@@ -21,6 +21,7 @@ pub fn check_open<T>(table: &SharedValue<T>, seat: &mut ValueSeat<T>, ticket: u6
     ensures steps { StepsLater 1 seat.old seat.new }
     ensures kept { Kept (view_of seat.old) (view_of seat.new) }
     ensures sleep { SameSleepAtOuter (view_of seat.old) (view_of seat.new) }
+    ensures newcomers { SameNewcomersSeen (view_of seat.old) (view_of seat.new) }
     ensures open { result ≡ true → InTime seat.new ServedOpen }
     ensures shut { result ≡ false → InTime seat.new ServedShut }
     ensures knows { result ≡ false → InTime seat.new KnowsShut }
@@ -41,6 +42,7 @@ pub fn shut<T>(table: &SharedValue<T>, seat: &mut ValueSeat<T>)
     ensures steps { StepsLater 1 seat.old seat.new }
     ensures kept { Kept (view_of seat.old) (view_of seat.new) }
     ensures sleep { SameSleepAtOuter (view_of seat.old) (view_of seat.new) }
+    ensures newcomers { SameNewcomersSeen (view_of seat.old) (view_of seat.new) }
     ensures value { KeepsValue seat.old seat.new }
     ensures shut { ServedShut (view_of seat.new) }
     ensures knows { KnowsShut (view_of seat.new) }

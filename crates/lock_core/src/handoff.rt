@@ -1,7 +1,7 @@
 //! The one at its turn grants the next ticket, and passes withdrawn requests.
 ghost use Rattle.std.specs.Prelude.{◌≡◌, ◌+◌, ◌%◌, ◌^◌, ◌≤◌, true, false};
 ghost use Rattle.lock_core.specs.Layout.{HasLockWords, cell_at, count_of};
-ghost use Rattle.lock_core.specs.Views.{view_of, InTime, InTimeFrom, LoadGrows, IsSeatOf, IsIdle, IsAtTurn, IsPassing, HasTurnOf, HasGrantedNext, HasNextTicket, HasEnded, SameRequest, SameNewcomersSeen, GrantedAfter, GrantedToNobodyAsleep, SameTurn};
+ghost use Rattle.lock_core.specs.Views.{view_of, InTime, InTimeFrom, LoadGrows, IsSeatOf, IsIdle, IsAtTurn, IsPassing, HasTurnOf, HasGrantedNext, HasNextTicket, HasEnded, IsNotServed, SameRequest, SameNewcomersSeen, SameOvertaking, GrantedAfter, GrantedToNobodyAsleep, SameTurn};
 ghost use Rattle.lock_core.specs.Looks.{StepsLater, StepsAtMost, Found};
 ghost use Rattle.lock_core.specs.Answers.{IfGranted, IfUnfinished};
 
@@ -35,6 +35,8 @@ fn grant<T>(table: &SharedValue<T>, seat: &mut ValueSeat<T>, ticket: u64) -> (bo
     ensures passes { result.0 ≡ true → InTime seat.new (IsPassing ((ticket + 1) % 2 ^ 64)) }
     ensures passes_next { result.0 ≡ true → InTimeFrom seat.old seat.new HasNextTicket }
     ensures sleepers { Found (cell_at (ticket + 1)) (λ n. count_of n ≡ result.1) seat.new }
+    ensures overtaking { SameOvertaking (view_of seat.old) (view_of seat.new) }
+    ensures strict { table.now.key ≤ 1 → InTime seat.new IsNotServed }
 {
     let next = ticket.wrapping_add(1);
     let cell = table.fetch_add::<Grant>(seat, cell_word(next), ROUND);
@@ -84,6 +86,9 @@ pub fn release<T>(
     ensures has { IfUnfinished result (InTime seat.new (HasTurnOf ticket.new)) }
     ensures passed { IfUnfinished result (StepsLater 128 seat.old seat.new
         × (ticket.new ≡ (ticket.old + 64) % 2 ^ 64)) }
+    ensures later { InTimeFrom seat.old seat.new (λ v w. v.ticket ≤ w.ticket) }
+    ensures overtaking { InTimeFrom seat.old seat.new SameOvertaking }
+    ensures strict { IfGranted result (λ _. table.now.key ≤ 1 → InTime seat.new IsNotServed) }
 {
     for _ in 0..MAX_PASSED {
         let (withdrawn, sleepers) = grant(table, seat, *ticket);

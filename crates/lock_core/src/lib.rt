@@ -19,7 +19,7 @@ pub use closing::{check_open, reopen, shut};
 pub use guarded::{AskWithinResult, ask_within};
 pub use handoff::{ReleaseResult, release};
 pub use meets::{
-    asked_while_open, first_come, learn, never_two, never_two_heads, no_lost_wake,
+    asked_while_open, first_come, learn, learn_order, never_two, never_two_heads, no_lost_wake,
     no_lost_wake_at_outer, none_left_at_reopening, none_served_after_shut, tell, turns_differ,
 };
 pub use opening::{LockKind, OpenError, OpenValueError, check_kind, new_seat, open, open_value};

@@ -2,13 +2,13 @@
 //!
 //! A clause speaks of one caller's seat. So a fact about two is a function that is lent both, and ensures that they
 //! cannot meet. None of these is to be called: a caller's proof may.
-ghost use Rattle.std.specs.Prelude.{◌≡◌, ◌<◌, ◌≤◌};
-ghost use Rattle.lock_core.specs.Layout.{IsLockTable};
-ghost use Rattle.lock_core.specs.Views.{view_of, InTime, NeverInTime, IsSeatOf, IsIdle, IsOutside, HasTurn, KnowsShut, LeftQuietly, ServedOpen, SleepsAtOuter};
-ghost use Rattle.lock_core.specs.Meets.{Served, IsWaiting, IsWaitingOpen, IsWaitingShut, IsStillAsleep, GrantedToNobodyAsleepAt, HadNewcomersTurn, HasHeard, told_of};
+ghost use Rattle.std.specs.Prelude.{◌≡◌, ◌<◌, ◌≤◌, []};
+ghost use Rattle.lock_core.specs.Layout.{HasLockWords, IsLockTable};
+ghost use Rattle.lock_core.specs.Views.{view_of, InTime, NeverInTime, LoadGrows, KeepsValue, IsSeatOf, IsIdle, IsOutside, HasTurn, HasTurnAwake, IsNotServed, KnowsShut, LeftQuietly, ServedOpen, SleepsAtOuter};
+ghost use Rattle.lock_core.specs.Meets.{Served, IsWaiting, IsWaitingOpen, IsWaitingShut, IsStillAsleep, GrantedToNobodyAsleepAt, HadNewcomersTurn, HasHeard, HasLearnedEnded, told_of};
 
-use crate::plays::{Learn, Meet, Tell};
-use crate::rule::{SharedTable, TicketSeat};
+use crate::plays::{Learn, LearnEnded, Meet, Tell, TellOrder};
+use crate::rule::{SharedTable, SharedValue, TicketSeat, ValueSeat};
 
 /// Exclusion: no two callers are served at one time. In a strict lock who is at its turn is served, with bursts who is
 /// inside.
@@ -159,4 +159,25 @@ pub fn learn(table: &SharedTable, seat: &mut TicketSeat, other: TicketSeat)
     ensures others { HasHeard (view_of other) (view_of seat.new) }
 {
     table.join_seat::<Learn>(seat, other);
+}
+
+/// Order: each request that another knows to have ended is before the request of one at its turn. One load.
+///
+/// So turns end in the order of tickets. The caller at its turn may call it.
+pub fn learn_order<T>(table: &SharedValue<T>, seat: &mut ValueSeat<T>, other: ValueSeat<T>)
+    requires table { HasLockWords table.now.table_id }
+    requires seat { IsSeatOf table.now.table_id table.now.key seat.old }
+    requires other { IsSeatOf table.now.table_id table.now.key other }
+    requires at_turn { InTime seat.old HasTurnAwake }
+    requires idle { InTime other IsIdle }
+    requires home { InTime other IsNotServed }
+    requires empty { other.me.1 ≡ [] }
+    ensures seat { IsSeatOf table.now.table_id table.now.key seat.new }
+    ensures load { LoadGrows seat.old seat.new }
+    ensures value { KeepsValue seat.old seat.new }
+    ensures own { HasLearnedEnded (view_of seat.old) (view_of other) (view_of seat.new) }
+    ensures order { InTime seat.new (λ w. (view_of other).ended ≤ w.ticket) }
+{
+    table.join_seat::<LearnEnded>(seat, other);
+    table.load::<TellOrder>(seat, 0);
 }

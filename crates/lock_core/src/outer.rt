@@ -1,7 +1,7 @@
 //! Bursts: newcomers and the queue head go in and out by the outer word.
 ghost use Rattle.std.specs.Prelude.{◌≡◌, ◌≢◌, ◌+◌, ◌/◌, ◌%◌, ◌<◌, ◌≤◌, ◌⊎◌, true, false};
 ghost use Rattle.lock_core.specs.Layout.{HasLockWords, outer_at, state_of, handoff_of, asleep_of};
-ghost use Rattle.lock_core.specs.Views.{view_of, InTime, InTimeFrom, LoadGrows, IsSeatOf, IsIdle, IsAtTurn, IsOvertakenInBounds, IsInside, IsOutside, IsHeadInside, IsNewcomersTurn, GoesInAfter, TakesOuter, LeftQuietly, SleepsAtOuter, ServedOpen, ServedShut, KnowsShut, Kept, SameRequest, SameNewcomerTurn, SameKnown, SameSleepAtOuter, IsLaterEpoch, LeavesSameTake, SleepsInTake, SameDoor, OnlyLooks};
+ghost use Rattle.lock_core.specs.Views.{view_of, InTime, InTimeFrom, LoadGrows, IsSeatOf, IsIdle, IsAtTurn, IsOvertakenInBounds, IsInside, IsOutside, IsHeadInside, IsNewcomersTurn, IsNotServed, GoesInAfter, TakesOuter, LeftQuietly, SleepsAtOuter, ServedOpen, ServedShut, KnowsShut, Kept, SameRequest, SameNewcomerTurn, SameKnown, SameSleepAtOuter, IsLaterEpoch, LeavesSameTake, SleepsInTake, SameDoor, OnlyLooks};
 ghost use Rattle.lock_core.specs.Looks.{StepsLater, LooksOnce, Found, Changes, IsHeldByNewcomer, IsLeftClean, IsNoEntry, IsRequested, IsNotedAsleep, FoundChanged, FoundNotFree, Leaves, LeavesAsFound, IsHeldAnew, IsLeftAs};
 ghost use Rattle.lock_core.specs.Answers.{IfIn, IfNotIn, IfTakenOpen, IfTakenShut, IfTaken, IfNotTaken, IfHeld, IfTakeChanged, IfLeft, IfNotLeft, IfHeadAsleep, IfNotHeld, IfHeadChanged};
 
@@ -203,6 +203,7 @@ fn leave_free<T>(table: &SharedValue<T>, seat: &mut ValueSeat<T>, expected: u64)
     ensures take { LeavesSameTake seat.old seat.new }
     ensures quiet { result ≡ expected → asleep_of expected ≡ 0 → InTime seat.new LeftQuietly }
     ensures outside { result ≡ expected → InTime seat.new IsOutside }
+    ensures home { result ≡ expected → InTime seat.new IsNotServed }
     ensures free { result ≡ expected → Leaves outer_at (λ n. state_of n ≡ 0) seat.new }
     ensures clean { result ≡ expected → Changes outer_at IsLeftClean seat.new }
     ensures inside { result ≢ expected → InTime seat.new IsInside }
@@ -227,6 +228,7 @@ fn leave_reserved<T>(table: &SharedValue<T>, seat: &mut ValueSeat<T>, expected: 
     ensures take { LeavesSameTake seat.old seat.new }
     ensures quiet { result ≡ expected → asleep_of expected ≡ 0 → InTime seat.new LeftQuietly }
     ensures outside { result ≡ expected → InTime seat.new IsOutside }
+    ensures home { result ≡ expected → InTime seat.new IsNotServed }
     ensures reserved { result ≡ expected → Leaves outer_at (λ n. state_of n ≡ 2) seat.new }
     ensures clean { result ≡ expected → Changes outer_at IsLeftClean seat.new }
     ensures inside { result ≢ expected → InTime seat.new IsInside }
@@ -256,6 +258,7 @@ pub fn leave_if<T>(
     ensures known { SameKnown (view_of seat.old) (view_of seat.new) }
     ensures take { LeavesSameTake seat.old seat.new }
     ensures outside { IfLeft result (λ _. InTime seat.new IsOutside) }
+    ensures home { IfLeft result (λ _. InTime seat.new IsNotServed) }
     ensures quiet { IfLeft result (λ asleep. asleep ≡ false → InTime seat.new LeftQuietly) }
     ensures asleep { IfLeft result (λ asleep. asleep ≡ true → asleep_of expected ≡ 1) }
     ensures left { IfLeft result (λ _. Leaves outer_at (IsLeftAs burst expected) seat.new) }
@@ -294,6 +297,7 @@ pub fn leave<T>(table: &SharedValue<T>, seat: &mut ValueSeat<T>, burst: u64) -> 
     ensures known { SameKnown (view_of seat.old) (view_of seat.new) }
     ensures take { LeavesSameTake seat.old seat.new }
     ensures outside { IfLeft result (λ _. InTime seat.new IsOutside) }
+    ensures home { IfLeft result (λ _. InTime seat.new IsNotServed) }
     ensures quiet { IfLeft result (λ asleep. asleep ≡ false → InTime seat.new LeftQuietly) }
     ensures asleep { IfLeft result (λ asleep. asleep ≡ true
         → Found outer_at (λ n. asleep_of n ≡ 1) seat.new) }

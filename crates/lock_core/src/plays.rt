@@ -177,3 +177,19 @@ impl Join<View> for Learn {
 
     ghost spent = { views.initial_view 0 };
 }
+
+/// One at its turn learns which requests have ended.
+pub(crate) struct LearnEnded;
+
+impl Join<View> for LearnEnded {
+    ghost both = { meets.learns_ended };
+
+    ghost spent = { views.initial_view 0 };
+}
+
+/// Those are before its own.
+pub(crate) struct TellOrder;
+
+impl<T> Play<T, View> for TellOrder {
+    ghost then = { slots.with_slot meets.tells_order };
+}

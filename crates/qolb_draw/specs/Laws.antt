@@ -51,7 +51,7 @@ foot_of (Bar row start end s node) = y_of row + 8
 foot_of (Name row column node) = name_y row column + 3
 foot_of (Number column number) = 36 + 3
 foot_of (Arrow column number giver from taker to) = max (y_of giver) (y_of taker)
-foot_of (Bytes row column bytes places) = y_of row - 13 + 3
+foot_of (Bytes row column bytes places) = y_of row - 11 + 3
 foot_of (Call row column event) = y_of row + 12
 
 -- a shape of a line lies within the picture's width, and above the next line

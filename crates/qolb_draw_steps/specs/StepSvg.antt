@@ -14,7 +14,9 @@ use Rattle.qolb_model.specs.declared.config.TheConstants.{MAX_NODES}
 use Rattle.qolb_script.specs.declared.command.Command.TheVariants.{Write}
 use Rattle.qolb_script.specs.Said.{said_words}
 use Rattle.qolb_script.specs.StepReply.{step_said}
+use Rattle.qolb_shapes.specs.Points.{named, point_words}
 use Rattle.qolb_shapes.specs.Svg.{field, verb_text, written_words}
+use Rattle.qolb_shapes.specs.Verbs.{step_verb}
 use Rattle.qolb_draw_steps.specs.StepShapes.{StepShape, Lane, Name, Number, At, Lies, Home, Word, Act}
 
 -- the place of an event, from the left; the middle of a row, from the top
@@ -30,36 +32,6 @@ row_name_y row column = if column == 0 then step_y row + 4 else step_y row + 26
 
 abbrev pub row_name : ℕ → List ℕ
 row_name row = if row == 0 then codes "home" else field (codes "node ") row
-
--- some words, and a node behind them if there is one
-abbrev pub named : List ℕ → Option ℕ → List ℕ
-named words None = words
-named words (Some n) = field words n
-
--- the words of a point; the node that it names
-abbrev pub point_name : Point → List ℕ
-point_name point.Idle = codes "Idle"
-point_name point.Ready = codes "Ready"
-point_name (point.Linking n) = codes "Linking "
-point_name point.Queued = codes "Queued"
-point_name point.Holding = codes "Holding"
-point_name (point.Leaving n) = codes "Leaving "
-point_name (point.Marking n) = codes "Marking "
-point_name (point.Granting n) = codes "Granting "
-point_name point.Freeing = codes "Freeing"
-point_name point.Left = codes "Left"
-point_name point.Rolled = codes "Rolled"
-point_name point.Shut = codes "Shut"
-
-abbrev pub named_by : Point → Option ℕ
-named_by (point.Linking n) = Some n
-named_by (point.Leaving n) = Some n
-named_by (point.Marking n) = Some n
-named_by (point.Granting n) = Some n
-named_by p = None
-
-abbrev pub point_words : Point → List ℕ
-point_words p = named (point_name p) (named_by p)
 
 -- the class of a point's bar: the node asks or waits, holds, releases, has withdrawn, or is in no call
 abbrev pub class_at : Point → List ℕ
@@ -107,20 +79,7 @@ letter_if flag letter = if flag then letter else []
 abbrev pub entry_words : Entry → List ℕ
 entry_words e = letter_if e.granted (codes "g") ++ letter_if e.rolled (codes "r") ++ letter_if e.done (codes "d") ++ field (letter_if e.freed (codes "f")) e.link
 
--- the first word of an event; the words of a write behind its node; the whole event as a script has it
-abbrev pub step_verb : Event → List ℕ
-step_verb (event.Reset n) = codes "reset"
-step_verb (event.Prepend n) = codes "prepend"
-step_verb (event.Link n) = codes "link"
-step_verb (event.Load n) = codes "load"
-step_verb (event.Home n) = codes "home"
-step_verb (event.Done n) = codes "done"
-step_verb (event.Grant n) = codes "grant"
-step_verb (event.Roll n) = codes "roll"
-step_verb (event.Freed n) = codes "freed"
-step_verb (event.Write n mask bytes) = codes "write"
-step_verb (event.Close n) = codes "close"
-
+-- the words of a write behind its node; the whole event as a script has it
 abbrev pub placed_words : Event → List ℕ
 placed_words (event.Write n mask bytes) = written_words (Write n 0 mask bytes)
 placed_words e = []

@@ -8,11 +8,11 @@ ghost use Rattle.qolb_draw_steps.specs.StepShapes.{lane_shapes, rows_shapes};
 ghost use Rattle.qolb_draw_steps.specs.StepSvg as spec;
 
 use crate::step_words::{
-    class_at, class_of_place, push_entry, push_place, push_point, push_told, row_of_place, sign_at,
-    step_verb,
+    class_at, class_of_place, push_entry, push_place, push_told, row_of_place, sign_at,
 };
 use link_core::{Entry, Event, Place, Point, Told};
 use qolb_shapes::svg::{NAMED_EVERY, push_field, push_verb};
+use qolb_shapes::{push_point, step_verb};
 use std::alloc::{AllocError, Allocator};
 
 /// The text before the shapes: the colours that a timeline does not have, and the legend.

@@ -1,4 +1,4 @@
-//! The words of an event of a step script, a point, a place and an entry.
+//! The words of an event of a step script, a place and an entry.
 ghost use Rattle.std.specs.Prelude.{◌≡◌, ◌++◌, ◌≤◌, OnOk};
 ghost use Rattle.qolb_script.specs.StepReply.{step_said};
 ghost use Rattle.qolb_draw_steps.specs.StepSvg as spec;
@@ -7,64 +7,8 @@ use link_core::{Entry, Event, Place, Point, Told};
 use qolb_model::MAX_NODES;
 use qolb_script::{Command, Said};
 use qolb_shapes::svg::push_field;
-use qolb_shapes::{push_answer, push_written};
+use qolb_shapes::{push_answer, push_named, push_written, step_verb};
 use std::alloc::{AllocError, Allocator};
-
-/// Appends some words, and a node behind them if there is one.
-fn push_named<A: Allocator>(
-    text: &mut Vec<u8, A>,
-    words: &[u8],
-    node: Option<u64>,
-) -> Result<(), AllocError>
-    ensures { OnOk result (text.new.items ≡ text.old.items ++ spec.named words.now node) }
-{
-    match node {
-        Some(node) => push_field(text, words, node)?,
-        None => text.extend_from_slice(words)?,
-    }
-    Ok(())
-}
-
-/// Returns the words of a point.
-fn point_name(point: Point) -> &'static [u8]
-    ensures { result.now ≡ spec.point_name point }
-{
-    match point {
-        Point::Idle => b"Idle",
-        Point::Ready => b"Ready",
-        Point::Linking(_) => b"Linking ",
-        Point::Queued => b"Queued",
-        Point::Holding => b"Holding",
-        Point::Leaving(_) => b"Leaving ",
-        Point::Marking(_) => b"Marking ",
-        Point::Granting(_) => b"Granting ",
-        Point::Freeing => b"Freeing",
-        Point::Left => b"Left",
-        Point::Rolled => b"Rolled",
-        Point::Shut => b"Shut",
-    }
-}
-
-/// Returns the node that a point names, if it names one.
-fn named_by(point: Point) -> Option<u64>
-    ensures { result ≡ spec.named_by point }
-{
-    match point {
-        Point::Linking(node)
-        | Point::Leaving(node)
-        | Point::Marking(node)
-        | Point::Granting(node) => Some(node),
-        _ => None,
-    }
-}
-
-/// Appends a point, with the node that it names.
-pub fn push_point<A: Allocator>(text: &mut Vec<u8, A>, point: Point) -> Result<(), AllocError>
-    ensures { OnOk result (text.new.items ≡ text.old.items ++ spec.point_words point) }
-{
-    push_named(text, point_name(point), named_by(point))?;
-    Ok(())
-}
 
 /// Returns the class of the bar of a node at this point.
 pub fn class_at(point: Point) -> &'static [u8]
@@ -148,25 +92,6 @@ pub fn push_entry<A: Allocator>(text: &mut Vec<u8, A>, entry: &Entry) -> Result<
     text.extend_from_slice(letter_if(entry.done, b"d"))?;
     push_field(text, letter_if(entry.freed, b"f"), entry.link)?;
     Ok(())
-}
-
-/// Returns the first word of an event.
-pub fn step_verb(event: &Event) -> &'static [u8]
-    ensures { result.now ≡ spec.step_verb event.now }
-{
-    match *event {
-        Event::Reset(_) => b"reset",
-        Event::Prepend(_) => b"prepend",
-        Event::Link(_) => b"link",
-        Event::Load(_) => b"load",
-        Event::Home(_) => b"home",
-        Event::Done(_) => b"done",
-        Event::Grant(_) => b"grant",
-        Event::Roll(_) => b"roll",
-        Event::Freed(_) => b"freed",
-        Event::Write(..) => b"write",
-        Event::Close(_) => b"close",
-    }
 }
 
 /// Appends the words of a write behind its node.

@@ -52,7 +52,7 @@ under (Ok h) n line why rest = items (command_of h.nodes h.lines) (why_command h
 
 from : (lines : List (ℕ × List ℕ)) → told_line (below_first script.Schedule header_of why_header (λ (h : Header) rest. first_refused (command_of h.nodes h.lines) (why_command h.nodes h.lines) 0 rest) lines) ≡ refused_line (script_from lines)
 from [] = refl
-from (line ∷ rest) = under (read_line header_of line.1) line.0 line.1 (unless_other line.1 (why_line why_header line.1)) rest
+from (line ∷ rest) = under (read_line header_of line.1) line.0 line.1 (unless_other script.Schedule line.1 (why_line why_header line.1)) rest
 
 pub schedules : (text : List ℕ) → told_line (schedule_complaint text) ≡ refused_line (script_of text)
 schedules text = from (worded (numbered_lines text))
@@ -69,7 +69,7 @@ under_step (Ok h) n line why rest = items (event_of h.nodes) (why_event h.nodes)
 
 from_step : (lines : List (ℕ × List ℕ)) → told_line (below_first script.Steps step_header_of why_step_header (λ (h : StepHeader) rest. first_refused (event_of h.nodes) (why_event h.nodes) 0 rest) lines) ≡ refused_line (steps_from lines)
 from_step [] = refl
-from_step (line ∷ rest) = under_step (read_line step_header_of line.1) line.0 line.1 (unless_other line.1 (why_line why_step_header line.1)) rest
+from_step (line ∷ rest) = under_step (read_line step_header_of line.1) line.0 line.1 (unless_other script.Steps line.1 (why_line why_step_header line.1)) rest
 
 pub step_scripts : (text : List ℕ) → told_line (steps_complaint text) ≡ refused_line (steps_of text)
 step_scripts text = from_step (worded (numbered_lines text))
@@ -87,7 +87,7 @@ under_work kind (Ok h) n line why rest = items (job_of kind h.workers h.lines) (
 from_work : (kind : WorkKind) (lines : List (ℕ × List ℕ))
     → told_line (below_first (script_kind kind) (work_header_of kind) (why_work_header kind) (λ (h : WorkHeader) rest. first_refused (job_of kind h.workers h.lines) (why_job kind h.workers h.lines) 0 rest) lines) ≡ refused_line (work_from kind lines)
 from_work kind [] = refl
-from_work kind (line ∷ rest) = under_work kind (read_line (work_header_of kind) line.1) line.0 line.1 (unless_other line.1 (why_line (why_work_header kind) line.1)) rest
+from_work kind (line ∷ rest) = under_work kind (read_line (work_header_of kind) line.1) line.0 line.1 (unless_other (script_kind kind) line.1 (why_line (why_work_header kind) line.1)) rest
 
 pub work_scripts : (kind : WorkKind) (text : List ℕ) → told_line (work_complaint kind text) ≡ refused_line (work_of kind text)
 work_scripts kind text = from_work kind (worded (numbered_lines text))

@@ -8,7 +8,6 @@ use Rattle.qolb_model.specs.OneOwner.{OwnerState, opened, state_of}
 use Rattle.link_core.specs.declared.event.Event.{Event}
 use Rattle.link_core.specs.declared.event.Event.TheVariants as event
 use Rattle.link_core.specs.declared.point.Point.{Point}
-use Rattle.link_core.specs.declared.point.Point.TheVariants as point
 use Rattle.link_core.specs.declared.told.Told.{Told}
 use Rattle.link_core.specs.declared.told.NotEnabled.{NotEnabled}
 use Rattle.link_core.specs.declared.told.NotEnabled.TheVariants as refusal
@@ -26,7 +25,9 @@ use Rattle.qolb_script.specs.Script.{Script, script_of}
 use Rattle.qolb_script.specs.StepScript.{StepScript, steps_of}
 use Rattle.qolb_replay.specs.StepRuns as runs
 use Rattle.qolb_shapes.specs.Marks.{is_misuse}
-use Rattle.qolb_shapes.specs.Svg.{field, verb_of}
+use Rattle.qolb_shapes.specs.Points.{point_words}
+use Rattle.qolb_shapes.specs.Svg.{field}
+use Rattle.qolb_shapes.specs.Verbs.{step_verb, verb_of}
 
 -- some words, one behind the other
 abbrev pub listed : List (List ℕ) → List ℕ
@@ -79,49 +80,21 @@ script_notes (Err error) = []
 abbrev pub schedule_notes : List ℕ → List ℕ
 schedule_notes input = script_notes (script_of input)
 
--- the first word of an event
-abbrev pub verb_of_event : Event → List ℕ
-verb_of_event (event.Reset n) = codes "reset"
-verb_of_event (event.Prepend n) = codes "prepend"
-verb_of_event (event.Link n) = codes "link"
-verb_of_event (event.Load n) = codes "load"
-verb_of_event (event.Home n) = codes "home"
-verb_of_event (event.Done n) = codes "done"
-verb_of_event (event.Grant n) = codes "grant"
-verb_of_event (event.Roll n) = codes "roll"
-verb_of_event (event.Freed n) = codes "freed"
-verb_of_event (event.Write n mask bytes) = codes "write"
-verb_of_event (event.Close n) = codes "close"
-
 -- an event of each kind, in the order in which they are named
 abbrev pub each_event : List Event
 each_event =
     event.Reset 0 ∷ event.Prepend 0 ∷ event.Link 0 ∷ event.Load 0 ∷ event.Home 0 ∷ event.Done 0 ∷ event.Grant 0 ∷ event.Roll 0 ∷ event.Freed 0
     ∷ event.Write 0 no_mask (record { bytes = zeros }) ∷ event.Close 0 ∷ []
 
--- a point by its name and the node that it names; which events it allows
-abbrev pub point_name : Point → List ℕ
-point_name point.Idle = codes "Idle"
-point_name point.Ready = codes "Ready"
-point_name (point.Linking n) = field (codes "Linking to ") n
-point_name point.Queued = codes "Queued"
-point_name point.Holding = codes "Holding"
-point_name (point.Leaving n) = field (codes "Leaving ") n
-point_name (point.Marking n) = field (codes "Marking ") n
-point_name (point.Granting n) = field (codes "Granting ") n
-point_name point.Freeing = codes "Freeing"
-point_name point.Left = codes "Left"
-point_name point.Rolled = codes "Rolled"
-point_name point.Shut = codes "Shut"
-
+-- which events a point allows
 abbrev pub events_at : Point → List ℕ
-events_at p = listed (map verb_of_event (filter (λ e. allows e p) each_event))
+events_at p = listed (map step_verb (filter (λ e. allows e p) each_event))
 
 -- the note on an event of a node at this point, the `number`-th of its script
 abbrev pub refusal_text : ℕ → Event → Point → List ℕ
 refusal_text number e p =
-    field (codes "event ") number ++ codes ", " ++ verb_of_event e ++ field (codes " ") (steps.node_of e) ++ field (codes ": node ") (steps.node_of e)
-    ++ codes " is at " ++ point_name p ++ codes ", which allows " ++ events_at p ++ codes "\n"
+    field (codes "event ") number ++ codes ", " ++ step_verb e ++ field (codes " ") (steps.node_of e) ++ field (codes ": node ") (steps.node_of e)
+    ++ codes " is at " ++ point_words p ++ codes ", which allows " ++ events_at p ++ codes "\n"
 
 -- an event of no node is in no script
 abbrev pub refusal_note : NotEnabled → ℕ → Event → Point → List ℕ

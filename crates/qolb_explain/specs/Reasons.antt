@@ -179,13 +179,13 @@ kind_of_header line =
     else if is_ok (read_line (work_header_of Bank) line) then Some script.Bank
     else None
 
--- the fault of a refused header: that it is of another kind of script, else this one
-abbrev pub of_other : Option ScriptKind → Reason → Reason
-of_other None why = why
-of_other (Some kind) why = Other kind
+-- the fault of a refused header, where a script of a kind was asked for: that it is of another kind, else this one
+abbrev pub of_other : ScriptKind → Option ScriptKind → Reason → Reason
+of_other asked None why = why
+of_other asked (Some found) why = Other found asked
 
-abbrev pub unless_other : List ℕ → Reason → Reason
-unless_other line why = of_other (kind_of_header line) why
+abbrev pub unless_other : ScriptKind → List ℕ → Reason → Reason
+unless_other asked line why = of_other asked (kind_of_header line) why
 
 -- the number of the refused line, its bytes, and its fault
 abbrev pub Complaint : Type 0
@@ -206,7 +206,7 @@ or_below (Ok header) first below = below header
 
 abbrev pub below_first : {H : Type 0} → ScriptKind → (List (List ℕ) → Result H LineFault) → (List (List ℕ) → Reason) → (H → List (ℕ × List ℕ) → Option Complaint) → List (ℕ × List ℕ) → Option Complaint
 below_first kind header_of why below [] = Some (1, [], Empty kind)
-below_first kind header_of why below (line ∷ rest) = or_below (read_line header_of line.1) (line.0, line.1, unless_other line.1 (why_line why line.1)) (λ header. below header rest)
+below_first kind header_of why below (line ∷ rest) = or_below (read_line header_of line.1) (line.0, line.1, unless_other kind line.1 (why_line why line.1)) (λ header. below header rest)
 
 -- the complaint about a schedule, a step script or a work script, if it is refused
 abbrev pub schedule_complaint : List ℕ → Option Complaint

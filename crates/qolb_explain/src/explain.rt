@@ -81,12 +81,12 @@ fn kind_of_header(line: &[u8]) -> Option<ScriptKind>
     }
 }
 
-/// Returns the fault of a refused header: that it is of another kind of script, else `why`.
-fn unless_other(line: &[u8], why: Reason) -> Reason
-    ensures { result ≡ spec.unless_other line.now why }
+/// Returns the fault of a refused header, where a script of kind `asked` was to begin: that it is of another kind, else `why`.
+fn unless_other(asked: ScriptKind, line: &[u8], why: Reason) -> Reason
+    ensures { result ≡ spec.unless_other asked line.now why }
 {
     match kind_of_header(line) {
-        Some(kind) => Reason::Other(kind),
+        Some(found) => Reason::Other { found, asked },
         None => why,
     }
 }
@@ -134,7 +134,7 @@ pub fn explain_schedule<'a>(text: &'a [u8]) -> Option<Complaint<'a>>
         Err(_) => Some(Complaint {
             number,
             line,
-            reason: unless_other(line, why_header(line)),
+            reason: unless_other(ScriptKind::Schedule, line, why_header(line)),
         }),
     }
 }
@@ -154,7 +154,7 @@ pub fn explain_steps<'a>(text: &'a [u8]) -> Option<Complaint<'a>>
         Err(_) => Some(Complaint {
             number,
             line,
-            reason: unless_other(line, why_step_header(line)),
+            reason: unless_other(ScriptKind::Steps, line, why_step_header(line)),
         }),
     }
 }
@@ -181,7 +181,7 @@ pub fn explain_work<'a>(text: &'a [u8], kind: WorkKind) -> Option<Complaint<'a>>
         Err(_) => Some(Complaint {
             number,
             line,
-            reason: unless_other(line, why_work_header(kind, line)),
+            reason: unless_other(script_kind(kind), line, why_work_header(kind, line)),
         }),
     }
 }

@@ -3,6 +3,7 @@
 
 mod explain;
 pub mod laws;
+mod near;
 mod notes;
 mod reason;
 mod step_notes;

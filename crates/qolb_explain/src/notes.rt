@@ -5,7 +5,6 @@ ghost use Rattle.qolb_model.specs.Plain.{Agrees};
 ghost use Rattle.qolb_script.specs.Commands.{node_of};
 ghost use Rattle.qolb_script.specs.Reply.{config_of};
 ghost use Rattle.qolb_shapes.specs.Marks.{is_misuse};
-ghost use Rattle.qolb_shapes.specs.Svg.{verb_of};
 ghost use Rattle.qolb_explain.specs.Notes as spec;
 
 use line_lanes::Line64;
@@ -13,6 +12,7 @@ use qolb_model::{LineConfig, PlainLine, PortState};
 use qolb_replay::ReplayLine;
 use qolb_script::{Command, Said, Schedule, ScriptError, read_schedule};
 use qolb_shapes::svg::push_field;
+use qolb_shapes::verb;
 use std::alloc::{AllocError, Global};
 
 /// Returns a line of text for each command of a schedule that is misuse, by the lines of the schedule: the node's state, and which commands
@@ -121,21 +121,6 @@ fn push_misuse(
     notes.extend_from_slice(words_of_state(state))?;
     notes.extend_from_slice(b"\n")?;
     Ok(())
-}
-
-/// Returns the first word of a command.
-fn verb(command: &Command) -> &'static [u8]
-    ensures { result.now ≡ verb_of command.now }
-{
-    match command {
-        Command::Enq { .. } => b"enq",
-        Command::Poll { .. } => b"poll",
-        Command::Show { .. } => b"show",
-        Command::Deq { .. } => b"deq",
-        Command::Out { .. } => b"out",
-        Command::Shut { .. } => b"shut",
-        Command::Write { .. } => b"write",
-    }
 }
 
 /// Returns a state in words, and which commands it allows.

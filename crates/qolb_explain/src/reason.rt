@@ -59,18 +59,28 @@ pub enum Form {
 pub enum Reason {
     /// No line has a word, and the script is to be of this kind.
     Empty(ScriptKind),
-    /// The line is the header of a script of this kind, another than was asked for.
-    Other(ScriptKind),
+    /// The line is the header of another kind of script than the one that was asked for.
+    Other {
+        found: ScriptKind,
+        asked: ScriptKind,
+    },
     /// The first word is not that of the header of this kind.
     Begin(ScriptKind),
     /// A byte is neither a space nor a visible ASCII character.
     Byte,
     /// The word at this place is none of those that are allowed there.
-    Word { place: u64, allowed: Allowed },
+    Word {
+        place: u64,
+        allowed: Allowed,
+    },
     /// A line of this form has another number of words.
     Count(Form),
     /// The word at this place is no number, or is out of its range.
-    Number { place: u64, low: u64, high: u64 },
+    Number {
+        place: u64,
+        low: u64,
+        high: u64,
+    },
     /// The word at this place is not hex.
     Hex(u64),
     /// The bytes of the word at this place go past the end of the line.

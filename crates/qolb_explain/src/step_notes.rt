@@ -10,6 +10,7 @@ use link_core::{Core, Event, NotEnabled, Point, Told};
 use qolb_model::LineConfig;
 use qolb_script::{ScriptError, Steps, read_steps};
 use qolb_shapes::svg::push_field;
+use qolb_shapes::{push_point, step_verb};
 use std::alloc::{AllocError, Global};
 
 /// Returns a line of text for each event of a step script that is refused: the node's point, and which events it allows. Empty if the
@@ -99,7 +100,7 @@ fn push_refusal(
 {
     push_field(notes, b"event ", number)?;
     notes.extend_from_slice(b", ")?;
-    notes.extend_from_slice(verb(event))?;
+    notes.extend_from_slice(step_verb(event))?;
     push_field(notes, b" ", event.node())?;
     push_field(notes, b": node ", event.node())?;
     notes.extend_from_slice(b" is at ")?;
@@ -108,45 +109,6 @@ fn push_refusal(
     notes.extend_from_slice(events_at(point))?;
     notes.extend_from_slice(b"\n")?;
     Ok(())
-}
-
-/// Returns the first word of an event.
-fn verb(event: &Event) -> &'static [u8]
-    ensures { result.now ≡ spec.verb_of_event event.now }
-{
-    match event {
-        Event::Reset(_) => b"reset",
-        Event::Prepend(_) => b"prepend",
-        Event::Link(_) => b"link",
-        Event::Load(_) => b"load",
-        Event::Home(_) => b"home",
-        Event::Done(_) => b"done",
-        Event::Grant(_) => b"grant",
-        Event::Roll(_) => b"roll",
-        Event::Freed(_) => b"freed",
-        Event::Write(_, _, _) => b"write",
-        Event::Close(_) => b"close",
-    }
-}
-
-/// Appends a point by its name, and the node that it names.
-fn push_point(notes: &mut Vec<u8>, point: Point) -> Result<(), AllocError>
-    ensures { OnOk result (notes.new.items ≡ notes.old.items ++ spec.point_name point) }
-{
-    match point {
-        Point::Idle => notes.extend_from_slice(b"Idle"),
-        Point::Ready => notes.extend_from_slice(b"Ready"),
-        Point::Linking(node) => push_field(notes, b"Linking to ", node),
-        Point::Queued => notes.extend_from_slice(b"Queued"),
-        Point::Holding => notes.extend_from_slice(b"Holding"),
-        Point::Leaving(node) => push_field(notes, b"Leaving ", node),
-        Point::Marking(node) => push_field(notes, b"Marking ", node),
-        Point::Granting(node) => push_field(notes, b"Granting ", node),
-        Point::Freeing => notes.extend_from_slice(b"Freeing"),
-        Point::Left => notes.extend_from_slice(b"Left"),
-        Point::Rolled => notes.extend_from_slice(b"Rolled"),
-        Point::Shut => notes.extend_from_slice(b"Shut"),
-    }
 }
 
 /// Returns which events a point allows.

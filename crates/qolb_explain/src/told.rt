@@ -1,13 +1,11 @@
 //! Complaints as text: the refused line, and what may stand there.
+use crate::near::{MAX_WORD, near};
 use crate::reason::{Allowed, Complaint, Form, Reason, ScriptKind};
 use qolb_script::readers::Words;
 use std::fmt;
 
 /// The largest number of bytes of a line that are shown.
 const MAX_SHOWN: usize = 200;
-
-/// The largest number of bytes of a word that is repeated.
-const MAX_WORD: usize = 20;
 
 impl<'a> fmt::Display for Complaint<'a> {
     fn fmt<W: fmt::Write>(&self, f: &mut fmt::Formatter<W>) -> fmt::Result {
@@ -23,18 +21,16 @@ impl<'a> fmt::Display for Complaint<'a> {
                 let form = header(kind);
                 write!(f, "a script begins with `{form}`")
             }
-            Reason::Other(kind) => f.write_str(other(kind)),
-            Reason::Byte => f.write_str("a byte is neither a space nor a visible ASCII character"),
+            Reason::Other { found, asked } => write_other(f, found, asked),
+            Reason::Byte => write_byte(f, self.line),
             Reason::Word { place, allowed } => write_word(f, self.line, place, allowed),
             Reason::Count(form) => write_form(f, self.line, form),
-            Reason::Number { place, low, high } => {
-                write!(f, "word {place} is no number from {low} to {high}")
-            }
+            Reason::Number { place, low, high } => write_range(f, place, low, high),
             Reason::Hex(place) => write!(f, "word {place} is not hex, of two digits a byte"),
             Reason::Fit(place) => {
                 write!(f, "the bytes of word {place} do not fit: a line has 64")
             }
-            Reason::TooMany => f.write_str("more than 100,000 commands"),
+            Reason::TooMany => f.write_str("more than 100,000 commands, events or jobs"),
         }
     }
 }
@@ -49,13 +45,80 @@ fn header(kind: ScriptKind) -> &'static str {
     }
 }
 
-/// Returns what is said of a script of this kind that was given to a subcommand for another.
-fn other(kind: ScriptKind) -> &'static str {
+/// Returns the name of a kind of scripts.
+fn name(kind: ScriptKind) -> &'static str {
     match kind {
-        ScriptKind::Schedule => "this is a schedule, for `qolb replay` and `qolb draw`",
-        ScriptKind::Steps => "this is a step script, for `qolb steps` and `qolb draw --steps`",
-        ScriptKind::Board => "this is a board script, for `qolb board`",
-        ScriptKind::Bank => "this is a bank script, for `qolb bank`",
+        ScriptKind::Schedule => "a schedule",
+        ScriptKind::Steps => "a step script",
+        ScriptKind::Board => "a board script",
+        ScriptKind::Bank => "a bank script",
+    }
+}
+
+/// Returns the subcommands for scripts of a kind.
+fn subcommands(kind: ScriptKind) -> &'static str {
+    match kind {
+        ScriptKind::Schedule => "`qolb replay` and `qolb draw`",
+        ScriptKind::Steps => "`qolb steps` and `qolb draw --steps`",
+        ScriptKind::Board => "`qolb board`",
+        ScriptKind::Bank => "`qolb bank`",
+    }
+}
+
+/// Writes which kind of script a line begins, and how one of the kind begins that was asked for.
+fn write_other<W: fmt::Write>(
+    f: &mut fmt::Formatter<W>,
+    found: ScriptKind,
+    asked: ScriptKind,
+) -> fmt::Result {
+    let (other, uses) = (name(found), subcommands(found));
+    write!(f, "this begins {other}, for {uses}; ")?;
+    let (script, form) = (name(asked), header(asked));
+    write!(f, "{script} begins with `{form}`")
+}
+
+/// Writes which byte of a line is the first that no script has, and what to write in its place where that is known.
+fn write_byte<W: fmt::Write>(f: &mut fmt::Formatter<W>, line: &[u8]) -> fmt::Result {
+    let mut place = 0u64;
+    for byte in line.iter().copied() {
+        place = place.saturating_add(1);
+        if !is_shown(byte) {
+            let hint = hint_of(line, byte);
+            return write!(
+                f,
+                "byte {place}, \\x{byte:02x}, is neither a space nor a visible ASCII character{hint}"
+            );
+        }
+    }
+    Ok(())
+}
+
+/// Returns `true` if a byte is a space or a visible ASCII character.
+fn is_shown(byte: u8) -> bool {
+    b' ' <= byte && byte <= b'~'
+}
+
+/// Returns what to write in the place of this byte, the first of a line that no script has; empty if that is not known.
+fn hint_of(line: &[u8], byte: u8) -> &'static str {
+    match byte {
+        b'\t' => "; spaces separate words",
+        b'\r' => "; a line ends with \\x0a alone",
+        0xef if line.starts_with(b"\xef\xbb\xbf") => "; a script has no byte order mark",
+        _ => "",
+    }
+}
+
+/// Writes that a word is no number of a range.
+fn write_range<W: fmt::Write>(
+    f: &mut fmt::Formatter<W>,
+    place: u64,
+    low: u64,
+    high: u64,
+) -> fmt::Result {
+    if low == high {
+        write!(f, "word {place} is not {low}")
+    } else {
+        write!(f, "word {place} is no number from {low} to {high}")
     }
 }
 
@@ -143,66 +206,6 @@ fn word_at(line: &[u8], place: u64) -> &[u8] {
     &[]
 }
 
-/// Returns the allowed word that does what another word says: of another subcommand or of a library of locks. It is a list, as `withdraw` is far
-/// from `out` by its letters.
-fn near(allowed: Allowed, word: &[u8]) -> Option<&'static str> {
-    match allowed {
-        Allowed::Commands => near_command(word),
-        Allowed::Events => near_event(word),
-        Allowed::BoardJobs => near_board_job(word),
-        Allowed::BankJobs => near_bank_job(word),
-        Allowed::Lines | Allowed::Lease | Allowed::Workers => None,
-    }
-}
-
-/// Returns the command that is near this word.
-fn near_command(word: &[u8]) -> Option<&'static str> {
-    match word {
-        b"enqolb" | b"enqueue" | b"ask" | b"acquire" | b"lock" | b"request" | b"prepend" => {
-            Some("enq")
-        }
-        b"load" | b"wait" | b"try" => Some("poll"),
-        b"set" | b"store" => Some("write"),
-        b"read" | b"get" | b"bytes" => Some("show"),
-        b"deqolb" | b"dequeue" | b"release" | b"unlock" | b"free" => Some("deq"),
-        b"withdraw" | b"roll" | b"rollout" | b"cancel" | b"leave" => Some("out"),
-        b"close" => Some("shut"),
-        _ => None,
-    }
-}
-
-/// Returns the event that is near this word.
-fn near_event(word: &[u8]) -> Option<&'static str> {
-    match word {
-        b"enq" | b"enqolb" | b"enqueue" | b"ask" | b"swap" => Some("reset, prepend and link"),
-        b"poll" | b"wait" => Some("load"),
-        b"deq" | b"deqolb" | b"dequeue" | b"release" | b"unlock" => Some("home, done and grant"),
-        b"out" | b"withdraw" | b"rollout" | b"cancel" => Some("roll"),
-        b"free" => Some("freed"),
-        b"shut" => Some("close"),
-        _ => None,
-    }
-}
-
-/// Returns the job of a board that is near this word.
-fn near_board_job(word: &[u8]) -> Option<&'static str> {
-    match word {
-        b"push" | b"add" | b"give" | b"store" | b"in" => Some("put"),
-        b"pop" | b"get" | b"remove" | b"out" => Some("take"),
-        _ => None,
-    }
-}
-
-/// Returns the job of a bank that is near this word.
-fn near_bank_job(word: &[u8]) -> Option<&'static str> {
-    match word {
-        b"deposit" | b"pay" | b"put" => Some("in"),
-        b"withdraw" | b"take" | b"take_out" => Some("out"),
-        b"transfer" => Some("move"),
-        _ => None,
-    }
-}
-
 /// Writes a line, and dots if it has more than `MAX_SHOWN` bytes.
 fn write_line<W: fmt::Write>(f: &mut fmt::Formatter<W>, line: &[u8]) -> fmt::Result {
     f.write_str("    ")?;
@@ -216,7 +219,7 @@ fn write_line<W: fmt::Write>(f: &mut fmt::Formatter<W>, line: &[u8]) -> fmt::Res
 /// Writes at most `MAX_SHOWN` bytes: those that no script has as `\xNN`.
 fn write_bytes<W: fmt::Write>(f: &mut fmt::Formatter<W>, bytes: &[u8]) -> fmt::Result {
     for byte in bytes.iter().copied().take(MAX_SHOWN) {
-        if b' ' <= byte && byte <= b'~' {
+        if is_shown(byte) {
             f.write_char(char::from(byte))?;
         } else {
             write!(f, "\\x{byte:02x}")?;

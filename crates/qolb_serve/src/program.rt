@@ -17,6 +17,7 @@ use qolb_draw_steps::draw_steps;
 use qolb_explain::{
     Complaint, explain_schedule, explain_steps, explain_work, notes_of_schedule, notes_of_steps,
 };
+use qolb_replay::MAX_BYTES;
 use qolb_run::{
     AlwaysOpen, KindSpec, Lock, Locks, Progress, Task, TaskError, WaitMode, answer_schedule,
     answer_steps, answer_work, read_all,
@@ -71,7 +72,7 @@ pub fn serve<T: Threads + Wait + Clock + Eprint + Sync, R: Read, W: Write, E: Wr
     };
     let script = match read_all(alloc, &mut Watched::new(&mut *reader)) {
         Ok(script) => script,
-        Err(error) => return fail(err, error.into()),
+        Err(error) => return refuse_input(err, request.explain, error.into()),
     };
     let text = match answer(rt, alloc, request, &script) {
         Ok(text) => text,
@@ -176,6 +177,18 @@ fn work<T: Threads + Wait + Clock + Eprint + Sync>(
         }
     }
     answer_work(rt, alloc, &AlwaysOpen, script, kind, lock, waits)
+}
+
+/// Writes why the script could not be read and, if that is asked for and it is too long, how long it may be. Returns the exit status.
+fn refuse_input<E: Write>(err: &mut E, explain: bool, error: TaskError) -> u8
+    ensures { result ≡ status_of error }
+{
+    let is_long = matches!(error, TaskError::Long);
+    let status = fail(err, error);
+    if is_long && explain {
+        let _ = writeln!(err, "a script has at most {MAX_BYTES} bytes");
+    }
+    status
 }
 
 /// Writes the error and, if that is asked for and the script is refused, its fault. Returns the exit status.

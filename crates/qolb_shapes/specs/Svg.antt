@@ -2,7 +2,7 @@
 use Rattle.std.specs.Prelude.{ℕ, ◌+◌, ◌-◌, ◌*◌, ◌/◌, ◌%◌, ◌==◌, nat_lt, if◌then◌else◌, List, [], ◌∷◌, ◌++◌, length, flat_map, take, codes, decimal, slice_index}
 use Rattle.qolb_model.specs.declared.answer.Out.TheVariants as out
 use Rattle.qolb_script.specs.declared.command.Command.{Command}
-use Rattle.qolb_script.specs.declared.command.Command.TheVariants.{Enq, Poll, Show, Deq, Out, Shut, Write}
+use Rattle.qolb_script.specs.declared.command.Command.TheVariants.{Write}
 use Rattle.qolb_script.specs.declared.reply_text.Said.{Said}
 use Rattle.qolb_script.specs.declared.reply_text.Said.TheVariants as said
 use Rattle.qolb_script.specs.Commands.{node_of, line_of}
@@ -13,6 +13,7 @@ use Rattle.qolb_shapes.specs.declared.bar.Stand.TheVariants as stand
 use Rattle.qolb_shapes.specs.declared.event.Event.{Event}
 use Rattle.qolb_shapes.specs.declared.svg.TheConstants.{STYLE}
 use Rattle.qolb_shapes.specs.Shapes.{Shape, Lane, Bar, Name, Number, Arrow, Bytes, Call, places_in}
+use Rattle.qolb_shapes.specs.Verbs.{verb_of}
 
 -- the place of a column's command, from the left; the middle of a row, from the top of its line
 abbrev pub x_of : ℕ → ℕ
@@ -50,16 +51,6 @@ abbrev pub sign_of : Said → List ℕ
 sign_of (said.Out out.Withdrawn) = codes "out"
 sign_of said.Misuse = codes "misuse"
 sign_of what = if is_told what then codes "told" else codes "call"
-
--- the first word of a command
-abbrev pub verb_of : Command → List ℕ
-verb_of (Enq node line) = codes "enq"
-verb_of (Poll node line) = codes "poll"
-verb_of (Show node line) = codes "show"
-verb_of (Deq node line) = codes "deq"
-verb_of (Out node line) = codes "out"
-verb_of (Shut node line) = codes "shut"
-verb_of (Write node line mask bytes) = codes "write"
 
 -- a byte in two hex digits; the bytes of some places of a line
 abbrev pub digit_of : ℕ → ℕ
@@ -110,7 +101,7 @@ arrow_text column number giver from taker to =
 
 abbrev pub bytes_text : ℕ → ℕ → List ℕ → List ℕ → List ℕ
 bytes_text row column bytes places =
-    field (codes "<text class='small' x='") (x_of column) ++ field (codes "' y='") (y_of row - 13) ++ codes "'>" ++ shortened bytes places ++ codes "</text>\n"
+    field (codes "<text class='small' x='") (x_of column) ++ field (codes "' y='") (y_of row - 11) ++ codes "'>" ++ shortened bytes places ++ codes "</text>\n"
 
 -- the first word of a command or an event, at this place from the left: above the column, below its number
 abbrev pub verb_text : ℕ → List ℕ → List ℕ

@@ -6,6 +6,7 @@ ghost use Rattle.qolb_shapes.specs.Svg as spec;
 ghost use Rattle.qolb_shapes.specs.Shapes.{places_in};
 
 use crate::svg::push_field;
+use crate::verbs::verb;
 use line_lanes::Mask;
 use link_core::Told;
 use qolb_model::{Enq, Out, Poll};
@@ -27,21 +28,6 @@ pub fn sign(said: &Said) -> &'static [u8]
         | Said::Out(Out::Closed)
         | Said::Told(Told::Closed) => b"told",
         _ => b"call",
-    }
-}
-
-/// Returns the first word of a command.
-pub fn verb(command: &Command) -> &'static [u8]
-    ensures { result.now ≡ spec.verb_of command.now }
-{
-    match *command {
-        Command::Enq { .. } => b"enq",
-        Command::Poll { .. } => b"poll",
-        Command::Show { .. } => b"show",
-        Command::Deq { .. } => b"deq",
-        Command::Out { .. } => b"out",
-        Command::Shut { .. } => b"shut",
-        Command::Write { .. } => b"write",
     }
 }
 

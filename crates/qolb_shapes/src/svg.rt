@@ -4,8 +4,9 @@ ghost use Rattle.qolb_script.specs.declared.schedule.TheConstants.{MAX_COMMANDS}
 ghost use Rattle.qolb_shapes.specs.Svg as spec;
 
 use crate::bar::Stand;
-use crate::call::{push_answer, push_command, push_shortened, sign, verb};
+use crate::call::{push_answer, push_command, push_shortened, sign};
 use crate::event::Event;
+use crate::verbs::verb;
 use itoa::Buffer;
 use std::alloc::{AllocError, Allocator};
 
@@ -24,6 +25,7 @@ text{fill:#1f2328}
 .arrow{fill:none;stroke:#cf222e;stroke-width:2;marker-end:url(#tip)}
 #tip path,#told path{fill:#cf222e}
 #out path,#misuse path{fill:none;stroke:#cf222e;stroke-width:2}
+#misuse circle{fill:#fff;stroke:#cf222e}
 #call circle{fill:#1f2328}
 .point{fill:#fff;fill-opacity:0;stroke:none}
 @media(prefers-color-scheme:dark){
@@ -36,6 +38,7 @@ text{fill:#e6edf3}
 .arrow{stroke:#ff7b72}
 #tip path,#told path{fill:#ff7b72}
 #out path,#misuse path{stroke:#ff7b72}
+#misuse circle{fill:#0d1117;stroke:#ff7b72}
 #call circle{fill:#e6edf3}
 }
 </style>
@@ -44,7 +47,7 @@ text{fill:#e6edf3}
 <g id='call'><rect class='point' x='-8' y='-12' width='16' height='24'/><circle r='3'/></g>
 <g id='out'><rect class='point' x='-8' y='-12' width='16' height='24'/><path d='M-5 -5L5 5M-5 5L5 -5'/></g>
 <g id='told'><rect class='point' x='-8' y='-12' width='16' height='24'/><path d='M0 -6L6 0L0 6L-6 0z'/></g>
-<g id='misuse'><rect class='point' x='-8' y='-12' width='16' height='24'/><path d='M0 -7V2M0 4V7'/></g>
+<g id='misuse'><rect class='point' x='-8' y='-12' width='16' height='24'/><circle r='7'/><path d='M0 -5V1M0 3V5'/></g>
 </defs>
 ";
 
@@ -223,7 +226,7 @@ pub fn push_bytes<A: Allocator>(
         ++ spec.bytes_text row column bytes.now places.now) }
 {
     push_field(svg, b"<text class='small' x='", x_of(column))?;
-    push_field(svg, b"' y='", y_of(row) - 13)?;
+    push_field(svg, b"' y='", y_of(row) - 11)?;
     svg.extend_from_slice(b"'>")?;
     push_shortened(svg, bytes, places)?;
     svg.extend_from_slice(b"</text>\n")?;

@@ -3,6 +3,7 @@
 mod board;
 mod lanes;
 mod links;
+mod near;
 mod plain;
 mod reasons;
 mod replies;

@@ -229,19 +229,43 @@ static SCHEDULES: [(&str, Option<(u64, Reason)>); 37] = [
     ),
     (
         "\nnodes 2\nenq 1 0\n",
-        Some((2, Reason::Other(ScriptKind::Steps))),
+        Some((
+            2,
+            Reason::Other {
+                found: ScriptKind::Steps,
+                asked: ScriptKind::Schedule,
+            },
+        )),
     ),
     (
         "nodes 2 lease 1\n",
-        Some((1, Reason::Other(ScriptKind::Steps))),
+        Some((
+            1,
+            Reason::Other {
+                found: ScriptKind::Steps,
+                asked: ScriptKind::Schedule,
+            },
+        )),
     ),
     (
         "board workers 200\n",
-        Some((1, Reason::Other(ScriptKind::Board))),
+        Some((
+            1,
+            Reason::Other {
+                found: ScriptKind::Board,
+                asked: ScriptKind::Schedule,
+            },
+        )),
     ),
     (
         "bank workers 1 lines 8\n",
-        Some((1, Reason::Other(ScriptKind::Bank))),
+        Some((
+            1,
+            Reason::Other {
+                found: ScriptKind::Bank,
+                asked: ScriptKind::Schedule,
+            },
+        )),
     ),
 ];
 
@@ -354,11 +378,23 @@ static STEPS: [(&str, Option<(u64, Reason)>); 21] = [
     ("nodes 2\nreset 1\nclose 2\nwrite 1 62 ffff\n", None),
     (
         "nodes 2 lines 8\n",
-        Some((1, Reason::Other(ScriptKind::Schedule))),
+        Some((
+            1,
+            Reason::Other {
+                found: ScriptKind::Schedule,
+                asked: ScriptKind::Steps,
+            },
+        )),
     ),
     (
         "nodes 2 lines 1 lease 3\n",
-        Some((1, Reason::Other(ScriptKind::Schedule))),
+        Some((
+            1,
+            Reason::Other {
+                found: ScriptKind::Schedule,
+                asked: ScriptKind::Steps,
+            },
+        )),
     ),
     (
         "nodes 2 lines 9\n",
@@ -407,7 +443,7 @@ fn says_of_too_many_commands(rt: HostRuntime) -> Result<(), Fail> {
         reason: Reason::TooMany,
     };
     let text = format!(in rt.alloc(); "{complaint}")?;
-    let wanted = "    poll 1 0\nmore than 100,000 commands";
+    let wanted = "    poll 1 0\nmore than 100,000 commands, events or jobs";
     expect(&rt, "the text", text.as_str(), wanted);
     Ok(())
 }
@@ -422,7 +458,7 @@ fn shown(alloc: Global, script: &[u8]) -> Result<String, Fail> {
 fn expect_shown<R: Abort>(rt: &R, alloc: Global, script: &[u8], line: &str) -> Result<(), Fail> {
     let found = shown(alloc, script)?;
     let wanted = format!(in alloc;
-        "{line}\na byte is neither a space nor a visible ASCII character"
+        "{line}\nbyte 200, \\x1b, is neither a space nor a visible ASCII character"
     )?;
     expect(rt, "the complaint", found.as_str(), wanted.as_str());
     Ok(())

@@ -4,7 +4,7 @@ use qolb_explain::{Allowed, Complaint, Form, Reason, ScriptKind};
 use std::test::Fail;
 
 /// Lines, their faults, and what is said of them.
-static TEXTS: [(&str, Reason, &str); 35] = [
+static TEXTS: [(&str, Reason, &str); 46] = [
     (
         "",
         Reason::Empty(ScriptKind::Schedule),
@@ -47,23 +47,88 @@ static TEXTS: [(&str, Reason, &str); 35] = [
     ),
     (
         "nodes 2 lines 1",
-        Reason::Other(ScriptKind::Schedule),
-        "    nodes 2 lines 1\nthis is a schedule, for `qolb replay` and `qolb draw`",
+        Reason::Other {
+            found: ScriptKind::Schedule,
+            asked: ScriptKind::Steps,
+        },
+        "    nodes 2 lines 1\nthis begins a schedule, for `qolb replay` and `qolb draw`; a step script begins with `nodes N`",
     ),
     (
         "nodes 2",
-        Reason::Other(ScriptKind::Steps),
-        "    nodes 2\nthis is a step script, for `qolb steps` and `qolb draw --steps`",
+        Reason::Other {
+            found: ScriptKind::Steps,
+            asked: ScriptKind::Schedule,
+        },
+        "    nodes 2\nthis begins a step script, for `qolb steps` and `qolb draw --steps`; a schedule begins with `nodes N lines L`",
     ),
     (
         "board workers 2",
-        Reason::Other(ScriptKind::Board),
-        "    board workers 2\nthis is a board script, for `qolb board`",
+        Reason::Other {
+            found: ScriptKind::Board,
+            asked: ScriptKind::Bank,
+        },
+        "    board workers 2\nthis begins a board script, for `qolb board`; a bank script begins with `bank workers W lines L`",
     ),
     (
         "bank workers 2 lines 1",
-        Reason::Other(ScriptKind::Bank),
-        "    bank workers 2 lines 1\nthis is a bank script, for `qolb bank`",
+        Reason::Other {
+            found: ScriptKind::Bank,
+            asked: ScriptKind::Board,
+        },
+        "    bank workers 2 lines 1\nthis begins a bank script, for `qolb bank`; a board script begins with `board workers W`",
+    ),
+    (
+        "enq 1 0\r",
+        Reason::Byte,
+        "    enq 1 0\\x0d\nbyte 8, \\x0d, is neither a space nor a visible ASCII character; a line ends with \\x0a alone",
+    ),
+    (
+        " enq\t1\t0",
+        Reason::Byte,
+        "     enq\\x091\\x090\nbyte 5, \\x09, is neither a space nor a visible ASCII character; spaces separate words",
+    ),
+    (
+        "\u{feff}nodes 2",
+        Reason::Byte,
+        "    \\xef\\xbb\\xbfnodes 2\nbyte 1, \\xef, is neither a space nor a visible ASCII character; a script has no byte order mark",
+    ),
+    (
+        "nodes\u{feff} 2",
+        Reason::Byte,
+        "    nodes\\xef\\xbb\\xbf 2\nbyte 6, \\xef, is neither a space nor a visible ASCII character",
+    ),
+    (
+        "~\u{7f}\r",
+        Reason::Byte,
+        "    ~\\x7f\\x0d\nbyte 2, \\x7f, is neither a space nor a visible ASCII character",
+    ),
+    (
+        "enq 3 0",
+        Reason::Number {
+            place: 2,
+            low: 1,
+            high: 2,
+        },
+        "    enq 3 0\nword 2 is no number from 1 to 2",
+    ),
+    (
+        "enq 1 1",
+        Reason::Number {
+            place: 3,
+            low: 0,
+            high: 0,
+        },
+        "    enq 1 1\nword 3 is not 0",
+    ),
+    (
+        "write 1 0 0 a",
+        Reason::Hex(5),
+        "    write 1 0 0 a\nword 5 is not hex, of two digits a byte",
+    ),
+    (
+        "write 1 63 abcd",
+        Reason::Fit(4),
+        "    write 1 63 abcd\nthe bytes of word 4 do not fit: a line has 64",
     ),
     (
         "withdraw 1 0",
@@ -80,6 +145,22 @@ static TEXTS: [(&str, Reason, &str); 35] = [
             allowed: Allowed::Commands,
         },
         "    withdraws 1 0\nword 1 is none of enq, poll, write, show, deq, out, shut",
+    ),
+    (
+        "1 enq 0",
+        Reason::Word {
+            place: 1,
+            allowed: Allowed::Commands,
+        },
+        "    1 enq 0\nword 1 is none of enq, poll, write, show, deq, out, shut",
+    ),
+    (
+        "Release 1 0",
+        Reason::Word {
+            place: 1,
+            allowed: Allowed::Commands,
+        },
+        "    Release 1 0\nword 1 is none of enq, poll, write, show, deq, out, shut; for Release take deq",
     ),
     (
         "poll 1",
@@ -219,79 +300,6 @@ fn says_what_may_stand_there(rt: HostRuntime) -> Result<(), Fail> {
         };
         let text = format!(in rt.alloc(); "{complaint}")?;
         expect(&rt, *line, text.as_str(), *wanted);
-    }
-    Ok(())
-}
-
-/// Words that may not stand at a place, and the word to take there: one that may, and that does what those say.
-static NEAR: [(Allowed, &[&str], &str); 18] = [
-    (
-        Allowed::Commands,
-        &[
-            "enqolb", "enqueue", "ask", "acquire", "lock", "request", "prepend",
-        ],
-        "enq",
-    ),
-    (Allowed::Commands, &["load", "wait", "try"], "poll"),
-    (Allowed::Commands, &["set", "store"], "write"),
-    (Allowed::Commands, &["read", "get", "bytes"], "show"),
-    (
-        Allowed::Commands,
-        &["deqolb", "dequeue", "release", "unlock", "free"],
-        "deq",
-    ),
-    (
-        Allowed::Commands,
-        &["withdraw", "roll", "rollout", "cancel", "leave"],
-        "out",
-    ),
-    (Allowed::Commands, &["close"], "shut"),
-    (
-        Allowed::Events,
-        &["enq", "enqolb", "enqueue", "ask", "swap"],
-        "reset, prepend and link",
-    ),
-    (Allowed::Events, &["poll", "wait"], "load"),
-    (
-        Allowed::Events,
-        &["deq", "deqolb", "dequeue", "release", "unlock"],
-        "home, done and grant",
-    ),
-    (
-        Allowed::Events,
-        &["out", "withdraw", "rollout", "cancel"],
-        "roll",
-    ),
-    (Allowed::Events, &["free"], "freed"),
-    (Allowed::Events, &["shut"], "close"),
-    (
-        Allowed::BoardJobs,
-        &["push", "add", "give", "store", "in"],
-        "put",
-    ),
-    (Allowed::BoardJobs, &["pop", "get", "remove", "out"], "take"),
-    (Allowed::BankJobs, &["deposit", "pay", "put"], "in"),
-    (Allowed::BankJobs, &["withdraw", "take", "take_out"], "out"),
-    (Allowed::BankJobs, &["transfer"], "move"),
-];
-
-#[test]
-fn says_which_word_to_take(rt: HostRuntime) -> Result<(), Fail> {
-    let alloc = rt.alloc();
-    for (allowed, words, meant) in &NEAR {
-        for word in *words {
-            let complaint = Complaint {
-                number: 2,
-                line: word.as_bytes(),
-                reason: Reason::Word {
-                    place: 1,
-                    allowed: *allowed,
-                },
-            };
-            let text = format!(in alloc; "{complaint}")?;
-            let end = format!(in alloc; "; for {word} take {meant}")?;
-            expect(&rt, *word, text.as_str().ends_with(end.as_str()), true);
-        }
     }
     Ok(())
 }

@@ -9,7 +9,13 @@ static BOARDS: [(&str, Option<(u64, Reason)>); 14] = [
     ("", Some((1, Reason::Empty(ScriptKind::Board)))),
     (
         "bank workers 1 lines 1\n",
-        Some((1, Reason::Other(ScriptKind::Bank))),
+        Some((
+            1,
+            Reason::Other {
+                found: ScriptKind::Bank,
+                asked: ScriptKind::Board,
+            },
+        )),
     ),
     (
         "board workers\n",
@@ -97,7 +103,13 @@ static BOARDS: [(&str, Option<(u64, Reason)>); 14] = [
     ),
     (
         "nodes 1 lines 1\n",
-        Some((1, Reason::Other(ScriptKind::Schedule))),
+        Some((
+            1,
+            Reason::Other {
+                found: ScriptKind::Schedule,
+                asked: ScriptKind::Board,
+            },
+        )),
     ),
 ];
 
@@ -105,7 +117,13 @@ static BOARDS: [(&str, Option<(u64, Reason)>); 14] = [
 static BANKS: [(&str, Option<(u64, Reason)>); 21] = [
     (
         "board workers 1\n",
-        Some((1, Reason::Other(ScriptKind::Board))),
+        Some((
+            1,
+            Reason::Other {
+                found: ScriptKind::Board,
+                asked: ScriptKind::Bank,
+            },
+        )),
     ),
     (
         "bank workers 1\n",
@@ -258,7 +276,16 @@ static BANKS: [(&str, Option<(u64, Reason)>); 21] = [
     ),
     ("bank workers 1 lines 2\n1 move 0 15 5\n", None),
     ("", Some((1, Reason::Empty(ScriptKind::Bank)))),
-    ("nodes 4\n", Some((1, Reason::Other(ScriptKind::Steps)))),
+    (
+        "nodes 4\n",
+        Some((
+            1,
+            Reason::Other {
+                found: ScriptKind::Steps,
+                asked: ScriptKind::Bank,
+            },
+        )),
+    ),
 ];
 
 #[test]

@@ -278,16 +278,16 @@ static SHAPES: [(&str, &str); 13] = [
     // two bytes up to place 63, as they were written, and the first two of three
     (
         "nodes 1 lines 1\nenq 1 0\nwrite 1 0 62 0aF0\n",
-        "<text class='small' x='128' y='55'>0af0</text>\n<use href='#call' x='128' y='68'><title>2: write 1 0 62 0af0: ok</title></use>\n",
+        "<text class='small' x='128' y='57'>0af0</text>\n<use href='#call' x='128' y='68'><title>2: write 1 0 62 0af0: ok</title></use>\n",
     ),
     (
         "nodes 1 lines 1\nenq 1 0\nwrite 1 0 5 010203\n",
-        "<text class='small' x='128' y='55'>0102&#8230;</text>\n<use href='#call' x='128' y='68'><title>2: write 1 0 5 010203: ok</title></use>\n",
+        "<text class='small' x='128' y='57'>0102&#8230;</text>\n<use href='#call' x='128' y='68'><title>2: write 1 0 5 010203: ok</title></use>\n",
     ),
     // a whole line
     (
         "nodes 1 lines 1\nenq 1 0\nwrite 1 0 0 000102030405060708090a0b0c0d0e0f101112131415161718191a1b1c1d1e1f202122232425262728292a2b2c2d2e2f303132333435363738393a3b3c3d3e3f\n",
-        "<text class='small' x='128' y='55'>0001&#8230;</text>\n<use href='#call' x='128' y='68'><title>2: write 1 0 0 000102030405060708090a0b0c0d0e0f101112131415161718191a1b1c1d1e1f202122232425262728292a2b2c2d2e2f303132333435363738393a3b3c3d3e3f: ok</title></use>\n",
+        "<text class='small' x='128' y='57'>0001&#8230;</text>\n<use href='#call' x='128' y='68'><title>2: write 1 0 0 000102030405060708090a0b0c0d0e0f101112131415161718191a1b1c1d1e1f202122232425262728292a2b2c2d2e2f303132333435363738393a3b3c3d3e3f: ok</title></use>\n",
     ),
     // an unwritten byte is not shown beside the bar
     (

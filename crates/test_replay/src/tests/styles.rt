@@ -112,7 +112,7 @@ impl<'a> Sheet<'a> {
 }
 
 /// What must be seen on the page: by which property, and its least contrast to the page in tenths.
-static SEEN: [(&str, &str, u64); 10] = [
+static SEEN: [(&str, &str, u64); 11] = [
     ("text", "fill", 70),
     (".lane", "stroke", 12),
     (".waits", "fill", 14),
@@ -122,6 +122,7 @@ static SEEN: [(&str, &str, u64); 10] = [
     (".arrow", "stroke", 45),
     ("#tip path,#told path", "fill", 45),
     ("#out path,#misuse path", "stroke", 45),
+    ("#misuse circle", "stroke", 45),
     ("#call circle", "fill", 70),
 ];
 
@@ -146,6 +147,9 @@ fn is_hollow(sheet: Sheet, what: &str) -> bool {
 pub fn are_seen<R: Abort>(rt: &R, sheet: Sheet) {
     for is_dark in [false, true] {
         let page = sheet.colour(is_dark, "svg", "background");
+        // The sign of a misuse lies on a disc of the page's colour, so that it is seen on each bar.
+        let disc = sheet.colour(is_dark, "#misuse circle", "fill");
+        expect_at(rt, &("disc", is_dark), disc, page);
         let seen = |what: &str, property: &str| {
             Some(contrast(sheet.colour(is_dark, what, property)?, page?))
         };

@@ -13,7 +13,7 @@ static EXPLAINED: [(&[&str], &str, &str); 16] = [
     (
         &["replay", "--kind", "ring"],
         "nodes 2 lines 1\n\n  enq\t1 0\u{e9}\0\u{7f}~\\ \n",
-        "bad line 3\n      enq\\x091 0\\xc3\\xa9\\x00\\x7f~\\ \na byte is neither a space nor a visible ASCII character\n",
+        "bad line 3\n      enq\\x091 0\\xc3\\xa9\\x00\\x7f~\\ \nbyte 6, \\x09, is neither a space nor a visible ASCII character; spaces separate words\n",
     ),
     (
         &["replay", "--kind", "link"],
@@ -68,7 +68,7 @@ static EXPLAINED: [(&[&str], &str, &str); 16] = [
     (
         &["board", "--sleep"],
         "bank workers 3 lines 1\n",
-        "bad line 1\n    bank workers 3 lines 1\nthis is a bank script, for `qolb bank`\n",
+        "bad line 1\n    bank workers 3 lines 1\nthis begins a bank script, for `qolb bank`; a board script begins with `board workers W`\n",
     ),
     (
         &["bank"],
@@ -78,7 +78,7 @@ static EXPLAINED: [(&[&str], &str, &str); 16] = [
     (
         &["bank", "--kind", "ring"],
         "board workers 3\n",
-        "bad line 1\n    board workers 3\nthis is a board script, for `qolb board`\n",
+        "bad line 1\n    board workers 3\nthis begins a board script, for `qolb board`; a bank script begins with `bank workers W lines L`\n",
     ),
     (
         &["bank"],

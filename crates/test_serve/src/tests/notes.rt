@@ -140,7 +140,7 @@ line 0 served 1 withdrawn 0 told 0 left 1
         "event 1, prepend 1: node 1 is at Idle, which allows reset
 event 3, reset 1: node 1 is at Ready, which allows prepend
 event 5, load 1: node 1 is at Holding, which allows home, write, close
-event 8, load 2: node 2 is at Linking to 1, which allows link
+event 8, load 2: node 2 is at Linking 1, which allows link
 event 10, close 1: node 1 is at Leaving 1, which allows home
 event 12, home 1: node 1 is at Marking 1, which allows done
 event 14, home 1: node 1 is at Left, which allows load

@@ -114,21 +114,34 @@ static TASKS: [&[&str]; 8] = [
     &["draw", "--steps", "--svg"],
 ];
 
+/// Expects that a script is refused with this on standard error.
+fn expect_refused<T: Threads + Wait + Clock + Eprint + Abort + Sync>(
+    rt: &T,
+    alloc: Global,
+    words: &[&str],
+    script: &[u8],
+    told: &str,
+) -> Result<(), Fail> {
+    let mut reader = script;
+    let mut out: Vec<u8> = Vec::new(alloc);
+    let (status, err) = run(rt, alloc, words, &mut reader, &mut out)?;
+    assert_eq!(rt;
+        (status, out.len(), err.as_str()),
+        (1, 0, told),
+        "of {words:?}"
+    );
+    Ok(())
+}
+
 #[test]
 fn refuses_a_script_of_more_than_16_mebibytes(rt: HostRuntime) -> Result<(), Fail> {
     let alloc = rt.alloc();
     let script = vec![in alloc; b'\n'; 16_777_217]?;
     for words in &TASKS {
-        let mut reader = script.as_slice();
-        let mut out: Vec<u8> = Vec::new(alloc);
-        let (status, err) = run(&rt, alloc, *words, &mut reader, &mut out)?;
-        assert_eq!(rt;
-            (status, out.len(), err.as_str()),
-            (1, 0, "script too long\n"),
-            "of {words:?}"
-        );
+        expect_refused(&rt, alloc, *words, &script, "script too long\n")?;
     }
-    Ok(())
+    let explained = "script too long\na script has at most 16777216 bytes\n";
+    expect_refused(&rt, alloc, &["bank", "--explain"], &script, explained)
 }
 
 #[test]

@@ -1,7 +1,8 @@
 use Rattle.std.specs.Prelude.{codes}
 use Rattle.link_core.specs.Steps.{node_of}
 use Rattle.qolb_shapes.specs.Svg.{field, verb_text}
-use Rattle.qolb_draw_steps.specs.StepSvg.{sign_at, step_verb, step_x, step_y, told_words}
+use Rattle.qolb_shapes.specs.Verbs.{step_verb}
+use Rattle.qolb_draw_steps.specs.StepSvg.{sign_at, step_x, step_y, told_words}
 use Rattle.qolb_shapes.proofs.Texts.{begins, piece, ◌▸◌}
 use Rattle.qolb_draw_steps.proofs.step_svg.push_act.Goals as goal
 

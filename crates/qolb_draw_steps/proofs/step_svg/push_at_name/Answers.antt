@@ -1,7 +1,8 @@
 use Rattle.std.proofs.Common.{◌+◌}
 use Rattle.std.specs.Prelude.{codes}
 use Rattle.qolb_shapes.specs.Svg.{field}
-use Rattle.qolb_draw_steps.specs.StepSvg.{point_words, step_x, step_y}
+use Rattle.qolb_shapes.specs.Points.{point_words}
+use Rattle.qolb_draw_steps.specs.StepSvg.{step_x, step_y}
 use Rattle.qolb_shapes.proofs.Texts.{begins, piece, ◌▸◌}
 use Rattle.qolb_draw_steps.proofs.step_svg.push_at_name.Goals as goal
 

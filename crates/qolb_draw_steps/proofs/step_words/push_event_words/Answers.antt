@@ -1,7 +1,8 @@
 use Rattle.std.specs.Prelude.{codes}
 use Rattle.link_core.specs.Steps.{node_of}
 use Rattle.qolb_shapes.specs.Svg.{field}
-use Rattle.qolb_draw_steps.specs.StepSvg.{placed_words, step_verb}
+use Rattle.qolb_shapes.specs.Verbs.{step_verb}
+use Rattle.qolb_draw_steps.specs.StepSvg.{placed_words}
 use Rattle.qolb_shapes.proofs.Texts.{begins, piece, ◌▸◌}
 use Rattle.qolb_draw_steps.proofs.step_words.push_event_words.Goals as goal
 

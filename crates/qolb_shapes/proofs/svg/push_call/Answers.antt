@@ -1,6 +1,7 @@
 use Rattle.std.specs.Prelude.{codes}
 use Rattle.qolb_script.specs.Said.{said_words}
-use Rattle.qolb_shapes.specs.Svg.{command_words, field, sign_of, verb_of, verb_text, x_of, y_of}
+use Rattle.qolb_shapes.specs.Svg.{command_words, field, sign_of, verb_text, x_of, y_of}
+use Rattle.qolb_shapes.specs.Verbs.{verb_of}
 use Rattle.qolb_shapes.proofs.Texts.{begins, piece, ◌▸◌}
 use Rattle.qolb_shapes.proofs.svg.push_call.Goals as goal
 

@@ -6,11 +6,11 @@ use Rattle.line_generic.proofs.Turning.{then_to}
 use Rattle.line_generic.proofs.Calling.{came_asked, behind_asked, call_continues, call_belongs, call_seat, call_busy, call_asks, call_asks_on}
 use Rattle.line_generic.proofs.calls.LineLineSync.enqolb.Goals as goal
 
-pub accept-requires-clause-seat : goal.accept-requires-clause-seat
-accept-requires-clause-seat g c = let q = c.port.inside in call_seat q.seat q.payload q.steps q.poll_count.count c.requires.belongs c.port.view_is c.ask-made.ensures.advances q.node c.port.invariant.node_is
+pub accept-accepted-requires-clause-seat : goal.accept-accepted-requires-clause-seat
+accept-accepted-requires-clause-seat g c = let q = c.port.inside in call_seat q.seat q.payload q.steps q.poll_count.count c.requires.belongs c.port.view_is c.ask-made.ensures.advances q.node c.port.invariant.node_is
 
-pub accept-requires-clause-at_turn : goal.accept-requires-clause-at_turn
-accept-requires-clause-at_turn g c = c.ask-made.ensures.request.at_turn c.in-AtTurn.is
+pub accept-accepted-requires-clause-at_turn : goal.accept-accepted-requires-clause-at_turn
+accept-accepted-requires-clause-at_turn g c = c.ask-made.ensures.request.at_turn c.in-AtTurn.is
 
 pub returns-in-Busy : goal.returns-in-Busy
 returns-in-Busy g c = record {
@@ -34,16 +34,16 @@ returns-in-Queued g c = record {
 }
 
 pub invariant_of-port-in-AtTurn : goal.invariant_of-port-in-AtTurn
-invariant_of-port-in-AtTurn g c = c.accept.ensures.port c.port.inside.label (c.ask-made.ensures.advances.advances.extends.label ∙ c.port.invariant.label_is)
+invariant_of-port-in-AtTurn g c = c.accept-accepted.ensures.port c.port.inside.label (c.ask-made.ensures.advances.advances.extends.label ∙ c.port.invariant.label_is)
 
 pub returns-in-AtTurn : goal.returns-in-AtTurn
 returns-in-AtTurn g c = record {
   belongs = search rules;
-  enqueues = let q = c.port.inside in let more = c.accept.ensures.advances.advances.extends in
-      enqueues_came (call_continues q.seat q.payload q.steps q.poll_count.count c.requires.belongs c.port.view_is {t = c.accept.new.seat} (then_to c.ask-made.ensures.advances c.accept.ensures.more c.accept.ensures.advances))
-      (call_asks_on g.Q.DisciplineSpec.phases.initial q.seat q.payload q.steps q.poll_count.count c.port.view_is (c.ask-made.ensures.request.asks (came_asked c.in-AtTurn.is)) more c.accept.ensures.count)
-      (joined_goes (ghost_of g.Q.DisciplineSpec.phases.initial c.ask-made.new.seat).view (ghost_of g.Q.DisciplineSpec.phases.initial c.accept.new.seat).view (c.ask-made.ensures.request.joined (came_asked c.in-AtTurn.is)) more c.accept.ensures.count) c.accept.ensures.at_turn;
+  enqueues = let q = c.port.inside in let more = c.accept-accepted.ensures.advances.advances.extends in
+      enqueues_came (call_continues q.seat q.payload q.steps q.poll_count.count c.requires.belongs c.port.view_is {t = c.accept-accepted.new.seat} (then_to c.ask-made.ensures.advances c.accept-accepted.ensures.more c.accept-accepted.ensures.advances))
+      (call_asks_on g.Q.DisciplineSpec.phases.initial q.seat q.payload q.steps q.poll_count.count c.port.view_is (c.ask-made.ensures.request.asks (came_asked c.in-AtTurn.is)) more c.accept-accepted.ensures.count)
+      (joined_goes (ghost_of g.Q.DisciplineSpec.phases.initial c.ask-made.new.seat).view (ghost_of g.Q.DisciplineSpec.phases.initial c.accept-accepted.new.seat).view (c.ask-made.ensures.request.joined (came_asked c.in-AtTurn.is)) more c.accept-accepted.ensures.count) c.accept-accepted.ensures.at_turn;
   counts = search rules;
-  went_to = c.accept.ensures.went_to (λ e. cc e);
+  went_to = c.accept-accepted.ensures.went_to (λ e. cc e);
   keeps_note = search rules;
 }

@@ -5,8 +5,8 @@ use Rattle.line_generic.proofs.Turning.{then_to}
 use Rattle.line_generic.proofs.Calling.{call_continues, call_belongs, call_seat, same_count}
 use Rattle.line_generic.proofs.calls.LineLineSync.withdraw.Goals as goal
 
-pub accept-requires-clause-seat : goal.accept-requires-clause-seat
-accept-requires-clause-seat g c = let q = c.port.inside in call_seat q.seat q.payload q.steps q.poll_count.count c.requires.belongs c.port.view_is c.roll.ensures.advances q.node c.port.invariant.node_is
+pub accept-accepted-requires-clause-seat : goal.accept-accepted-requires-clause-seat
+accept-accepted-requires-clause-seat g c = let q = c.port.inside in call_seat q.seat q.payload q.steps q.poll_count.count c.requires.belongs c.port.view_is c.roll.ensures.advances q.node c.port.invariant.node_is
 
 pub returns-then-not-roll : goal.returns-then-not-roll
 returns-then-not-roll g c = record {
@@ -21,16 +21,16 @@ returns-then-not-roll g c = record {
 }
 
 pub invariant_of-port-2 : goal.invariant_of-port-2
-invariant_of-port-2 g c = c.accept.ensures.port c.port.inside.label (c.roll.ensures.advances.advances.extends.label ∙ c.port.invariant.label_is)
+invariant_of-port-2 g c = c.accept-accepted.ensures.port c.port.inside.label (c.roll.ensures.advances.advances.extends.label ∙ c.port.invariant.label_is)
 
 pub returns : goal.returns
 returns g c = record {
   belongs = search rules;
   withdraws = let q = c.port.inside in
-      withdraws_came (call_continues q.seat q.payload q.steps q.poll_count.count c.requires.belongs c.port.view_is {t = c.accept.new.seat} (then_to c.roll.ensures.advances c.accept.ensures.more c.accept.ensures.advances))
-      (same_count g.Q.DisciplineSpec.phases.initial (ghost_of g.Q.DisciplineSpec.phases.initial c.accept.new.seat).view q.seat q.payload q.steps q.poll_count.count c.port.view_is (c.accept.ensures.count ∙ c.roll.ensures.rolls.count)) c.accept.ensures.at_turn;
+      withdraws_came (call_continues q.seat q.payload q.steps q.poll_count.count c.requires.belongs c.port.view_is {t = c.accept-accepted.new.seat} (then_to c.roll.ensures.advances c.accept-accepted.ensures.more c.accept-accepted.ensures.advances))
+      (same_count g.Q.DisciplineSpec.phases.initial (ghost_of g.Q.DisciplineSpec.phases.initial c.accept-accepted.new.seat).view q.seat q.payload q.steps q.poll_count.count c.port.view_is (c.accept-accepted.ensures.count ∙ c.roll.ensures.rolls.count)) c.accept-accepted.ensures.at_turn;
   counts = search rules;
   token = search rules;
-  went_to = c.accept.ensures.went_to (λ e. cc e);
+  went_to = c.accept-accepted.ensures.went_to (λ e. cc e);
   keeps_note = search rules;
 }

@@ -11,7 +11,7 @@ pub returns-then-not-payload-clause-port : goal.returns-then-not-payload-clause-
 returns-then-not-payload-clause-port g c label label_is =
     let y = c.requires.at_turn in
     let same = c.take.ensures.seat.1 in
-    let held = accepts g.Q.DisciplineSpec.phases c.args.self.now.table.shared.key.config.nodes c.args.token c.args.seat.now c.take.new.seat y.0 c.take.new.payload (ap (λ (t : LineConfig). t.nodes) c.requires.seat.sound.config_is) y.2 same (c.take.ensures.copied y.0 y.1) (c.take.ensures.kept y.0 y.1) c.if-not-payload.true in
+    let held = accepts g.Q.DisciplineSpec.phases c.args.self.now.table.shared.key.config.nodes c.args.arrival.token c.args.seat.now c.take.new.seat y.0 c.take.new.payload (ap (λ (t : LineConfig). t.nodes) c.requires.seat.sound.config_is) y.2 same (c.take.ensures.copied y.0 y.1) (c.take.ensures.kept y.0 y.1) c.if-not-payload.true in
     record {
       of_one_node = subst (λ es. es ≡ single g.Q.DisciplineSpec.phases.initial es ∷ []) (sym same) c.requires.seat.of_one_node;
       rests_so = λ not. absurd (not refl);
@@ -26,11 +26,11 @@ returns-clause-seat g c = let released = c.forward_closed-left.ensures in seated
 
 pub returns-clause-port : goal.returns-clause-port
 returns-clause-port g c label label_is = let released = c.forward_closed-left.ensures in
-    passed_port {s = c.args.seat.now} label c.args.node c.args.token c.take.new.payload c.forward_closed-left.result.state label_is c.requires.seat.node_is (put_then c.take.ensures.seat released.advances) (released.told, released.not_held)
+    passed_port {s = c.args.seat.now} label c.args.arrival.node c.args.arrival.token c.take.new.payload c.forward_closed-left.result.state label_is c.requires.seat.node_is (put_then c.take.ensures.seat released.advances) (released.told, released.not_held)
 
 pub returns-clause-advances : goal.returns-clause-advances
 returns-clause-advances g c = let released = c.forward_closed-left.ensures in
-    let e : c.forward_closed-left.result.steps ≡ c.args.steps.now + c.forward_closed-left.result.steps - c.args.steps.now = omega arith in
+    let e : c.forward_closed-left.result.steps ≡ c.args.arrival.steps + c.forward_closed-left.result.steps - c.args.arrival.steps = omega arith in
     subst (SeatAdvances g.K.Keep.allows g.Q.DisciplineSpec.phases.initial c.args.seat.now c.forward_closed-left.new.seat) e (put_then c.take.ensures.seat released.advances)
 
 pub returns-then-not-payload-clause-went_to : goal.returns-then-not-payload-clause-went_to

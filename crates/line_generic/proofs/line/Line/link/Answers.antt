@@ -4,8 +4,8 @@ use Rattle.line_generic.proofs.Turning.{then_to}
 use Rattle.line_generic.proofs.Calling.{call_continues, call_belongs, call_seat, call_links, call_links_on}
 use Rattle.line_generic.proofs.line.Line.link.Goals as goal
 
-pub accept-requires-clause-seat : goal.accept-requires-clause-seat
-accept-requires-clause-seat g c = let q = c.port.inside in call_seat q.seat q.payload q.steps q.poll_count.count c.requires.belongs c.port.view_is c.link.ensures.advances q.node c.port.invariant.node_is
+pub accept-accepted-requires-clause-seat : goal.accept-accepted-requires-clause-seat
+accept-accepted-requires-clause-seat g c = let q = c.port.inside in call_seat q.seat q.payload q.steps q.poll_count.count c.requires.belongs c.port.view_is c.link.ensures.advances q.node c.port.invariant.node_is
 
 pub returns-then-not-link : goal.returns-then-not-link
 returns-then-not-link g c = record {
@@ -22,18 +22,18 @@ returns-then-not-link g c = record {
 }
 
 pub invariant_of-port-2 : goal.invariant_of-port-2
-invariant_of-port-2 g c = c.accept.ensures.port c.port.inside.label (c.link.ensures.advances.advances.extends.label ∙ c.port.invariant.label_is)
+invariant_of-port-2 g c = c.accept-accepted.ensures.port c.port.inside.label (c.link.ensures.advances.advances.extends.label ∙ c.port.invariant.label_is)
 
 pub returns : goal.returns
 returns g c = record {
   belongs = search rules;
   links_up = let q = c.port.inside in
-      links_came (call_continues q.seat q.payload q.steps q.poll_count.count c.requires.belongs c.port.view_is {t = c.accept.new.seat} (then_to c.link.ensures.advances c.accept.ensures.more c.accept.ensures.advances))
-      (call_links_on g.Q.DisciplineSpec.phases.initial q.seat q.payload q.steps q.poll_count.count c.port.view_is c.link.ensures.links.links c.accept.ensures.advances.advances.extends c.accept.ensures.count) c.accept.ensures.at_turn;
+      links_came (call_continues q.seat q.payload q.steps q.poll_count.count c.requires.belongs c.port.view_is {t = c.accept-accepted.new.seat} (then_to c.link.ensures.advances c.accept-accepted.ensures.more c.accept-accepted.ensures.advances))
+      (call_links_on g.Q.DisciplineSpec.phases.initial q.seat q.payload q.steps q.poll_count.count c.port.view_is c.link.ensures.links.links c.accept-accepted.ensures.advances.advances.extends c.accept-accepted.ensures.count) c.accept-accepted.ensures.at_turn;
   total_steps = search rules;
   poll_count = search rules;
   steps = search rules;
   bound = search rules;
-  went_to = c.accept.ensures.went_to (λ e. cc e);
+  went_to = c.accept-accepted.ensures.went_to (λ e. cc e);
   keeps_note = search rules;
 }

@@ -1,0 +1,45 @@
+/* Hints of a link line: the cache lines that a node is about to write, so that the processor fetches them meanwhile.
+ * Nothing depends on a hint: a wrong one costs time alone. One of the library's internal files.
+ *
+ * A handoff of a link line writes four cache lines that other threads wrote last: the line's bytes, the word of the
+ * last request, the holder's entry, and its successor's (crates/link_line). Each step begins when the one before it is
+ * done, so the four lines travel one after the other. Asked for in advance they travel at the same time. */
+#ifndef QOLB_HINTS_H
+#define QOLB_HINTS_H
+
+#include "bells.h"
+#include "gaps.h"
+#include <stdatomic.h>
+
+/* In an entry: whether its node is granted the line; and the unit of the number of the successor. */
+enum { IS_GRANTED = 1, LINK_UNIT = 256 };
+
+/* Processors that can't do it do nothing. */
+static inline void will_write(const volatile void *at) {
+    __asm__ volatile("prefetchw %0" : : "m"(*(const volatile char *)at));
+}
+
+static inline _Atomic uint64_t *entry_of(const struct hints *hints, uint64_t node) {
+    return hints->home + PLACE_WORDS * node;
+}
+
+/* Before a poll: a node that is granted the line will write the bytes and its own entry. The word of the last request
+ * is still wanted by who handed over, to ask again. */
+static inline void hint_turn(const struct hints *hints) {
+    if (!hints->home) return;
+    _Atomic uint64_t *own = entry_of(hints, hints->node);
+    if (!(atomic_load_explicit(own, memory_order_relaxed) & IS_GRANTED)) return;
+    will_write(hints->bytes);
+    will_write(own);
+}
+
+/* Before a release that others wait for: one may have linked, by the entry. */
+static inline void hint_release(const struct hints *hints) {
+    _Atomic uint64_t *own = entry_of(hints, hints->node);
+    will_write(own);
+    will_write(hints->home);
+    uint64_t next = atomic_load_explicit(own, memory_order_relaxed) / LINK_UNIT;
+    if (next) will_write(entry_of(hints, next));
+}
+
+#endif

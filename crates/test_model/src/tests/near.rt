@@ -1,0 +1,98 @@
+//! Words that are near those that may stand at a place.
+use crate::tests::rows::expect;
+use qolb_explain::{Allowed, Complaint, Reason};
+use std::test::Fail;
+
+/// Words that may not stand at a place, and the word to take there: one that may, and that does what those say.
+static NEAR: [(Allowed, &[&str], &str); 25] = [
+    (
+        Allowed::Commands,
+        &[
+            "ENQ", "enqolb", "enqueue", "ask", "acquire", "enter", "lock", "request", "reset",
+            "prepend", "link",
+        ],
+        "enq",
+    ),
+    (Allowed::Commands, &["Poll", "load", "wait", "try"], "poll"),
+    (Allowed::Commands, &["WRITE", "set", "store"], "write"),
+    (Allowed::Commands, &["Show", "read", "get", "bytes"], "show"),
+    (
+        Allowed::Commands,
+        &[
+            "DEQ", "deqolb", "dequeue", "release", "leave", "unlock", "free", "home", "done",
+            "grant", "freed",
+        ],
+        "deq",
+    ),
+    (
+        Allowed::Commands,
+        &["Out", "withdraw", "roll", "rollout", "cancel"],
+        "out",
+    ),
+    (Allowed::Commands, &["SHUT", "close"], "shut"),
+    (
+        Allowed::Events,
+        &[
+            "enq", "enqolb", "enqueue", "ask", "acquire", "enter", "lock", "request", "swap",
+        ],
+        "reset, prepend and link",
+    ),
+    (Allowed::Events, &["RESET"], "reset"),
+    (Allowed::Events, &["Prepend"], "prepend"),
+    (Allowed::Events, &["LINK"], "link"),
+    (Allowed::Events, &["Load", "poll", "wait"], "load"),
+    (
+        Allowed::Events,
+        &["deq", "deqolb", "dequeue", "release", "leave", "unlock"],
+        "home, done and grant",
+    ),
+    (
+        Allowed::Events,
+        &["ROLL", "out", "withdraw", "rollout", "cancel"],
+        "roll",
+    ),
+    (Allowed::Events, &["Home"], "home"),
+    (Allowed::Events, &["DONE"], "done"),
+    (Allowed::Events, &["Grant"], "grant"),
+    (Allowed::Events, &["WRITE"], "write"),
+    (Allowed::Events, &["FREED", "free"], "freed"),
+    (Allowed::Events, &["Close", "shut"], "close"),
+    (
+        Allowed::BoardJobs,
+        &["PUT", "push", "add", "give", "store", "in"],
+        "put",
+    ),
+    (
+        Allowed::BoardJobs,
+        &["TAKE", "pop", "get", "remove", "out"],
+        "take",
+    ),
+    (Allowed::BankJobs, &["IN", "deposit", "pay", "put"], "in"),
+    (
+        Allowed::BankJobs,
+        &["Out", "withdraw", "take", "take_out"],
+        "out",
+    ),
+    (Allowed::BankJobs, &["MOVE", "transfer"], "move"),
+];
+
+#[test]
+fn says_which_word_to_take(rt: HostRuntime) -> Result<(), Fail> {
+    let alloc = rt.alloc();
+    for (allowed, words, meant) in &NEAR {
+        for word in *words {
+            let complaint = Complaint {
+                number: 2,
+                line: word.as_bytes(),
+                reason: Reason::Word {
+                    place: 1,
+                    allowed: *allowed,
+                },
+            };
+            let text = format!(in alloc; "{complaint}")?;
+            let end = format!(in alloc; "; for {word} take {meant}")?;
+            expect(&rt, *word, text.as_str().ends_with(end.as_str()), true);
+        }
+    }
+    Ok(())
+}

@@ -1,0 +1,119 @@
+"""Plots of figures in c/bench/figures: the time of a turn, busy processors, and a line's bytes."""
+
+import math
+import pathlib
+import sys
+
+from svg import Picture
+
+sys.path.append(str(pathlib.Path(__file__).resolve().parents[1]))
+import figures
+from figures import LINES, rows_of
+
+WIDTH, LEFT, RIGHT, TOP = 760, 60, 540, 36
+COLOURS = {"ticket line": "#2da44e", "ring": "#d9730d", "link line": "#3b82f6", "MCS": "#768390", "mutex": "#a371f7"}
+
+
+class Plot:
+    """Axes with one column for each of some counts, and a key at the right."""
+
+    def __init__(self, title, below, columns, bottom):
+        self.picture = Picture(WIDTH, bottom + 62, title)
+        self.columns, self.bottom, self.keys = columns, bottom, 0
+        self.picture.text(LEFT, 20, title, anchor="start")
+        self.picture.text((LEFT + RIGHT) / 2, bottom + 40, below)
+        for k, column in enumerate(columns):
+            self.picture.text(self.x(k), bottom + 20, str(column))
+
+    def x(self, k):
+        """The place of a column, from the left."""
+        return LEFT + (k + 0.5) * (RIGHT - LEFT) / len(self.columns)
+
+    def scale(self, low, high, marks, log=False):
+        """Sets the scale from the bottom to the top, with a line and its number at each mark."""
+        of = math.log if log else float
+        self.y = lambda value: self.bottom - (of(value) - of(low)) / (of(high) - of(low)) * (self.bottom - TOP)
+        for mark in marks:
+            self.picture.line(LEFT, self.y(mark), RIGHT, self.y(mark), "faint")
+            self.picture.text(LEFT - 8, self.y(mark) + 4, f"{mark:g}", anchor="end")
+        self.picture.line(LEFT, self.bottom, RIGHT, self.bottom)
+
+    def key(self, name, shape):
+        """Writes a name beside its sign."""
+        y = TOP + 10 + 24 * self.keys
+        self.keys += 1
+        self.picture.shapes.append(shape(RIGHT + 20, y))
+        self.picture.text(RIGHT + 54, y + 4, name, anchor="start")
+
+    def curve(self, name, values, colour, dashes=""):
+        """Draws a value for each column, with a line between them."""
+        style = f'style="fill: none; stroke: {colour}; stroke-width: 2; stroke-dasharray: {dashes or "none"}"'
+        points = [(self.x(k), self.y(value)) for k, value in enumerate(values)]
+        self.picture.shapes.append(f'<polyline points="{" ".join(f"{x:.1f},{y:.1f}" for x, y in points)}" {style}/>')
+        for x, y in points:
+            self.picture.shapes.append(f'<circle cx="{x:.1f}" cy="{y:.1f}" r="3.5" style="fill: {colour}"/>')
+        self.key(name, lambda x, y: f'<path d="M{x},{y} h26" {style}/>')
+
+    def bars(self, name, values, colour, place, opacity):
+        """Draws a bar for each column, at one of four places."""
+        style = f'style="fill: {colour}; fill-opacity: {opacity}"'
+        for k, value in enumerate(values):
+            x, y = self.x(k) + (place - 2) * 19, self.y(value)
+            self.picture.shapes.append(f'<rect x="{x:.1f}" y="{y:.1f}" width="17" height="{self.bottom - y:.1f}" {style}/>')
+        self.key(name, lambda x, y: f'<rect x="{x}" y="{y - 7}" width="26" height="14" {style}/>')
+
+    def source(self, name):
+        """Writes the command that gave a file of figures, its date and its machine."""
+        command, date, machine = (figures.fact(name, key) for key in ("command", "date", "machine"))
+        words = f"{' '.join(command.split()[:2])}, {date.split(',')[0]}, {machine}".replace("(R)", "")
+        self.picture.text(8, self.bottom + 58, words, "small", "start")
+
+
+def rounds():
+    """The time of a round as a ratio to that of MCS, by the number of threads."""
+    found = figures.medians()
+    threads = sorted({count for _, count in found}, key=int)
+    plot = Plot("time of a turn, as a ratio to MCS's: lower is better", "threads that share one line", threads, 260)
+    curves = [(name, of) for name in LINES for of in ("", " from C") if (name + of, threads[0]) in found]
+    ratios = {pair: [found["".join(pair), count] / found["MCS", count] for count in threads] for pair in curves}
+    high = math.ceil(max(map(max, ratios.values())) * 4) / 4
+    plot.scale(0, high, [k / 2 for k in range(int(high * 2) + 1)])
+    for (name, of), values in ratios.items():
+        plot.curve(name + (of or ", Rattle"), values, COLOURS[name], "2 4" if of else "")
+    plot.curve("MCS", [1] * len(threads), COLOURS["MCS"], "7 5")
+    plot.source("rounds.tsv")
+    return plot.picture
+
+
+WAITERS = {"ticket line": ("ticket line", "spinning"), "ticket line, asleep": ("ticket line", "asleep"), "mutex": ("mutex", ""), "MCS": ("MCS", "")}
+
+
+def processors():
+    """The processors that threads of one lock take, by how they wait, with turns of a millisecond."""
+    rows = [row for row in rows_of("waits.tsv") if row["turn_us"] == "1000"]
+    threads = sorted({int(row["threads"]) for row in rows})
+    plot = Plot("processors that they keep busy", "threads that share one lock, turns of 1 ms", threads, 220)
+    plot.scale(0, 4.2, range(5))
+    for place, (name, (of, how)) in enumerate(WAITERS.items()):
+        found = {int(row["threads"]): float(row["processors"]) for row in rows if row["name"] == name}
+        plot.bars(f"{of}, {how}" if how else of, [found[count] for count in threads], COLOURS[of], place, 0.45 if how == "asleep" else 1)
+    plot.source("waits.tsv")
+    return plot.picture
+
+
+def memory():
+    """The bytes of a line with its ports in Rattle, and of all that an open line keeps from C, by the number of nodes."""
+    counts = list(figures.c_memory()["ring"])
+    found = {(row["name"], row["nodes"]): int(row["table"]) + int(row["ports"]) for row in rows_of("memory.tsv")}
+    plot = Plot("kilobytes of a line with its nodes: lower is better", "nodes that the line is opened for", counts, 270)
+    plot.scale(0.4, 160, (0.5, 1, 2, 5, 10, 20, 50, 100), log=True)
+    for name in LINES:
+        plot.curve(f"{name}, Rattle", [found[name, count] / 1000 for count in counts], COLOURS[name])
+        in_c = figures.c_memory()[name.split()[0]]
+        plot.curve(f"{name} from C", [int(in_c[count].replace(",", "")) / 1000 for count in counts], COLOURS[name], "2 4")
+    return plot.picture
+
+
+def pictures():
+    """The pictures by their names."""
+    return {"rounds": rounds(), "processors": processors(), "memory": memory()}
