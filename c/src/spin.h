@@ -106,8 +106,8 @@ static inline int qolb_spin_once_(struct spin *spin, uint64_t before) {
 }
 
 /* The same for the queue head of a lock with bursts, which pauses for so many nanoseconds between two looks. It has
- * spun so many since its wait began, or since it slept. A spin in which turns ended pays, as a head that sleeps has to be
- * woken by who leaves; one in which none did makes the next one shorter, down to 2 us. */
+ * spun so many since its wait began, or since it slept. A spin in which turns ended pays, as a head that sleeps has to
+ * be woken by who leaves; one in which none did makes the next one shorter, down to 2 us. */
 static inline int qolb_watch_once_(unsigned *spun, unsigned pause, int pays) {
     unsigned *learned = &qolb_learned_[HEAD_SPIN], least = SPIN_FAR / POLL_PAUSE;
     unsigned patience = *spun ? *learned : begin_spin(learned), less = patience / SHRINKS_BY;
