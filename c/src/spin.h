@@ -31,6 +31,10 @@ enum {
 };
 enum { NEAR_TURNS = 4, GROWS_BY = 8, SHRINKS_BY = 2 };
 
+/* The queue head of a lock with bursts (lock/waits.c) watches it: the pause between two looks, POLL_PAUSE once it has
+ * requested the handoff; and how long newcomers may go in before it requests that: a time, and a part of the bound. */
+enum { WATCH_PAUSE = 300, WATCH_PATIENCE = 1000000, REQUEST_PART = 16 };
+
 /* The number of those before a waiter, if it can't be told. */
 #define UNKNOWN_TURNS UINT64_MAX
 

@@ -48,7 +48,7 @@ int qolb_lock_is_mine(const qolb_lock *lock) { return qolb_holds_(lock_of(lock))
 
 static void move_into(struct lock *lock, const struct turn *at) {
     *spare_of(lock, KEPT_NUMBER) = at->ticket.number;
-    atomic_store_explicit(&lock->beyond_by, this_thread()->number, memory_order_relaxed);
+    atomic_store_explicit(&lock->beyond_by, own_number(), memory_order_relaxed);
     this_thread()->beyond++;
 }
 

@@ -14,10 +14,6 @@
  * thread gets up during the turn before its own. */
 #include "lock.h"
 
-/* Between two looks of the queue head at the outer word, in nanoseconds; once it has requested the handoff POLL_PAUSE.
- * It requests it after so long, or after that part of the bound. */
-enum { WATCH_PAUSE = 300, PATIENCE = 1000000, REQUEST_PART = 16 };
-
 static inline const struct qolb_core *core_of(const struct request *my) { return &my->lock->core; }
 static inline struct qolb_ticket *ticket_of(const struct request *my) { return &my->at->ticket; }
 
@@ -117,7 +113,7 @@ struct watch {
 
 static int is_long(const struct request *my, const struct watch *watch, uint64_t outer) {
     if (outer / NEWCOMER - watch->first >= burst_of(my->lock) / REQUEST_PART + 1) return 1;
-    return watch->since && qolb_now_() - watch->since >= PATIENCE;
+    return watch->since && qolb_now_() - watch->since >= WATCH_PATIENCE;
 }
 
 /* At each look: whether the head may take the word. A shut one it may, to be told. */
