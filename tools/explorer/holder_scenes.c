@@ -27,7 +27,7 @@ UNSEEN int model_once(pthread_once_t *once, void (*call)(void)) {
     return (void)once, key.has_begun = 1, 0;
 }
 UNSEEN int model_key(pthread_key_t *out, void (*destructor)(void *)) {
-    return *out = 0, key.destructor = destructor, 0;
+    return *out = 31, key.destructor = destructor, 0; /* behind 31 others, as the library wants its key */
 }
 UNSEEN int model_set(pthread_key_t at, const void *value) {
     return (void)at, key.value[self_number()] = (void *)(uintptr_t)value, 0;

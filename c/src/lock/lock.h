@@ -186,14 +186,15 @@ enum { LAST = 1, HELD = 2, SLEPT = 4, MARKS = 7, MOST_HELD = 8 };
 enum { SYSTEM_BITS = 22 };
 
 struct own {
-    _Alignas(LINE) struct turn table[MOST_HELD];
+    struct turn table[MOST_HELD];
     uint64_t number;                      /* 0 until it is drawn */
     unsigned beyond;                      /* the number of locks that it holds by themselves, not by the table */
     enum { UNKNOWN, KNOWN, ENDED } known; /* to qolb_lock_holder: from the first use to the thread's end */
     struct own *next, **before;           /* of those that are */
+    struct own *rest;                     /* after that, a copy with the locks that it held; or NULL */
 };
 
-extern HIDDEN BY_THREAD struct own qolb_own_;
+extern HIDDEN _Alignas(LINE) BY_THREAD struct own qolb_own_;
 
 static inline struct own *this_thread(void) { return &qolb_own_; }
 

@@ -5,8 +5,8 @@
  * of locks, without memory of its own for them.
  *
  * Tables are in a list, under a guard, for qolb_lock_holder: so no turn writes down who has it. A thread's table is in
- * it from its first use of a lock to its end. Then its turns move into their locks, and those that it has later, in
- * destructors of other keys, are there from the start. */
+ * it from its first use of a lock to its end. Then a copy takes its place, if it holds locks yet. Those that it enters
+ * later, in destructors of other keys, keep their turns in themselves. */
 #define _GNU_SOURCE
 #include "lock.h"
 #include <errno.h>
@@ -17,7 +17,7 @@
 #include <unistd.h>
 #endif
 
-BY_THREAD struct own qolb_own_;
+_Alignas(LINE) BY_THREAD struct own qolb_own_;
 
 /* ---- A thread's turns ---- */
 
@@ -27,13 +27,10 @@ static int says_held(const struct turn *at, const struct lock *lock) {
     return (core_at(at) & ~(uintptr_t)SLEPT) == own_of(lock) + HELD;
 }
 
-static int holds_at(const struct turn *at, const struct lock *lock) {
-    return says_held(at, lock) && at->ticket.label == lock->label;
-}
-
 static struct turn *find(const struct lock *lock) {
-    for (struct turn *at = this_thread()->table; at < this_thread()->table + MOST_HELD; at++)
-        if (holds_at(at, lock)) return at;
+    struct own *me = this_thread()->rest ? this_thread()->rest : this_thread();
+    for (struct turn *at = me->table; at < me->table + MOST_HELD; at++)
+        if (says_held(at, lock) && at->ticket.label == lock->label) return at;
     return NULL;
 }
 
@@ -72,17 +69,23 @@ static struct {
 
 static pthread_key_t at_end;
 
-/* At the thread's end. Where no place names a lock, entering it takes the slow way. */
+/* At the thread's end. Where no place names a lock, entering it takes the slow way. Without memory for a copy the
+ * holder is not known. */
 static void forget_table(void *table) {
     struct own *it = table;
+    int kept = errno, holds = 0;
+    for (int k = 0; k < MOST_HELD; k++) holds |= has(&it->table[k], HELD);
+    struct own *rest = holds ? malloc(sizeof *rest) : NULL;
+    errno = kept;
     take_guard(&tables.guard);
-    for (struct turn *at = it->table; at < it->table + MOST_HELD; at++) {
-        if (has(at, HELD) && holds_at(at, lock_by(at))) move_into(lock_by(at), at);
-        set_core(at, 0);
-    }
-    *it->before = it->next;
-    if (it->next) it->next->before = it->before;
+    struct own *next = it->next;
+    if (rest) *rest = *it, *it->before = rest;
+    else *it->before = next;
+    if (next) next->before = rest ? &rest->next : it->before;
     return_guard(&tables.guard);
+    for (int k = 0; k < MOST_HELD; k++)
+        if (rest || !has(&it->table[k], HELD)) set_core(&it->table[k], 0);
+    it->rest = rest;
     it->known = ENDED;
 }
 
