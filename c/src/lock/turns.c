@@ -79,7 +79,7 @@ static void forget_table(void *table) {
     errno = kept;
     take_guard(&tables.guard);
     struct own *next = it->next;
-    if (rest) *rest = *it, *it->before = rest;
+    if (rest) *rest = *it, rest->known = ENDED, *it->before = rest;
     else *it->before = next;
     if (next) next->before = rest ? &rest->next : it->before;
     return_guard(&tables.guard);
@@ -161,14 +161,20 @@ void qolb_keep_turn_(struct lock *lock, struct turn *at, const struct turn *beyo
 
 /* ---- Who holds a lock ---- */
 
+/* A thread that has ended may have held another lock, that lay in these bytes before. */
+static int holds_in(const struct own *it, const struct lock *lock) {
+    for (const struct turn *at = it->table; at < it->table + MOST_HELD; at++)
+        if (says_held(at, lock) && (it->known != ENDED || at->ticket.label == lock->label)) return 1;
+    return 0;
+}
+
 uint64_t qolb_lock_holder(const qolb_lock *of) {
     const struct lock *lock = lock_of(of);
     if (!is_open(lock)) return 0;
     take_guard(&tables.guard);
     uint64_t number = atomic_load_explicit(&lock->beyond_by, memory_order_relaxed);
     for (const struct own *it = tables.first; it && !number; it = it->next)
-        for (int k = 0; k < MOST_HELD; k++)
-            if (says_held(&it->table[k], lock)) number = it->number;
+        if (holds_in(it, lock)) number = it->number;
     return_guard(&tables.guard);
     return number == BY_TASK ? number : number % ((uint64_t)1 << SYSTEM_BITS);
 }
