@@ -38,7 +38,7 @@ SPUN = {
     "SPIN_NEAR = 50000": "SPIN_NEAR = 90",
     "SPIN_UNKNOWN = 20000": "SPIN_UNKNOWN = 90",
     "if (spin->polls < (patience < most ? patience : most) && qolb_pause_(POLL_PAUSE)) return": "if (spin->polls < most) return",
-    "unsigned *learned = &qolb_learned_[spin->slept], most": "unsigned none = 0, *learned = &none, most",
+    "unsigned *learned = &qolb_learned_[spin->slept ? WOKEN_SPIN : FIRST_SPIN], most": "unsigned none = 0, *learned = &none, most",
     "unsigned patience = spin->polls ? *learned : begin_spin(learned);": "(void)begin_spin;",
 }
 for old, new in SPUN.items():
