@@ -131,8 +131,8 @@ def ratio(number):
 
 
 def times_of_mutex():
-    """The least and the most of these with 2, 4, 8 and 32 threads."""
-    return tuple(span(ratio(min(each)), ratio(max(each))) for each in map(of_mutex, ("2", "4", "8", "32")))
+    """The least and the most of these with 2, 3, 4, 8 and 32 threads."""
+    return tuple(span(ratio(min(each)), ratio(max(each))) for each in map(of_mutex, ("2", "3", "4", "8", "32")))
 
 
 CHOICE = {"strict": "strict, `QOLB_LOCK_INIT`", "bursts": "bursts, `QOLB_LOCK_INIT_BURSTS(1024)`", "mutex": "`pthread_mutex`"}
@@ -145,8 +145,8 @@ def choice():
     bytes_of = next(row["ratio"] for row in rows_of("speed.tsv") if row["part"] == "bytes")
     rows = [
         ["may enter before a waiter", "nobody", "at most 1,023 turns for it and for each before it", "anybody, without a bound"],
-        ["proved", "one at a time, in order", "one at a time, waiters in order, the bound", "nothing"],
-        ["bytes, all in place", bytes_of, bytes_of, "40"],
+        ["proved of the core", "one at a time, in order", "one at a time, waiters in order, the bound", "nothing"],
+        ["bytes", bytes_of, bytes_of, "40"],
     ]
     for title, part, threads in (("one thread", "alone", "1"), ("4 threads", "quiet", "4"), ("32 threads", "quiet", "32")):
         rows.append([f"{title}, empty turns, ns", *(short(float(times[part, threads, lock])) for lock in CHOICE)])
@@ -192,11 +192,14 @@ def to_mcs():
 
 
 def bursts():
-    """Of a lock with bursts of 1,024 turns beside a mutex: the least and the most of its empty turns; with turns of 10 us turns and longest wait at most."""
+    """Of a lock with bursts of 1,024 turns beside a mutex: its empty turns alone, the least and the most with more threads, and its longest wait with turns of 10 us."""
     rows = [row for row in rows_of("bursts.tsv") if row["lock"] == "burst:1024"]
     empty = [float(row["of_mutex_turns"]) for row in rows if row["turn_us"] == "0"]
     waited = [float(row["of_mutex_wait"]) for row in rows if row["turn_us"] == "10"]
-    return span(f"{min(empty):.1f}", f"{max(empty):.1f}"), f"{1 // max(waited):.0f}"
+    times = {(row["part"], row["threads"], row["lock"]): float(row["median"]) for row in rows_of("speed.tsv") if row["part"] in ("alone", "quiet")}
+    empty += [times["quiet", threads, "mutex"] / time for (part, threads, lock), time in times.items() if (part, lock) == ("quiet", "bursts")]
+    by_one = times["alone", "1", "mutex"] / times["alone", "1", "bursts"]
+    return f"{by_one:.1f}", span(f"{min(empty):.1f}", f"{max(empty):.1f}"), f"{1 // max(waited):.0f}"
 
 
 def tests_with_a_proof():
@@ -209,9 +212,9 @@ TABLES = {"rounds": rounds, "fastest": fastest, "waits": waits, "memory": memory
 RATIOS = [
     ("README.md", "with {} threads: the ticket line takes {} times as long as MCS, the ring {}, the link line {}", to_mcs),
     ("README.md", "for two nodes {} and {} as a link line, {} and {} as a ticket line, {} and {} as a ring", for_two),
-    ("README.md", "With one thread a turn takes {} ns, from C {}, MCS's {}", alone),
+    ("README.md", "With one thread it takes {} ns, from C {}, MCS's {}", alone),
     ("README.md", "runs, without a proof, all tests but {},", tests_with_a_proof),
-    ("docs/LOCKS.md", "By 2, 3 and 4 threads a strict one takes {}, {} and {} of MCS's time, and alone {} of a mutex's", beside_mcs),
-    ("docs/LOCKS.md", "a mutex makes {} times the turns of a strict `qolb_lock` with 2 threads, {} with 4, {} with 8 and {} with 32", times_of_mutex),
-    ("docs/LOCKS.md", "{} times a mutex's empty turns; with turns of 10 us its longest wait is at most one {}th of a mutex's", bursts),
+    ("docs/LOCKS.md", "With 2, 3 and 4 threads a strict lock takes {}, {} and {} times as long as MCS, and alone {} times as long as a mutex", beside_mcs),
+    ("docs/LOCKS.md", "a mutex makes {} times the turns of a strict `qolb_lock` with 2 threads, {} with 3, {} with 4, {} with 8 and {} with 32", times_of_mutex),
+    ("docs/LOCKS.md", "makes {} times a mutex's empty turns alone, {} times with more threads; with turns of 10 us its longest wait is at most 1/{} of a mutex's", bursts),
 ]

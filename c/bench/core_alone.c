@@ -119,6 +119,8 @@ KIND(of_checked, begins,
 KIND(of_checked_by_hand, begins,
      hand_ask(&strict_hand, &by_hand) == QOLB_GRANTED && hand_check_open(&strict_hand, &by_hand) == QOLB_GRANTED,
      hand_release(&strict_hand, &by_hand) == QOLB_DONE)
+KIND(of_ask_open, begins, qolb_core_ask_open_proved_(&strict_lock, &mine) == QOLB_GRANTED,
+     qolb_core_release_proved_(&strict_lock, &mine) == QOLB_DONE)
 KIND(of_try, begins, qolb_core_try_ask_proved_(&strict_lock, &mine) == QOLB_GRANTED,
      qolb_core_release_proved_(&strict_lock, &mine) == QOLB_DONE)
 KIND(of_outer, begins_bursts, qolb_core_go_in_proved_(&burst_lock, &mine) == QOLB_GRANTED,
@@ -129,10 +131,11 @@ KIND(of_outer_by_hand, begins_by_hand, hand_go_in(&burst_hand, &by_hand) == QOLB
 static struct {
     const char *name;
     double (*run)(void), least;
-} kinds[] = {{"pthread_mutex", of_mutex, 0},       {"ask, release", of_ask, 0},
-             {"  by hand", of_ask_by_hand, 0},     {"ask, check_open, release", of_checked, 0},
-             {"  by hand", of_checked_by_hand, 0}, {"try_ask, release", of_try, 0},
-             {"go_in, leave", of_outer, 0},        {"  by hand", of_outer_by_hand, 0}};
+} kinds[] = {{"pthread_mutex", of_mutex, 0},        {"ask, release", of_ask, 0},
+             {"  by hand", of_ask_by_hand, 0},      {"ask, check_open, release", of_checked, 0},
+             {"ask_open, release", of_ask_open, 0}, {"  by hand", of_checked_by_hand, 0},
+             {"try_ask, release", of_try, 0},       {"go_in, leave", of_outer, 0},
+             {"  by hand", of_outer_by_hand, 0}};
 enum { KINDS = sizeof kinds / sizeof kinds[0] };
 
 /* Each call on the way on which its step succeeds. */
@@ -147,6 +150,7 @@ static void count(void) {
         WANT(qolb_core_check_open_proved_(s, &a) == QOLB_GRANTED && qolb_core_shut_proved_(s, &a) == QOLB_DONE);
         WANT(qolb_core_release_proved_(s, &a) == QOLB_DONE && qolb_core_try_ask_proved_(s, &a) == QOLB_GRANTED);
         WANT(qolb_core_check_open_proved_(s, &a) == QOLB_CLOSED && qolb_core_reopen_proved_(s, &a) == QOLB_GRANTED);
+        WANT(qolb_core_release_proved_(s, &a) == QOLB_DONE && qolb_core_ask_open_proved_(s, &a) == QOLB_GRANTED);
         WANT(qolb_core_release_proved_(s, &a) == QOLB_DONE);
     }
     memset(&a, 0, sizeof a), memset(&b, 0, sizeof b);

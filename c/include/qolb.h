@@ -1,4 +1,4 @@
-/* QOLB for C and C++: fair locks, which threads get in the order in which they asked.
+/* QOLB for C and C++: locks, strict in the order of asking, or with bursts, in which later calls go first.
  *
  * A lock (qolb_lock) guards any data, for any number of threads, as a mutex does. A line is a lock that hands over 64
  * bytes, among 1 to 200 nodes (qolb_node). A task (qolb_task) enters a lock from an event loop, which must not wait.
@@ -9,9 +9,9 @@
  *
  * PROOFS
  *
- * Proved of a lock: who has the turn (one thread at a time, in order, within the bound of bursts), and that a release
- * is told of a sleeper. Explored with two and three threads, and tested: that the sleeper wakes, conditions, tasks.
- * Argued: that a holder sees what the last one wrote. No proof speaks of the data.
+ * Proved of a lock: its core's tickets have turns one at a time, waiters in order, within the bound of bursts, and a
+ * release is told of announced sleeps. Explored with two and three threads, and tested: that sleepers wake, conditions,
+ * tasks. Argued: that a holder sees what the last one wrote. No proof speaks of the guarded data.
  *
  * What calls do to a line, with its 64 bytes, is proved. Their waits, notifications and memory are C: explored and
  * tested.
@@ -38,7 +38,8 @@
  * ==== qolb_lock(3): locks for any number of threads, with conditions ====
  *
  * A lock and the data that it guards lie where the program has them, as in a struct, the lock at a multiple of 16
- * bytes. It takes no heap, and need not be freed. No call of a thread on a lock answers NO_MEMORY.
+ * bytes. It need not be freed. A task, and a call that gives up far from its turn, take heap. No call of a thread on a
+ * lock answers NO_MEMORY.
  *
  * INITIALISERS
  *
@@ -82,12 +83,12 @@
  *
  * ORDER AND BURSTS
  *
- * A thread that enters draws a ticket, by one step that never waits, and has its turn in the order of tickets. In a
- * strict lock no call that begins after that is served before it, unless it gives up.
+ * A thread that enters a strict lock draws a ticket, by one step, and has its turn in the order of tickets. No call
+ * that begins afterwards is served before it while it waits.
  *
- * A lock with bursts stays open when its holder leaves, though threads wait, for whoever enters next: that is one
- * burst, of at most `turns` turns. Those that wait keep their order. Before a thread with p threads before it there
- * are at most
+ * A lock with bursts stays free when its holder leaves, though threads wait, for whoever enters next: that is one
+ * burst, of at most `turns` turns. A thread that finds it taken draws a ticket, and waiters keep their order. Before a
+ * request with p requests before it there are at most
  *
  *     (p + 1) * (turns - 1)
  *
@@ -100,8 +101,8 @@
  * LIMITS
  *
  * A limit is a length in nanoseconds from the call on, and UINT64_MAX is none. Of waits in a loop pass each what is
- * left. A late thread gives its ticket up, which is out until a holder leaves. While some 16,300 tickets of a lock are
- * out, a call with a limit draws none, and looks again each millisecond.
+ * left. A thread whose time runs out gives its ticket up, which counts as a request until a holder passes it. While
+ * 16,384 requests of a lock are open, a call with a limit draws none, and looks again each millisecond.
  *
  * SHUT AND CLOSE
  *
@@ -121,11 +122,11 @@
  * next time. It never yields, so a real-time thread may wait for another. A process that may use one processor only
  * sleeps at once.
  *
- * Leaving wakes the next holder, and, if the leaver slept while it waited, the waiter behind it, too; in a burst only
- * the thread that watches. It calls the system only if it may have to wake a sleeper.
+ * Leaving wakes the next holder. If the leaver had slept, it wakes the waiter behind that one, too. In a burst it wakes
+ * the first waiter alone. It calls the system only if it may have to wake a sleeper.
  *
  * A granted lock is its thread's, even before that runs: all behind wait until it has woken up and had its turn. No
- * turn is promised: a thread has its turn once each earlier one has ended.
+ * turn is promised: a thread waits until each earlier one has ended.
  *
  * No wait is a cancellation point. A thread that is cancelled while it waits is granted the lock or is late, and ends
  * at its next cancellation point. A thread that may be cancelled at any instruction (PTHREAD_CANCEL_ASYNCHRONOUS) must
@@ -403,7 +404,7 @@ enum qolb_answer {
     QOLB_LINKING = 4,    /* the node's request is behind another: link it */
     QOLB_WITHDRAWN = 5,  /* the request is withdrawn */
     QOLB_CLOSED = 6,     /* the lock is shut or the line closed, and the request has ended */
-    QOLB_BUSY = 7,       /* of a try: another has it. Of a node: its last request is not cleared, ask again later */
+    QOLB_BUSY = 7,       /* of a try: it had to wait. Of a node: its last request is not cleared, ask again later */
     QOLB_MISUSE = 8,     /* the lock, handle or task does not allow the call; nothing changed */
     QOLB_NO_MEMORY = 9,  /* of qolb_open, as the next five, and of a task that enters; nothing changed */
     QOLB_BAD_NODES = 10, /* not 1 to 200 nodes */
@@ -551,17 +552,17 @@ uint32_t qolb_lock_open(qolb_lock *lock, uint64_t turns) QOLB_LOOK;
 /* Enters the lock, and waits as long as it takes: GRANTED, CLOSED; MISUSE if the calling thread holds it. */
 uint32_t qolb_lock_enter(qolb_lock *lock) QOLB_LOOK;
 
-/* Enters the lock if no thread has it: GRANTED, BUSY (also if the calling thread holds it), CLOSED. */
+/* Enters the lock if it need not wait: GRANTED, BUSY (also if the calling thread holds it), CLOSED. */
 uint32_t qolb_lock_try(qolb_lock *lock) QOLB_LOOK;
 
 /* Enters the lock, and waits at most this many nanoseconds: GRANTED, LATE, CLOSED; MISUSE at once if the calling thread
  * holds it. */
 uint32_t qolb_lock_enter_within(qolb_lock *lock, uint64_t nanoseconds) QOLB_LOOK;
 
-/* Leaves the lock, which goes to the first thread in its queue. DONE; MISUSE if the calling thread does not hold it. */
+/* Leaves the lock: a strict one goes to the first waiter. DONE; MISUSE if the calling thread does not hold it. */
 uint32_t qolb_lock_leave(qolb_lock *lock);
 
-/* Leaves the lock and closes it: all that wait, also at a condition, and all later ones are answered CLOSED, one by
+/* Leaves the lock and shuts it: all that wait, also at a condition, and all later ones are answered CLOSED, one by
  * one, each after the one before has polled. DONE; MISUSE if the calling thread does not hold it. */
 uint32_t qolb_lock_shut(qolb_lock *lock);
 
@@ -574,7 +575,7 @@ uint32_t qolb_lock_close(qolb_lock *lock);
 int qolb_lock_is_mine(const qolb_lock *lock);
 
 /* A number of the thread that holds the lock; UINT64_MAX if a task does; 0 if none does, and for the moment of a
- * handoff. On Linux it is the system's, which the thread had when it first entered a lock. */
+ * handoff. On Linux it is what gettid said at the thread's first entry to a lock. */
 uint64_t qolb_lock_holder(const qolb_lock *lock);
 
 /* Leaves the lock, waits at the condition until a signal or a broadcast, and enters the lock again; no signal after the
@@ -623,7 +624,7 @@ uint32_t qolb_task_cancel(qolb_task *task);
 /* Leaves for a task, in any thread. DONE; MISUSE if the task does not hold the lock, or does not know it. */
 uint32_t qolb_task_leave(qolb_task *task);
 
-/* Leaves for a task, and closes the lock, as qolb_lock_shut does. DONE; MISUSE as of qolb_task_leave. */
+/* Leaves for a task, and shuts the lock, as qolb_lock_shut does. DONE; MISUSE as of qolb_task_leave. */
 uint32_t qolb_task_shut(qolb_task *task);
 
 /* 1 if the task holds a lock, and knows it, else 0. */

@@ -10,7 +10,7 @@
 //     qolb::guarded<Count> count;                  // a value that is used with its lock alone
 //     count.with([](Count &it) { it.hits++; });
 //
-// A node of a line moves and is never copied:
+// A node moves and is never copied:
 //
 //     auto opened = qolb::Node::open(QOLB_DEFAULT, 1, 2, qolb_bytes{}); // first: QOLB_DONE; second: the nodes
 //     qolb::Guard turn(opened.second[0]);

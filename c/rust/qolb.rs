@@ -1,4 +1,4 @@
-//! Fair locks, which threads get in the order in which they asked. A [`Mutex`] guards a value, as `std::sync::Mutex` does.
+//! Locks that are strict, in the order of the calls, or have bounded bursts. A [`Mutex`] guards a value, as `std::sync::Mutex` does.
 //!
 //! ```
 //! use qolb::{Condition, Mutex, Stopped};
@@ -30,9 +30,9 @@
 //!
 //! # What is proved
 //!
-//! Proved of a lock: who has the turn (one thread at a time, in order, within the bound of bursts), and that a release is told of a sleeper. Explored with
-//! two and three threads, and tested: that the sleeper wakes, conditions, tasks. Argued: that a holder sees what the last one wrote. No proof speaks of the
-//! data.
+//! Proved of a lock: its core's tickets have turns one at a time, waiters in order, within the bound of bursts, and a release is told of announced
+//! sleeps. Explored with two and three threads, and tested: that sleepers wake, conditions, tasks. Argued: that a holder sees what the last one
+//! wrote. No proof speaks of the guarded data.
 //!
 //! # Nodes
 //!

@@ -78,10 +78,13 @@ uint32_t qolb_core_open_proved_(uint64_t burst, uint64_t label, struct qolb_core
 
 /* Draws the next ticket, and looks: GRANTED (at its turn) or WAITING. MISUSE: the ticket has a request, or is in. */
 uint32_t qolb_core_ask_proved_(const struct qolb_core *, struct qolb_ticket *);
-/* The same if the request could still be withdrawn: GRANTED, or WAITING (rounds at most 15); FAR; BUSY (another drew
+/* In a strict lock, ask, and check_open (below) if it is granted: GRANTED (SERVED), CLOSED (SERVED_SHUT) or WAITING.
+ * MISUSE as ask, and in a lock with bursts. */
+uint32_t qolb_core_ask_open_proved_(const struct qolb_core *, struct qolb_ticket *);
+/* As ask, if the request could still be withdrawn: GRANTED, or WAITING (rounds at most 15); FAR; BUSY (another drew
  * at that moment): no ticket drawn. MISUSE as ask. */
 uint32_t qolb_core_ask_near_proved_(const struct qolb_core *, struct qolb_ticket *);
-/* The same if it would be at its turn: GRANTED, or BUSY: no ticket drawn. Says nothing of whether the lock is shut.
+/* As ask, if it would be at its turn: GRANTED, or BUSY: no ticket drawn. Says nothing of whether the lock is shut.
  * MISUSE as ask. */
 uint32_t qolb_core_try_ask_proved_(const struct qolb_core *, struct qolb_ticket *);
 /* Looks at the ticket's cell: GRANTED or WAITING. MISUSE unless it is WAITING (state). */

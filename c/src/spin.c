@@ -9,7 +9,7 @@
 #endif
 
 _Alignas(APART) atomic_uint qolb_pauses_;
-BY_THREAD unsigned qolb_learned_[2];
+BY_THREAD unsigned qolb_learned_[SPINS];
 
 enum { TIMED_PAUSES = 64, MAX_PAUSES = 1024 };
 

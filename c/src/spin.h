@@ -31,6 +31,10 @@ enum {
 };
 enum { NEAR_TURNS = 4, GROWS_BY = 8, SHRINKS_BY = 2 };
 
+/* The queue head of a lock with bursts (lock/waits.c) watches it: the pause between two looks, POLL_PAUSE once it has
+ * requested the handoff; and how long newcomers may go in before it requests that: a time, and a part of the bound. */
+enum { WATCH_PAUSE = 300, WATCH_PATIENCE = 1000000, REQUEST_PART = 16 };
+
 /* The number of those before a waiter, if it can't be told. */
 #define UNKNOWN_TURNS UINT64_MAX
 
@@ -66,8 +70,11 @@ struct spin {
     int slept; /* it has slept in this wait, or was told to */
 };
 
-/* The most polls of the thread's next spins, without a sleep in the same wait and after one. 0: as many as may be. */
-extern __attribute__((visibility("hidden"))) BY_THREAD unsigned qolb_learned_[2];
+enum { FIRST_SPIN, WOKEN_SPIN, HEAD_SPIN, SPINS };
+
+/* The most polls of the thread's next spins: without a sleep in the same wait, after one, and as the queue head of a
+ * lock with bursts. 0: as many as may be. */
+extern __attribute__((visibility("hidden"))) BY_THREAD unsigned qolb_learned_[SPINS];
 
 static inline unsigned polls_before_sleep(uint64_t before) {
     if (before == UNKNOWN_TURNS) return SPIN_UNKNOWN / POLL_PAUSE;
@@ -92,10 +99,21 @@ static inline void end_spin(struct spin *spin, unsigned *learned) {
  * begins a new spin. How many there are may be told anew with each call. It reads no clock: a thread that loses its
  * processor spins on afterwards. */
 static inline int qolb_spin_once_(struct spin *spin, uint64_t before) {
-    unsigned *learned = &qolb_learned_[spin->slept], most = polls_before_sleep(before);
+    unsigned *learned = &qolb_learned_[spin->slept ? WOKEN_SPIN : FIRST_SPIN], most = polls_before_sleep(before);
     unsigned patience = spin->polls ? *learned : begin_spin(learned);
     if (spin->polls < (patience < most ? patience : most) && qolb_pause_(POLL_PAUSE)) return spin->polls++, 1;
     return end_spin(spin, learned), 0;
+}
+
+/* The same for the queue head of a lock with bursts, which pauses for so many nanoseconds between two looks. It has
+ * spun so many since its wait began, or since it slept. A spin in which turns ended pays, as a head that sleeps has to
+ * be woken by who leaves; one in which none did makes the next one shorter, down to 2 us. */
+static inline int qolb_watch_once_(unsigned *spun, unsigned pause, int pays) {
+    unsigned *learned = &qolb_learned_[HEAD_SPIN], least = SPIN_FAR / POLL_PAUSE;
+    unsigned patience = *spun ? *learned : begin_spin(learned), less = patience / SHRINKS_BY;
+    if (*spun < patience * POLL_PAUSE && qolb_pause_(pause)) return *spun += pause, 1;
+    *learned = pays ? SPIN_NEAR / POLL_PAUSE : less > least ? less : least;
+    return *spun = 0, 0;
 }
 
 #endif

@@ -275,6 +275,7 @@ static const struct {
 #define TURNS (AT_TURN | 1 << QOLB_TICKET_SERVED_ | 1 << QOLB_TICKET_SERVED_SHUT_)
 #define HEADS (1 << QOLB_TICKET_HEAD_INSIDE_ | 1 << QOLB_TICKET_HEAD_INSIDE_SHUT_)
     {"ask", qolb_core_ask_proved_, FREE, 0, 9},
+    {"ask_open", qolb_core_ask_open_proved_, FREE, 0, 1},
     {"ask_near", qolb_core_ask_near_proved_, FREE, 0, 9},
     {"try_ask", qolb_core_try_ask_proved_, FREE, 0, 9},
     {"poll", qolb_core_poll_proved_, WAITING, 0, 9},

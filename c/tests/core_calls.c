@@ -15,6 +15,7 @@
 /* The stand-in, by other names. */
 #define qolb_core_open_proved_ stand_in_open
 #define qolb_core_ask_proved_ stand_in_ask
+#define qolb_core_ask_open_proved_ stand_in_ask_open
 #define qolb_core_ask_near_proved_ stand_in_ask_near
 #define qolb_core_try_ask_proved_ stand_in_try_ask
 #define qolb_core_poll_proved_ stand_in_poll
@@ -33,6 +34,7 @@
 #include "../../tools/explorer/core.c"
 #undef qolb_core_open_proved_
 #undef qolb_core_ask_proved_
+#undef qolb_core_ask_open_proved_
 #undef qolb_core_ask_near_proved_
 #undef qolb_core_try_ask_proved_
 #undef qolb_core_poll_proved_
@@ -70,6 +72,7 @@ static const struct {
 #define CALL(name, allowed, answers) \
     { #name, qolb_core_##name##_proved_, stand_in_##name, allowed, (answers) | SAYS(MISUSE) }
     CALL(ask, IN(FREE), SAYS(GRANTED) | SAYS(WAITING)),
+    CALL(ask_open, IN(FREE), SAYS(GRANTED) | SAYS(CLOSED) | SAYS(WAITING)),
     CALL(ask_near, IN(FREE), SAYS(GRANTED) | SAYS(WAITING) | SAYS(FAR_) | AMID(SAYS(BUSY))),
     CALL(try_ask, IN(FREE), SAYS(GRANTED) | SAYS(BUSY)),
     CALL(poll, IN(WAITING), SAYS(GRANTED) | SAYS(WAITING)),

@@ -190,6 +190,12 @@ uint32_t qolb_core_check_open_proved_(const struct qolb_core *core, struct qolb_
                                               : in_state(ticket, QOLB_TICKET_SERVED_, QOLB_GRANTED);
 }
 
+uint32_t qolb_core_ask_open_proved_(const struct qolb_core *core, struct qolb_ticket *ticket) {
+    if (of(core)->burst > 1) return QOLB_MISUSE;
+    uint32_t got = qolb_core_ask_proved_(core, ticket);
+    return got == QOLB_GRANTED ? qolb_core_check_open_proved_(core, ticket) : got;
+}
+
 /* Where the outer word is not as the ticket guessed: what the step found. */
 static uint32_t found(struct qolb_ticket *ticket, uint64_t outer, uint32_t answer) {
     ticket->outer = outer;

@@ -157,8 +157,7 @@ FAST uint32_t qolb_lock_enter(qolb_lock *of) {
     struct turn *at = home_of(lock_of(of));
     if (!likely(is_at(at, lock_of(of), LAST))) return enter_or_try(lock_of(of), FOR_EVER, QOLB_MISUSE);
     if (!likely(!has_bursts(lock_of(of)))) return enter_burst(at);
-    uint32_t got = qolb_core_ask_proved_(&lock_of(of)->core, &at->ticket);
-    if (likely(got == QOLB_GRANTED)) got = qolb_core_check_open_proved_(&lock_by(at)->core, &at->ticket);
+    uint32_t got = qolb_core_ask_open_proved_(&lock_of(of)->core, &at->ticket);
     if (!likely(got == QOLB_GRANTED)) return enter_on(at, got);
     set_core(at, core_at(at) + HELD - LAST);
     return got;

@@ -14,10 +14,6 @@
  * thread gets up during the turn before its own. */
 #include "lock.h"
 
-/* Between two looks of the queue head at the outer word, in nanoseconds; once it has requested the handoff POLL_PAUSE.
- * It requests it after so long, or after that part of the bound. */
-enum { WATCH_PAUSE = 300, PATIENCE = 1000000, REQUEST_PART = 16 };
-
 static inline const struct qolb_core *core_of(const struct request *my) { return &my->lock->core; }
 static inline struct qolb_ticket *ticket_of(const struct request *my) { return &my->at->ticket; }
 
@@ -111,13 +107,14 @@ void qolb_end_turn_(struct lock *lock, struct turn *at, uint32_t got) {
 /* How the queue head has watched the outer word. */
 struct watch {
     uint64_t first, had; /* the newcomers since the last head when it began, and at its last look */
+    uint64_t begun;      /* the same when its spin began */
     uint64_t since;      /* when it first slept, or 0 */
     unsigned spun;       /* nanoseconds since it began, or slept */
 };
 
 static int is_long(const struct request *my, const struct watch *watch, uint64_t outer) {
     if (outer / NEWCOMER - watch->first >= burst_of(my->lock) / REQUEST_PART + 1) return 1;
-    return watch->since && qolb_now_() - watch->since >= PATIENCE;
+    return watch->since && qolb_now_() - watch->since >= WATCH_PATIENCE;
 }
 
 /* At each look: whether the head may take the word. A shut one it may, to be told. */
@@ -130,7 +127,6 @@ static int may_take(struct watch *watch, uint64_t outer) {
 
 static void sleep_as_head(struct request *my, struct watch *watch) {
     if (!watch->since) watch->since = qolb_now_();
-    watch->spun = 0;
     if (qolb_core_announce_head_sleep_proved_(core_of(my), ticket_of(my)) != QOLB_ASLEEP_) return;
     sleep_at(my, outer_half(words_of(my->lock)), (uint32_t)ticket_of(my)->outer, UINT32_MAX, my->until);
 }
@@ -139,9 +135,9 @@ static void watch_held(struct request *my, struct watch *watch, uint64_t outer) 
     int requested = outer & HANDOFF_REQUESTED;
     if (!requested && is_long(my, watch, outer))
         requested = qolb_core_request_handoff_proved_(core_of(my), ticket_of(my)) == QOLB_DONE;
-    unsigned pause = requested ? POLL_PAUSE : WATCH_PAUSE;
-    if (watch->spun < SPIN_NEAR && qolb_pause_(pause)) watch->spun += pause;
-    else sleep_as_head(my, watch);
+    if (watch->spun == 0) watch->begun = outer / NEWCOMER;
+    int moved = outer / NEWCOMER != watch->begun;
+    if (!qolb_watch_once_(&watch->spun, requested ? POLL_PAUSE : WATCH_PAUSE, moved)) sleep_as_head(my, watch);
 }
 
 uint32_t qolb_await_outer_(struct request *my) {

@@ -5,8 +5,8 @@ ghost use Rattle.std.specs.Prelude.{◌≡◌, ◌≢◌, true};
 ghost use Rattle.lock_core.specs.Views.{SameRequest};
 ghost use Rattle.qolb_locks.specs.declared.answer.Answer.{Answer};
 ghost use Rattle.qolb_locks.specs.declared.ticket.State.{State};
-ghost use Rattle.qolb_locks.specs.Calls.{Opens, IsMisuse, OnlyState, OnlyRequest, OnlyRounds, OnlySleep, OnlyGrant, OnlyOuter, OnlyEntry, OnlyExit, StepsUpTo, Learns, IfDrawn, IsBehind, Looks, Tries, AsksNear, AnnouncesSleep, Withdraws, Releases, IsAtStrictTurn, ChecksOpen, GoesIn, IsHead, TakesOuterWord, Leaves, RequestsHandoff, SleepsAsHead, IsServed, Shuts, IsToldShut, Reopens};
-ghost use Rattle.qolb_locks.specs.Tickets.{HasBursts, Is, IsFree, IsKnown, IsWithin};
+ghost use Rattle.qolb_locks.specs.Calls.{Opens, IsMisuse, OnlyState, OnlyRequest, OnlyRounds, OnlySleep, OnlyGrant, OnlyOuter, OnlyEntry, OnlyExit, StepsUpTo, Learns, IfDrawn, IsBehind, Looks, AsksOpen, Tries, AsksNear, AnnouncesSleep, Withdraws, Releases, IsAtStrictTurn, ChecksOpen, GoesIn, IsHead, TakesOuterWord, Leaves, RequestsHandoff, SleepsAsHead, IsServed, Shuts, IsToldShut, Reopens};
+ghost use Rattle.qolb_locks.specs.Tickets.{HasBursts, Is, IsFree, IsKnown, IsStrict, IsWithin};
 ghost use Rattle.qolb_c.specs.CoreCalls.{number_of, Of, Answers};
 
 use qolb_locks::{Answer, LockRef, Ticket};
@@ -51,6 +51,27 @@ pub extern "C" fn qolb_core_ask_proved_(lock: &LockRef, ticket: &mut Ticket) -> 
     ensures kept { OnlyRequest ticket.old ticket.new }
 {
     number(qolb_locks::ask(lock.get(), ticket))
+}
+
+/// Requests a strict lock, looks once, and at its turn looks whether the lock is open.
+#[unsafe(no_mangle)]
+pub extern "C" fn qolb_core_ask_open_proved_(lock: &LockRef, ticket: &mut Ticket) -> u32
+    requires { Of lock.now.lock (λ l. IsKnown l ticket.old) }
+    ensures known { Of lock.now.lock (λ l. IsKnown l ticket.new) }
+    ensures bursts { Answers lock.now.lock result
+        (λ l a. ¬ IsStrict l → IsMisuse ticket.old ticket.new a) }
+    ensures misuse { Answers lock.now.lock result
+        (λ l a. ¬ IsFree ticket.old → IsMisuse ticket.old ticket.new a) }
+    ensures does { Answers lock.now.lock result
+        (λ l a. IsStrict l → IsFree ticket.old → AsksOpen l ticket.new a) }
+    ensures after { Answers lock.now.lock result
+        (λ l a. IsStrict l → Is State.Free l ticket.old →
+        Learns ticket.old ticket.new IsBehind) }
+    ensures steps { Of lock.now.lock (λ l. IsStrict l → Is State.Free l ticket.old
+        → StepsUpTo 3 ticket.old ticket.new) }
+    ensures kept { OnlyRequest ticket.old ticket.new }
+{
+    number(qolb_locks::ask_open(lock.get(), ticket))
 }
 
 /// Requests the lock if the request could be withdrawn. Else leaves nothing behind.

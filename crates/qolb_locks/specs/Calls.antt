@@ -92,6 +92,14 @@ Looks lock now answer.Waiting = Has state.Waiting lock now × (0 < now.rounds)
     × Shows now (Found (cell_at now.number) (λ n. to_go n now.number ≡ now.rounds))
 Looks lock now _ = ⊥
 
+-- `ask_open`: at its turn at once, it is told of the outer word
+abbrev pub AsksOpen : Lock → Ticket → Answer → Type 0
+AsksOpen lock now answer.Granted = Has state.Served lock now × InBounds lock now
+AsksOpen lock now answer.Closed = Has state.ServedShut lock now × InBounds lock now
+AsksOpen lock now answer.Waiting = Has state.Waiting lock now × (0 < now.rounds)
+    × Shows now (Found (cell_at now.number) (λ n. to_go n now.number ≡ now.rounds))
+AsksOpen lock now _ = ⊥
+
 -- `try_ask`
 abbrev pub Tries : Lock → Ticket → Answer → Type 0
 Tries lock now answer.Granted = Has state.AtTurn lock now

@@ -1,8 +1,8 @@
 //! Requests.
 ghost use Rattle.std.specs.Prelude.{◌≡◌};
 ghost use Rattle.qolb_locks.specs.declared.ticket.State.{State};
-ghost use Rattle.qolb_locks.specs.Calls.{IsMisuse, OnlyRequest, OnlyEntry, StepsUpTo, Learns, IfDrawn, IsBehind, Looks, Tries, AsksNear};
-ghost use Rattle.qolb_locks.specs.Tickets.{Is, Has, IsFree, IsKnown};
+ghost use Rattle.qolb_locks.specs.Calls.{IsMisuse, OnlyRequest, OnlyEntry, StepsUpTo, Learns, IfDrawn, IsBehind, Looks, AsksOpen, Tries, AsksNear};
+ghost use Rattle.qolb_locks.specs.Tickets.{Is, Has, IsFree, IsKnown, IsStrict};
 
 use crate::answer::Answer;
 use crate::lock::Lock;
@@ -72,6 +72,69 @@ pub fn ask(lock: &Lock, ticket: &mut Ticket) -> Answer
         return ask_first(lock, ticket);
     }
     ask_again(lock, ticket)
+}
+
+/// Requests a strict lock with a ticket of it, and at its turn at once looks whether that is open.
+#[inline(always)]
+fn ask_open_again(lock: &Lock, ticket: &mut Ticket) -> Answer
+    requires strict { IsStrict lock.now }
+    requires free { Has State.Free lock.now ticket.old }
+    ensures known { IsKnown lock.now ticket.new }
+    ensures does { AsksOpen lock.now ticket.new result }
+    ensures after { Learns ticket.old ticket.new IsBehind }
+    ensures steps { StepsUpTo 3 ticket.old ticket.new }
+    ensures kept { OnlyRequest ticket.old ticket.new }
+{
+    let mut seat = ticket.claim.take();
+    ticket.number = lock_core::ask(&lock.table.shared, &mut seat);
+    let to_go = lock_core::poll(&lock.table.shared, &mut seat, ticket.number);
+    if to_go > 0 {
+        ticket.claim.put(seat);
+        return ticket.settle(to_go);
+    }
+    let open = lock_core::check_open(&lock.table.shared, &mut seat, ticket.number);
+    ticket.claim.put(seat);
+    ticket.tell(open)
+}
+
+/// Requests a strict lock with a ticket that is not of it yet, and at its turn at once looks whether that is open.
+///
+/// Not inlined, so that the call of a ticket of the lock saves no registers for it.
+#[inline(never)]
+fn ask_open_first(lock: &Lock, ticket: &mut Ticket) -> Answer
+    requires strict { IsStrict lock.now }
+    requires free { IsFree ticket.old }
+    ensures known { IsKnown lock.now ticket.new }
+    ensures does { AsksOpen lock.now ticket.new result }
+    ensures kept { OnlyRequest ticket.old ticket.new }
+{
+    take_new_seat(lock, ticket);
+    ask_open_again(lock, ticket)
+}
+
+/// Requests a strict lock, polls once, and at its turn looks whether that is open: `ask` and `check_open` in one call.
+///
+/// `Closed` if it is not: the caller is to pass the turn on, by `release`.
+#[inline(always)]
+pub fn ask_open(lock: &Lock, ticket: &mut Ticket) -> Answer
+    requires { IsKnown lock.now ticket.old }
+    ensures known { IsKnown lock.now ticket.new }
+    ensures bursts { ¬ IsStrict lock.now → IsMisuse ticket.old ticket.new result }
+    ensures misuse { ¬ IsFree ticket.old → IsMisuse ticket.old ticket.new result }
+    ensures does { IsStrict lock.now → IsFree ticket.old → AsksOpen lock.now ticket.new result }
+    ensures after { IsStrict lock.now → Is State.Free lock.now ticket.old →
+        Learns ticket.old ticket.new IsBehind }
+    ensures steps { IsStrict lock.now → Is State.Free lock.now ticket.old →
+        StepsUpTo 3 ticket.old ticket.new }
+    ensures kept { OnlyRequest ticket.old ticket.new }
+{
+    if lock.burst > 1 || ticket.state != State::Free as u32 {
+        return Answer::Misuse;
+    }
+    if ticket.label != lock.label {
+        return ask_open_first(lock, ticket);
+    }
+    ask_open_again(lock, ticket)
 }
 
 /// Tries for the lock with a ticket of it.

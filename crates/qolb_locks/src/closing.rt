@@ -27,12 +27,7 @@ pub fn check_open(lock: &Lock, ticket: &mut Ticket) -> Answer
     let mut seat = ticket.claim.take();
     let open = lock_core::check_open(&lock.table.shared, &mut seat, ticket.number);
     ticket.claim.put(seat);
-    if open {
-        ticket.state = State::Served as u32;
-        return Answer::Granted;
-    }
-    ticket.state = State::ServedShut as u32;
-    Answer::Closed
+    ticket.tell(open)
 }
 
 /// Shuts the lock, for one that is served.

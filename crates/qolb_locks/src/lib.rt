@@ -17,7 +17,7 @@ mod ticket;
 mod waiting;
 
 pub use answer::Answer;
-pub use asking::{ask, ask_near, try_ask};
+pub use asking::{ask, ask_near, ask_open, try_ask};
 pub use claim::Claim;
 pub use closing::{check_open, reopen, shut};
 pub use lock::Lock;

@@ -137,4 +137,21 @@ impl Ticket {
         self.state = State::Waiting as u32;
         Answer::Waiting
     }
+
+    /// Notes whether the lock was found open at the ticket's turn, and answers that.
+    #[inline(always)]
+    pub(crate) fn tell(&mut self, is_open: bool) -> Answer
+        ensures open { is_open ≡ true → (result ≡ Answer.Granted)
+            × (self.new ≡ record self.old { state = 4 }) }
+        ensures shut { is_open ≡ false → (result ≡ Answer.Closed)
+            × (self.new ≡ record self.old { state = 5 }) }
+        ensures claim { self.new.claim ≡ self.old.claim }
+    {
+        if is_open {
+            self.state = State::Served as u32;
+            return Answer::Granted;
+        }
+        self.state = State::ServedShut as u32;
+        Answer::Closed
+    }
 }

@@ -1,0 +1,16 @@
+use Rattle.qolb_c.proofs.core_calls.qolb_core_ask_open_proved_.Goals as goal
+
+pub returns-clause-known : goal.returns-clause-known
+returns-clause-known c = (c.get.result.now, c.get.ensures, c.ask_open.ensures.known)
+
+pub returns-clause-misuse : goal.returns-clause-misuse
+returns-clause-misuse c = (c.get.result.now, c.ask_open.result, c.get.ensures, c.number.ensures, c.ask_open.ensures.misuse)
+
+pub returns-clause-does : goal.returns-clause-does
+returns-clause-does c = (c.get.result.now, c.ask_open.result, c.get.ensures, c.number.ensures, c.ask_open.ensures.does)
+
+pub returns-clause-after : goal.returns-clause-after
+returns-clause-after c = (c.get.result.now, c.ask_open.result, c.get.ensures, c.number.ensures, c.ask_open.ensures.after)
+
+pub returns-clause-bursts : goal.returns-clause-bursts
+returns-clause-bursts c = (c.get.result.now, c.ask_open.result, c.get.ensures, c.number.ensures, c.ask_open.ensures.bursts)
