@@ -79,7 +79,7 @@ static void forget_table(void *table) {
     errno = kept;
     take_guard(&tables.guard);
     struct own *next = it->next;
-    if (rest) *rest = *it, *it->before = rest;
+    if (rest) *rest = *it, rest->known = ENDED, *it->before = rest;
     else *it->before = next;
     if (next) next->before = rest ? &rest->next : it->before;
     return_guard(&tables.guard);
@@ -161,6 +161,11 @@ void qolb_keep_turn_(struct lock *lock, struct turn *at, const struct turn *beyo
 
 /* ---- Who holds a lock ---- */
 
+/* The memory of a lock that an ended thread held may be another's. The turns in a copy do not change but by leaving. */
+static int is_of(const struct own *it, const struct turn *at, const struct lock *lock) {
+    return it->known == KNOWN || at->ticket.label == lock->label;
+}
+
 uint64_t qolb_lock_holder(const qolb_lock *of) {
     const struct lock *lock = lock_of(of);
     if (!is_open(lock)) return 0;
@@ -168,7 +173,7 @@ uint64_t qolb_lock_holder(const qolb_lock *of) {
     uint64_t number = atomic_load_explicit(&lock->beyond_by, memory_order_relaxed);
     for (const struct own *it = tables.first; it && !number; it = it->next)
         for (int k = 0; k < MOST_HELD; k++)
-            if (says_held(&it->table[k], lock)) number = it->number;
+            if (says_held(&it->table[k], lock) && is_of(it, &it->table[k], lock)) number = it->number;
     return_guard(&tables.guard);
     return number == BY_TASK ? number : number % ((uint64_t)1 << SYSTEM_BITS);
 }
