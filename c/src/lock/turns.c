@@ -161,11 +161,9 @@ void qolb_keep_turn_(struct lock *lock, struct turn *at, const struct turn *beyo
 
 /* ---- Who holds a lock ---- */
 
-/* A thread that has ended may have held another lock, that lay in these bytes before. */
-static int holds_in(const struct own *it, const struct lock *lock) {
-    for (const struct turn *at = it->table; at < it->table + MOST_HELD; at++)
-        if (says_held(at, lock) && (it->known != ENDED || at->ticket.label == lock->label)) return 1;
-    return 0;
+/* The memory of a lock that an ended thread held may be another's. The turns in a copy do not change but by leaving. */
+static int is_of(const struct own *it, const struct turn *at, const struct lock *lock) {
+    return it->known == KNOWN || at->ticket.label == lock->label;
 }
 
 uint64_t qolb_lock_holder(const qolb_lock *of) {
@@ -174,7 +172,8 @@ uint64_t qolb_lock_holder(const qolb_lock *of) {
     take_guard(&tables.guard);
     uint64_t number = atomic_load_explicit(&lock->beyond_by, memory_order_relaxed);
     for (const struct own *it = tables.first; it && !number; it = it->next)
-        if (holds_in(it, lock)) number = it->number;
+        for (int k = 0; k < MOST_HELD; k++)
+            if (says_held(&it->table[k], lock) && is_of(it, &it->table[k], lock)) number = it->number;
     return_guard(&tables.guard);
     return number == BY_TASK ? number : number % ((uint64_t)1 << SYSTEM_BITS);
 }

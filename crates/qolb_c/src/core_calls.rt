@@ -66,7 +66,7 @@ pub extern "C" fn qolb_core_ask_open_proved_(lock: &LockRef, ticket: &mut Ticket
         (λ l a. IsStrict l → IsFree ticket.old → AsksOpen l ticket.new a) }
     ensures after { Answers lock.now.lock result
         (λ l a. IsStrict l → Is State.Free l ticket.old →
-            Learns ticket.old ticket.new IsBehind) }
+        Learns ticket.old ticket.new IsBehind) }
     ensures steps { Of lock.now.lock (λ l. IsStrict l → Is State.Free l ticket.old
         → StepsUpTo 3 ticket.old ticket.new) }
     ensures kept { OnlyRequest ticket.old ticket.new }
