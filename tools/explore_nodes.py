@@ -38,7 +38,7 @@ SPUN = {
     "SPIN_NEAR = 50000": "SPIN_NEAR = 90",
     "SPIN_UNKNOWN = 20000": "SPIN_UNKNOWN = 90",
     "if (spin->polls < (patience < most ? patience : most) && qolb_pause_(POLL_PAUSE)) return": "if (spin->polls < most) return",
-    "unsigned *learned = &qolb_learned_[spin->slept], most": "unsigned none = 0, *learned = &none, most",
+    "unsigned *learned = &qolb_learned_[spin->slept ? WOKEN_SPIN : FIRST_SPIN], most": "unsigned none = 0, *learned = &none, most",
     "unsigned patience = spin->polls ? *learned : begin_spin(learned);": "(void)begin_spin;",
 }
 for old, new in SPUN.items():
@@ -83,7 +83,7 @@ NOTED = "    me.notice = notice;\n    me.next = bell->running;\n    bell->runnin
 OFF = "    uint32_t got = notice->before ? QOLB_WITHDRAWN : QOLB_DONE;\n    if (notice->before) take_out(notice);\n    while ((call = running_elsewhere(notice, bell))) await_end(bell, call);\n"
 ENDS = "    if (me->awaited) atomic_fetch_add(&bell->ended, 1);\n    return_guard(&bell->guard);\n    if (me->awaited) qolb_wake_at_(&bell->ended, INT32_MAX);\n"
 TAKES = "    struct running me = {NULL, NULL, &in_call, 0};\n    take_guard(&bell->guard);\n"
-CALLS = "    tell_acquire(notice);\n    call(arg);\n"
+CALLS = "    qolb_tell_acquire_(notice);\n    call(arg);\n"
 FAULTS |= {
     "notices: there is no second look": (LISTENS, LISTENS.replace("qolb_poll_proved_(node)", "QOLB_WAITING")),
     "notices: the look comes before the notice": (LISTENS, "".join(reversed(LISTENS.splitlines(True)))),

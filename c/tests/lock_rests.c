@@ -42,7 +42,7 @@ static void happens(void) {
 }
 
 static void begins(void (*does)(void)) {
-    qolb_learned_[0] = qolb_learned_[1] = 0;
+    for (int k = 0; k < SPINS; k++) qolb_learned_[k] = 0;
     clocks = sleeps = longest = polls = wakes = 0;
     event.does = does;
     event.at_sleep = event.at_poll = 0;

@@ -146,7 +146,7 @@ uint64_t __wrap_qolb_went_to_proved_(qolb_node *node) {
 
 /* The calling thread forgets what its spins taught it. */
 static void begins(void (*does)(void)) {
-    qolb_learned_[0] = qolb_learned_[1] = 0;
+    for (int k = 0; k < SPINS; k++) qolb_learned_[k] = 0;
     clocks = yields = sleeps = longest = asks = spins = spun = looks = names = wakes = 0;
     event.does = does;
     event.at = NEVER;

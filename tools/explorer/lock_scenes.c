@@ -7,7 +7,7 @@
 struct it it;
 
 BY_THREAD struct core_room qolb_core_room_;
-BY_THREAD unsigned qolb_learned_[2];
+BY_THREAD unsigned qolb_learned_[SPINS];
 unsigned model_near, model_sleepers, model_open;
 static int model_memory;
 
