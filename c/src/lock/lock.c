@@ -88,8 +88,8 @@ static uint32_t look(struct lock *lock, struct turn *at) {
                             : qolb_core_check_open_proved_(&lock->core, &at->ticket);
 }
 
-/* Who is at its turn of the queue enters: GRANTED, CLOSED, or LATE at the outer word. In a strict lock all behind it wait
- * meanwhile: so that is short. */
+/* Who is at its turn of the queue enters: GRANTED, CLOSED, or LATE at the outer word. In a strict lock all behind it
+ * wait meanwhile: so that is short. */
 static uint32_t enter_at_turn(struct request *my) {
     uint32_t got;
     if (has_bursts(my->lock)) {
