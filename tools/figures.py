@@ -144,8 +144,8 @@ def choice():
     waits = {(row["threads"], row["turn_us"], row["lock"].replace("burst:1024", "bursts")): float(row["longest_wait_us"]) for row in rows_of("bursts.tsv")}
     bytes_of = next(row["ratio"] for row in rows_of("speed.tsv") if row["part"] == "bytes")
     rows = [
-        ["may enter before a waiter", "nobody", "at most 1,023 turns for it and for each before it", "anybody, without a bound"],
-        ["proved of the core", "one at a time, in order", "one at a time, waiters in order, the bound", "nothing"],
+        ["later calls before a waiter", "none", "at most 1,023, and 1,023 for each waiter before it", "any number"],
+        ["[proved](#what-is-proved) of who has the turn", "one at a time, in order", "one at a time, waiters in order, the bound", "nothing"],
         ["bytes", bytes_of, bytes_of, "40"],
     ]
     for title, part, threads in (("one thread", "alone", "1"), ("4 threads", "quiet", "4"), ("32 threads", "quiet", "32")):

@@ -9,9 +9,10 @@
  *
  * PROOFS
  *
- * Proved of a lock: its core's tickets have turns one at a time, waiters in order, within the bound of bursts, and a
- * release is told of announced sleeps. Explored with two and three threads, and tested: that sleepers wake, conditions,
- * tasks. Argued: that a holder sees what the last one wrote. No proof speaks of the guarded data.
+ * Proved of a lock: its core, which decides who is next, gives one turn at a time, to waiters in order, to later calls
+ * before them within the bound of bursts, and tells a release of announced sleeps. Explored with two and three threads,
+ * and tested: the C around it, with wakes, limits, conditions, tasks. Argued: that a holder sees what the last one
+ * wrote. No proof speaks of the guarded data.
  *
  * What calls do to a line, with its 64 bytes, is proved. Their waits, notifications and memory are C: explored and
  * tested.
@@ -323,7 +324,8 @@
  * - Every call by which a thread or a task enters, leaves, gives up or closes a lock may make calls of tasks. A task
  *   that is the first of those that wait ends a burst with the turn of who is in.
  * - No call of a task waits for a turn. One that would have to wait is told NO_MEMORY without memory, or while some
- *   16,300 tickets of the lock are out.
+ *   16,300 tickets of the lock are out. A ticket that was given up is out until a holder leaves and passes it: so who
+ *   enters and cancels 16,380 times beside one turn is told so.
  * - A lock that a task holds is not held by its thread: qolb_lock_enter there waits, for ever if that thread would
  *   have to leave for the task; qolb_lock_enter_within is LATE, qolb_lock_try BUSY; leave, shut and waits at a
  *   condition are MISUSE. In an event loop let only tasks enter.

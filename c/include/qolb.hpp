@@ -475,8 +475,9 @@ template <class T> class Guarded {
     }
 
     // The same, with a copy of the value, which is moved back at the end. If `change` throws, the value is as before.
-    // If that move throws, it is what the move left. `change` returns no reference: it would be to the copy.
+    // If that move throws, it is what the move left. `change` must not return a reference: it could be to the copy.
     template <class Change> auto update(Change change) -> decltype(change(std::declval<T &>())) {
+        static_assert(!std::is_reference<decltype(change(std::declval<T &>()))>::value, "the copy ends with the call");
         std::lock_guard<Lock> held(lock_);
         T copy(value_);
         return changed(copy, change, std::is_void<decltype(change(std::declval<T &>()))>());
