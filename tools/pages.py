@@ -46,6 +46,10 @@ CLAIMING_SHORT = ["c/package/qolb.pc.in", "c/rust/Cargo.toml.in"]
 TOO_MUCH = re.compile(r"library is proved|proved (?:queue )?locks?\b(?!_)|(?:nobody|no thread) is overtaken|no wake-up is lost")
 # What an exploration runs: each row of PROVED's table begins with one of these, and ends with the commit whose code it ran.
 EXPLORED = {"lock": ["c/src/lock", "c/src/bells.c", "c/src/bells.h", "c/src/notify.c"], "nodes": ["c/src/calls.c", "c/src/bells.c", "c/src/bells.h", "c/src/notify.c"]}
+# The README of the archive, which has a table of figures too.
+ARCHIVE = "c/package/README"
+# A first screen has a program in each language.
+FIRST_SCREEN, LANGUAGES = 45, ("c", "cpp", "rust")
 # A number in a sentence.
 FIGURE = r"(?:\d[\d.,]*)?\d"
 faults = []
@@ -142,8 +146,10 @@ def check_names(pages, files):
 
 def check_figures(is_write):
     """Each table of figures in a page is what the measurements say, and each number in a sentence of `figures.RATIOS`."""
-    for page in sorted({"docs/LOCKS.md"} | {page for page, _, _ in figures.RATIOS}):
+    for page in sorted({"docs/LOCKS.md", ARCHIVE} | {page for page, _, _ in figures.RATIOS}):
         before = text = (ROOT / page).read_text()
+        if page == ARCHIVE:
+            text = re.sub(r"(?m)^(Which one, .*:\n\n)(?: {4}.*\n)+", lambda found: f"{found[1]}{figures.choice_of_archive()}\n", text)
         for name, table in figures.TABLES.items():
             text = re.sub(rf"(<!-- figures: {name} -->\n\n).*?\n\n", lambda found: found[1] + table() + "\n\n", text, flags=re.S)
         for of_page, sentence, numbers in figures.RATIOS:
@@ -185,6 +191,16 @@ def check_explored(is_write):
         faults.append("docs/PROVED.md says of other code than c/src has that it is explored: run tools/pages.py --write")
 
 
+def check_first_screen():
+    """README.md shows a program in each language in its first lines, and the command that builds it."""
+    first = "\n".join((ROOT / "README.md").read_text().split("\n")[:FIRST_SCREEN])
+    for language in LANGUAGES:
+        if not re.search(rf"(?ms)^```{language} program$.*?^```$", first):
+            faults.append(f"README.md has no whole program in {language} in its first {FIRST_SCREEN} lines")
+    if "pkg-config" not in first:
+        faults.append(f"README.md does not say in its first {FIRST_SCREEN} lines how a program is built")
+
+
 def main():
     files = tracked()
     pages = [name for name in files if name.endswith(".md")]
@@ -192,6 +208,7 @@ def main():
     check_explored("--write" in sys.argv[1:])
     count_words(pages)
     check_claims(pages)
+    check_first_screen()
     check_links(pages)
     check_names(pages, files)
     for fault in faults:

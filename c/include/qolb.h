@@ -2,7 +2,7 @@
  *
  * A lock (qolb_lock) guards any data, for any number of threads, as a mutex does. A line is a lock that hands over 64
  * bytes, among 1 to 200 nodes (qolb_node). A task (qolb_task) enters a lock from an event loop, which must not wait.
- * Each is a part below, and a manual page: qolb_lock(3), qolb_node(3), qolb_task(3).
+ * Each has a manual page: qolb_lock(3), qolb_node(3), qolb_task(3).
  *
  *     cc -pthread prog.c $(pkg-config --cflags --libs qolb)
  *     cc -pthread -I PREFIX/include prog.c PREFIX/lib/libqolb.a
@@ -105,16 +105,10 @@
  * left. A thread whose time runs out gives its ticket up, which counts as a request until a holder passes it. While
  * 16,384 requests of a lock are open, a call with a limit draws none, and looks again each millisecond.
  *
- * SHUT AND CLOSE
- *
- * qolb_lock_shut ends the use of a lock: who waits, or enters later, is answered CLOSED. qolb_lock_close makes a lock
- * unopened, for another use of it.
- *
  * FORK
  *
  * A lock or a line is of one process. A fork copies it, in the same state; the copies guard nothing that both
- * processes share. The child of a process with one thread may go on with its copy. In the child of a process with
- * threads call nothing: another thread may have been in a call.
+ * processes share. The child of a process with one thread may go on with its copy.
  *
  * WAITING
  *
@@ -324,8 +318,8 @@
  * - Every call by which a thread or a task enters, leaves, gives up or closes a lock may make calls of tasks. A task
  *   that is the first of those that wait ends a burst with the turn of who is in.
  * - No call of a task waits for a turn. One that would have to wait is told NO_MEMORY without memory, or while some
- *   16,300 tickets of the lock are out. A ticket that was given up is out until a holder leaves and passes it: so who
- *   enters and cancels 16,380 times beside one turn is told so.
+ *   16,300 tickets of the lock are out. One that was given up is out until a leave passes it: so 16,380 enters and
+ *   cancels beside one holder end with NO_MEMORY.
  * - A lock that a task holds is not held by its thread: qolb_lock_enter there waits, for ever if that thread would
  *   have to leave for the task; qolb_lock_enter_within is LATE, qolb_lock_try BUSY; leave, shut and waits at a
  *   condition are MISUSE. In an event loop let only tasks enter.
@@ -547,7 +541,7 @@ typedef struct qolb_cond {
 
 /* clang-format on */
 
-/* Opens an unopened lock, with bursts of a number of turns that is known at run time; with 0 or 1 it is strict. DONE;
+/* Opens an unopened lock, with bursts of a number of turns that is known at run time (ORDER AND BURSTS). DONE;
  * OCCUPIED: it is open. */
 uint32_t qolb_lock_open(qolb_lock *lock, uint64_t turns) QOLB_LOOK;
 
