@@ -211,7 +211,7 @@ pub enum Stopped {
 impl fmt::Display for Stopped {
     fn fmt(&self, f: &mut fmt::Formatter<'_>) -> fmt::Result {
         f.write_str(match self {
-            Stopped::Closed => "the line is closed",
+            Stopped::Closed => "the line is closed, or the lock shut",
             Stopped::Misuse => "the node waits or holds already, or the thread holds the lock",
         })
     }
