@@ -1,7 +1,7 @@
 #!/usr/bin/env python3
 """Checks the pages as a whole; docs/compare runs it.
 
-    tools/pages.py            words of each page, of three paths and of the manuals, each with its limit; links, names, figures and what is claimed of a lock
+    tools/pages.py            words of each page, of three paths and of the manuals, each with its limit; links, names, figures, the first screen, and what is claimed of a lock
     tools/pages.py --write    also writes tables and sentences of figures anew, from c/bench/figures/*.tsv, and whether explored code has changed since
 
 A word is what stands between blanks and has a letter or a digit. A name in code font must stand in a file that is no page, too. A ratio in a sentence

@@ -103,7 +103,7 @@
  *
  * A limit is a length in nanoseconds from the call on, and UINT64_MAX is none. Of waits in a loop pass each what is
  * left. A thread whose time runs out gives its ticket up, which counts as a request until a holder passes it. While
- * 16,384 requests of a lock are open, a call with a limit draws none, and looks again each millisecond.
+ * 16,384 requests of a lock are open, a call with a limit draws none, looks each millisecond, and may be overtaken.
  *
  * FORK
  *
@@ -303,8 +303,8 @@
  *   the same node or task in another thread, until it has returned or said qolb_notify_done. A call says that before
  *   it takes a lock under which one of these six is made, before it resumes a coroutine, and before it makes one.
  * - A call may come before the call that asked for it has returned, and may use the node or task even then.
- * - A call may be early, though rarely: the request still waits. Call qolb_notify again, which polls and wants another
- *   call in one step.
+ * - A call may be early: the request still waits. Call qolb_notify again, which polls and wants another call in one
+ *   step.
  * - Poll after the call: all behind wait for it, also after a shut: each is told CLOSED once the one before has
  *   polled.
  * - A call may be late: after a turn that qolb_poll granted it is still made, until qolb_notify_off. `arg` must last
