@@ -159,6 +159,21 @@ def choice():
     return table(["", *CHOICE.values()], rows + measured())
 
 
+def advice():
+    """What README.md and the archive's README advise, each with whether the figures say so."""
+    times = {(row["part"], row["threads"], row["lock"]): float(row["median"]) for row in rows_of("speed.tsv") if row["part"] in PARTS}
+    waits = {row["lock"]: float(row["longest_wait_us"]) for row in rows_of("bursts.tsv") if (row["threads"], row["turn_us"]) == ("32", "10")}
+
+    def quickest(part, threads):
+        return min(CHOICE, key=lambda lock: times[part, threads, lock])
+
+    return [
+        ("Take strict if each wait counts", min(waits, key=waits.get) == "strict"),
+        ("bursts for many short turns", quickest("quiet", "4") == quickest("quiet", "32") == "bursts"),
+        ("If one thread uses the lock almost alone, a mutex is quicker", quickest("alone", "1") == "mutex"),
+    ]
+
+
 def choice_of_archive():
     """The same for the README of the archive, which is no page: in columns, indented."""
     rows = [

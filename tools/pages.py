@@ -192,13 +192,16 @@ def check_explored(is_write):
 
 
 def check_first_screen():
-    """README.md shows a program in each language in its first lines, and the command that builds it."""
+    """README.md shows a program in each language in its first lines, the command that builds it, and advice that the figures bear out."""
     first = "\n".join((ROOT / "README.md").read_text().split("\n")[:FIRST_SCREEN])
     for language in LANGUAGES:
         if not re.search(rf"(?ms)^```{language} program$.*?^```$", first):
             faults.append(f"README.md has no whole program in {language} in its first {FIRST_SCREEN} lines")
     if "pkg-config" not in first:
         faults.append(f"README.md does not say in its first {FIRST_SCREEN} lines how a program is built")
+    for sentence, is_so in figures.advice():
+        if sentence not in first or not is_so:
+            faults.append(f"README.md {'does not advise' if is_so else 'must not advise, by the figures'}: {sentence}")
 
 
 def main():
