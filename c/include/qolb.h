@@ -318,8 +318,8 @@
  * - Every call by which a thread or a task enters, leaves, gives up or closes a lock may make calls of tasks. A task
  *   that is the first of those that wait ends a burst with the turn of who is in.
  * - No call of a task waits for a turn. One that would have to wait is told NO_MEMORY without memory, or while some
- *   16,300 tickets of the lock are out. One that was given up is out until a leave passes it: so 16,380 enters and
- *   cancels beside one holder end with NO_MEMORY.
+ *   16,300 tickets of the lock are out. One that was given up is out until the turn before it ends: so 16,380 enters
+ *   and cancels beside one holder of a strict lock end with NO_MEMORY.
  * - A lock that a task holds is not held by its thread: qolb_lock_enter there waits, for ever if that thread would
  *   have to leave for the task; qolb_lock_enter_within is LATE, qolb_lock_try BUSY; leave, shut and waits at a
  *   condition are MISUSE. In an event loop let only tasks enter.
@@ -466,19 +466,19 @@ uint32_t qolb_withdraw(qolb_node *node) QOLB_LOOK;
 uint32_t qolb_prepend(qolb_node *node) QOLB_LOOK;
 uint32_t qolb_link(qolb_node *node) QOLB_LOOK;
 
-/* Reads the line, for its holder. In the state HOLDING: DONE. Else MISUSE, and `out` is unchanged. */
+/* Reads the line. In the state HOLDING: DONE. Else MISUSE, and `out` is unchanged. */
 uint32_t qolb_read(qolb_node *node, qolb_bytes *out);
 
-/* Writes byte k of `bytes` for the holder if bit k of the mask is set. In the state HOLDING: DONE. Else MISUSE. */
+/* Writes byte k of `bytes` if bit k of the mask is set. In the state HOLDING: DONE. Else MISUSE. */
 uint32_t qolb_write(qolb_node *node, uint64_t mask, const qolb_bytes *bytes);
 
-/* Read and write one lane, 0 to 7, for the holder. In the state HOLDING, with lane below 8: DONE. Else MISUSE, and
- * `out` is unchanged. */
+/* Read and write one lane, 0 to 7. In the state HOLDING, with lane below 8: DONE. Else MISUSE, and `out` is
+ * unchanged. */
 uint32_t qolb_read_lane(qolb_node *node, uint64_t lane, uint64_t *out);
 uint32_t qolb_write_lane(qolb_node *node, uint64_t lane, uint64_t value);
 
-/* Adds `by` to one lane modulo 2^64, for the holder, and writes to `was` what the lane had before. In the state
- * HOLDING, with lane below 8: DONE. Else MISUSE, and `was` is unchanged. */
+/* Adds `by` to one lane modulo 2^64, and writes to `was` what the lane had before. In the state HOLDING, with lane
+ * below 8: DONE. Else MISUSE, and `was` is unchanged. */
 uint32_t qolb_add_lane(qolb_node *node, uint64_t lane, uint64_t by, uint64_t *was);
 
 /* Returns the number of turns left, with the holder's own: QOLB_NO_LEASE without a lease. 0 if the node does not hold
