@@ -191,6 +191,14 @@ def check_explored(is_write):
         faults.append("docs/PROVED.md says of other code than c/src has that it is explored: run tools/pages.py --write")
 
 
+def check_verdict():
+    """PROVED shows as many functions and axioms of the C library as its verdict, once that is there; the rest of the line tells what was kept."""
+    path = ROOT / "crates/qolb_c/out/verdict"
+    told = re.findall(r"(?m)^logic=proved (functions=\d+ axioms=\d+) ", path.read_text()) if path.exists() else []
+    if told and f"logic=proved {told[-1]} " not in (ROOT / "docs/PROVED.md").read_text():
+        faults.append(f"docs/PROVED.md shows another verdict than {path.relative_to(ROOT)}: {told[-1]}")
+
+
 def check_first_screen():
     """README.md shows a program in each language in its first lines, the command that builds it, and advice that the figures bear out."""
     first = "\n".join((ROOT / "README.md").read_text().split("\n")[:FIRST_SCREEN])
@@ -212,6 +220,7 @@ def main():
     count_words(pages)
     check_claims(pages)
     check_first_screen()
+    check_verdict()
     check_links(pages)
     check_names(pages, files)
     for fault in faults:
