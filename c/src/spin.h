@@ -100,9 +100,9 @@ static inline void end_spin(struct spin *spin, unsigned *learned) {
     spin->slept = 1;
 }
 
-/* Whether a waiter that has so many before it is to spin on. If it is time to sleep: 0; the next call begins a new spin.
- * How many there are may be told anew with each call. It reads no clock: a thread that loses its processor spins on
- * afterwards. */
+/* Whether a waiter that has so many before it is to spin on. If it is time to sleep: 0; the next call begins a new
+ * spin. How many there are may be told anew with each call. It reads no clock: a thread that loses its processor spins
+ * on afterwards. */
 static inline int qolb_spins_on_(struct spin *spin, uint64_t before) {
     unsigned *learned = &qolb_learned_[spin->slept ? WOKEN_SPIN : FIRST_SPIN], most = longest_spin(before);
     unsigned patience = spin->spun ? *learned : begin_spin(learned);
