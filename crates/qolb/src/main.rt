@@ -9,11 +9,11 @@ use std::{env, io};
 ///
 /// A refused growth is an error, where `collect` would ask again for less.
 fn words(rt: &HostRuntime) -> io::Result<Vec<String>> {
-    let mut words = Vec::new(rt.alloc());
+    let mut all = Vec::new(rt.alloc());
     for word in env::args(rt)? {
-        words.push(word)?;
+        all.push(word)?;
     }
-    Ok(words)
+    Ok(all)
 }
 
 fn main(rt: HostRuntime) -> ExitCode {
