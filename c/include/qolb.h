@@ -10,10 +10,10 @@
  * PROOFS
  *
  * Proved of a lock: its core, which decides who is next, gives one turn at a time, to waiters in order, with bursts of
- * B turns at most B - 1 to later calls between two waiters, and tells who leaves if the next has announced that it
- * sleeps. Explored with two and three threads and one or two switches, and tested: the C around it, with wakes, limits,
- * conditions, tasks. Argued: what bound that is for a waiter, and that a holder sees what the last one wrote. No proof
- * speaks of the guarded data.
+ * B turns at most B - 1 to later calls between two waiters, and tells who leaves if the next has announced its sleep.
+ * Explored with two and three threads and one or two switches, and tested: the C around it, with wakes, limits,
+ * conditions, tasks. Argued: the bound for a waiter, and that a holder sees what the last one wrote. No proof speaks of
+ * the guarded data.
  *
  * What calls do to a line, with its 64 bytes, is proved. Their waits, notifications and memory are C: explored and
  * tested.

@@ -30,9 +30,10 @@
 //!
 //! # What is proved
 //!
-//! Proved of a lock: its core, which decides who is next, gives one turn at a time, to waiters in order, to later calls before them within the bound
-//! of bursts, and tells a release of announced sleeps. Explored with two and three threads, and tested: the C around it, with wakes, limits,
-//! conditions, tasks. Argued: that a holder sees what the last one wrote. No proof speaks of the guarded data.
+//! Proved of a lock: its core, which decides who is next, gives one turn at a time, to waiters in order, with bursts of B turns at most B - 1 to later
+//! calls between two waiters, and tells who leaves if the next has announced its sleep. Explored with two and three threads and one or two switches,
+//! and tested: the C around it, with wakes, limits, conditions, tasks. Argued: the bound for a waiter, and that a holder sees what the last one wrote.
+//! No proof speaks of the guarded data.
 //!
 //! # Nodes
 //!
