@@ -95,13 +95,12 @@
  *     (p + 1) * (turns - 1)
  *
  * turns of calls that began later: to enter, to try, or the end of a wait at a condition. Usually there are fewer: the
- * first waiter watches, and after a sixteenth of `turns`, or after 1 ms, requests the lock: then the next leave ends
- * the burst. If it sleeps, a leave wakes it, and it watches on. More than 65,535 count as 65,535; with 0 or 1 a lock is
- * strict.
+ * first waiter watches, and after a sixteenth of `turns` or 1 ms requests the lock: then the next leave ends the burst.
+ * If it sleeps, a leave wakes it first. More than 65,535 count as 65,535; with 0 or 1 a lock is strict.
  *
- * Take strict order if each wait counts, and bursts in place of a mutex: for many short turns, and if threads wait at
- * conditions or outnumber the processors (WAITING). 1,024 turns are usual. Take fewer if so many would last longer than
- * a waiter may wait. If one thread uses the lock almost alone, a mutex is quicker.
+ * Take strict order if each wait counts, bursts of 1,024 turns in place of a mutex: for many short turns, and if
+ * threads sleep at conditions or outnumber the processors (WAITING). Take fewer if so many may last longer than a
+ * waiter can wait.
  *
  * LIMITS
  *
@@ -119,8 +118,8 @@
  *
  * A waiter polls: each 90 ns if it is next, else more seldom; for at most 50 us, with more than four threads before it
  * for 2 us. Then it sleeps by a futex until its turn. At a condition it sleeps at once, and so does a process that may
- * use one processor only. After polls without success a thread polls for less the next time. It never
- * yields, so a real-time thread may wait for another.
+ * use one processor only. After polls without success a thread polls for less the next time. It never yields: a
+ * real-time thread may wait for another.
  *
  * Leaving wakes the next holder. If the leaver had slept, it wakes the waiter behind that one, too. In a burst it wakes
  * the first waiter alone. It calls the system only if it may have to wake a sleeper.
@@ -137,8 +136,8 @@
  *
  * From pthread_mutex_t and pthread_cond_t:
  *
- * - Success is QOLB_GRANTED, which is 1; limits are lengths, not points in time. Compilers warn of an ignored answer
- *   that tells who holds the lock, or that it is open (warn_unused_result).
+ * - Success is QOLB_GRANTED, which is 1; limits are lengths, not points in time. Answers of enter, open and waits must
+ *   be used (warn_unused_result).
  * - There is no priority inheritance.
  * - A thread that enters a lock which it holds is told MISUSE; none is recursive, robust or shared by processes.
  * - A lock can be shut. A wait at a condition is not a cancellation point, and does not end without a cause.
@@ -168,14 +167,12 @@
  * Every other call that a lock does not allow is MISUSE, and changes nothing.
  *
  * All that a thread wrote before it left is seen by the next holder, and by those that are answered CLOSED. Data that
- * many threads change begins best at a multiple of 64 bytes, as a lock's last bytes may be in one cache line with what
- * follows them.
+ * many threads change begins best at a multiple of 64 bytes: what follows a lock may share its last cache line.
  *
  * ==== qolb_node(3): nodes, which share the 64 bytes of a line ====
  *
  * A line is 64 bytes that 1 to 200 nodes share. A node requests it, waits for its turn, reads and writes it, and
- * releases it: lock and bytes are handed to the oldest request. No request is overtaken; a thread that has none yet, as
- * its node is busy, may be (BUSY).
+ * releases it: lock and bytes are handed to the oldest request. No request is overtaken (but see BUSY).
  *
  * EXAMPLE
  *
@@ -319,23 +316,23 @@
  *   until then; for a task until qolb_task_poll answers GRANTED or CLOSED, or qolb_task_cancel returns: then no call
  *   is made.
  * - Open an eventfd with EFD_NONBLOCK: else a full count makes the release wait. Before you close it, call
- *   qolb_notify_off or qolb_task_cancel, or have had the turn. These do not read it: it may stay readable. After a fork
- *   a release in the child writes to the parent's eventfd, too.
+ *   qolb_notify_off or qolb_task_cancel, or have had the turn; it may be readable even then. After a fork a release in
+ *   the child writes to the parent's eventfd, too.
  *
  * TASKS
  *
  * - Every call by which a thread or a task enters, leaves, gives up or closes a lock may make calls of tasks. A task
  *   that is the first of those that wait ends a burst with the turn of who is in.
- * - No call of a task waits for a turn. One that would have to wait is told NO_MEMORY without memory, or while
- *   more than 16,380 requests of the lock are open. One that was given up is open until the turn before it ends: so
- *   16,380 enters and cancels beside one holder of a strict lock end with NO_MEMORY.
+ * - No call of a task waits for a turn. One that would have to wait is told NO_MEMORY without memory, or while more
+ *   than 16,380 requests of the lock are open. One that was given up is open until the turn before it ends: so beside
+ *   one holder of a strict lock 16,380 enters and cancels are the most.
  * - A lock that a task holds is not held by its thread: qolb_lock_enter there waits, for ever if that thread would
  *   have to leave for the task; qolb_lock_enter_within is LATE, qolb_lock_try BUSY; leave, shut and waits at a
  *   condition are MISUSE. In an event loop let only tasks enter.
  * - qolb_cond_wait is for threads alone. A task may signal.
  *
- * The thread sanitizer is told that what precedes qolb_notify precedes the call, and that the call precedes what
- * follows qolb_notify_off. */
+ * To the thread sanitizer what precedes qolb_notify precedes the call, and that precedes what follows
+ * qolb_notify_off. */
 #ifndef QOLB_H
 #define QOLB_H
 
