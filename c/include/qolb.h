@@ -99,7 +99,7 @@
  * If it sleeps, a leave wakes it first. More than 65,535 count as 65,535; with 0 or 1 a lock is strict.
  *
  * Take strict order if each wait counts, bursts of 1,024 turns in place of a mutex: for many short turns, and if
- * threads sleep at conditions or outnumber the processors (WAITING). Take fewer if so many may last longer than a
+ * threads sleep at conditions or outnumber the processors (WAITING). Take fewer if those may last longer than a
  * waiter can wait.
  *
  * LIMITS
