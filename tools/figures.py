@@ -170,6 +170,8 @@ def advice():
     return [
         ("Take strict if each wait counts", min(waits, key=waits.get) == "strict"),
         ("bursts for many short turns", quickest("quiet", "4") == quickest("quiet", "32") == "bursts"),
+        # Of sleepers at conditions no figures are kept.
+        ("or outnumber the processors, its short turns may take many times as long", times["quiet", "32", "strict"] > 5 * times["quiet", "32", "bursts"]),
         ("If one thread uses the lock almost alone, a mutex is quicker", quickest("alone", "1") == "mutex"),
     ]
 

@@ -23,7 +23,8 @@
 //!
 //! # Beside `std::sync::Mutex`
 //!
-//! - Turns are in the order of the calls. One made by [`Mutex::with_burst`] lets later calls in first, a bounded number of times.
+//! - Turns are in the order of the calls, so all wait until the next thread runs. A mutex made by [`Mutex::with_burst`] lets later calls in first, a
+//!   bounded number of times: take it if threads wait at a [`Condition`].
 //! - [`Mutex::lock`] fails if the mutex was shut ([`MutexGuard::shut`]) or this thread holds it: [`Stopped`]. There is no poison.
 //! - [`Mutex::try_lock_for`] has a time limit, and [`Mutex::lock_async`] is for tasks.
 //! - The lock's 320 bytes are put in a box at its first use: as at any allocation, the process ends if there is no memory.
