@@ -9,10 +9,11 @@
  *
  * PROOFS
  *
- * Proved of a lock: its core, which decides who is next, gives one turn at a time, to waiters in order, to later calls
- * before them within the bound of bursts, and tells a release of announced sleeps. Explored with two and three threads,
- * and tested: the C around it, with wakes, limits, conditions, tasks. Argued: that a holder sees what the last one
- * wrote. No proof speaks of the guarded data.
+ * Proved of a lock: its core, which decides who is next, gives one turn at a time, to waiters in order, with bursts of
+ * B turns at most B - 1 to later calls between two waiters, and tells who leaves if the next has announced its sleep.
+ * Explored with two and three threads and one or two switches, and tested: the C around it, with wakes, limits,
+ * conditions, tasks. Argued: the bound for a waiter, and that a holder sees what the last one wrote. No proof speaks of
+ * the guarded data.
  *
  * What calls do to a line, with its 64 bytes, is proved. Their waits, notifications and memory are C: explored and
  * tested.
@@ -39,8 +40,8 @@
  * ==== qolb_lock(3): locks for any number of threads, with conditions ====
  *
  * A lock and the data that it guards lie where the program has them, as in a struct, the lock at a multiple of 16
- * bytes. It need not be freed. A task, and a call that gives up far from its turn, take heap. No call of a thread on a
- * lock answers NO_MEMORY.
+ * bytes. It need not be freed. A task, and a call that gives up with more than 60 requests before it, take heap. No
+ * call of a thread on a lock answers NO_MEMORY.
  *
  * INITIALISERS
  *
@@ -69,7 +70,7 @@
  *         qolb_lock_leave(&queue.lock);
  *     }
  *
- *     int take(uint64_t nanoseconds) { // 0 if a wait took so long
+ *     int take(uint64_t nanoseconds) { // 0 if one wait took so long
  *         uint32_t got = qolb_lock_enter(&queue.lock);
  *         if (got != QOLB_GRANTED) abort();
  *         while (!queue.jobs && got == QOLB_GRANTED)
@@ -94,16 +95,19 @@
  *     (p + 1) * (turns - 1)
  *
  * turns of calls that began later: to enter, to try, or the end of a wait at a condition. Usually there are fewer: the
- * first waiter watches, and while it runs asks for the lock after a sixteenth of `turns`, or after 1 ms. More than
- * 65,535 count as 65,535; with 0 or 1 a lock is strict.
+ * first waiter watches, and after a sixteenth of `turns` or 1 ms requests the lock: then the next leave ends the burst.
+ * If it sleeps, a leave wakes it first. More than 65,535 count as 65,535; with 0 or 1 a lock is strict.
  *
- * Take strict order if each wait counts, 1,024 turns for many short turns, and fewer if turns are long.
+ * Take strict order if each wait counts, bursts of 1,024 turns in place of a mutex: for many short turns, and if
+ * threads sleep at conditions or outnumber the processors (WAITING). Take fewer if those may last longer than a
+ * waiter can wait.
  *
  * LIMITS
  *
- * A limit is a length in nanoseconds from the call on, and UINT64_MAX is none. Of waits in a loop pass each what is
- * left. A thread whose time runs out gives its ticket up, which counts as a request until a holder passes it. While
- * 16,384 requests of a lock are open, a call with a limit draws none, looks each millisecond, and may be overtaken.
+ * A limit is a length in nanoseconds from the call on, and UINT64_MAX is none. For a limit of a whole loop pass each
+ * wait what is left. A thread whose time runs out gives its ticket up, which counts as a request until a holder passes
+ * it. While more than 16,380 requests of a lock are open, a call with a limit draws none, looks each millisecond, and
+ * may be overtaken, also in a strict lock.
  *
  * FORK
  *
@@ -112,16 +116,17 @@
  *
  * WAITING
  *
- * A waiter polls each 90 ns if it is next, else more seldom, for at most 50 us with at most four threads before it,
- * and 2 us with more; then it sleeps by a futex until its turn. At a condition it sleeps at once, and so does a
- * process that may use one processor only. After polls without success a thread polls for less the next time. It never
- * yields, so a real-time thread may wait for another.
+ * A waiter polls: each 90 ns if it is next, else more seldom; for at most 50 us, with more than four threads before it
+ * for 2 us. Then it sleeps by a futex until its turn. At a condition it sleeps at once, and so does a process that may
+ * use one processor only. After polls without success a thread polls for less the next time. It never yields: a
+ * real-time thread may wait for another.
  *
  * Leaving wakes the next holder. If the leaver had slept, it wakes the waiter behind that one, too. In a burst it wakes
  * the first waiter alone. It calls the system only if it may have to wake a sleeper.
  *
- * A granted lock is its thread's, even before that runs: all behind wait until it has woken up and had its turn. No
- * turn is promised: a thread waits until each earlier one has ended.
+ * A strict lock is the next thread's, even before that runs: all behind wait until it has woken up and had its turn. So
+ * where threads sleep, as at conditions, each turn may cost a wake-up, many times a short turn's time. A lock with
+ * bursts stays free meanwhile. No turn is promised: a thread waits until each earlier one has ended.
  *
  * No wait is a cancellation point. A thread that is cancelled while it waits is granted the lock or is late, and ends
  * at its next cancellation point. A thread that may be cancelled at any instruction (PTHREAD_CANCEL_ASYNCHRONOUS) must
@@ -131,7 +136,8 @@
  *
  * From pthread_mutex_t and pthread_cond_t:
  *
- * - Success is QOLB_GRANTED, which is 1; limits are lengths, not points in time.
+ * - Success is QOLB_GRANTED, which is 1; limits are lengths, not points in time. Answers of enter, open and waits must
+ *   be used (warn_unused_result).
  * - There is no priority inheritance.
  * - A thread that enters a lock which it holds is told MISUSE; none is recursive, robust or shared by processes.
  * - A lock can be shut. A wait at a condition is not a cancellation point, and does not end without a cause.
@@ -161,13 +167,12 @@
  * Every other call that a lock does not allow is MISUSE, and changes nothing.
  *
  * All that a thread wrote before it left is seen by the next holder, and by those that are answered CLOSED. Data that
- * many threads change begins best at a multiple of 64 bytes, as a lock's last bytes may be in one cache line with what
- * follows them.
+ * many threads change begins best at a multiple of 64 bytes: what follows a lock may share its last cache line.
  *
  * ==== qolb_node(3): nodes, which share the 64 bytes of a line ====
  *
  * A line is 64 bytes that 1 to 200 nodes share. A node requests it, waits for its turn, reads and writes it, and
- * releases it: lock and bytes are handed to the oldest request. No request is overtaken; a thread may be (BUSY).
+ * releases it: lock and bytes are handed to the oldest request. No request is overtaken (but see BUSY).
  *
  * EXAMPLE
  *
@@ -310,23 +315,24 @@
  * - A call may be late: after a turn that qolb_poll granted it is still made, until qolb_notify_off. `arg` must last
  *   until then; for a task until qolb_task_poll answers GRANTED or CLOSED, or qolb_task_cancel returns: then no call
  *   is made.
- * - Open an eventfd with EFD_NONBLOCK: else a full count makes the release wait. Take it off before you close it.
- *   After a fork a release in the child writes to the parent's eventfd, too.
+ * - Open an eventfd with EFD_NONBLOCK: else a full count makes the release wait. Before you close it, call
+ *   qolb_notify_off or qolb_task_cancel, or have had the turn; it may be readable even then. After a fork a release in
+ *   the child writes to the parent's eventfd, too.
  *
  * TASKS
  *
  * - Every call by which a thread or a task enters, leaves, gives up or closes a lock may make calls of tasks. A task
  *   that is the first of those that wait ends a burst with the turn of who is in.
- * - No call of a task waits for a turn. One that would have to wait is told NO_MEMORY without memory, or while some
- *   16,300 tickets of the lock are out. One that was given up is out until the turn before it ends: so 16,380 enters
- *   and cancels beside one holder of a strict lock end with NO_MEMORY.
+ * - No call of a task waits for a turn. One that would have to wait is told NO_MEMORY without memory, or while more
+ *   than 16,380 requests of the lock are open. One that was given up is open until the turn before it ends: so beside
+ *   one holder of a strict lock 16,380 enters and cancels are the most.
  * - A lock that a task holds is not held by its thread: qolb_lock_enter there waits, for ever if that thread would
  *   have to leave for the task; qolb_lock_enter_within is LATE, qolb_lock_try BUSY; leave, shut and waits at a
  *   condition are MISUSE. In an event loop let only tasks enter.
  * - qolb_cond_wait is for threads alone. A task may signal.
  *
- * The thread sanitizer is told that what precedes qolb_notify precedes the call, and that the call precedes what
- * follows qolb_notify_off. */
+ * To the thread sanitizer what precedes qolb_notify precedes the call, and that precedes what follows
+ * qolb_notify_off. */
 #ifndef QOLB_H
 #define QOLB_H
 

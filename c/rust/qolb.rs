@@ -23,16 +23,18 @@
 //!
 //! # Beside `std::sync::Mutex`
 //!
-//! - Turns are in the order of the calls. One made by [`Mutex::with_burst`] lets later calls in first, a bounded number of times.
+//! - Turns are in the order of the calls, so all wait until the next thread runs. A mutex made by [`Mutex::with_burst`] lets later calls in first, a
+//!   bounded number of times: take it if threads wait at a [`Condition`].
 //! - [`Mutex::lock`] fails if the mutex was shut ([`MutexGuard::shut`]) or this thread holds it: [`Stopped`]. There is no poison.
 //! - [`Mutex::try_lock_for`] has a time limit, and [`Mutex::lock_async`] is for tasks.
 //! - The lock's 320 bytes are put in a box at its first use: as at any allocation, the process ends if there is no memory.
 //!
 //! # What is proved
 //!
-//! Proved of a lock: its core, which decides who is next, gives one turn at a time, to waiters in order, to later calls before them within the bound
-//! of bursts, and tells a release of announced sleeps. Explored with two and three threads, and tested: the C around it, with wakes, limits,
-//! conditions, tasks. Argued: that a holder sees what the last one wrote. No proof speaks of the guarded data.
+//! Proved of a lock: its core, which decides who is next, gives one turn at a time, to waiters in order, with bursts of B turns at most B - 1 to later
+//! calls between two waiters, and tells who leaves if the next has announced its sleep. Explored with two and three threads and one or two switches,
+//! and tested: the C around it, with wakes, limits, conditions, tasks. Argued: the bound for a waiter, and that a holder sees what the last one wrote.
+//! No proof speaks of the guarded data.
 //!
 //! # Nodes
 //!

@@ -1,5 +1,6 @@
 /* A queue of at most eight jobs, under a lock with two conditions. Who takes a job looks up each millisecond. At the
- * end the lock is shut, which ends all waits. Prints 4000. */
+ * end the lock is shut, which ends all waits. The lock has bursts, as its threads sleep: a strict one would wait at
+ * each turn until the next thread has woken up. Prints 4000. */
 #include <pthread.h>
 #include <qolb.h>
 #include <stdint.h>
@@ -13,7 +14,7 @@ static struct {
     qolb_cond some, room; /* signalled for a job that was put, and for one that was taken */
     long jobs[ROOM];
     unsigned first, count;
-} queue = {QOLB_LOCK_INIT, QOLB_COND_INIT, QOLB_COND_INIT, {0}, 0, 0};
+} queue = {QOLB_LOCK_INIT_BURSTS(1024), QOLB_COND_INIT, QOLB_COND_INIT, {0}, 0, 0};
 
 /* Puts a job, and waits while there is no room. */
 static void put(long job) {

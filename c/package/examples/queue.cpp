@@ -1,5 +1,6 @@
 // A queue of at most eight jobs, under a lock with two conditions. Who takes a job looks up each millisecond. At the
-// end the lock is shut, which ends all waits. Prints 4000.
+// end the lock is shut, which ends all waits. The lock has bursts, as its threads sleep: a strict one would wait at
+// each turn until the next thread has woken up. Prints 4000.
 #include <chrono>
 #include <cstdio>
 #include <deque>
@@ -37,7 +38,7 @@ class Queue {
     }
 
   private:
-    qolb::lock lock_;
+    qolb::lock lock_{qolb::burst{1024}};
     qolb::Condition some_, room_; // signalled for a job that was put, and for one that was taken
     std::deque<long> jobs_;
 };

@@ -1,10 +1,11 @@
 //! A queue of at most eight jobs, under a mutex with two conditions. Who takes a job looks up each millisecond; at the end the mutex is shut, which ends all waits.
+//! It has bursts, as its threads sleep: a strict one would wait at each turn until the next thread has woken up.
 use qolb::{Condition, Mutex, Stopped};
 use std::collections::VecDeque;
 use std::thread;
 use std::time::Duration;
 
-static JOBS: Mutex<VecDeque<u64>> = Mutex::new(VecDeque::new());
+static JOBS: Mutex<VecDeque<u64>> = Mutex::with_burst(VecDeque::new(), 1024);
 /// Signalled for a job that was put, and for one that was taken.
 static SOME: Condition = Condition::new();
 static ROOM: Condition = Condition::new();
