@@ -355,7 +355,8 @@ static void waits_or_signals(int what) {
     MUST(qolb_lock_enter(it.lock) == QOLB_GRANTED);
     if (what == SIGNALS_TWICE) it.has += 2;
     while (what != SIGNALS_TWICE && !it.has) {
-        uint32_t got = what == WAITS_ON ? qolb_cond_wait(&it.cond, it.lock) : qolb_cond_wait_within(&it.cond, it.lock, MS);
+        uint32_t got = what == WAITS_ON ? qolb_cond_wait(&it.cond, it.lock)
+                                        : qolb_cond_wait_within(&it.cond, it.lock, MS);
         MUST(got == QOLB_GRANTED || (got == QOLB_LATE && what == WAITS_FOR_A_TIME));
         if (got == QOLB_LATE) break;
     }
