@@ -102,8 +102,9 @@
  * LIMITS
  *
  * A limit is a length in nanoseconds from the call on, and UINT64_MAX is none. Of waits in a loop pass each what is
- * left. A thread whose time runs out gives its ticket up, which counts as a request until a holder passes it. While
- * 16,384 requests of a lock are open, a call with a limit draws none, looks each millisecond, and may be overtaken.
+ * left. A thread whose time runs out gives its ticket up, which counts as a request until a holder passes it; without
+ * memory it waits on while its turn is more than 60 requests away. While 16,384 requests of a lock are open, a call
+ * with a limit draws none, looks each millisecond, and may be overtaken.
  *
  * FORK
  *
