@@ -64,7 +64,7 @@ FAULTS = {
     # Entering.
     "who is told that the lock is shut does not pass on": (1, "", (LOCK, "qolb_settle_", "if (has_bursts(lock) || got != QOLB_GRANTED)", "if (has_bursts(lock))")),
     "who is told so at once does not pass on": (1, "", (LOCK, "enter_on", "    if (got == QOLB_CLOSED) qolb_pass_on_(my.lock, at);\n    else got", "    if (got != QOLB_CLOSED) got")),
-    "nobody looks whether the lock is open": (1, "", (LOCK, "enter_at_turn", "look(my->lock, my->at)", "(my->at->ticket.state = QOLB_TICKET_SERVED_, QOLB_GRANTED)")),
+    "nobody looks whether the lock is open": (1, "", (LOCK, "enter_at_turn", "got = qolb_core_check_open_proved_(&my->lock->core, &my->at->ticket);", "my->at->ticket.state = QOLB_TICKET_SERVED_, got = QOLB_GRANTED;")),
     "who holds the lock may enter again": (1, "enters again", (LOCK, "enter_or_try", "    if (qolb_holds_(lock)) return held;\n", "    if (held == QOLB_BUSY && qolb_holds_(lock)) return held;\n")),
     "who holds the lock is told nothing of it by a try": (1, "bursts: enters again", (LOCK, "enter_or_try", "    if (qolb_holds_(lock)) return held;\n", "    if (held == QOLB_MISUSE && qolb_holds_(lock)) return held;\n")),
     "who knows that it does not hold the lock looks at the place alone": (1, "", (LOCK, "qolb_lock_enter", "is_at(at, lock_of(of), LAST)", "is_open(lock_of(of))")),
