@@ -17,6 +17,8 @@ is now, and ends.
 import argparse
 import concurrent.futures
 import difflib
+import hashlib
+import os
 import pathlib
 import re
 import shutil
@@ -34,6 +36,8 @@ MODEL = ROOT / "tools/explorer"
 # What is built, in a copy of c/src; those of tools/explorer beside it.
 LIBRARY = ("bells.c", "notify.c", *(f"lock/{name}.c" for name in ("conditions", "lock", "opens", "registry", "tasks", "turns", "waits")))
 SCENES = ("core.c", "lock_scenes.c", "holder_scenes.c", "task_scenes.c", "explorer.c")
+# Objects by what they were made of: most faults change one file.
+OBJECTS = tempfile.TemporaryDirectory()
 RENAMED = [f"-D{name}=model_{short}" for name, short in (("malloc", "malloc"), ("free", "free"), ("syscall", "syscall"), ("sched_yield", "yield"), ("clock_gettime", "clock"), ("pthread_once", "once"), ("pthread_key_create", "key"), ("pthread_setspecific", "set"), ("pthread_atfork", "atfork"))]
 BY_MODEL = ["-w", "-O1", "-DOF_LOCKS", "-DWITHOUT_NODES", "-DEXPLORED", "-fsanitize=thread", "-U__SANITIZE_THREAD__", "-DQOLB_NO_PROBES", *RENAMED]
 
@@ -67,6 +71,17 @@ def edit(folder, name, where, old, new):
     path.write_text(text[:begin] + text[begin:end].replace(old, new) + text[end:])
 
 
+def compiled(folder, name, told):
+    """The object of a file of the folder: one that was made of the same text and headers, or a new one."""
+    read = [path.read_bytes() for path in (folder / name, *sorted(folder.rglob("*.h")))]
+    made = pathlib.Path(OBJECTS.name) / hashlib.sha256(b"\0".join((*read, " ".join(told).encode()))).hexdigest()
+    if not made.exists():
+        here = folder / f"{name.replace('/', '_')}.o"
+        subprocess.run(["cc", "-std=c11", "-I", folder, "-I", ROOT / "c/include", *told, "-c", folder / name, "-o", here], check=True)
+        os.replace(here, made)
+    return made
+
+
 def built(folder, edits, width):
     """The explorer, built over the library with these edits, with so many tickets in a round."""
     shutil.copytree(SOURCE, folder, dirs_exist_ok=True)
@@ -74,11 +89,7 @@ def built(folder, edits, width):
         shutil.copy(MODEL / name, folder)
     for change in (*edits, *HOOKED, ("core.c", "", "IN_ROUND = 4", f"IN_ROUND = {width}"), ("lock/lock.h", "", "TICKETS_IN_ROUND = 4", f"TICKETS_IN_ROUND = {width}")):
         edit(folder, *change)
-    objects = []
-    for name in (*LIBRARY, *SCENES):
-        objects.append(folder / f"{name.replace('/', '_')}.o")
-        told = ["-O2", "-DOF_LOCKS"] if name == "explorer.c" else BY_MODEL
-        subprocess.run(["cc", "-std=c11", "-I", folder, "-I", ROOT / "c/include", *told, "-c", folder / name, "-o", objects[-1]], check=True)
+    objects = [compiled(folder, name, ["-O2", "-DOF_LOCKS"] if name == "explorer.c" else BY_MODEL) for name in (*LIBRARY, *SCENES)]
     subprocess.run(["cc", *objects, "-pthread", "-o", folder / "explorer"], check=True)
     return folder / "explorer"
 

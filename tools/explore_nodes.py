@@ -37,9 +37,10 @@ SOURCES["notify.c"] = SOURCES["notify.c"].replace(OF_THREAD, "void **model_in_ca
 SPUN = {
     "SPIN_NEAR = 50000": "SPIN_NEAR = 90",
     "SPIN_UNKNOWN = 20000": "SPIN_UNKNOWN = 90",
-    "if (spin->polls < (patience < most ? patience : most) && qolb_pause_(POLL_PAUSE)) return": "if (spin->polls < most) return",
+    "if (spin->spun + POLL_PAUSE <= (patience < most ? patience : most) && pauses_in_1024()) return": "if (spin->spun + POLL_PAUSE <= most) return",
+    "    qolb_pause_(pause);\n    spin->spun": "    spin->spun",
     "unsigned *learned = &qolb_learned_[spin->slept ? WOKEN_SPIN : FIRST_SPIN], most": "unsigned none = 0, *learned = &none, most",
-    "unsigned patience = spin->polls ? *learned : begin_spin(learned);": "(void)begin_spin;",
+    "unsigned patience = spin->spun ? *learned : begin_spin(learned);": "(void)begin_spin;",
 }
 for old, new in SPUN.items():
     assert old in SOURCES["spin.h"]

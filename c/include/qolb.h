@@ -106,8 +106,8 @@
  *
  * A limit is a length in nanoseconds from the call on, and UINT64_MAX is none. For a limit of a whole loop pass each
  * wait what is left. A thread whose time runs out gives its ticket up, which counts as a request until a holder passes
- * it. While more than 16,380 requests of a lock are open, a call with a limit draws none, looks each millisecond, and
- * may be overtaken, also in a strict lock.
+ * it; without memory it waits on while its turn is more than 60 requests away. While more than 16,380 requests of a
+ * lock are open, a call with a limit draws none, looks each millisecond, and may be overtaken.
  *
  * FORK
  *

@@ -29,7 +29,7 @@ static uint64_t now, clocks, yields, sleeps, longest, asks, spins, spun, looks, 
 /* How often a node polls before it sleeps, each 90 ns, as qolb.h says: for 50 us on a line of at most five nodes and
  * for 20 us on others; at least for 2 us, and once it has slept, for 10. A poll is before the pauses and behind each,
  * and one more comes before the sleep. */
-enum { NEAR = 555, UNKNOWN = 222, LEAST = 22, WOKEN = 111 };
+enum { NEAR = 555, UNKNOWN = 222, LEAST = 22 };
 /* The same behind a spin in vain: half as often, and an eighth of that more. */
 enum { LESS = NEAR * 90 / 2 * 9 / 8 / 90 };
 /* How long 64 pauses take by the clock in each of the runs in which they are timed, between two clock calls; the number
@@ -341,12 +341,23 @@ static int rests(uint32_t kind) {
     return 0;
 }
 
-/* Each spin in vain halves the next one, which begins with an eighth more: down to the least. A spin after a sleep has
- * a length of its own. On a line of more than five nodes both are shorter. */
+/* The polls of the next spin in vain, and its length: an eighth more than it was, at most 50 us; on a line of more than
+ * five nodes it ends after 20 us. Half of it is left, but not less than the least; after a spin of less than 2,540 ns
+ * all of it. */
+static uint64_t next_spin(uint64_t *length, uint64_t nodes, uint64_t least) {
+    uint64_t grown = *length + *length / 8;
+    *length = *length && grown < 50000 ? grown : 50000;
+    uint64_t polls = (nodes > 5 && *length > 20000 ? 20000 : *length) / 90, half = polls * 90 / 2;
+    if (polls * 90 > 2540) *length = half > least ? half : least;
+    return polls;
+}
+
+/* Each spin in vain makes the next one shorter, down to the least. A spin after a sleep has a length of its own. On a
+ * line of more than five nodes both are shorter. */
 static int learns(uint32_t kind, uint64_t nodes) {
     qolb_bytes zeros = {{0}};
     qolb_node n[6] = {{0}};
-    uint64_t most = nodes > 5 ? UNKNOWN : NEAR, slept = most;
+    uint64_t length[2] = {0, 0}, first = 0, woken = 0;
     WANT(qolb_open(kind, 1, nodes, QOLB_NO_LEASE, &zeros, n, nodes), QOLB_DONE);
     WANT(qolb_acquire(&n[0]), QOLB_GRANTED);
     begins(NULL);
@@ -356,14 +367,12 @@ static int learns(uint32_t kind, uint64_t nodes) {
         event.does = releases;
         event.at_sleep = sleeps + 2;
         WANT(qolb_acquire(&n[1 - k % 2]), QOLB_GRANTED);
-        WANT(looks, most + 2 + slept + 2 + 1);
-        most = most / 2 > LEAST ? most / 2 : LEAST;
-        slept = slept / 2 > WOKEN ? slept / 2 : WOKEN;
-        most += most / 8;
-        slept += slept / 8;
+        first = next_spin(&length[0], nodes, 2000);
+        woken = next_spin(&length[1], nodes, 10000);
+        WANT(looks, first + 2 + woken + 2 + 1);
     }
-    WANT(most, LEAST + LEAST / 8);
-    WANT(slept, WOKEN + WOKEN / 8);
+    WANT(first >= LEAST && first <= LEAST * 3 / 2, 1);
+    WANT(woken, 10000 * 9 / 8 / 90);
     for (unsigned k = 0; k < 60; k++) {
         holder = &n[k % 2];
         event.does = releases;

@@ -18,7 +18,7 @@ HOOKED = [
     ("spin.h", "", "SPIN_NEAR = 50000", "SPIN_NEAR = 90"),
     ("spin.h", "", "SPIN_FAR = 2000", "SPIN_FAR = 90"),
     ("spin.h", "", "SPIN_WOKEN = 10000", "SPIN_WOKEN = 90"),
-    ("spin.h", "qolb_pause_", "unsigned each = pauses_in_1024();", "unsigned each = 1;"),
+    ("spin.h", "pauses_in_1024", "    unsigned counted = atomic_load_explicit(&qolb_pauses_, memory_order_relaxed);\n    return counted ? counted : qolb_count_pauses_();\n", "    return 1;\n"),
     (HEADER, "", "enum { NAP = 1000000 };", "enum { NAP = 1000 };"),
     (HEADER, "", "enum { MOST_ROUNDS_NEAR = 15, MOST_OPEN = 16384 };", "extern unsigned model_near, model_open;\nenum { MOST_OPEN = 1 };\n#define MOST_ROUNDS_NEAR (int)model_near"),
     (HEADER, "has_room", "MOST_OPEN / TICKETS_IN_ROUND", "(int)model_open"),
@@ -64,7 +64,7 @@ FAULTS = {
     # Entering.
     "who is told that the lock is shut does not pass on": (1, "", (LOCK, "qolb_settle_", "if (has_bursts(lock) || got != QOLB_GRANTED)", "if (has_bursts(lock))")),
     "who is told so at once does not pass on": (1, "", (LOCK, "enter_on", "    if (got == QOLB_CLOSED) qolb_pass_on_(my.lock, at);\n    else got", "    if (got != QOLB_CLOSED) got")),
-    "nobody looks whether the lock is open": (1, "", (LOCK, "enter_at_turn", "look(my->lock, my->at)", "(my->at->ticket.state = QOLB_TICKET_SERVED_, QOLB_GRANTED)")),
+    "nobody looks whether the lock is open": (1, "", (LOCK, "enter_at_turn", "got = qolb_core_check_open_proved_(&my->lock->core, &my->at->ticket);", "my->at->ticket.state = QOLB_TICKET_SERVED_, got = QOLB_GRANTED;")),
     "who holds the lock may enter again": (1, "enters again", (LOCK, "enter_or_try", "    if (qolb_holds_(lock)) return held;\n", "    if (held == QOLB_BUSY && qolb_holds_(lock)) return held;\n")),
     "who holds the lock is told nothing of it by a try": (1, "bursts: enters again", (LOCK, "enter_or_try", "    if (qolb_holds_(lock)) return held;\n", "    if (held == QOLB_MISUSE && qolb_holds_(lock)) return held;\n")),
     "who knows that it does not hold the lock looks at the place alone": (1, "", (LOCK, "qolb_lock_enter", "is_at(at, lock_of(of), LAST)", "is_open(lock_of(of))")),
