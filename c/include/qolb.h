@@ -99,20 +99,20 @@
  * If it sleeps, a leave wakes it first. More than 65,535 count as 65,535; with 0 or 1 a lock is strict.
  *
  * Take strict order if each wait counts, bursts of 1,024 turns in place of a mutex: for many short turns, and if
- * threads sleep at conditions or outnumber the processors (WAITING). Take fewer if those may last longer than a
- * waiter can wait.
+ * threads sleep at conditions or outnumber the processors (WAITING). Take fewer if those may last too long for a
+ * waiter.
  *
  * LIMITS
  *
  * A limit is a length in nanoseconds from the call on, and UINT64_MAX is none. For a limit of a whole loop pass each
  * wait what is left. A thread whose time runs out gives its ticket up, which counts as a request until a holder passes
- * it; without memory it waits on while its turn is more than 60 requests away. While more than 16,380 requests of a
- * lock are open, a call with a limit draws none, looks each millisecond, and may be overtaken.
+ * it; without memory it waits on while more than 60 are before it. While more than 16,380 requests of a lock are
+ * open, a call with a limit draws none, and may be overtaken.
  *
  * FORK
  *
- * A lock or a line is of one process. A fork copies it, in the same state; the copies guard nothing that both
- * processes share. The child of a process with one thread may go on with its copy.
+ * A lock or a line is of one process. A fork copies it as it is; the copies guard nothing that both processes
+ * share. The child of a process with one thread may go on with its copy.
  *
  * WAITING
  *
