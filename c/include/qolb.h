@@ -105,7 +105,7 @@
  * LIMITS
  *
  * A limit is a length in nanoseconds from the call on, and UINT64_MAX is none. For a limit of a whole loop pass each
- * wait what is left. A thread whose time runs out gives its ticket up, which counts as a request until a holder passes
+ * wait what is left. A thread whose time runs out gives up its ticket, which counts until a holder passes
  * it; without memory it waits on while more than 60 are before it. While more than 16,380 requests of a lock are
  * open, a call with a limit draws none, and may be overtaken.
  *
