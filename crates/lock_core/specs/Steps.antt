@@ -27,9 +27,9 @@ exchanged_word st n = either (n == st.first) st.second n
 abbrev pub noting : (Step ℕ → ℕ → ℕ) → (Step ℕ → Me ℕ View → ℕ → Me ℕ View → Type 0) → Step ℕ → Me ℕ View → ℕ → Me ℕ View → Type 0
 noting left tells st m n m' = (m'.0.looks ≡ looked st n (left st n) m.0.looks) × tells st m n m'
 
--- what each step tells
+-- What each step tells. A new caller knows nothing but what its first step found
 abbrev pub comes : Step ℕ → Me ℕ View → ℕ → Me ℕ View → Type 0
-comes st m n m' = m' ≡ m
+comes st m n m' = m' ≡ (record m.0 { looks = looked st n n m.0.looks }, m.1)
 
 abbrev pub more : Me ℕ View → Me ℕ View → Type 0
 more m m' = (m'.1 ≡ m.1) × (m'.0.max_newcomers ≡ m.0.max_newcomers) × (m.0.most_open ≤ m'.0.most_open) × (m.0.newcomers_seen ≤ m'.0.newcomers_seen)
