@@ -315,6 +315,7 @@ def pictures_of_the_pages(program):
 CROWD = 8
 TURNS = 12_000
 FEW_SLEEPS = 1_000
+CROWDED_RUNS = 10
 FEW_WAKES = 100
 
 
@@ -327,19 +328,27 @@ def crowded_script(task):
     return "\n".join(lines).encode()
 
 
+def slept(program, words, script):
+    """How often the workers of a run gave up their processor voluntarily."""
+    before = resource.getrusage(resource.RUSAGE_CHILDREN).ru_nvcsw
+    found = run(program, words, script)
+    if not is_right(answer_to(words[0], script), found):
+        raise Wrong(f"{' '.join(words)}: {found}")
+    return resource.getrusage(resource.RUSAGE_CHILDREN).ru_nvcsw - before
+
+
 def sleepers(program):
-    """Workers sleep if `--sleep` is given, over each kind of line, and else not."""
+    """Workers sleep if `--sleep` is given, over each kind of line, and else not. On a busy machine workers may run one after another and find their line
+    free, so that none sleeps: then the run is made again."""
     for task in ("board", "bank"):
         script = crowded_script(task)
         for kind in LOCKS:
-            for words in ([], ["--sleep"], ["--explain"], ["--explain", "--sleep", "--progress"]):
-                before = resource.getrusage(resource.RUSAGE_CHILDREN).ru_nvcsw
-                found = run(program, [task, "--kind", kind, *words], script)
-                slept = resource.getrusage(resource.RUSAGE_CHILDREN).ru_nvcsw - before
-                if not is_right(answer_to(task, script), found):
-                    raise Wrong(f"{task} of {kind} {words}: {found}")
-                if (slept > FEW_SLEEPS) != ("--sleep" in words):
-                    raise Wrong(f"{task} of {kind} {words}: {slept} times")
+            for more in ([], ["--sleep"], ["--explain"], ["--explain", "--sleep", "--progress"]):
+                words, counts = [task, "--kind", kind, *more], []
+                while not counts or ("--sleep" in more and counts[-1] <= FEW_SLEEPS and len(counts) < CROWDED_RUNS):
+                    counts.append(slept(program, words, script))
+                if (counts[-1] > FEW_SLEEPS) != ("--sleep" in more):
+                    raise Wrong(f"{' '.join(words)}: workers slept {counts} times")
         print(f"{task}: {CROWD} workers sleep, and do not, as it is asked for", flush=True)
 
 

@@ -54,7 +54,6 @@ RELEASE = {
 WALKS = {
     "a node's release from C, to the swap of a ticket line": ("grant", [
         (1, "c/src/calls.c", "qolb_deqolb"),
-        (2, "c/src/proved.h", "qolb_is_lent_"),
         (2, "crates/qolb_c/src/lib.rt", "qolb_deqolb_proved_"),
         (3, "crates/qolb_nodes/src/handle.rt", "get_mut"),
         (3, "crates/qolb_nodes/src/any_node.rt", "release"),

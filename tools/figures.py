@@ -138,20 +138,51 @@ def times_of_mutex():
 CHOICE = {"strict": "strict, `QOLB_LOCK_INIT`", "bursts": "bursts, `QOLB_LOCK_INIT_BURSTS(1024)`", "mutex": "`pthread_mutex`"}
 
 
-def choice():
-    """A strict lock, one with bursts and a mutex: who may overtake, what is proved, bytes, nanoseconds of a turn, and the longest wait."""
+def measured():
+    """Of a strict lock, one with bursts and a mutex: bytes, nanoseconds of a turn, and the longest wait."""
     times = {(row["part"], row["threads"], row["lock"]): row["median"] for row in rows_of("speed.tsv")}
     waits = {(row["threads"], row["turn_us"], row["lock"].replace("burst:1024", "bursts")): float(row["longest_wait_us"]) for row in rows_of("bursts.tsv")}
     bytes_of = next(row["ratio"] for row in rows_of("speed.tsv") if row["part"] == "bytes")
-    rows = [
-        ["may enter before a waiter", "nobody", "at most 1,023 turns for it and for each before it", "anybody, without a bound"],
-        ["proved of the core", "one at a time, in order", "one at a time, waiters in order, the bound", "nothing"],
-        ["bytes", bytes_of, bytes_of, "40"],
-    ]
+    rows = [["bytes", bytes_of, bytes_of, "40"]]
     for title, part, threads in (("one thread", "alone", "1"), ("4 threads", "quiet", "4"), ("32 threads", "quiet", "32")):
         rows.append([f"{title}, empty turns, ns", *(short(float(times[part, threads, lock])) for lock in CHOICE)])
     rows.append(["32 threads, turns of 10 us, longest wait, ms", *(short(waits["32", "10", lock] / 1000) for lock in CHOICE)])
-    return table(["", *CHOICE.values()], rows)
+    return rows
+
+
+def choice():
+    """Which lock to take: who may overtake, what is proved, and what was measured."""
+    rows = [
+        ["later calls before a waiter", "none", "at most 1,023, and 1,023 for each waiter before it", "any number"],
+        ["[proved](#what-is-proved) of who has the turn", "one at a time, in order", "one at a time, waiters in order, the bound", "nothing"],
+    ]
+    return table(["", *CHOICE.values()], rows + measured())
+
+
+def advice():
+    """What README.md and the archive's README advise, each with whether the figures say so."""
+    times = {(row["part"], row["threads"], row["lock"]): float(row["median"]) for row in rows_of("speed.tsv") if row["part"] in PARTS}
+    waits = {row["lock"]: float(row["longest_wait_us"]) for row in rows_of("bursts.tsv") if (row["threads"], row["turn_us"]) == ("32", "10")}
+
+    def quickest(part, threads):
+        return min(CHOICE, key=lambda lock: times[part, threads, lock])
+
+    return [
+        ("Take strict if each wait counts", min(waits, key=waits.get) == "strict"),
+        ("bursts for many short turns", quickest("quiet", "4") == quickest("quiet", "32") == "bursts"),
+        ("If one thread uses the lock almost alone, a mutex is quicker", quickest("alone", "1") == "mutex"),
+    ]
+
+
+def choice_of_archive():
+    """The same for the README of the archive, which is no page: in columns, indented."""
+    rows = [
+        ["", *(name.replace("`", "") for name in CHOICE.values())],
+        ["later calls before a waiter", "none", "1,023 for it and for each waiter before it", "any number"],
+        *(row for row in measured() if not row[0].startswith("32 threads, empty")),
+    ]
+    widths = [max(map(len, column)) for column in zip(*rows)]
+    return "\n".join("    " + "   ".join(map(str.ljust, row, widths)).rstrip() for row in rows)
 
 
 PARTS = {"alone": "empty", "quiet": "empty", "long": "10 us"}

@@ -265,7 +265,8 @@ def help_of(program, *words):
 
 
 def as_told(text):
-    return ".nf\n" + escaped(text) + "\n.fi"
+    """Text as the program prints it, which fills 80 columns: it is not indented."""
+    return ".in 0\n.nf\n" + escaped(text) + "\n.fi\n.in"
 
 
 def page_of_program(program):

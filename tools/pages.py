@@ -1,7 +1,7 @@
 #!/usr/bin/env python3
 """Checks the pages as a whole; docs/compare runs it.
 
-    tools/pages.py            words of each page, of three paths and of the manuals, each with its limit; links, names, figures and what is claimed of a lock
+    tools/pages.py            words of each page, of three paths and of the manuals, each with its limit; links, names, figures, the first screen, and what is claimed of a lock
     tools/pages.py --write    also writes tables and sentences of figures anew, from c/bench/figures/*.tsv, and whether explored code has changed since
 
 A word is what stands between blanks and has a letter or a digit. A name in code font must stand in a file that is no page, too. A ratio in a sentence
@@ -46,6 +46,10 @@ CLAIMING_SHORT = ["c/package/qolb.pc.in", "c/rust/Cargo.toml.in"]
 TOO_MUCH = re.compile(r"library is proved|proved (?:queue )?locks?\b(?!_)|(?:nobody|no thread) is overtaken|no wake-up is lost")
 # What an exploration runs: each row of PROVED's table begins with one of these, and ends with the commit whose code it ran.
 EXPLORED = {"lock": ["c/src/lock", "c/src/bells.c", "c/src/bells.h", "c/src/notify.c"], "nodes": ["c/src/calls.c", "c/src/bells.c", "c/src/bells.h", "c/src/notify.c"]}
+# The README of the archive, which has a table of figures too.
+ARCHIVE = "c/package/README"
+# A first screen has a program in each language.
+FIRST_SCREEN, LANGUAGES = 45, ("c", "cpp", "rust")
 # A number in a sentence.
 FIGURE = r"(?:\d[\d.,]*)?\d"
 faults = []
@@ -142,8 +146,10 @@ def check_names(pages, files):
 
 def check_figures(is_write):
     """Each table of figures in a page is what the measurements say, and each number in a sentence of `figures.RATIOS`."""
-    for page in sorted({"docs/LOCKS.md"} | {page for page, _, _ in figures.RATIOS}):
+    for page in sorted({"docs/LOCKS.md", ARCHIVE} | {page for page, _, _ in figures.RATIOS}):
         before = text = (ROOT / page).read_text()
+        if page == ARCHIVE:
+            text = re.sub(r"(?m)^(Which one, .*:\n\n)(?: {4}.*\n)+", lambda found: f"{found[1]}{figures.choice_of_archive()}\n", text)
         for name, table in figures.TABLES.items():
             text = re.sub(rf"(<!-- figures: {name} -->\n\n).*?\n\n", lambda found: found[1] + table() + "\n\n", text, flags=re.S)
         for of_page, sentence, numbers in figures.RATIOS:
@@ -185,6 +191,27 @@ def check_explored(is_write):
         faults.append("docs/PROVED.md says of other code than c/src has that it is explored: run tools/pages.py --write")
 
 
+def check_verdict():
+    """PROVED shows as many functions and axioms of the C library as its verdict, once that is there; the rest of the line tells what was kept."""
+    path = ROOT / "crates/qolb_c/out/verdict"
+    told = re.findall(r"(?m)^logic=proved (functions=\d+ axioms=\d+) ", path.read_text()) if path.exists() else []
+    if told and f"logic=proved {told[-1]} " not in (ROOT / "docs/PROVED.md").read_text():
+        faults.append(f"docs/PROVED.md shows another verdict than {path.relative_to(ROOT)}: {told[-1]}")
+
+
+def check_first_screen():
+    """README.md shows a program in each language in its first lines, the command that builds it, and advice that the figures bear out."""
+    first = "\n".join((ROOT / "README.md").read_text().split("\n")[:FIRST_SCREEN])
+    for language in LANGUAGES:
+        if not re.search(rf"(?ms)^```{language} program$.*?^```$", first):
+            faults.append(f"README.md has no whole program in {language} in its first {FIRST_SCREEN} lines")
+    if "pkg-config" not in first:
+        faults.append(f"README.md does not say in its first {FIRST_SCREEN} lines how a program is built")
+    for sentence, is_so in figures.advice():
+        if sentence not in first or not is_so:
+            faults.append(f"README.md {'does not advise' if is_so else 'must not advise, by the figures'}: {sentence}")
+
+
 def main():
     files = tracked()
     pages = [name for name in files if name.endswith(".md")]
@@ -192,6 +219,8 @@ def main():
     check_explored("--write" in sys.argv[1:])
     count_words(pages)
     check_claims(pages)
+    check_first_screen()
+    check_verdict()
     check_links(pages)
     check_names(pages, files)
     for fault in faults:

@@ -2,15 +2,19 @@
  * memory:3, thread:1, read:2 or write:5; with SHORT set each read and write of several bytes moves one, and with
  * INTERRUPT set each read and write is interrupted once before it is done. If a call was made to fail, a byte is
  * written to the file descriptor REFUSE_TELL. At the program's end the bytes of memory that it asked for in all are
- * written to TAKEN_TELL. For Linux with glibc. */
+ * written to TAKEN_TELL. ROOM is how many kilobytes of address space the program may take beside those that it has
+ * when it starts, and beside a stack of a megabyte: a stack that can't grow ends any program by a signal. For Linux
+ * with glibc. */
 #define _GNU_SOURCE
 #include <dlfcn.h>
 #include <errno.h>
+#include <fcntl.h>
 #include <pthread.h>
 #include <stdatomic.h>
 #include <stdio.h>
 #include <stdlib.h>
 #include <string.h>
+#include <sys/resource.h>
 #include <sys/syscall.h>
 #include <unistd.h>
 
@@ -29,6 +33,26 @@ static int is_short = 0;
 static int interrupts = 0;
 static atomic_ulong taken = 0;
 
+/* Has the stack grow to a megabyte, of which no page is given back. */
+static __attribute__((noinline)) void grow_stack(void) {
+    volatile char pages[1 << 20];
+    for (size_t at = sizeof pages; at > 0; at -= 4096) {
+        pages[at - 1] = 0;
+    }
+}
+
+/* Limits the address space to what the process has, and so many kilobytes. */
+static void limit_to(unsigned long kilobytes) {
+    char text[32] = "";
+    int file = open("/proc/self/statm", O_RDONLY);
+    if (file < 0 || syscall(SYS_read, file, text, sizeof text - 1) <= 0) {
+        abort();
+    }
+    close(file);
+    rlim_t room = strtoul(text, NULL, 10) * sysconf(_SC_PAGESIZE) + (kilobytes << 10);
+    setrlimit(RLIMIT_AS, &(struct rlimit){room, room});
+}
+
 __attribute__((constructor)) static void set_up(void) {
     static const char *const names[] = {"", "memory:", "thread:", "read:", "write:"};
     const char *told = getenv("REFUSE_TELL");
@@ -42,6 +66,10 @@ __attribute__((constructor)) static void set_up(void) {
             at = atol(what + length);
             kind = (enum kind)k;
         }
+    }
+    if (getenv("ROOM")) {
+        grow_stack();
+        limit_to(strtoul(getenv("ROOM"), NULL, 10));
     }
 }
 

@@ -5,16 +5,14 @@
 
 A refused allocation or thread must end with status 3, `out of memory` and nothing on standard output; a failed read with 4, `read fault`
 and nothing on standard output; a failed write with 4, `write fault` and a prefix of the answer. With reads and writes of one byte, and
-with each of them interrupted once, the answer must be whole. With little address space a run must report that memory is lacking or answer
-whole, from the least space with which the system can start it. The expected answers are from definitions.py. And the lines of work are of the named
+with each of them interrupted once, the answer must be whole. With little address space beside what it starts with a run must report that memory is
+lacking or answer whole. The expected answers are from definitions.py. And the lines of work are of the named
 kind: by the memory that it asks for, which differs between the kinds. Needs Linux with glibc and cc.
 """
 
 import itertools
 import os
 import re
-import resource
-import signal
 import subprocess
 import sys
 import tempfile
@@ -106,22 +104,17 @@ def whole(program, library, words, script, **settings):
         sys.exit(f"wrong: {' '.join(words)}, {settings}: {found}")
 
 
-def in_little_memory(program, words, script):
-    """Gives the program more and more address space, until its answer is whole ten times. Returns how many runs reported that memory is lacking, and
-    how many kilobytes the first whole answer took. With too little the system cannot start the program at all."""
-    wanted, started, short, served = answer_to(words[0], script), False, 0, []
-    for kilobytes in itertools.count(1024, 128):
-
-        def limit():
-            resource.setrlimit(resource.RLIMIT_AS, (kilobytes << 10, kilobytes << 10))
-
-        found = run(program, words, script, preexec_fn=limit)
+def in_little_memory(program, library, words, script):
+    """Gives the program more and more address space beside what it starts with, until its answer is whole ten times. Returns how many runs reported
+    that memory is lacking, and how many kilobytes the first whole answer took."""
+    wanted, short, served = answer_to(words[0], script), 0, []
+    for kilobytes in itertools.count(0, 64):
+        found, _ = refused(program, library, words, script, ROOM=str(kilobytes))
         if is_refusal("memory", wanted, found):
-            started, short = True, short + 1
+            short += 1
         elif is_right(wanted, found):
-            started = True
             served.append(kilobytes)
-        elif started or found[0] not in (127, -signal.SIGSEGV, -signal.SIGKILL):
+        else:
             sys.exit(f"wrong: {' '.join(words)}, {kilobytes} kilobytes: {found}")
         if len(served) == 10:
             return short, served[0]
@@ -174,7 +167,7 @@ def main():
             whole(program, library, words, script, INTERRUPT="1")
             whole(program, library, words, script, INTERRUPT="1", SHORT="1")
             row = "{:11}  {:7}  {:5}  {:6}  {:11} and {:12}".format(*counts)
-            short, enough = in_little_memory(program, words, grown(script))
+            short, enough = in_little_memory(program, library, words, grown(script))
             print(f"{' '.join(words):20}  {row}  {short} runs, up to {enough} KB", flush=True)
         kinds_by_memory(program, library)
     print(f"all as they must be, in {time.monotonic() - began:.0f} seconds")

@@ -2,16 +2,17 @@
  *
  * A lock (qolb_lock) guards any data, for any number of threads, as a mutex does. A line is a lock that hands over 64
  * bytes, among 1 to 200 nodes (qolb_node). A task (qolb_task) enters a lock from an event loop, which must not wait.
- * Each is a part below, and a manual page: qolb_lock(3), qolb_node(3), qolb_task(3).
+ * Each has a manual page: qolb_lock(3), qolb_node(3), qolb_task(3).
  *
  *     cc -pthread prog.c $(pkg-config --cflags --libs qolb)
  *     cc -pthread -I PREFIX/include prog.c PREFIX/lib/libqolb.a
  *
  * PROOFS
  *
- * Proved of a lock: its core's tickets have turns one at a time, waiters in order, within the bound of bursts, and a
- * release is told of announced sleeps. Explored with two and three threads, and tested: that sleepers wake, conditions,
- * tasks. Argued: that a holder sees what the last one wrote. No proof speaks of the guarded data.
+ * Proved of a lock: its core, which decides who is next, gives one turn at a time, to waiters in order, to later calls
+ * before them within the bound of bursts, and tells a release of announced sleeps. Explored with two and three threads,
+ * and tested: the C around it, with wakes, limits, conditions, tasks. Argued: that a holder sees what the last one
+ * wrote. No proof speaks of the guarded data.
  *
  * What calls do to a line, with its 64 bytes, is proved. Their waits, notifications and memory are C: explored and
  * tested.
@@ -102,25 +103,19 @@
  *
  * A limit is a length in nanoseconds from the call on, and UINT64_MAX is none. Of waits in a loop pass each what is
  * left. A thread whose time runs out gives its ticket up, which counts as a request until a holder passes it. While
- * 16,384 requests of a lock are open, a call with a limit draws none, and looks again each millisecond.
- *
- * SHUT AND CLOSE
- *
- * qolb_lock_shut ends the use of a lock: who waits, or enters later, is answered CLOSED. qolb_lock_close makes a lock
- * unopened, for another use of it.
+ * 16,384 requests of a lock are open, a call with a limit draws none, looks each millisecond, and may be overtaken.
  *
  * FORK
  *
  * A lock or a line is of one process. A fork copies it, in the same state; the copies guard nothing that both
- * processes share. The child of a process with one thread may go on with its copy. In the child of a process with
- * threads call nothing: another thread may have been in a call.
+ * processes share. The child of a process with one thread may go on with its copy.
  *
  * WAITING
  *
- * A waiter polls each 90 ns, for at most 50 us with at most four threads before it, and 2 us with more; then it sleeps
- * by a futex until its turn. At a condition it sleeps at once. After polls without success a thread polls for less the
- * next time. It never yields, so a real-time thread may wait for another. A process that may use one processor only
- * sleeps at once.
+ * A waiter polls each 90 ns if it is next, else more seldom, for at most 50 us with at most four threads before it,
+ * and 2 us with more; then it sleeps by a futex until its turn. At a condition it sleeps at once, and so does a
+ * process that may use one processor only. After polls without success a thread polls for less the next time. It never
+ * yields, so a real-time thread may wait for another.
  *
  * Leaving wakes the next holder. If the leaver had slept, it wakes the waiter behind that one, too. In a burst it wakes
  * the first waiter alone. It calls the system only if it may have to wake a sleeper.
@@ -308,8 +303,8 @@
  *   the same node or task in another thread, until it has returned or said qolb_notify_done. A call says that before
  *   it takes a lock under which one of these six is made, before it resumes a coroutine, and before it makes one.
  * - A call may come before the call that asked for it has returned, and may use the node or task even then.
- * - A call may be early, though rarely: the request still waits. Call qolb_notify again, which polls and wants another
- *   call in one step.
+ * - A call may be early: the request still waits. Call qolb_notify again, which polls and wants another call in one
+ *   step.
  * - Poll after the call: all behind wait for it, also after a shut: each is told CLOSED once the one before has
  *   polled.
  * - A call may be late: after a turn that qolb_poll granted it is still made, until qolb_notify_off. `arg` must last
@@ -323,7 +318,8 @@
  * - Every call by which a thread or a task enters, leaves, gives up or closes a lock may make calls of tasks. A task
  *   that is the first of those that wait ends a burst with the turn of who is in.
  * - No call of a task waits for a turn. One that would have to wait is told NO_MEMORY without memory, or while some
- *   16,300 tickets of the lock are out.
+ *   16,300 tickets of the lock are out. One that was given up is out until the turn before it ends: so 16,380 enters
+ *   and cancels beside one holder of a strict lock end with NO_MEMORY.
  * - A lock that a task holds is not held by its thread: qolb_lock_enter there waits, for ever if that thread would
  *   have to leave for the task; qolb_lock_enter_within is LATE, qolb_lock_try BUSY; leave, shut and waits at a
  *   condition are MISUSE. In an event loop let only tasks enter.
@@ -470,19 +466,19 @@ uint32_t qolb_withdraw(qolb_node *node) QOLB_LOOK;
 uint32_t qolb_prepend(qolb_node *node) QOLB_LOOK;
 uint32_t qolb_link(qolb_node *node) QOLB_LOOK;
 
-/* Reads the line, for its holder. In the state HOLDING: DONE. Else MISUSE, and `out` is unchanged. */
+/* Reads the line. In the state HOLDING: DONE. Else MISUSE, and `out` is unchanged. */
 uint32_t qolb_read(qolb_node *node, qolb_bytes *out);
 
-/* Writes byte k of `bytes` for the holder if bit k of the mask is set. In the state HOLDING: DONE. Else MISUSE. */
+/* Writes byte k of `bytes` if bit k of the mask is set. In the state HOLDING: DONE. Else MISUSE. */
 uint32_t qolb_write(qolb_node *node, uint64_t mask, const qolb_bytes *bytes);
 
-/* Read and write one lane, 0 to 7, for the holder. In the state HOLDING, with lane below 8: DONE. Else MISUSE, and
- * `out` is unchanged. */
+/* Read and write one lane, 0 to 7. In the state HOLDING, with lane below 8: DONE. Else MISUSE, and `out` is
+ * unchanged. */
 uint32_t qolb_read_lane(qolb_node *node, uint64_t lane, uint64_t *out);
 uint32_t qolb_write_lane(qolb_node *node, uint64_t lane, uint64_t value);
 
-/* Adds `by` to one lane modulo 2^64, for the holder, and writes to `was` what the lane had before. In the state
- * HOLDING, with lane below 8: DONE. Else MISUSE, and `was` is unchanged. */
+/* Adds `by` to one lane modulo 2^64, and writes to `was` what the lane had before. In the state HOLDING, with lane
+ * below 8: DONE. Else MISUSE, and `was` is unchanged. */
 uint32_t qolb_add_lane(qolb_node *node, uint64_t lane, uint64_t by, uint64_t *was);
 
 /* Returns the number of turns left, with the holder's own: QOLB_NO_LEASE without a lease. 0 if the node does not hold
@@ -545,7 +541,7 @@ typedef struct qolb_cond {
 
 /* clang-format on */
 
-/* Opens an unopened lock, with bursts of a number of turns that is known at run time; with 0 or 1 it is strict. DONE;
+/* Opens an unopened lock, with bursts of a number of turns that is known at run time (ORDER AND BURSTS). DONE;
  * OCCUPIED: it is open. */
 uint32_t qolb_lock_open(qolb_lock *lock, uint64_t turns) QOLB_LOOK;
 

@@ -1,5 +1,5 @@
-// QOLB for C++14 and later: fair locks, which threads get in the order in which they asked. The manual pages
-// qolb_lock(3), qolb_node(3) and qolb_task(3) have what each call answers, and the rules for callers.
+// QOLB for C++14 and later: locks, strict in the order of asking, or with bursts. The manual pages qolb_lock(3),
+// qolb_node(3) and qolb_task(3) have what each call answers, and the rules for callers.
 //
 //     qolb::lock lock;                             // a timed mutex, for the standard library's guards
 //     qolb::lock often(qolb::burst{1024});         // later calls may be first, a bounded number of times
@@ -64,10 +64,10 @@ enum class Got {
     misuse   // the node is none, or waits or holds already; nothing changed
 };
 
-// The line is closed, so a lock that waits for it can't be had.
+// The line is closed, or the lock shut.
 class Closed : public std::runtime_error {
   public:
-    Closed() : std::runtime_error("qolb: the line is closed") {}
+    Closed() : std::runtime_error("qolb: the line is closed, or the lock shut") {}
 };
 
 // There is no node, or it waits or holds already; or it does not hold the line that it is to read, write or release.
@@ -131,8 +131,7 @@ QOLB_NODISCARD inline std::uint64_t memory(qolb_kind kind, std::uint64_t nodes) 
 
 // A node of a line, or none. If it is destroyed, it withdraws its request, or releases the line that it holds.
 //
-// It is a timed lock as the standard library means it, so std::unique_lock, std::lock_guard and std::scoped_lock take
-// it.
+// It is a timed lock for std::unique_lock, std::lock_guard and std::scoped_lock.
 class Node {
   public:
     Node() = default;
@@ -475,8 +474,9 @@ template <class T> class Guarded {
     }
 
     // The same, with a copy of the value, which is moved back at the end. If `change` throws, the value is as before.
-    // If that move throws, it is what the move left. `change` returns no reference: it would be to the copy.
+    // If that move throws, it is what the move left. `change` must not return a reference: it could be to the copy.
     template <class Change> auto update(Change change) -> decltype(change(std::declval<T &>())) {
+        static_assert(!std::is_reference<decltype(change(std::declval<T &>()))>::value, "the copy ends with the call");
         std::lock_guard<Lock> held(lock_);
         T copy(value_);
         return changed(copy, change, std::is_void<decltype(change(std::declval<T &>()))>());

@@ -30,9 +30,9 @@
 //!
 //! # What is proved
 //!
-//! Proved of a lock: its core's tickets have turns one at a time, waiters in order, within the bound of bursts, and a release is told of announced
-//! sleeps. Explored with two and three threads, and tested: that sleepers wake, conditions, tasks. Argued: that a holder sees what the last one
-//! wrote. No proof speaks of the guarded data.
+//! Proved of a lock: its core, which decides who is next, gives one turn at a time, to waiters in order, to later calls before them within the bound
+//! of bursts, and tells a release of announced sleeps. Explored with two and three threads, and tested: the C around it, with wakes, limits,
+//! conditions, tasks. Argued: that a holder sees what the last one wrote. No proof speaks of the guarded data.
 //!
 //! # Nodes
 //!
@@ -211,7 +211,7 @@ pub enum Stopped {
 impl fmt::Display for Stopped {
     fn fmt(&self, f: &mut fmt::Formatter<'_>) -> fmt::Result {
         f.write_str(match self {
-            Stopped::Closed => "the line is closed",
+            Stopped::Closed => "the line is closed, or the lock shut",
             Stopped::Misuse => "the node waits or holds already, or the thread holds the lock",
         })
     }

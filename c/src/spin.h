@@ -2,6 +2,9 @@
  * locks (docs/DECISIONS.md says what was tried). One of the library's internal files.
  *
  * A waiter that finds that it is not at its turn calls qolb_spin_once_, which pauses for some 90 ns, and polls again.
+ * One that can tell who is between it and the turn pauses for some 150 ns more for each: a poll takes the cache line
+ * from who passes the turn on (Mellor-Crummey and Scott, TOCS 1991).
+ *
  * Once the call answers 0 the waiter sleeps, and calls it anew when it is woken. At most it spins 50 us if four or
  * fewer are before it; 2 us if more are, as its turn is far; and 20 us if it can't tell. Sleeping and waking cost about
  * as much, so a wait takes at most about twice the best (Karlin and others, SOSP 1991).
@@ -24,6 +27,8 @@
 
 enum {
     POLL_PAUSE = 90,     /* between two polls */
+    POLL_FARTHER = 150,  /* more for each turn between, if it can tell; so a pause is no longer than LONGEST_PAUSE */
+    LONGEST_PAUSE = 540, /* as it can tell of three */
     SPIN_NEAR = 50000,   /* before a sleep, with at most NEAR_TURNS before the waiter, the holder among them */
     SPIN_FAR = 2000,     /* with more; and the least that a thread learns */
     SPIN_WOKEN = 10000,  /* the least after a sleep, unless more are before it */
@@ -66,53 +71,64 @@ static inline int qolb_pause_(unsigned nanoseconds) {
 
 /* What a waiter has spun since it last slept in this wait. {0} when the wait begins. */
 struct spin {
-    unsigned polls;
-    int slept; /* it has slept in this wait, or was told to */
+    unsigned spun; /* nanoseconds */
+    int slept;     /* it has slept in this wait, or was told to */
 };
 
 enum { FIRST_SPIN, WOKEN_SPIN, HEAD_SPIN, SPINS };
 
-/* The most polls of the thread's next spins: without a sleep in the same wait, after one, and as the queue head of a
- * lock with bursts. 0: as many as may be. */
+/* The length of the thread's next spins, in nanoseconds: without a sleep in the same wait, after one, and as the queue
+ * head of a lock with bursts. 0: as long as may be. */
 extern __attribute__((visibility("hidden"))) BY_THREAD unsigned qolb_learned_[SPINS];
 
-static inline unsigned polls_before_sleep(uint64_t before) {
-    if (before == UNKNOWN_TURNS) return SPIN_UNKNOWN / POLL_PAUSE;
-    return (before <= NEAR_TURNS ? SPIN_NEAR : SPIN_FAR) / POLL_PAUSE;
+static inline unsigned longest_spin(uint64_t before) {
+    if (before == UNKNOWN_TURNS) return SPIN_UNKNOWN;
+    return before <= NEAR_TURNS ? SPIN_NEAR : SPIN_FAR;
 }
 
-/* The most polls of a spin that begins. */
+/* The length of a spin that begins. */
 static inline unsigned begin_spin(unsigned *learned) {
     unsigned grown = *learned + *learned / GROWS_BY;
-    return *learned = *learned && grown < SPIN_NEAR / POLL_PAUSE ? grown : SPIN_NEAR / POLL_PAUSE;
+    return *learned = *learned && grown < SPIN_NEAR ? grown : SPIN_NEAR;
 }
 
 /* A spin that ends at once, as the turn is far, says nothing of the next one. */
 static inline void end_spin(struct spin *spin, unsigned *learned) {
-    unsigned less = spin->polls / SHRINKS_BY, least = (spin->slept ? SPIN_WOKEN : SPIN_FAR) / POLL_PAUSE;
-    if (spin->polls > SPIN_FAR / POLL_PAUSE) *learned = less > least ? less : least;
-    spin->polls = 0;
+    unsigned less = spin->spun / SHRINKS_BY, least = spin->slept ? SPIN_WOKEN : SPIN_FAR;
+    if (spin->spun > SPIN_FAR + LONGEST_PAUSE) *learned = less > least ? less : least;
+    spin->spun = 0;
     spin->slept = 1;
 }
 
-/* Pauses between two polls of a waiter that has so many before it: 1. If it is time to sleep: 0, at once; the next call
- * begins a new spin. How many there are may be told anew with each call. It reads no clock: a thread that loses its
- * processor spins on afterwards. */
-static inline int qolb_spin_once_(struct spin *spin, uint64_t before) {
-    unsigned *learned = &qolb_learned_[spin->slept ? WOKEN_SPIN : FIRST_SPIN], most = polls_before_sleep(before);
-    unsigned patience = spin->polls ? *learned : begin_spin(learned);
-    if (spin->polls < (patience < most ? patience : most) && qolb_pause_(POLL_PAUSE)) return spin->polls++, 1;
+/* Whether a waiter that has so many before it is to spin on. If it is time to sleep: 0; the next call begins a new
+ * spin. How many there are may be told anew with each call. It reads no clock: a thread that loses its processor spins
+ * on afterwards. */
+static inline int qolb_spins_on_(struct spin *spin, uint64_t before) {
+    unsigned *learned = &qolb_learned_[spin->slept ? WOKEN_SPIN : FIRST_SPIN], most = longest_spin(before);
+    unsigned patience = spin->spun ? *learned : begin_spin(learned);
+    if (spin->spun + POLL_PAUSE <= (patience < most ? patience : most) && pauses_in_1024()) return 1;
     return end_spin(spin, learned), 0;
+}
+
+/* Pauses before a poll. */
+static inline void qolb_spin_for_(struct spin *spin, unsigned pause) {
+    qolb_pause_(pause);
+    spin->spun += pause;
+}
+
+/* Both: pauses, and returns 1; or 0, at once. */
+static inline int qolb_spin_once_(struct spin *spin, uint64_t before) {
+    return qolb_spins_on_(spin, before) ? qolb_spin_for_(spin, POLL_PAUSE), 1 : 0;
 }
 
 /* The same for the queue head of a lock with bursts, which pauses for so many nanoseconds between two looks. It has
  * spun so many since its wait began, or since it slept. A spin in which turns ended pays, as a head that sleeps has to
  * be woken by who leaves; one in which none did makes the next one shorter, down to 2 us. */
 static inline int qolb_watch_once_(unsigned *spun, unsigned pause, int pays) {
-    unsigned *learned = &qolb_learned_[HEAD_SPIN], least = SPIN_FAR / POLL_PAUSE;
+    unsigned *learned = &qolb_learned_[HEAD_SPIN], least = SPIN_FAR;
     unsigned patience = *spun ? *learned : begin_spin(learned), less = patience / SHRINKS_BY;
-    if (*spun < patience * POLL_PAUSE && qolb_pause_(pause)) return *spun += pause, 1;
-    *learned = pays ? SPIN_NEAR / POLL_PAUSE : less > least ? less : least;
+    if (*spun < patience && qolb_pause_(pause)) return *spun += pause, 1;
+    *learned = pays ? SPIN_NEAR : less > least ? less : least;
     return *spun = 0, 0;
 }
 

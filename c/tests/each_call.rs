@@ -291,13 +291,13 @@ fn says() {
     for (answer, text) in TEXTS {
         assert_eq!(answer.to_string(), text);
     }
-    assert_eq!(Stopped::Closed.to_string(), "the line is closed");
+    assert_eq!(Stopped::Closed.to_string(), "the line is closed, or the lock shut");
     assert_eq!((Kind::DEFAULT, Kind::default()), (Kind::Ticket, Kind::Ticket));
     assert_eq!(Kind::ALL.map(Kind::name), ["ring", "link", "ticket"]);
     assert_eq!(Kind::Link.to_string(), "link");
     assert_eq!(asks(1, false).unwrap(), 5);
     assert_eq!(asks(201, false).unwrap_err().to_string(), "a line has 1 to 200 nodes");
-    assert_eq!(asks(1, true).unwrap_err().to_string(), "the line is closed");
+    assert_eq!(asks(1, true).unwrap_err().to_string(), "the line is closed, or the lock shut");
     assert_eq!(Stopped::Misuse.to_string(), "the node waits or holds already, or the thread holds the lock");
     assert_eq!(qolb::open(Kind::Link, 1, 2, Some(0), &Bytes([0; 64])).unwrap_err().to_string(), "a lease has at least one turn");
     let line = Line::new(Kind::Ring, Queued);

@@ -18,9 +18,15 @@
 enum { MS = 1000000, KEPT = 8 };
 #define NEVER UINT64_MAX
 
-/* How often a waiter polls before it sleeps, each 90 ns, as qolb.h says: for 50 us behind at most four others, and for
- * 2 us behind more. A spin in vain halves the next one, which begins with an eighth more. */
-enum { NEAR = 555, FAR = 22, LESS = NEAR / 2 + NEAR / 2 / 8 };
+/* How often a waiter polls before it sleeps, as qolb.h says: behind the holder alone each 90 ns, for 50 us; behind one
+ * more each 240 ns; farther than a round from its turn each 540 ns, until 2 us are over. A spin in vain halves the next
+ * one, which begins with an eighth more. */
+enum {
+    NEAR = 50000 / 90,
+    BEHIND_ONE = (50000 - 90) / 240 + 1,
+    FAR = (2000 - 90) / 540 + 1,
+    LESS = NEAR * 90 / 2 * 9 / 8 / 90
+};
 
 /* The time; and since `begins` the numbers of clock calls, sleeps, polls and wakes, the longest time that a sleep may
  * have lasted, and the calls that a waiter must not make. */
@@ -153,7 +159,8 @@ static int is_left(void) {
 
 /* ---- Resting ---- */
 
-/* Late to the nanosecond, after one sleep; at once for no time at all. The head of a lock with bursts polls no cell. */
+/* Late to the nanosecond, after one sleep; at once for no time at all. The request that was late stays before the next
+ * one until a leave passes it. The head of a lock with bursts polls no cell. */
 static int late(uint64_t burst) {
     if (is_held(burst)) return 1;
     for (int again = 0; again < 2; again++) {
@@ -163,7 +170,7 @@ static int late(uint64_t burst) {
         WANT(now - since, 20 * MS);
         WANT(sleeps, 1);
         WANT(longest, 20 * MS);
-        WANT(polls, burst ? 0 : NEAR);
+        WANT(polls, burst ? 0 : again ? BEHIND_ONE : NEAR);
     }
     begins(NULL);
     WANT(enters(0), QOLB_LATE);

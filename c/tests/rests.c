@@ -31,7 +31,7 @@ static uint64_t now, clocks, yields, sleeps, longest, asks, spins, spun, looks, 
  * and one more comes before the sleep. */
 enum { NEAR = 555, UNKNOWN = 222, LEAST = 22, WOKEN = 111 };
 /* The same behind a spin in vain: half as often, and an eighth of that more. */
-enum { LESS = NEAR / 2 + NEAR / 2 / 8 };
+enum { LESS = NEAR * 90 / 2 * 9 / 8 / 90 };
 /* How long 64 pauses take by the clock in each of the runs in which they are timed, between two clock calls; the number
  * of clock calls for that. */
 enum { TIMED = 5 };

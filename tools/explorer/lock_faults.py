@@ -118,7 +118,7 @@ FAULTS = {
     "who abandons its ticket keeps it": (1, "far: ", (REGISTRY, "qolb_abandon_", "    if (got == QOLB_ASLEEP_) *ticket = (struct qolb_ticket){.outer = ticket->outer};\n", "")),
     "where there is no memory a ticket is lost": (1, "far: no memory", (REGISTRY, "qolb_abandon_", "    if (!e) return QOLB_WAITING;\n", "    if (!e) return *ticket = (struct qolb_ticket){0}, QOLB_ASLEEP_;\n")),
     "where a cell is full a ticket is lost": (1, "far: ", (REGISTRY, "qolb_abandon_", "return got == QOLB_FULL_ ? (uint32_t)QOLB_WAITING : got;", "return got == QOLB_FULL_ ? *ticket = (struct qolb_ticket){0}, (uint32_t)QOLB_ASLEEP_ : got;")),
-    "the last entry of a list stays its last": (1, "", (HEADER, "take_behind", "if (last_of(list) == it)", "if (it == before)")),
+    "the last entry of a list stays its last": (1, "the later of two", (HEADER, "take_behind", "if (last_of(list) == it)", "if (it == before)")),
     "a list forgets all but its last entry": (2, "tasks: three tasks", (HEADER, "put_last", "    it->next = last ? last->next : it;\n    if (last) last->next = it;\n", "    it->next = it, (void)last;\n")),
     # A task as the queue head.
     "a queue head is told of before it is in its list": (2, "bursts: tasks", (REGISTRY, "waits_on", "    put_in(e);\n", ""), (REGISTRY, "waits_on", "            return 1;\n", "            return put_in(e), 1;\n"), (REGISTRY, "waits_on", "    take_out(e);\n", "")),

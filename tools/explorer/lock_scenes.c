@@ -349,19 +349,28 @@ __attribute__((noinline)) static void use_stack(void) {
     for (int k = 0; k < 128; k++) bytes[k] = 1;
 }
 
-static void waits(int self) {
+enum { SIGNALS_TWICE, WAITS_ON, WAITS_FOR_A_TIME };
+
+static void waits_or_signals(int what) {
     MUST(qolb_lock_enter(it.lock) == QOLB_GRANTED);
-    if (self == 0) it.has += 2;
-    while (self && !it.has) {
-        uint32_t got = self == 1 ? qolb_cond_wait(&it.cond, it.lock) : qolb_cond_wait_within(&it.cond, it.lock, MS);
-        MUST(got == QOLB_GRANTED || (got == QOLB_LATE && self == 2));
+    if (what == SIGNALS_TWICE) it.has += 2;
+    while (what != SIGNALS_TWICE && !it.has) {
+        uint32_t got = what == WAITS_ON ? qolb_cond_wait(&it.cond, it.lock)
+                                        : qolb_cond_wait_within(&it.cond, it.lock, MS);
+        MUST(got == QOLB_GRANTED || (got == QOLB_LATE && what == WAITS_FOR_A_TIME));
         if (got == QOLB_LATE) break;
     }
+    use_stack();
     turn();
-    if (self && it.has) it.has--;
+    if (what != SIGNALS_TWICE && it.has) it.has--;
     leave();
-    if (self == 0) qolb_cond_signal(&it.cond), qolb_cond_signal(&it.cond);
+    if (what == SIGNALS_TWICE) qolb_cond_signal(&it.cond), qolb_cond_signal(&it.cond);
 }
+
+static void waits(int self) { waits_or_signals(self); }
+
+/* In this order, unless there are turns of the schedule: so the last may be late. */
+static void waits_in_order(int self) { waits_or_signals((self + 1) % THREADS); }
 
 /* One waits at the condition while another enters again and again, and signals in its last turn. */
 static void waits_while_one_stays(int self) {
@@ -546,6 +555,7 @@ const struct scene scenes[] = {
     {"far: one frees", one_frees, 2, 0, 0, FAR},
     {"one closes beside a holder", one_closes_beside_a_holder, 2, 0, 0, ROOMY},
     {"two wait at a condition, one not for ever", waits, 3, 0, 0, ROOMY},
+    {"the later of two at a condition is late", waits_in_order, 3, 0, 0, ROOMY},
     {"one waits at a condition while one stays", waits_while_one_stays, 2, 0, 0, ROOMY},
     {"two wait at a condition until one shuts", waits_until_shut, 3, 0, 0, ROOMY},
     {"one shuts and frees beside a waiter", shuts_and_frees, 2, 0, 0, ROOMY},
@@ -587,6 +597,7 @@ const struct scene scenes[] = {
     {"bursts: far: one frees", one_frees, 2, 2, 0, FAR},
     {"bursts: one closes beside a holder", one_closes_beside_a_holder, 2, 2, 0, ROOMY},
     {"bursts: two wait at a condition, one not for ever", waits, 3, 2, 0, ROOMY},
+    {"bursts: the later of two at a condition is late", waits_in_order, 3, 2, 0, ROOMY},
     {"bursts: two wait at a condition until one shuts", waits_until_shut, 3, 2, 0, ROOMY},
     {"bursts: one shuts and frees beside a waiter", shuts_and_frees, 2, 2, 0, ROOMY},
     {"bursts: one signals and frees", signals_and_frees, 2, 2, 0, ROOMY},

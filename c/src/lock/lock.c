@@ -88,9 +88,16 @@ static uint32_t look(struct lock *lock, struct turn *at) {
                             : qolb_core_check_open_proved_(&lock->core, &at->ticket);
 }
 
-/* Who is at its turn of the queue enters: GRANTED, CLOSED, or LATE at the outer word. */
+/* Who is at its turn of the queue enters: GRANTED, CLOSED, or LATE at the outer word. In a strict lock all behind it
+ * wait meanwhile: so that is short. */
 static uint32_t enter_at_turn(struct request *my) {
-    uint32_t got = has_bursts(my->lock) ? qolb_await_outer_(my) : look(my->lock, my->at);
+    uint32_t got;
+    if (has_bursts(my->lock)) {
+        got = qolb_await_outer_(my);
+    } else {
+        got = qolb_core_check_open_proved_(&my->lock->core, &my->at->ticket);
+        if (likely(got == QOLB_GRANTED)) return got;
+    }
     qolb_settle_(my->lock, my->at, got);
     return got;
 }
@@ -136,9 +143,20 @@ uint32_t qolb_lock_enter_within(qolb_lock *lock, uint64_t nanoseconds) {
     return enter_or_try(lock_of(lock), nanoseconds, QOLB_MISUSE);
 }
 
+/* For as long as it takes, in the thread's own place for a strict lock, with a ticket. */
+static uint32_t enter_after_wait(struct request *my) {
+    PROBE(wait, of_request(my));
+    qolb_await_turn_(my);
+    uint32_t got = enter_at_turn(my);
+    PROBE_END(got, of_request(my));
+    if (got == QOLB_GRANTED) set_core(my->at, core_at(my->at) + HELD - LAST);
+    return got;
+}
+
 /* In the thread's own place for the lock, after a proved call that answered this. */
 SLOW static uint32_t enter_on(struct turn *at, uint32_t got) {
     struct request my = {lock_by(at), at, FOR_EVER, 0};
+    if (likely(got == QOLB_WAITING)) return enter_after_wait(&my);
     if (got == QOLB_BUSY) got = ask(&my);
     if (got == QOLB_CLOSED) qolb_pass_on_(my.lock, at);
     else got = enter_by(&my, got);

@@ -46,13 +46,21 @@ static uint32_t give_up(const struct request *my) {
     return got == QOLB_GRANTED ? got : told;
 }
 
+/* How many are between a waiter and the one at its turn, by the cells beside its own: at most three. */
+static unsigned turns_between(const struct request *my) {
+    unsigned k = 0;
+    while (k + 1 < TICKETS_IN_ROUND && rounds_to_go(my->lock, ticket_of(my)->number - k - 1) > 0) k++;
+    return k;
+}
+
 uint32_t qolb_await_turn_(struct request *my) {
     struct spin spin = {0};
     uint32_t got = QOLB_WAITING;
     while (got == QOLB_WAITING) {
         if (is_over(my->until)) {
             got = give_up(my);
-        } else if (qolb_spin_once_(&spin, ticket_of(my)->rounds * TICKETS_IN_ROUND)) {
+        } else if (qolb_spins_on_(&spin, ticket_of(my)->rounds * TICKETS_IN_ROUND)) {
+            qolb_spin_for_(&spin, POLL_PAUSE + turns_between(my) * POLL_FARTHER);
             got = qolb_core_poll_proved_(core_of(my), ticket_of(my));
         } else {
             got = sleep_for_turn(my, my->until);

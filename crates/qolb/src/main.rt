@@ -6,8 +6,14 @@ use std::process::ExitCode;
 use std::{env, io};
 
 /// Returns the words of the command line, of which the first is the program's name.
+///
+/// A refused growth is an error, where `collect` would ask again for less.
 fn words(rt: &HostRuntime) -> io::Result<Vec<String>> {
-    Ok(env::args(rt)?.collect(rt.alloc())?)
+    let mut all = Vec::new(rt.alloc());
+    for word in env::args(rt)? {
+        all.push(word)?;
+    }
+    Ok(all)
 }
 
 fn main(rt: HostRuntime) -> ExitCode {

@@ -16,9 +16,9 @@ use std::alloc::{AllocError, Global};
 static REPLAYED: [&str; LOCKS + 1] = lock_names!(array, "plain");
 
 const REPLAYED_HELP: &str =
-    "What represents the lines: the plain reference with one owner, or lines that nodes share, by the name of their lock";
+    "What represents the lines: the plain reference with one\nowner, or lines that nodes share, by the name of their\nlock";
 
-const SHARED_HELP: &str = "The lock of the lines";
+const SHARED_HELP: &str = "The lock of the lines that the workers share, by its\nname";
 
 const MISUSE_EXPLAINED: &str = "Explains a refused line, and each answer of misuse";
 
@@ -27,7 +27,7 @@ const REFUSALS_EXPLAINED: &str = "Explains a refused line, and each answer of re
 const LINE_EXPLAINED: &str = "Explains a refused line";
 
 const ABOUT: &str =
-    "Queued line locks: nodes queue at a line of 64 bytes, and a release hands lock and\nline to the next";
+    "Queued line locks: nodes queue at a line of 64 bytes, and a release hands lock\nand line to the next";
 
 /// What `--version` says after the name: the version, which `tools/sources` compares, and the kinds of lines. A program can't know which kit
 /// built it, nor whether it was proved: the script `qolb` adds that.
@@ -57,8 +57,9 @@ it prints granted, ok, released, and the counts of the line.";
 const STEPS: &str = "The script, on standard input:
   nodes N                     its first line: 1 to 200 nodes
   nodes N lease C             the same; the line closes at its C-th served turn
-  EVENT n                     a word step of node n: reset, prepend, link, load, home,
-                              done, grant, roll or freed; or close, in a holder's hand
+  EVENT n                     a word step of node n: reset, prepend, link, load,
+                              home, done, grant, roll or freed; or close, in a
+                              holder's hand
   write n OFFSET HEX          the holder writes these bytes into the line
 
 Example: with
@@ -66,16 +67,17 @@ Example: with
   reset 1
   prepend 1
   home 1
-it prints went, granted, released, and the counts of the line; with --rank went 0,
-granted 1, released 0, and the counts.";
+it prints went, granted, released, and the counts of the line; with --rank
+went 0, granted 1, released 0, and the counts.";
 
 const BOARD: &str = "The script, on standard input:
   board workers W             its first line: 1 to 200 workers
-  w put TASK                  worker w puts a task, a number below 2^64, on the board
+  w put TASK                  worker w puts a task, a number below 2^64, on the
+                              board
   w take                      worker w takes the oldest task off the board
 
-The board holds seven tasks. Each worker does its jobs in the script's order; nothing is
-said of the order between workers.
+The board holds seven tasks. Each worker does its jobs in the script's order;
+nothing is said of the order between workers.
 
 Example: with
   board workers 1
@@ -86,12 +88,14 @@ it prints stored 2, full 0, taken 1, empty 0, left 1.";
 
 const BANK: &str = "The script, on standard input:
   bank workers W lines L      its first line: 1 to 200 workers and 1 to 8 lines
-  w in ACCOUNT AMOUNT         worker w pays an amount into an account, 0 to 8L - 1
+  w in ACCOUNT AMOUNT         worker w pays an amount into an account, of 0 to
+                              8L - 1
   w out ACCOUNT AMOUNT        worker w pays it out
   w move FROM TO AMOUNT       worker w moves it from one account to another
 
-An account holds 0 to 2^48; a job that would go beyond that changes nothing. Each worker
-does its jobs in the script's order; nothing is said of the order between workers.
+An account holds 0 to 2^48; a job that would go beyond that changes nothing.
+Each worker does its jobs in the script's order; nothing is said of the order
+between workers.
 
 Example: with
   bank workers 1 lines 1
@@ -100,11 +104,11 @@ Example: with
   1 out 3 1
 it prints in 10, out 1, total 9.";
 
-const DRAW: &str =
-    "The script, on standard input, is a schedule, as of `qolb replay`. Each line is drawn as a
-row for each node that calls on it, with a letter for each command on the line: how the
-node stands after it. A step script is drawn as a line for each event: a letter for each
-node, its point after the event; what the event told; and where the line lies.
+const DRAW: &str = "The script, on standard input, is a schedule, as of `qolb replay`. Each line is
+drawn as a row for each node that calls on it, with a letter for each command on
+the line: how the node stands after it. A step script is drawn as a line for
+each event: a letter for each node, its point after the event; what the event
+told; and where the line lies.
 
 Example: with
   nodes 2 lines 1
@@ -334,7 +338,7 @@ fn replay<'a>(alloc: Global, kinds: &'a [&'a str]) -> Result<Command<'a>, AllocE
     ensures { IfOk result (λ r. app_of r ≡ replay_command kinds.entry) }
 {
     Command::new(alloc, "replay")
-        .about("Replays the schedule script on standard input, and prints what each call answers")
+        .about("Replays the schedule script on standard input, and prints what each\ncall answers")
         .after_help(REPLAY)
         .arg(kind_argument(alloc, kinds, REPLAYED_HELP).required(true))?
         .arg(explain(alloc, MISUSE_EXPLAINED))
@@ -346,13 +350,13 @@ fn steps<'a>(alloc: Global) -> Result<Command<'a>, AllocError>
 {
     Command::new(alloc, "steps")
         .about(
-            "Runs the step script on standard input on the link line's core, and prints what each\nevent tells",
+            "Runs the step script on standard input on the link line's core, and\nprints what each event tells",
         )
         .after_help(STEPS)
         .arg(flag(
             alloc,
             "rank",
-            "Prints after each word how many productive events can follow each other from there",
+            "Prints after each word how many productive events can follow\neach other from there",
         ))?
         .arg(explain(alloc, REFUSALS_EXPLAINED))
 }
@@ -368,19 +372,19 @@ fn work<'a>(
 {
     Command::new(alloc, name)
         .about(
-            "Does the jobs of the work script on standard input, a thread for each worker, and prints\na report",
+            "Does the jobs of the work script on standard input, a thread for each\nworker, and prints a report",
         )
         .after_help(script)
         .arg(kind_argument(alloc, kinds, SHARED_HELP).default_value("link"))?
         .arg(flag(
             alloc,
             "sleep",
-            "Workers sleep until they are woken, in place of looking again and again",
+            "Workers sleep until they are woken, in place of looking\nagain and again",
         ))?
         .arg(flag(
             alloc,
             "progress",
-            "Says on standard error, once a second, how many of all jobs are done",
+            "Says on standard error, once a second, how many of all jobs\nare done",
         ))?
         .arg(explain(alloc, LINE_EXPLAINED))
 }
@@ -391,7 +395,7 @@ fn draw<'a>(alloc: Global) -> Result<Command<'a>, AllocError>
 {
     Command::new(alloc, "draw")
         .about(
-            "Draws the schedule script on standard input: how each node stands after each command",
+            "Draws the schedule script on standard input: how each node stands\nafter each command",
         )
         .after_help(DRAW)
         .arg(flag(alloc, "svg", "Draws an SVG in place of plain text"))?

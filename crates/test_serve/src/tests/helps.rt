@@ -53,40 +53,44 @@ static LINES: [(&str, &[&str]); 5] = [
     (
         "steps",
         &[
-            "      --rank     Prints after each word how many productive events can follow each other from there",
+            "      --rank     Prints after each word how many productive events can follow\n                 each other from there",
             "      --explain  Explains a refused line, and each answer of refused",
             "  nodes N                     its first line: 1 to 200 nodes",
             "  nodes N lease C             the same; the line closes at its C-th served turn",
-            "  EVENT n                     a word step of node n: reset, prepend, link, load, home,",
-            "                              done, grant, roll or freed; or close, in a holder's hand",
+            "  EVENT n                     a word step of node n: reset, prepend, link, load,",
+            "                              home, done, grant, roll or freed; or close, in a",
+            "                              holder's hand",
             "  write n OFFSET HEX          the holder writes these bytes into the line",
         ],
     ),
     (
         "board",
         &[
-            "      --sleep        Workers sleep until they are woken, in place of looking again and again",
-            "      --progress     Says on standard error, once a second, how many of all jobs are done",
+            "      --sleep        Workers sleep until they are woken, in place of looking\n                     again and again",
+            "      --progress     Says on standard error, once a second, how many of all jobs\n                     are done",
             "      --explain      Explains a refused line",
             "  board workers W             its first line: 1 to 200 workers",
-            "  w put TASK                  worker w puts a task, a number below 2^64, on the board",
+            "  w put TASK                  worker w puts a task, a number below 2^64, on the",
+            "                              board",
             "  w take                      worker w takes the oldest task off the board",
-            "The board holds seven tasks. Each worker does its jobs in the script's order; nothing is",
-            "said of the order between workers.",
+            "The board holds seven tasks. Each worker does its jobs in the script's order;",
+            "nothing is said of the order between workers.",
         ],
     ),
     (
         "bank",
         &[
-            "      --sleep        Workers sleep until they are woken, in place of looking again and again",
-            "      --progress     Says on standard error, once a second, how many of all jobs are done",
+            "      --sleep        Workers sleep until they are woken, in place of looking\n                     again and again",
+            "      --progress     Says on standard error, once a second, how many of all jobs\n                     are done",
             "      --explain      Explains a refused line",
             "  bank workers W lines L      its first line: 1 to 200 workers and 1 to 8 lines",
-            "  w in ACCOUNT AMOUNT         worker w pays an amount into an account, 0 to 8L - 1",
+            "  w in ACCOUNT AMOUNT         worker w pays an amount into an account, of 0 to",
+            "                              8L - 1",
             "  w out ACCOUNT AMOUNT        worker w pays it out",
             "  w move FROM TO AMOUNT       worker w moves it from one account to another",
-            "An account holds 0 to 2^48; a job that would go beyond that changes nothing. Each worker",
-            "does its jobs in the script's order; nothing is said of the order between workers.",
+            "An account holds 0 to 2^48; a job that would go beyond that changes nothing.",
+            "Each worker does its jobs in the script's order; nothing is said of the order",
+            "between workers.",
         ],
     ),
     (
@@ -95,10 +99,11 @@ static LINES: [(&str, &[&str]); 5] = [
             "      --svg      Draws an SVG in place of plain text",
             "      --steps    Draws a step script, as of `qolb steps`, in place of a schedule",
             "      --explain  Explains a refused line",
-            "The script, on standard input, is a schedule, as of `qolb replay`. Each line is drawn as a",
-            "row for each node that calls on it, with a letter for each command on the line: how the",
-            "node stands after it. A step script is drawn as a line for each event: a letter for each",
-            "node, its point after the event; what the event told; and where the line lies.",
+            "The script, on standard input, is a schedule, as of `qolb replay`. Each line is",
+            "drawn as a row for each node that calls on it, with a letter for each command on",
+            "the line: how the node stands after it. A step script is drawn as a line for",
+            "each event: a letter for each node, its point after the event; what the event",
+            "told; and where the line lies.",
         ],
     ),
 ];
@@ -118,6 +123,21 @@ fn the_help_tells_options_and_limits(rt: HostRuntime) -> Result<(), Fail> {
     Ok(())
 }
 
+#[test]
+fn each_help_fits_a_terminal_of_80_columns(rt: HostRuntime) -> Result<(), Fail> {
+    let top = help_of(&rt, rt.alloc(), &[])?;
+    for line in top.as_str().split('\n') {
+        assert!(rt; line.len() <= 80, "{line}");
+    }
+    for (name, _) in &LINES {
+        let help = help_of(&rt, rt.alloc(), &[*name])?;
+        for line in help.as_str().split('\n') {
+            assert!(rt; line.len() <= 80, "{line} in the help of {name}");
+        }
+    }
+    Ok(())
+}
+
 /// The words of the example of each help, what the help says that they print, and what they print.
 static EXAMPLES: [(&[&str], &str, &str); 5] = [
     (
@@ -127,12 +147,12 @@ static EXAMPLES: [(&[&str], &str, &str); 5] = [
     ),
     (
         &["steps"],
-        "went, granted, released, and the counts of the line; with --rank went 0,\ngranted 1, released 0, and the counts.",
+        "went, granted, released, and the counts of the line; with --rank\nwent 0, granted 1, released 0, and the counts.",
         "went\ngranted\nreleased\nline 0 served 1 withdrawn 0 told 0 left 0\n",
     ),
     (
         &["steps", "--rank"],
-        "went, granted, released, and the counts of the line; with --rank went 0,\ngranted 1, released 0, and the counts.",
+        "went, granted, released, and the counts of the line; with --rank\nwent 0, granted 1, released 0, and the counts.",
         "went 0\ngranted 1\nreleased 0\nline 0 served 1 withdrawn 0 told 0 left 0\n",
     ),
     (
