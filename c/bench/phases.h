@@ -81,6 +81,7 @@ static enum way way;
 static int place;
 static _Alignas(APART) atomic_int over;
 static _Alignas(APART) atomic_int begun, ended;
+static _Atomic uint64_t since; /* when the phase began: a thread may be late to run */
 static uint64_t took;
 
 static struct {
@@ -92,7 +93,7 @@ static struct {
 static void take_turns(long k) {
     enum way by = way;
     int at = place;
-    uint64_t turns = 0, longest = 0, since = now();
+    uint64_t turns = 0, longest = 0;
     memset(did[k].waits, 0, sizeof did[k].waits);
     for (; !atomic_load_explicit(&over, memory_order_relaxed); turns++) {
         int timed = turn_ns || turns % 64 == 0;
@@ -116,6 +117,7 @@ static void *work(void *number) {
     for (int p = 1;; p++) {
         while (atomic_load(&phase) < p) usleep(20);
         if (way == WAYS) return NULL;
+        atomic_store(&since, now());
         atomic_fetch_add(&begun, 1);
         while (atomic_load(&begun) < p * threads) sched_yield();
         take_turns(k);
@@ -164,8 +166,8 @@ static void run_phases(double seconds) {
     pthread_t id;
     for (long k = 0; k < threads; k++)
         if (pthread_create(&id, NULL, work, (void *)k)) exit(3);
-    uint64_t since = now();
-    for (int round = 0, number = 0; (double)(now() - since) < seconds * 1e9; round++)
+    uint64_t first = now();
+    for (int round = 0, number = 0; (double)(now() - first) < seconds * 1e9; round++)
         for (int k = 0; k < WAYS; k++)
             if (is_timed((k + round) % WAYS)) run_phase(++number, (enum way)((k + round) % WAYS), round % PLACES);
 }

@@ -2,6 +2,7 @@
 use Rattle.std.specs.Prelude.{◌≡◌, ℕ, ◌≤◌}
 use Rattle.atomic_table.specs.declared.shared.Seat.{Seat}
 use Rattle.lock_core.specs.declared.view.View.{View}
+use Rattle.std.specs.declared.time.Duration.{Duration}
 use Rattle.lock_core.specs.Views.{view_of, IsSeatOf, IsIdle, IsOutside, IsNotServed, KnowsShut}
 use Rattle.fair_lock.specs.declared.lock.FairLock.{FairLock}
 use Rattle.fair_lock.specs.declared.closed.Closed.{Closed}
@@ -13,10 +14,18 @@ use Rattle.fair_lock.specs.declared.closed.TryEnterError.TheVariants as tried
 use Rattle.fair_lock.specs.declared.closed.EnterError.{EnterError}
 use Rattle.fair_lock.specs.declared.closed.EnterError.TheVariants as entered
 
+-- it is not inside
+abbrev pub IsOut : View → Type 0
+IsOut v = v.inside ≡ 0
+
 module _ {T : Type 0} where
-  -- it has no request at this lock
+  -- it has no request at this lock, and is outside
   abbrev pub AsksNothing : FairLock T → Seat T View → Type 0
-  AsksNothing lock seat = (seat.table_id ≡ lock.table.shared.table_id) × IsIdle (view_of seat)
+  AsksNothing lock seat = (seat.table_id ≡ lock.table.shared.table_id) × IsOutside (view_of seat)
+
+  -- the span of this length was over, and it asks nothing
+  abbrev pub IsLateAt : FairLock T → Duration → Late T → Type 0
+  IsLateAt lock at_most late = AsksNothing lock late.seat × (late.over.at_most ≡ at_most)
 
   -- it was told that this lock is shut, and has no turn
   abbrev pub IsToldShut : FairLock T → Closed T → Type 0

@@ -2,7 +2,9 @@
 use Rattle.std.specs.Prelude.{◌≡◌, ◌%◌, false}
 use Rattle.lock_core.specs.declared.view.View.{View}
 use Rattle.lock_core.specs.Views.{GrantedToNobodyAsleep, LeftQuietly}
-use Rattle.fair_lock.specs.declared.wake.ToWake.{ToWake}
+use Rattle.fair_lock.specs.declared.duty.ToWake.{ToWake}
+use Rattle.fair_lock.specs.declared.wake.Seen.{Seen}
+use Rattle.fair_lock.specs.declared.wake.Counted.{Counted}
 use Rattle.fair_lock.specs.declared.wake.Announced.{Announced}
 use Rattle.fair_lock.specs.declared.wake.Announced.TheVariants as announced
 
@@ -17,10 +19,19 @@ IfAnnounced announced.AtTurn P = Unit {0}
 IfAnnounced (announced.Counted c) P = P
 IfAnnounced announced.Not P = Unit {0}
 
+abbrev pub IfCounted : Announced → (Counted → Type 0) → Type 0
+IfCounted announced.AtTurn P = Unit {0}
+IfCounted (announced.Counted c) P = P c
+IfCounted announced.Not P = Unit {0}
+
 abbrev pub IfNotAnnounced : Announced → Type 0 → Type 0
 IfNotAnnounced announced.AtTurn P = Unit {0}
 IfNotAnnounced (announced.Counted c) P = Unit {0}
 IfNotAnnounced announced.Not P = P
+
+-- it sleeps at the word that it read, while that is what it read
+abbrev pub IsAtWordOf : Seen → Counted → Type 0
+IsAtWordOf seen counted = (counted.place ≡ seen.place) × (counted.low ≡ seen.low)
 
 -- Who granted a ticket is to wake the sleepers at that ticket's wake word. Where it is to wake nobody, nobody slept for the ticket.
 abbrev pub IsToldOf : ToWake → View → Type 0

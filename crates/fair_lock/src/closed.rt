@@ -18,7 +18,7 @@ pub struct Busy<T> {
     pub(crate) found: FoundTaken,
 }
 
-/// The time was over. It has no bytes, and shows in proofs that no request is left behind.
+/// The time was over. It shows in proofs that the limit was the call's own, and that no request is left behind.
 #[derive(Drop)]
 pub struct Late<T> {
     pub(crate) seat: ValueSeat<T>,

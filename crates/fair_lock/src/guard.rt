@@ -1,13 +1,13 @@
 //! A turn at a lock, with the right to its value.
 ghost use Rattle.std.specs.Prelude.{◌≡◌, ◌<◌, ◌≤◌, ◌∷◌, [], IsTrue};
 ghost use Rattle.std.specs.Borrow.{sem, Lends};
-ghost use Rattle.lock_core.specs.Views.{view_of, InTime, IsSeatOf, KnowsShut};
+ghost use Rattle.lock_core.specs.Views.{view_of, InTime, IsSeatOf, KnowsShut, SameKnown};
+ghost use Rattle.lock_core.specs.Looks.{LeavesAsFound};
 ghost use Rattle.fair_lock.specs.Closing.{HasLeft, ended_by};
 ghost use Rattle.fair_lock.specs.Turns.{IsServed, CameInOrder, IsGuard, IsInOrder, IsOpen, LendsValue, SameValue, number_of, with_value};
 
 use crate::closed::Left;
 use crate::lock::FairLock;
-use crate::sleep::pass_on;
 use lock_core::ValueSeat;
 use std::sync::Wait;
 
@@ -63,18 +63,20 @@ impl<T> Guard<'_, T> {
         lock_core::shut(&self.lock.table.shared, &mut self.seat);
     }
 
-    /// Ends the turn: grants the next one, and wakes its waiter if that sleeps.
+    /// Ends the turn: grants the next one, and wakes its waiter if that sleeps. A lock that was shut stays shut.
     #[tactic(auto, unfolding(crate::specs::Turns::IsGuard))]
     pub fn leave<R: Wait>(self, rt: &R) -> Left<T>
         requires guard { IsGuard self }
         ensures left { HasLeft self.entry.lock.now result }
         ensures over { self.entry.lock.now.burst ≤ 1 → number_of self.entry < ended_by result }
+        ensures known { SameKnown (view_of self.entry.seat) (view_of result.seat) }
+        ensures bursts { 2 ≤ self.entry.lock.now.burst
+            → LeavesAsFound self.entry.lock.now.burst result.seat }
     {
         let Guard { lock, seat, ticket } = self;
         let mut seat = seat;
         if lock.burst < 2 {
-            lock.wakes
-                .wake(pass_on(rt, &lock.table.shared, &mut seat, ticket));
+            lock.wakes.wake(lock.pass_on(rt, &mut seat, ticket));
         } else {
             lock.wakes.wake(lock.leave_outer(rt, &mut seat));
         }

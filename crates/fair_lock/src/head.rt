@@ -1,12 +1,10 @@
-//! The outer word of a lock with bursts: the queue head waits for it, and whoever is inside leaves it.
+//! The queue head of a lock with bursts waits until it is inside.
 ghost use Rattle.std.specs.Prelude.{◌≡◌, ◌≤◌, true, false};
-ghost use Rattle.lock_core.specs.Views.{view_of, InTime, LoadGrows, IsSeatOf, IsAtTurn, IsHeadInside, IsInside, IsOutside, IsNotServed, IsOvertakenInBounds, ServedOpen, ServedShut, KnowsShut, SameKnown};
-ghost use Rattle.fair_lock.specs.Wakes.{IsToldOfHead};
+ghost use Rattle.lock_core.specs.Views.{view_of, InTime, LoadGrows, IsSeatOf, IsAtTurn, IsHeadInside, IsOvertakenInBounds, ServedOpen, ServedShut, KnowsShut, SameInside};
 
 use crate::lock::FairLock;
 use crate::queue::pause;
-use crate::wake::ToWake;
-use lock_core::{LeaveResult, TakeResult, ValueSeat, leave, request_handoff, take_outer};
+use lock_core::{TakeResult, ValueSeat, request_handoff, take_outer};
 use std::sync::{Wait, WaitMethods};
 
 /// So often the queue head looks at the outer word before it asks for a handoff and sleeps.
@@ -24,6 +22,7 @@ impl<T> FairLock<T> {
         requires seat { IsSeatOf self.now.table.shared.table_id self.now.table.shared.key seat.old }
         requires at_turn { InTime seat.old (IsAtTurn ticket) }
         ensures seat { IsSeatOf self.now.table.shared.table_id self.now.table.shared.key seat.new }
+        ensures load { LoadGrows seat.old seat.new }
         ensures inside { InTime seat.new (IsHeadInside ticket) }
         ensures overtaken { InTime seat.new IsOvertakenInBounds }
         ensures open { result ≡ true → InTime seat.new ServedOpen }
@@ -54,6 +53,8 @@ impl<T> FairLock<T> {
         requires seat { IsSeatOf self.now.table.shared.table_id self.now.table.shared.key seat.old }
         requires at_turn { InTime seat.old (IsAtTurn ticket) }
         ensures seat { IsSeatOf self.now.table.shared.table_id self.now.table.shared.key seat.new }
+        ensures load { LoadGrows seat.old seat.new }
+        ensures stays { SameInside (view_of seat.old) (view_of seat.new) }
         ensures at_turn { InTime seat.new (IsAtTurn ticket) }
     {
         let table = &self.table.shared;
@@ -62,28 +63,5 @@ impl<T> FairLock<T> {
             self.wakes.park(rt, &counted);
             counted.woken();
         }
-    }
-
-    /// Leaves the outer word. The queue head is to be woken if it sleeps there.
-    pub(crate) fn leave_outer<R: Wait>(&self, rt: &R, seat: &mut ValueSeat<T>) -> ToWake
-        requires seat { IsSeatOf self.now.table.shared.table_id self.now.table.shared.key seat.old }
-        requires inside { InTime seat.old IsInside }
-        ensures seat { IsSeatOf self.now.table.shared.table_id self.now.table.shared.key seat.new }
-        ensures outside { InTime seat.new IsOutside }
-        ensures home { InTime seat.new IsNotServed }
-        ensures known { SameKnown (view_of seat.old) (view_of seat.new) }
-        ensures load { LoadGrows seat.old seat.new }
-        ensures told { InTime seat.new (IsToldOfHead result) }
-    {
-        for _ in rt.forever() {
-            if let LeaveResult::Outside { head_asleep } = leave(
-                &self.table.shared,
-                seat,
-                self.burst,
-            ) {
-                return ToWake::head(head_asleep);
-            }
-        }
-        unreachable!()
     }
 }

@@ -2,12 +2,12 @@
 #![tactic(auto)]
 
 mod closed;
+mod duty;
 mod found;
 mod guard;
 mod head;
 mod lock;
 mod queue;
-mod sleep;
 mod span;
 mod timed;
 mod turns;

@@ -1,6 +1,6 @@
 //! A thread in the queue: it draws a ticket, and waits for its turn.
 ghost use Rattle.std.specs.Prelude.{◌≡◌, ◌≤◌, true, false};
-ghost use Rattle.lock_core.specs.Views.{view_of, InTime, LoadGrows, IsSeatOf, IsIdle, IsQueued, IsAtTurn, IsOvertakenInBounds};
+ghost use Rattle.lock_core.specs.Views.{view_of, InTime, LoadGrows, IsSeatOf, IsIdle, IsQueued, IsAtTurn, IsOvertakenInBounds, SameInside};
 
 use crate::lock::FairLock;
 use crate::wake::Announced;
@@ -34,6 +34,8 @@ impl<T> FairLock<T> {
         requires seat { IsSeatOf self.now.table.shared.table_id self.now.table.shared.key seat.old }
         requires idle { InTime seat.old IsIdle }
         ensures seat { IsSeatOf self.now.table.shared.table_id self.now.table.shared.key seat.new }
+        ensures load { LoadGrows seat.old seat.new }
+        ensures stays { SameInside (view_of seat.old) (view_of seat.new) }
         ensures at_turn { InTime seat.new (IsAtTurn result) }
         ensures overtaken { InTime seat.new IsOvertakenInBounds }
     {
@@ -58,6 +60,8 @@ impl<T> FairLock<T> {
         requires seat { IsSeatOf self.now.table.shared.table_id self.now.table.shared.key seat.old }
         requires queued { InTime seat.old (IsQueued ticket) }
         ensures seat { IsSeatOf self.now.table.shared.table_id self.now.table.shared.key seat.new }
+        ensures load { LoadGrows seat.old seat.new }
+        ensures stays { SameInside (view_of seat.old) (view_of seat.new) }
         ensures at_turn { InTime seat.new (IsAtTurn ticket) }
         ensures overtaken { InTime seat.new IsOvertakenInBounds }
     {
@@ -75,6 +79,7 @@ impl<T> FairLock<T> {
         requires queued { InTime seat.old (IsQueued ticket) }
         ensures seat { IsSeatOf self.now.table.shared.table_id self.now.table.shared.key seat.new }
         ensures load { LoadGrows seat.old seat.new }
+        ensures stays { SameInside (view_of seat.old) (view_of seat.new) }
         ensures at_turn { result ≡ true → InTime seat.new (IsAtTurn ticket) }
         ensures overtaken { result ≡ true → InTime seat.new IsOvertakenInBounds }
         ensures queued { result ≡ false → InTime seat.new (IsQueued ticket) }
@@ -94,6 +99,7 @@ impl<T> FairLock<T> {
         requires queued { InTime seat.old (IsQueued ticket) }
         ensures seat { IsSeatOf self.now.table.shared.table_id self.now.table.shared.key seat.new }
         ensures load { LoadGrows seat.old seat.new }
+        ensures stays { SameInside (view_of seat.old) (view_of seat.new) }
         ensures at_turn { result ≡ true → InTime seat.new (IsAtTurn ticket) }
         ensures overtaken { result ≡ true → InTime seat.new IsOvertakenInBounds }
         ensures queued { result ≡ false → InTime seat.new (IsQueued ticket) }

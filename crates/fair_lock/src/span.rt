@@ -1,4 +1,8 @@
 //! A span of time.
+ghost use Rattle.std.specs.Prelude.{◌≡◌, ◌≤◌, IfOk, IfErr};
+ghost use Rattle.std.specs.Option.{ForSome};
+ghost use Rattle.std.specs.Duration.{as_nanos};
+
 use std::rt::Clock;
 use std::time::{Duration, Instant};
 
@@ -9,12 +13,19 @@ pub(crate) struct Span {
     at_most: Duration,
 }
 
-/// A token without bytes: a span was over. Only `Span::left` makes one.
+/// A span of `at_most` was over. Only `Span::left` makes one.
 #[derive(Drop)]
-pub(crate) struct Over(());
+pub(crate) struct Over {
+    at_most: Duration,
+    /// What had passed, by two readings of the clock; none if one failed.
+    passed: Option<Duration>,
+    ghost whole: { ForSome passed (λ passed. as_nanos at_most ≤ as_nanos passed) },
+}
 
 impl Span {
-    pub(crate) fn begin<R: Clock>(rt: &R, at_most: Duration) -> Span {
+    pub(crate) fn begin<R: Clock>(rt: &R, at_most: Duration) -> Span
+        ensures { result.at_most ≡ at_most }
+    {
         Span {
             since: Instant::now(rt).ok(),
             at_most,
@@ -22,15 +33,24 @@ impl Span {
     }
 
     /// What is left of the span, unless it is over.
-    pub(crate) fn left<R: Clock>(&self, rt: &R) -> Result<Duration, Over> {
+    pub(crate) fn left<R: Clock>(&self, rt: &R) -> Result<Duration, Over>
+        ensures over { IfErr result (λ over. over.at_most ≡ self.now.at_most) }
+        ensures left { IfOk result (λ left. as_nanos left ≤ as_nanos self.now.at_most) }
+    {
         let (Some(since), Some(now)) = (self.since, Instant::now(rt).ok()) else {
-            return Err(Over(()));
+            return Err(Over {
+                at_most: self.at_most,
+                passed: None,
+            });
         };
-        let left = self.at_most.saturating_sub(now.duration_since(since));
+        let passed = now.duration_since(since);
+        let left = self.at_most.saturating_sub(passed);
         if left.as_nanos() > 0 {
-            Ok(left)
-        } else {
-            Err(Over(()))
+            return Ok(left);
         }
+        Err(Over {
+            at_most: self.at_most,
+            passed: Some(passed),
+        })
     }
 }

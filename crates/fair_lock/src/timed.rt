@@ -1,14 +1,13 @@
 //! A thread enters within a limit of time.
 ghost use Rattle.std.specs.Prelude.{◌≡◌, ◌≤◌, IfOk, IfErr, true, false};
-ghost use Rattle.lock_core.specs.Views.{InTime, LoadGrows, IsSeatOf, IsQueued, IsQueuedWithin, IsAtTurn, IsIdle, IsHeadInside, IsOvertakenInBounds, ServedOpen, KnowsShut};
+ghost use Rattle.lock_core.specs.Views.{view_of, InTime, InTimeFrom, LoadGrows, IsSeatOf, IsQueued, IsQueuedWithin, IsAtTurn, IsIdle, IsHeadInside, IsOvertakenInBounds, SameInside, ServedOpen, KnowsShut};
 ghost use Rattle.fair_lock.specs.Turns.{IsGuard, IsInOrder, IsOpen};
-ghost use Rattle.fair_lock.specs.Closing.{IsToldShut, AsksNothing, IfEnterClosed, IfEnterLate};
+ghost use Rattle.fair_lock.specs.Closing.{IsToldShut, IsLateAt, IsOut, IfEnterClosed, IfEnterLate};
 
 use crate::closed::{EnterError, Late};
 use crate::guard::Guard;
 use crate::lock::FairLock;
 use crate::queue::pause;
-use crate::sleep::pass_on;
 use crate::span::{Over, Span};
 use crate::wake::Announced;
 use crossbeam_utils::Backoff;
@@ -45,7 +44,7 @@ impl<T> FairLock<T> {
         ensures order { IfOk result IsInOrder }
         ensures lock { IfOk result (λ guard. guard.lock.now ≡ self.now) }
         ensures closed { IfErr result (IfEnterClosed (IsToldShut self.now)) }
-        ensures late { IfErr result (IfEnterLate (λ late. AsksNothing self.now late.seat)) }
+        ensures late { IfErr result (IfEnterLate (IsLateAt self.now at_most)) }
     {
         let span = Span::begin(rt, at_most);
         let mut seat = new_seat(&self.table.shared);
@@ -87,9 +86,12 @@ impl<T> FairLock<T> {
         requires seat { IsSeatOf self.now.table.shared.table_id self.now.table.shared.key seat.old }
         requires near { InTime seat.old (IsQueuedWithin 15 ticket) }
         ensures seat { IsSeatOf self.now.table.shared.table_id self.now.table.shared.key seat.new }
+        ensures load { LoadGrows seat.old seat.new }
+        ensures stays { SameInside (view_of seat.old) (view_of seat.new) }
         ensures at_turn { IfOk result (λ _. InTime seat.new (IsAtTurn ticket)) }
         ensures overtaken { IfOk result (λ _. InTime seat.new IsOvertakenInBounds) }
         ensures withdrawn { IfErr result (λ _. InTime seat.new IsIdle) }
+        ensures over { IfErr result (λ over. over.at_most ≡ span.now.at_most) }
     {
         for _ in rt.forever() {
             if self.spin(seat, ticket) {
@@ -130,6 +132,7 @@ impl<T> FairLock<T> {
         requires queued { InTime seat.old (IsQueued ticket) }
         ensures seat { IsSeatOf self.now.table.shared.table_id self.now.table.shared.key seat.new }
         ensures load { LoadGrows seat.old seat.new }
+        ensures stays { SameInside (view_of seat.old) (view_of seat.new) }
         ensures at_turn { result ≡ true → InTime seat.new (IsAtTurn ticket) }
         ensures overtaken { result ≡ true → InTime seat.new IsOvertakenInBounds }
         ensures queued { result ≡ false → InTime seat.new (IsQueued ticket) }
@@ -156,11 +159,12 @@ impl<T> FairLock<T> {
         requires seat { IsSeatOf self.now.table.shared.table_id self.now.table.shared.key seat }
         requires at_turn { InTime seat (IsAtTurn ticket) }
         requires overtaken { InTime seat IsOvertakenInBounds }
+        requires out { InTime seat IsOut }
         ensures guard { IfOk result (λ guard. IsGuard guard × IsOpen guard) }
         ensures order { IfOk result IsInOrder }
         ensures lock { IfOk result (λ guard. guard.lock.now ≡ self.now) }
         ensures closed { IfErr result (IfEnterClosed (IsToldShut self.now)) }
-        ensures late { IfErr result (IfEnterLate (λ late. AsksNothing self.now late.seat)) }
+        ensures late { IfErr result (IfEnterLate (IsLateAt self.now span.now.at_most)) }
     {
         let answer = if self.burst < 2 {
             self.look_and_begin(rt, seat, ticket)
@@ -168,8 +172,7 @@ impl<T> FairLock<T> {
             match self.go_in_within(rt, &mut seat, ticket, span) {
                 Ok(open) => self.pass_on_inside(rt, seat, ticket, open),
                 Err(over) => {
-                    self.wakes
-                        .wake(pass_on(rt, &self.table.shared, &mut seat, ticket));
+                    self.wakes.wake(self.pass_on(rt, &mut seat, ticket));
                     return Err(EnterError::Late(Late { seat, over }));
                 }
             }
@@ -192,11 +195,14 @@ impl<T> FairLock<T> {
         requires seat { IsSeatOf self.now.table.shared.table_id self.now.table.shared.key seat.old }
         requires at_turn { InTime seat.old (IsAtTurn ticket) }
         ensures seat { IsSeatOf self.now.table.shared.table_id self.now.table.shared.key seat.new }
+        ensures load { LoadGrows seat.old seat.new }
         ensures inside { IfOk result (λ _. InTime seat.new (IsHeadInside ticket)) }
         ensures overtaken { IfOk result (λ _. InTime seat.new IsOvertakenInBounds) }
         ensures open { IfOk result (λ is_open. is_open ≡ true → InTime seat.new ServedOpen) }
         ensures shut { IfOk result (λ is_open. is_open ≡ false → InTime seat.new KnowsShut) }
         ensures at_turn { IfErr result (λ _. InTime seat.new (IsAtTurn ticket)) }
+        ensures stays { IfErr result (λ _. InTimeFrom seat.old seat.new SameInside) }
+        ensures over { IfErr result (λ over. over.at_most ≡ span.now.at_most) }
     {
         let mut looks = 0;
         for _ in rt.forever() {
@@ -229,6 +235,8 @@ impl<T> FairLock<T> {
         requires seat { IsSeatOf self.now.table.shared.table_id self.now.table.shared.key seat.old }
         requires at_turn { InTime seat.old (IsAtTurn ticket) }
         ensures seat { IsSeatOf self.now.table.shared.table_id self.now.table.shared.key seat.new }
+        ensures load { LoadGrows seat.old seat.new }
+        ensures stays { SameInside (view_of seat.old) (view_of seat.new) }
         ensures at_turn { InTime seat.new (IsAtTurn ticket) }
     {
         let table = &self.table.shared;

@@ -2,13 +2,12 @@
 ghost use Rattle.std.specs.Prelude.{◌≡◌, ◌≤◌, IfOk, IfErr, true, false};
 ghost use Rattle.lock_core.specs.Views.{InTime, IsSeatOf, IsAtTurn, IsHeadInside, IsOvertakenInBounds, ServedOpen, KnowsShut};
 ghost use Rattle.fair_lock.specs.Turns.{IsGuard, IsInOrder, IsOpen};
-ghost use Rattle.fair_lock.specs.Closing.{IsToldShut, AsksNothing, IfTryClosed, IfTryBusy};
+ghost use Rattle.fair_lock.specs.Closing.{IsToldShut, AsksNothing, IsOut, IfTryClosed, IfTryBusy};
 
 use crate::closed::{Busy, Closed, TryEnterError};
 use crate::found::FoundTaken;
 use crate::guard::Guard;
 use crate::lock::FairLock;
-use crate::sleep::pass_on;
 use lock_core::{
     AskWithinResult, TakeResult, ValueSeat, ask_within, check_open, go_in, new_seat, take_outer,
 };
@@ -82,8 +81,7 @@ impl<T> FairLock<T> {
             TakeResult::Shut => false,
             TakeResult::Held { outer: _ } | TakeResult::Changed { outer: _ } => {
                 let found = FoundTaken::by(&seat);
-                self.wakes
-                    .wake(pass_on(rt, &self.table.shared, &mut seat, ticket));
+                self.wakes.wake(self.pass_on(rt, &mut seat, ticket));
                 return Err(TryEnterError::Busy(Busy { seat, found }));
             }
         };
@@ -104,6 +102,7 @@ impl<T> FairLock<T> {
         requires seat { IsSeatOf self.now.table.shared.table_id self.now.table.shared.key seat }
         requires at_turn { InTime seat (IsAtTurn ticket) }
         requires overtaken { InTime seat IsOvertakenInBounds }
+        requires out { InTime seat IsOut }
         ensures guard { IfOk result (λ guard. IsGuard guard × IsOpen guard) }
         ensures order { IfOk result IsInOrder }
         ensures lock { IfOk result (λ guard. guard.lock.now ≡ self.now) }
@@ -112,8 +111,7 @@ impl<T> FairLock<T> {
         if check_open(&self.table.shared, &mut seat, ticket) {
             return Ok(self.guard(seat, ticket));
         }
-        self.wakes
-            .wake(pass_on(rt, &self.table.shared, &mut seat, ticket));
+        self.wakes.wake(self.pass_on(rt, &mut seat, ticket));
         Err(Closed { seat })
     }
 
@@ -136,8 +134,7 @@ impl<T> FairLock<T> {
         ensures lock { IfOk result (λ guard. guard.lock.now ≡ self.now) }
         ensures closed { IfErr result (IsToldShut self.now) }
     {
-        self.wakes
-            .wake(pass_on(rt, &self.table.shared, &mut seat, ticket));
+        self.wakes.wake(self.pass_on(rt, &mut seat, ticket));
         if is_open {
             return Ok(self.guard(seat, ticket));
         }

@@ -4,10 +4,17 @@
 //! cell. So waiters sleep at words of their own, one for each cell and one for the queue head. A waiter reads that word,
 //! announces its sleep by the proved call, and sleeps while the word is what it read. Who is told of sleepers adds one to
 //! the word and wakes all. So between the announcement and the sleep no wake is lost.
-ghost use Rattle.std.specs.Prelude.{◌≡◌, ◌<◌, ◌%◌};
+ghost use Rattle.std.specs.Prelude.{◌≡◌, ◌<◌, ◌≤◌, ◌%◌, IfSome};
+ghost use Rattle.lock_core.specs.Layout.{HasLockWords, outer_at};
+ghost use Rattle.lock_core.specs.Views.{view_of, InTime, InTimeFrom, LoadGrows, IsSeatOf, IsQueued, IsQueuedWithin, IsAsleep, IsAtTurn, IsOvertakenInBounds, SameInside, SleepsAtOuter, SleepsInTake, Kept};
+ghost use Rattle.lock_core.specs.Looks.{StepsLater, Changes, IsNotedAsleep};
 ghost use Rattle.fair_lock.specs.WakeSteps as steps;
 
 use atomic_table::{Play, Shared, Table, TableRule};
+use lock_core::{
+    HeadSleepResult, SharedValue, SleepResult, ValueSeat, announce_head_sleep, announce_sleep,
+    retract_sleep,
+};
 use std::alloc::{AllocError, Global};
 use std::sync::{Wait, WaitMethods};
 use std::time::Duration;
@@ -43,11 +50,11 @@ pub(crate) struct WakeWords {
 
 /// What a waiter read at its wake word, before it announces its sleep.
 ///
-/// A linear token: the type is not `Drop`, and only this file takes it apart. Only `WakeWords::see_cell` and `see_head`
-/// make one.
+/// A linear token: the type is not `Drop`, and its fields are this file's. Only `WakeWords::see_cell` and `see_head` make
+/// one, and only an announcement ends it.
 pub(crate) struct Seen {
-    pub(crate) place: usize,
-    pub(crate) low: u32,
+    place: usize,
+    low: u32,
     ghost within: { place < 5 },
 }
 
@@ -55,15 +62,8 @@ pub(crate) struct Seen {
 ///
 /// A linear token, which only an announcement makes. A thread sleeps by it, and has to retract.
 pub(crate) struct Counted {
-    pub(crate) place: usize,
-    pub(crate) low: u32,
-    ghost within: { place < 5 },
-}
-
-/// The duty of a release to wake the sleepers that it was told of. A linear token: only `WakeWords::wake` ends it.
-pub(crate) struct ToWake {
-    pub(crate) place: usize,
-    pub(crate) asleep: bool,
+    place: usize,
+    low: u32,
     ghost within: { place < 5 },
 }
 
@@ -118,22 +118,103 @@ impl WakeWords {
             .park_timeout(rt, counted.place * STRIDE, counted.low, at_most);
     }
 
-    /// Wakes whoever sleeps at the place of `told`, if it says that somebody does.
-    #[inline]
-    pub(crate) fn wake(&self, told: ToWake) {
-        let ToWake { place, asleep } = told;
-        if asleep {
-            self.wake_all(place);
-        }
-    }
-
+    /// Wakes all that sleep at the place.
     #[cold]
-    fn wake_all(&self, place: usize)
+    pub(crate) fn wake_all(&self, place: usize)
         requires { place < 5 }
     {
         let table = &self.table.shared;
         let (_, mut seat) = table.load_new_seat::<Any>(0);
         table.fetch_add::<Any>(&mut seat, place * STRIDE, 1);
         table.wake_all(place * STRIDE);
+    }
+}
+
+impl Seen {
+    ghost use Rattle.fair_lock.specs.Wakes.{IfAnnouncedAtTurn, IfAnnounced, IfNotAnnounced, IfCounted, IsAtWordOf};
+
+    /// Announces the sleep of a waiter that has read the wake word of its cell.
+    pub(crate) fn announce<T>(
+        self,
+        table: &SharedValue<T>,
+        seat: &mut ValueSeat<T>,
+        ticket: u64,
+    ) -> Announced
+        requires table { HasLockWords table.now.table_id }
+        requires place { self.place ≡ ticket % 4 }
+        requires seat { IsSeatOf table.now.table_id table.now.key seat.old }
+        requires queued { InTime seat.old (IsQueued ticket) }
+        ensures seat { IsSeatOf table.now.table_id table.now.key seat.new }
+        ensures load { LoadGrows seat.old seat.new }
+        ensures stays { SameInside (view_of seat.old) (view_of seat.new) }
+        ensures at_turn { IfAnnouncedAtTurn result (InTime seat.new (IsAtTurn ticket)) }
+        ensures overtaken { IfAnnouncedAtTurn result (InTime seat.new IsOvertakenInBounds) }
+        ensures counted { IfAnnounced result (InTime seat.new (IsAsleep ticket)) }
+        ensures word { IfCounted result (IsAtWordOf self) }
+        ensures place { IfCounted result (λ counted. counted.place ≡ ticket % 4) }
+        ensures queued { IfNotAnnounced result (InTime seat.new (IsQueued ticket)) }
+    {
+        let Seen { place, low } = self;
+        match announce_sleep(table, seat, ticket) {
+            SleepResult::AtTurn => Announced::AtTurn,
+            SleepResult::Asleep { rounds: _, cell: _ } => {
+                Announced::Counted(Counted { place, low })
+            }
+            SleepResult::Full { rounds: _ } | SleepResult::Changed { rounds: _ } => Announced::Not,
+        }
+    }
+
+    /// Announces the sleep of the queue head that has read its wake word. What it answers is noted by a step of this call.
+    pub(crate) fn announce_head<T>(
+        self,
+        table: &SharedValue<T>,
+        seat: &mut ValueSeat<T>,
+    ) -> Option<Counted>
+        requires table { HasLockWords table.now.table_id }
+        requires place { self.place ≡ 4 }
+        requires seat { IsSeatOf table.now.table_id table.now.key seat.old }
+        ensures seat { IsSeatOf table.now.table_id table.now.key seat.new }
+        ensures load { LoadGrows seat.old seat.new }
+        ensures kept { Kept (view_of seat.old) (view_of seat.new) }
+        ensures asleep { IfSome result (λ _. SleepsAtOuter (view_of seat.new)) }
+        ensures in_take { IfSome result (λ _. InTimeFrom seat.old seat.new SleepsInTake) }
+        ensures steps { IfSome result (λ _. StepsLater 2 seat.old seat.new) }
+        ensures noted { IfSome result (λ _. Changes outer_at IsNotedAsleep seat.new) }
+        ensures word { IfSome result (IsAtWordOf self) }
+        ensures place { IfSome result (λ counted. counted.place ≡ 4) }
+    {
+        let Seen { place, low } = self;
+        match announce_head_sleep(table, seat) {
+            HeadSleepResult::Asleep { outer: _ } => Some(Counted { place, low }),
+            HeadSleepResult::NotHeld | HeadSleepResult::Changed => None,
+        }
+    }
+}
+
+impl Counted {
+    /// Takes the count of a waiter back. Answers as `poll`.
+    pub(crate) fn retract<T>(
+        self,
+        table: &SharedValue<T>,
+        seat: &mut ValueSeat<T>,
+        ticket: u64,
+    ) -> u64
+        requires table { HasLockWords table.now.table_id }
+        requires seat { IsSeatOf table.now.table_id table.now.key seat.old }
+        requires asleep { InTime seat.old (IsAsleep ticket) }
+        ensures seat { IsSeatOf table.now.table_id table.now.key seat.new }
+        ensures load { LoadGrows seat.old seat.new }
+        ensures stays { SameInside (view_of seat.old) (view_of seat.new) }
+        ensures at_turn { result ≡ 0 → InTime seat.new (IsAtTurn ticket) }
+        ensures overtaken { result ≡ 0 → InTime seat.new IsOvertakenInBounds }
+        ensures queued { 0 < result → InTime seat.new (IsQueuedWithin result ticket) }
+    {
+        let Counted { place: _, low: _ } = self;
+        retract_sleep(table, seat, ticket)
+    }
+
+    /// The queue head has slept, and looks at the outer word again: its note there is taken off by whoever leaves.
+    pub(crate) fn woken(self) {
+        let Counted { place: _, low: _ } = self;
     }
 }

@@ -7,6 +7,7 @@ use Rattle.atomic_table.specs.Table.{step, Enters}
 use Rattle.atomic_table.proofs.Lists.{at_snoc}
 use Rattle.lock_core.specs.declared.view.View.{View}
 use Rattle.lock_core.specs.Layout.{cell_at}
+use Rattle.lock_core.specs.Looks.{looked}
 use Rattle.lock_core.specs.Views.{initial_view}
 use Rattle.lock_core.specs.Invariant.{tally, share, Fits, Cell, Tickets}
 use Rattle.lock_core.specs.Steps.{comes}
@@ -18,7 +19,7 @@ none_of c w z = dite (ℕ_discrete (w.ticket % 4) c) (λ e. share_here c w e ∙
 
 pub come_enters : {fl : ℕ} (slots : ℕ) → Enters (Tickets fl) slots 8 (λ n w. comes (step slots 8 0 0 none) (initial_view fl, []) n (w, []))
 come_enters {fl} slots s r sized low = (
-  initial_view fl,
+  w,
   record {
     asked = r.asked;
     most_open = r.most_open;
@@ -29,11 +30,11 @@ come_enters {fl} slots s r sized low = (
     outer = r.outer;
     wide = r.wide;
     guard = r.guard;
-    seen = λ j b at. ⊎_elim (λ t. r.seen j b t) (λ t. subst (λ (x : View). x.most_open ≤ r.most_open) t (omega arith)) (at_snoc s.views (initial_view fl) b j at);
-    heard = λ j b at. ⊎_elim (λ t. r.heard j b t) (λ t. subst (λ (x : View). x.newcomers_seen ≤ r.g.newcomers) t (omega arith)) (at_snoc s.views (initial_view fl) b j at);
+    seen = λ j b at. ⊎_elim (λ t. r.seen j b t) (λ t. subst (λ (x : View). x.most_open ≤ r.most_open) t (omega arith)) (at_snoc s.views w b j at);
+    heard = λ j b at. ⊎_elim (λ t. r.heard j b t) (λ t. subst (λ (x : View). x.newcomers_seen ≤ r.g.newcomers) t (omega arith)) (at_snoc s.views w b j at);
     granted = λ le.
         let o = r.granted le in
-        let all : (c : ℕ) → tally c (s.views ++ (initial_view fl) ∷ []) ≡ tally c s.views = λ c. let e = tally_snoc c s.views (initial_view fl) in let z = none_of c (initial_view fl) refl in omega arith in record {
+        let all : (c : ℕ) → tally c (s.views ++ w ∷ []) ≡ tally c s.views = λ c. let e = tally_snoc c s.views w in let z = none_of c w refl in omega arith in record {
           within = o.within;
           few = o.few;
           counts = o.counts;
@@ -42,8 +43,11 @@ come_enters {fl} slots s r sized low = (
           cells = λ t. subst (λ z. Cell r.g z (slice_index s.words (cell_at t)) t) (sym (all (t % 4))) (o.cells t);
           idle = o.idle;
           each = λ j b at. ⊎_elim (λ t. o.each j b t)
-              (λ t. subst (Fits fl r.asked r.owner r.who r.g j) t record { knows = omega arith; lowest = omega arith; mine = λ ne. absurd (ne refl); place = tt; told_nobody = λ e. absurd (omega arith); outer = record { turn_of = λ e. absurd (omega arith); guest = λ e. absurd (omega arith); rests = record { takes_seen = omega arith; held = λ e. absurd (omega arith); lulls = λ e. absurd (omega arith); sleeps_at_outer = λ e. absurd (omega arith) }; dated = omega arith; barrier = λ e. absurd (omega arith) }; door = λ ne. absurd (ne refl); tail_seen = record { probed = omega arith; next_is_at_turn = λ e. absurd (omega arith) }; asks = idle_asks r.asked r.g (initial_view fl) (omega arith) refl }) (at_snoc s.views (initial_view fl) b j at);
+              (λ t. subst (Fits fl r.asked r.owner r.who r.g j) t record { knows = omega arith; lowest = omega arith; mine = λ ne. absurd (ne refl); place = tt; told_nobody = λ e. absurd (omega arith); outer = record { turn_of = λ e. absurd (omega arith); guest = λ e. absurd (omega arith); rests = record { takes_seen = omega arith; held = λ e. absurd (omega arith); lulls = λ e. absurd (omega arith); sleeps_at_outer = λ e. absurd (omega arith) }; dated = omega arith; barrier = λ e. absurd (omega arith) }; door = λ ne. absurd (ne refl); tail_seen = record { probed = omega arith; next_is_at_turn = λ e. absurd (omega arith) }; asks = idle_asks r.asked r.g w (omega arith) refl }) (at_snoc s.views w b j at);
         };
   },
   refl,
 )
+  where
+    w : View
+    w = record (initial_view fl) { looks = looked (step slots 8 0 0 none) (slice_index s.words 8) (slice_index s.words 8) (initial_view fl).looks }

@@ -332,7 +332,7 @@ go_in_allowed {fl} id slots old new me bursts same_newcomers free new_is fresh s
           keeps,
           tt,
           unchanged s r id v at 0 x (omega arith) (ap (λ b. either b new outer) (ne_eqb outer old ne)) w refl (heard s r id v at) (λ le. (idle le).1) (λ _. refl) (λ le. let f = fits s r id v at le in record { knows = f.knows; lowest = omega arith; mine = λ busy. absurd (busy refl); place = tt; told_nobody = f.told_nobody; outer = f.outer; door = door_on r.g v v.phase Idle (λ e. let z = (idle le).0 in cc) f.door; tail_seen = f.tail_seen; asks = idle_asks r.asked r.g w f.asks.early refl }),
-          ((refl, refl, known s r id v at, (let k = heard s r id v at in omega arith)), (λ timely. ((λ is. absurd (ne is)), (λ _. (refl, refl))))),
+          ((refl, refl, known s r id v at, (let k = heard s r id v at in omega arith)), (λ timely. ((λ is. absurd (ne is)), (λ _. ((refl, refl), refl))))),
         )
 
 pub take_outer_allowed : {fl : ℕ} (id slots ticket old new : ℕ) (me : Me ℕ View) → 0 < fl → me.0.max_newcomers ≡ fl → state_of old ≢ 1 → new ≡ old / 16 % 2 * 16 + 4 → (Timely me.0 → IsAtTurn ticket me.0) → Allows (Tickets fl) slots id me 0 (λ n. either (eqb n old) new n) (takes_outer (step slots 0 old new none) me)
@@ -436,7 +436,7 @@ take_outer_allowed {fl} id slots ticket old new me bursts same_newcomers free ne
           tt,
           unchanged s r id v at 0 x (omega arith) (ap (λ b. either b new outer) (ne_eqb outer old ne)) w refl (heard s r id v at) (λ le. (had le).3) (λ _. refl) (λ le.
               let f = fits s r id v at le in record { knows = f.knows; lowest = f.lowest; mine = λ _. mine le; place = placed le; told_nobody = f.told_nobody; outer = f.outer; door = subst (Door fl r.g v) (had le).0 f.door; tail_seen = f.tail_seen; asks = asks_on r.asked r.g v v.phase AtTurn (λ e. let z = (had le).0 in cc) (λ q. absurd (⊎_elim (λ e. cc) (λ e. cc) q)) f.asks }),
-          ((refl, refl, known s r id v at, (let k = heard s r id v at in omega arith)), (refl, refl, refl), (λ timely. (refl, refl, refl, refl, refl, (λ is. absurd (ne is)), (λ _. (refl, (refl, refl)))))),
+          ((refl, refl, known s r id v at, (let k = heard s r id v at in omega arith)), (refl, refl, refl), (λ timely. (refl, refl, refl, refl, refl, (λ is. absurd (ne is)), (λ _. (refl, (refl, refl), refl))))),
         )
 
 pub leave_allowed : {fl : ℕ} (id slots old new : ℕ) (me : Me ℕ View) → came_of new ≡ came_of old → state_of new ≢ 1 → (state_of new ≡ 0 → came_of old + 1 ≤ fl) → shut_of new ≡ shut_of old → (Timely me.0 → IsInside me.0) → Allows (Tickets fl) slots id me 0 (λ n. either (eqb n old) new n) (leaves (step slots 0 old new none) me)

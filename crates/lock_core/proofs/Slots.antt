@@ -12,6 +12,7 @@ use Rattle.lock_core.specs.declared.view.View.{View}
 use Rattle.lock_core.specs.declared.view.Phase.TheVariants.{Impossible}
 use Rattle.lock_core.specs.Layout.{asleep_of, bit_of, came_of, cell_at, count_of, shut_of, state_of}
 use Rattle.lock_core.specs.Views.{limit, Timely, Carries, initial_view, HasTurn, HasTurnAwake, HasTurnOf, IsNotServed, IsAsleep, IsAtTurn, IsIdle, IsInside, IsOutside, IsPassing, IsQueued, IsQueuedWithin, ServedOpen, ServedShut}
+use Rattle.lock_core.specs.Looks.{looked}
 use Rattle.lock_core.specs.Invariant.{Tickets}
 use Rattle.lock_core.specs.Slots.{bare, bare_step, blanks, Slotted, with_slot}
 use Rattle.lock_core.specs.Steps.{noting, kept_word, added_word, subtracted_word, exchanged_word, comes, reads_outer, draws, reads, reads_cell, draws_granted, draws_near, looks, announces_sleep, sets_withdrawn, grants, clears_withdrawn, goes_in, takes_outer, leaves, checks_open, shuts, reopens, announces_head_sleep, requests_handoff}
@@ -239,7 +240,8 @@ module _ {T : Type 0} {fl : ℕ} where
   pub come_slotted : (slots : ℕ) → Enters (Slotted {T = T} fl) slots 8 (λ n w. with_slot {T = T} comes (step slots 8 0 0 none) (initial_view fl, []) n (w, []))
   come_slotted slots s r sized low =
       let made = come_enters slots (bare s) r.lock (bare_length s.homes ∙ sized) low in
-      let first : made.0 ≡ initial_view fl = ap (λ (m : Me ℕ View). m.0) made.2 in (
+      let n : ℕ = slice_index s.words 8 in
+      let first : made.0 ≡ record (initial_view fl) { looks = looked (step slots 8 0 0 none) n n (initial_view fl).looks } = ap (λ (m : Me ℕ View). m.0) made.2 in (
         made.0,
         record { lock = made.1; home = λ slot none_out. r.home slot (λ j b there. none_out j b (at_longer s.views (made.0 ∷ []) j b there)) },
         (

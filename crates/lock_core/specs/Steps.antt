@@ -8,7 +8,7 @@ use Rattle.lock_core.specs.declared.view.Phase.{Phase}
 use Rattle.lock_core.specs.declared.view.Phase.TheVariants.{Idle, Queued, Asleep, AtTurn, Passing, HeadInside}
 use Rattle.lock_core.specs.Layout.{asleep_of, bit_of, count_of, rounds_of, shut_of, to_go}
 use Rattle.lock_core.specs.Looks.{looked}
-use Rattle.lock_core.specs.Views.{OnlyLooks, AsksAfter, IsAtTurn, GrantedToNobodyAsleep, HasGrantedNext, HasTurn, IsIdle, IsInside, IsNewcomersTurn, IsNotServed, IsOutside, IsOvertakenInBounds, IsQueued, Kept, KnowsShut, LeftQuietly, SameKnown, SameNewcomersSeen, SameNewcomerTurn, SameOvertaking, SameRequest, SameSleepAtOuter, SameTurn, ServedOpen, ServedShut, SleepsAtOuter, TakesOuter, Timely}
+use Rattle.lock_core.specs.Views.{OnlyLooks, AsksAfter, IsAtTurn, GrantedToNobodyAsleep, HasGrantedNext, HasTurn, IsIdle, IsInside, IsNewcomersTurn, IsNotServed, IsOutside, IsOvertakenInBounds, IsQueued, Kept, KnowsShut, LeftQuietly, SameInside, SameKnown, SameNewcomersSeen, SameNewcomerTurn, SameOvertaking, SameRequest, SameSleepAtOuter, SameTurn, ServedOpen, ServedShut, SleepsAtOuter, TakesOuter, Timely}
 
 -- the word that a step leaves: after a load, a sum, a difference (of 0 too), an exchange where the word was the expected
 abbrev pub kept_word : Step ℕ → ℕ → ℕ
@@ -27,9 +27,9 @@ exchanged_word st n = either (n == st.first) st.second n
 abbrev pub noting : (Step ℕ → ℕ → ℕ) → (Step ℕ → Me ℕ View → ℕ → Me ℕ View → Type 0) → Step ℕ → Me ℕ View → ℕ → Me ℕ View → Type 0
 noting left tells st m n m' = (m'.0.looks ≡ looked st n (left st n) m.0.looks) × tells st m n m'
 
--- what each step tells
+-- What each step tells. A new caller knows nothing but what its first step found
 abbrev pub comes : Step ℕ → Me ℕ View → ℕ → Me ℕ View → Type 0
-comes st m n m' = m' ≡ m
+comes st m n m' = m' ≡ (record m.0 { looks = looked st n n m.0.looks }, m.1)
 
 abbrev pub more : Me ℕ View → Me ℕ View → Type 0
 more m m' = (m'.1 ≡ m.1) × (m'.0.max_newcomers ≡ m.0.max_newcomers) × (m.0.most_open ≤ m'.0.most_open) × (m.0.newcomers_seen ≤ m'.0.newcomers_seen)
@@ -87,10 +87,10 @@ abbrev pub Told : ℕ → View → View → Type 0
 Told outer v w = (w.door ≡ 1 + shut_of outer) × (w.knows_shut ≡ shut_of outer) × (v.epoch ≤ w.epoch)
 
 abbrev pub goes_in : Step ℕ → Me ℕ View → ℕ → Me ℕ View → Type 0
-goes_in st m n m' = more m m' × (Timely m'.0 → (n ≡ st.first → IsInside m'.0 × IsNewcomersTurn m'.0 × (m.0.newcomers_seen < m'.0.newcomer_turn) × ServedOpen m'.0 × (m.0.epoch ≤ m'.0.epoch) × TakesOuter m.0 m'.0) × (n ≢ st.first → IsIdle m'.0))
+goes_in st m n m' = more m m' × (Timely m'.0 → (n ≡ st.first → IsInside m'.0 × IsNewcomersTurn m'.0 × (m.0.newcomers_seen < m'.0.newcomer_turn) × ServedOpen m'.0 × (m.0.epoch ≤ m'.0.epoch) × TakesOuter m.0 m'.0) × (n ≢ st.first → IsIdle m'.0 × SameInside m.0 m'.0))
 
 abbrev pub takes_outer : Step ℕ → Me ℕ View → ℕ → Me ℕ View → Type 0
-takes_outer st m n m' = more m m' × SameNewcomerTurn m.0 m'.0 × (Timely m'.0 → (m'.0.ticket ≡ m.0.ticket) × (m'.0.newcomers_at_ask ≡ m.0.newcomers_at_ask) × (m'.0.first_pending ≡ m.0.first_pending) × (m'.0.ended ≡ m.0.ended) × (m'.0.counted ≡ 0) × (n ≡ st.first → (m'.0.phase ≡ HeadInside) × (m'.0.inside ≡ 1) × IsOvertakenInBounds m'.0 × Told n m.0 m'.0 × TakesOuter m.0 m'.0) × (n ≢ st.first → (m'.0.phase ≡ AtTurn) × SameSleepAtOuter m.0 m'.0))
+takes_outer st m n m' = more m m' × SameNewcomerTurn m.0 m'.0 × (Timely m'.0 → (m'.0.ticket ≡ m.0.ticket) × (m'.0.newcomers_at_ask ≡ m.0.newcomers_at_ask) × (m'.0.first_pending ≡ m.0.first_pending) × (m'.0.ended ≡ m.0.ended) × (m'.0.counted ≡ 0) × (n ≡ st.first → (m'.0.phase ≡ HeadInside) × (m'.0.inside ≡ 1) × IsOvertakenInBounds m'.0 × Told n m.0 m'.0 × TakesOuter m.0 m'.0) × (n ≢ st.first → (m'.0.phase ≡ AtTurn) × SameSleepAtOuter m.0 m'.0 × SameInside m.0 m'.0))
 
 abbrev pub leaves : Step ℕ → Me ℕ View → ℕ → Me ℕ View → Type 0
 leaves st m n m' = more m m' × SameNewcomerTurn m.0 m'.0 × SameKnown m.0 m'.0 × (m'.0.last_take ≡ m.0.last_take) × (Timely m'.0 → (m.0.takes_seen ≤ m'.0.last_take) × (n ≡ st.first → IsOutside m'.0 × (asleep_of n ≡ 0 → LeftQuietly m'.0) × IsNotServed m'.0) × (n ≢ st.first → IsInside m'.0 × (m'.0.door ≡ m.0.door)))

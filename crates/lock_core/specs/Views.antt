@@ -134,6 +134,10 @@ IsHeadInside ticket v = (v.phase ≡ HeadInside) × (ticket ≡ v.ticket % 18446
 abbrev pub IsNewcomersTurn : View → Type 0
 IsNewcomersTurn v = (0 < v.newcomer_turn) × (1 ≤ v.place_after_head) × (v.place_after_head ≤ v.max_newcomers) × (v.newcomers_seen ≡ v.newcomer_turn)
 
+-- it is inside, or outside, as before
+abbrev pub SameInside : View → View → Type 0
+SameInside v w = w.inside ≡ v.inside
+
 abbrev pub SameNewcomerTurn : View → View → Type 0
 SameNewcomerTurn v w = (w.newcomer_turn ≡ v.newcomer_turn) × (w.heads_before ≡ v.heads_before) × (w.place_after_head ≡ v.place_after_head)
 

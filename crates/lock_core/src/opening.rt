@@ -137,6 +137,7 @@ pub fn new_seat<T>(table: &SharedValue<T>) -> ValueSeat<T>
     requires table { HasLockWords table.now.table_id }
     ensures seat { IsSeatOf table.now.table_id table.now.key result }
     ensures outside { IsOutside (view_of result) }
+    ensures steps { (view_of result).looks.steps ≡ 1 }
 {
     let (_, seat) = table.load_new_seat::<Come>(UNWRITTEN);
     seat

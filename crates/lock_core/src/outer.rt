@@ -1,7 +1,7 @@
 //! Bursts: newcomers and the queue head go in and out by the outer word.
 ghost use Rattle.std.specs.Prelude.{◌≡◌, ◌≢◌, ◌+◌, ◌/◌, ◌%◌, ◌<◌, ◌≤◌, ◌⊎◌, true, false};
 ghost use Rattle.lock_core.specs.Layout.{HasLockWords, outer_at, state_of, handoff_of, asleep_of};
-ghost use Rattle.lock_core.specs.Views.{view_of, InTime, InTimeFrom, LoadGrows, IsSeatOf, IsIdle, IsAtTurn, IsOvertakenInBounds, IsInside, IsOutside, IsHeadInside, IsNewcomersTurn, IsNotServed, GoesInAfter, TakesOuter, LeftQuietly, SleepsAtOuter, ServedOpen, ServedShut, KnowsShut, Kept, SameRequest, SameNewcomerTurn, SameKnown, SameSleepAtOuter, IsLaterEpoch, LeavesSameTake, SleepsInTake, SameDoor, OnlyLooks};
+ghost use Rattle.lock_core.specs.Views.{view_of, InTime, InTimeFrom, LoadGrows, IsSeatOf, IsIdle, IsAtTurn, IsOvertakenInBounds, IsInside, IsOutside, IsHeadInside, IsNewcomersTurn, IsNotServed, GoesInAfter, TakesOuter, LeftQuietly, SleepsAtOuter, ServedOpen, ServedShut, KnowsShut, Kept, SameRequest, SameNewcomerTurn, SameKnown, SameSleepAtOuter, IsLaterEpoch, LeavesSameTake, SleepsInTake, SameDoor, SameInside, OnlyLooks};
 ghost use Rattle.lock_core.specs.Looks.{StepsLater, LooksOnce, Found, Changes, IsHeldByNewcomer, IsLeftClean, IsNoEntry, IsRequested, IsNotedAsleep, FoundChanged, FoundNotFree, Leaves, LeavesAsFound, IsHeldAnew, IsLeftAs};
 ghost use Rattle.lock_core.specs.Answers.{IfIn, IfNotIn, IfTakenOpen, IfTakenShut, IfTaken, IfNotTaken, IfHeld, IfTakeChanged, IfLeft, IfNotLeft, IfHeadAsleep, IfNotHeld, IfHeadChanged};
 
@@ -79,6 +79,7 @@ fn go_in_from<T>(table: &SharedValue<T>, seat: &mut ValueSeat<T>, expected: u64)
     ensures order { result ≡ expected → InTimeFrom seat.old seat.new GoesInAfter }
     ensures held { result ≡ expected → Changes outer_at IsHeldByNewcomer seat.new }
     ensures idle { result ≢ expected → InTime seat.new IsIdle }
+    ensures stays { result ≢ expected → InTimeFrom seat.old seat.new SameInside }
 {
     let held = expected.wrapping_add(HELD + NEWCOMER);
     table.compare_exchange::<GoIn>(seat, OUTER, expected, held)
@@ -101,6 +102,7 @@ pub fn go_in_if<T>(table: &SharedValue<T>, seat: &mut ValueSeat<T>, expected: u6
     ensures held { IfIn result (Changes outer_at IsHeldByNewcomer seat.new) }
     ensures as_found { IfIn result (Found outer_at (λ n. n ≡ expected) seat.new) }
     ensures idle { IfNotIn result (λ _. InTime seat.new IsIdle) }
+    ensures stays { IfNotIn result (λ _. InTimeFrom seat.old seat.new SameInside) }
     ensures found { IfNotIn result (λ outer. Found outer_at (λ n. n ≡ outer) seat.new) }
     ensures no_entry { IfNotIn result (λ outer. IsNoEntry expected ⊎ (outer ≢ expected)) }
 {
@@ -131,6 +133,7 @@ pub fn go_in<T>(table: &SharedValue<T>, seat: &mut ValueSeat<T>) -> bool
     ensures order { result ≡ true → InTimeFrom seat.old seat.new GoesInAfter }
     ensures held { result ≡ true → Changes outer_at IsHeldByNewcomer seat.new }
     ensures idle { result ≡ false → InTime seat.new IsIdle }
+    ensures stays { result ≡ false → InTimeFrom seat.old seat.new SameInside }
     ensures not_in { result ≡ false → FoundNotFree seat.old seat.new }
 {
     let outer = table.load::<ReadOuter>(seat, OUTER);
@@ -165,6 +168,7 @@ pub fn take_outer<T>(table: &SharedValue<T>, seat: &mut ValueSeat<T>, ticket: u6
     ensures knows { IfTakenShut result (InTime seat.new KnowsShut) }
     ensures at_turn { IfNotTaken result (λ _. InTime seat.new (IsAtTurn ticket)) }
     ensures sleep { IfNotTaken result (λ _. InTimeFrom seat.old seat.new SameSleepAtOuter) }
+    ensures stays { IfNotTaken result (λ _. InTimeFrom seat.old seat.new SameInside) }
     ensures found { IfNotTaken result (λ outer. Found outer_at (λ n. n ≡ outer) seat.new) }
     ensures held { IfHeld result (λ outer. StepsLater 1 seat.old seat.new
         × (state_of outer ≡ 1)) }

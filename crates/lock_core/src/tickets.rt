@@ -1,7 +1,7 @@
 //! A caller asks for a turn: it draws a ticket.
 ghost use Rattle.std.specs.Prelude.{◌≡◌, ◌<◌, ◌≤◌, IfSome, IfNone};
 ghost use Rattle.lock_core.specs.Layout.{IsLockTable, cell_at, to_go};
-ghost use Rattle.lock_core.specs.Views.{view_of, InTime, InTimeFrom, LoadGrows, IsSeatOf, IsIdle, IsQueued, IsQueuedWithin, IsAtTurn, AsksAfter, SameTurn};
+ghost use Rattle.lock_core.specs.Views.{view_of, InTime, InTimeFrom, LoadGrows, IsSeatOf, IsIdle, IsQueued, IsQueuedWithin, IsAtTurn, IsOvertakenInBounds, AsksAfter, SameTurn};
 ghost use Rattle.lock_core.specs.Looks.{StepsLater, FoundBefore, FoundNext, FoundTailMoved, FoundBusy};
 ghost use Rattle.lock_core.specs.Answers.{IfNearAtTurn, IfNearQueued, IfNearFar, IfNearChanged, IfDrawn, IfNotDrawn};
 
@@ -48,6 +48,7 @@ pub fn try_ask(table: &SharedTable, seat: &mut TicketSeat) -> Option<u64>
     ensures load { LoadGrows seat.old seat.new }
     ensures turn { SameTurn (view_of seat.old) (view_of seat.new) }
     ensures at_turn { IfSome result (λ ticket. InTime seat.new (IsAtTurn ticket)) }
+    ensures overtaken { IfSome result (λ _. InTime seat.new IsOvertakenInBounds) }
     ensures order { IfSome result (λ _. InTimeFrom seat.old seat.new AsksAfter) }
     ensures steps { IfSome result (λ _. StepsLater 3 seat.old seat.new) }
     ensures idle { IfNone result (InTime seat.new IsIdle) }
@@ -76,6 +77,7 @@ pub fn ask_near(table: &SharedTable, seat: &mut TicketSeat) -> AskNearResult
     ensures load { LoadGrows seat.old seat.new }
     ensures turn { SameTurn (view_of seat.old) (view_of seat.new) }
     ensures at_turn { IfNearAtTurn result (λ ticket. InTime seat.new (IsAtTurn ticket)) }
+    ensures overtaken { IfNearAtTurn result (λ _. InTime seat.new IsOvertakenInBounds) }
     ensures queued { IfNearQueued result (λ ticket rounds. (0 < rounds) × (rounds ≤ 15)
         × InTime seat.new (IsQueuedWithin rounds ticket)) }
     ensures rounds { IfNearQueued result (λ ticket rounds.

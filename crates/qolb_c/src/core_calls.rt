@@ -5,8 +5,8 @@ ghost use Rattle.std.specs.Prelude.{◌≡◌, ◌≢◌, true};
 ghost use Rattle.lock_core.specs.Views.{SameRequest};
 ghost use Rattle.qolb_locks.specs.declared.answer.Answer.{Answer};
 ghost use Rattle.qolb_locks.specs.declared.ticket.State.{State};
-ghost use Rattle.qolb_locks.specs.Calls.{Opens, IsMisuse, OnlyState, OnlyRequest, OnlyRounds, OnlySleep, OnlyGrant, OnlyOuter, OnlyEntry, OnlyExit, StepsUpTo, Learns, IfDrawn, IsBehind, Looks, AsksOpen, Tries, AsksNear, AnnouncesSleep, Withdraws, Releases, IsAtStrictTurn, ChecksOpen, GoesIn, IsHead, TakesOuterWord, Leaves, RequestsHandoff, SleepsAsHead, IsServed, Shuts, IsToldShut, Reopens};
-ghost use Rattle.qolb_locks.specs.Tickets.{HasBursts, Is, IsFree, IsKnown, IsStrict, IsWithin};
+ghost use Rattle.qolb_locks.specs.Calls.{Opens, IsMisuse, OnlyState, OnlyRequest, OnlyRounds, OnlySleep, OnlyGrant, OnlyOuter, OnlyEntry, OnlyExit, StepsUpTo, StepsFirst, Learns, IfDrawn, IfGranted, IsBehind, Looks, AsksOpen, Tries, AsksNear, AnnouncesSleep, Withdraws, Releases, IsAtStrictTurn, ChecksOpen, GoesIn, IsHead, TakesOuterWord, Leaves, RequestsHandoff, SleepsAsHead, IsServed, Shuts, IsToldShut, Reopens};
+ghost use Rattle.qolb_locks.specs.Tickets.{HasBursts, Is, IsFree, IsKnown, IsNew, IsStrict, IsWithin};
 ghost use Rattle.qolb_c.specs.CoreCalls.{number_of, Of, Answers};
 
 use qolb_locks::{Answer, LockRef, Ticket};
@@ -48,7 +48,8 @@ pub extern "C" fn qolb_core_ask_proved_(lock: &LockRef, ticket: &mut Ticket) -> 
         (λ l a. Is State.Free l ticket.old → Learns ticket.old ticket.new IsBehind) }
     ensures steps { Of lock.now.lock (λ l. Is State.Free l ticket.old
         → StepsUpTo 2 ticket.old ticket.new) }
-    ensures kept { OnlyRequest ticket.old ticket.new }
+    ensures first { Of lock.now.lock (λ l. IsNew l ticket.old → StepsFirst 3 ticket.new) }
+    ensures kept { Answers lock.now.lock result (λ l a. OnlyRequest ticket.old ticket.new a) }
 {
     number(qolb_locks::ask(lock.get(), ticket))
 }
@@ -69,7 +70,9 @@ pub extern "C" fn qolb_core_ask_open_proved_(lock: &LockRef, ticket: &mut Ticket
         Learns ticket.old ticket.new IsBehind) }
     ensures steps { Of lock.now.lock (λ l. IsStrict l → Is State.Free l ticket.old
         → StepsUpTo 3 ticket.old ticket.new) }
-    ensures kept { OnlyRequest ticket.old ticket.new }
+    ensures first { Of lock.now.lock (λ l. IsStrict l → IsNew l ticket.old
+        → StepsFirst 4 ticket.new) }
+    ensures kept { Answers lock.now.lock result (λ l a. OnlyRequest ticket.old ticket.new a) }
 {
     number(qolb_locks::ask_open(lock.get(), ticket))
 }
@@ -87,7 +90,8 @@ pub extern "C" fn qolb_core_ask_near_proved_(lock: &LockRef, ticket: &mut Ticket
         (λ l a. Is State.Free l ticket.old → IfDrawn a (Learns ticket.old ticket.new IsBehind)) }
     ensures steps { Of lock.now.lock (λ l. Is State.Free l ticket.old
         → StepsUpTo 3 ticket.old ticket.new) }
-    ensures kept { OnlyRequest ticket.old ticket.new }
+    ensures first { Of lock.now.lock (λ l. IsNew l ticket.old → StepsFirst 4 ticket.new) }
+    ensures kept { Answers lock.now.lock result (λ l a. OnlyRequest ticket.old ticket.new a) }
 {
     number(qolb_locks::ask_near(lock.get(), ticket))
 }
@@ -104,7 +108,8 @@ pub extern "C" fn qolb_core_try_ask_proved_(lock: &LockRef, ticket: &mut Ticket)
         (λ l a. Is State.Free l ticket.old → IfDrawn a (Learns ticket.old ticket.new IsBehind)) }
     ensures steps { Of lock.now.lock (λ l. Is State.Free l ticket.old
         → StepsUpTo 3 ticket.old ticket.new) }
-    ensures kept { OnlyRequest ticket.old ticket.new }
+    ensures first { Of lock.now.lock (λ l. IsNew l ticket.old → StepsFirst 4 ticket.new) }
+    ensures kept { Answers lock.now.lock result (λ l a. OnlyRequest ticket.old ticket.new a) }
 {
     number(qolb_locks::try_ask(lock.get(), ticket))
 }
@@ -122,7 +127,7 @@ pub extern "C" fn qolb_core_poll_proved_(lock: &LockRef, ticket: &mut Ticket) ->
         (λ l a. Is State.Waiting l ticket.old → Learns ticket.old ticket.new SameRequest) }
     ensures steps { Of lock.now.lock (λ l. Is State.Waiting l ticket.old
         → StepsUpTo 1 ticket.old ticket.new) }
-    ensures kept { OnlyRounds ticket.old ticket.new }
+    ensures kept { Answers lock.now.lock result (λ l a. OnlyRounds ticket.old ticket.new a) }
 {
     number(qolb_locks::poll(lock.get(), ticket))
 }
@@ -142,7 +147,7 @@ pub extern "C" fn qolb_core_announce_sleep_proved_(lock: &LockRef, ticket: &mut 
         (λ l a. Is State.Waiting l ticket.old → Learns ticket.old ticket.new SameRequest) }
     ensures steps { Of lock.now.lock (λ l. Is State.Waiting l ticket.old
         → StepsUpTo 2 ticket.old ticket.new) }
-    ensures kept { OnlySleep ticket.old ticket.new }
+    ensures kept { Answers lock.now.lock result (λ l a. OnlySleep ticket.old ticket.new a) }
 {
     number(qolb_locks::announce_sleep(lock.get(), ticket))
 }
@@ -160,7 +165,7 @@ pub extern "C" fn qolb_core_retract_sleep_proved_(lock: &LockRef, ticket: &mut T
         (λ l a. Is State.Asleep l ticket.old → Learns ticket.old ticket.new SameRequest) }
     ensures steps { Of lock.now.lock (λ l. Is State.Asleep l ticket.old
         → StepsUpTo 1 ticket.old ticket.new) }
-    ensures kept { OnlyRounds ticket.old ticket.new }
+    ensures kept { Answers lock.now.lock result (λ l a. OnlyRounds ticket.old ticket.new a) }
 {
     number(qolb_locks::retract_sleep(lock.get(), ticket))
 }
@@ -174,6 +179,8 @@ pub extern "C" fn qolb_core_withdraw_proved_(lock: &LockRef, ticket: &mut Ticket
         (λ l a. ¬ Is State.Waiting l ticket.old → IsMisuse ticket.old ticket.new a) }
     ensures does { Answers lock.now.lock result
         (λ l a. Is State.Waiting l ticket.old → Withdraws l ticket.old ticket.new a) }
+    ensures same { Answers lock.now.lock result (λ l a. Is State.Waiting l ticket.old
+        → IfGranted a (Learns ticket.old ticket.new SameRequest)) }
     ensures steps { Of lock.now.lock (λ l. Is State.Waiting l ticket.old
         → StepsUpTo 2 ticket.old ticket.new) }
     ensures kept { OnlyState ticket.old ticket.new }
@@ -192,7 +199,7 @@ pub extern "C" fn qolb_core_release_proved_(lock: &LockRef, ticket: &mut Ticket)
         (λ l a. IsWithin 3 8 l ticket.old → Releases l ticket.old ticket.new a) }
     ensures steps { Of lock.now.lock (λ l. IsWithin 3 8 l ticket.old
         → StepsUpTo 128 ticket.old ticket.new) }
-    ensures kept { OnlyGrant ticket.old ticket.new }
+    ensures kept { Answers lock.now.lock result (λ l a. OnlyGrant ticket.old ticket.new a) }
 {
     number(qolb_locks::release(lock.get(), ticket))
 }
@@ -228,6 +235,8 @@ pub extern "C" fn qolb_core_go_in_proved_(lock: &LockRef, ticket: &mut Ticket) -
         (λ l a. HasBursts l → IsFree ticket.old → GoesIn l ticket.old.outer ticket.new a) }
     ensures steps { Of lock.now.lock (λ l. HasBursts l → Is State.Free l ticket.old
         → StepsUpTo 1 ticket.old ticket.new) }
+    ensures first { Of lock.now.lock (λ l. HasBursts l → IsNew l ticket.old
+        → StepsFirst 2 ticket.new) }
     ensures kept { OnlyEntry ticket.old ticket.new }
 {
     number(qolb_locks::go_in(lock.get(), ticket))
@@ -266,7 +275,7 @@ pub extern "C" fn qolb_core_leave_proved_(lock: &LockRef, ticket: &mut Ticket) -
         (λ l a. IsWithin 9 10 l ticket.old → Leaves l ticket.old ticket.new a) }
     ensures steps { Of lock.now.lock (λ l. IsWithin 9 10 l ticket.old
         → StepsUpTo 1 ticket.old ticket.new) }
-    ensures kept { OnlyExit ticket.old ticket.new }
+    ensures kept { Answers lock.now.lock result (λ l a. OnlyExit ticket.old ticket.new a) }
 {
     number(qolb_locks::leave(lock.get(), ticket))
 }

@@ -31,25 +31,38 @@ Opens burst label lock _ = ⊥
 abbrev pub IsMisuse : Ticket → Ticket → Answer → Type 0
 IsMisuse was now a = (a ≡ answer.Misuse) × (now ≡ was)
 
--- what a call may change of its ticket, and no more: the state, and what its caller knows; or beside that
+-- What a call may change of its ticket by its answer, and no more: its state, and what its caller knows; or beside that
 abbrev pub OnlyState : Ticket → Ticket → Type 0
 OnlyState was now = now ≡ record was { state = now.state; claim = now.claim }
 
--- the request, and the label of its lock
-abbrev pub OnlyRequest : Ticket → Ticket → Type 0
-OnlyRequest was now = now ≡ record was { number = now.number; rounds = now.rounds; label = now.label; state = now.state; claim = now.claim }
+-- the request, and the label of its lock; the rounds to go where it waits, or is too far away
+abbrev pub OnlyRequest : Ticket → Ticket → Answer → Type 0
+OnlyRequest was now answer.Granted = now ≡ record was { number = now.number; label = now.label; state = now.state; claim = now.claim }
+OnlyRequest was now answer.Closed = now ≡ record was { number = now.number; label = now.label; state = now.state; claim = now.claim }
+OnlyRequest was now answer.Waiting = now ≡ record was { number = now.number; rounds = now.rounds; label = now.label; state = now.state; claim = now.claim }
+OnlyRequest was now answer.Far = now ≡ record was { rounds = now.rounds; label = now.label; claim = now.claim }
+OnlyRequest was now answer.Busy = now ≡ record was { label = now.label; claim = now.claim }
+OnlyRequest was now _ = now ≡ was
 
--- the rounds to go
-abbrev pub OnlyRounds : Ticket → Ticket → Type 0
-OnlyRounds was now = now ≡ record was { rounds = now.rounds; state = now.state; claim = now.claim }
+-- the rounds to go where it waits
+abbrev pub OnlyRounds : Ticket → Ticket → Answer → Type 0
+OnlyRounds was now answer.Granted = OnlyState was now
+OnlyRounds was now answer.Waiting = now ≡ record was { rounds = now.rounds; state = now.state; claim = now.claim }
+OnlyRounds was now _ = now ≡ was
 
--- the rounds to go, and the word to sleep at
-abbrev pub OnlySleep : Ticket → Ticket → Type 0
-OnlySleep was now = now ≡ record was { rounds = now.rounds; word = now.word; state = now.state; claim = now.claim }
+-- the rounds to go where it waits, and the word to sleep at where it may sleep
+abbrev pub OnlySleep : Ticket → Ticket → Answer → Type 0
+OnlySleep was now answer.Granted = OnlyState was now
+OnlySleep was now answer.Asleep = now ≡ record was { rounds = now.rounds; word = now.word; state = now.state; claim = now.claim }
+OnlySleep was now answer.Waiting = now ≡ record was { rounds = now.rounds; claim = now.claim }
+OnlySleep was now answer.Full = now ≡ record was { rounds = now.rounds; claim = now.claim }
+OnlySleep was now _ = now ≡ was
 
--- the ticket that was granted last, and the sleepers there
-abbrev pub OnlyGrant : Ticket → Ticket → Type 0
-OnlyGrant was now = now ≡ record was { number = now.number; sleepers = now.sleepers; state = now.state; claim = now.claim }
+-- the ticket that was granted last; the sleepers there where the next one is granted
+abbrev pub OnlyGrant : Ticket → Ticket → Answer → Type 0
+OnlyGrant was now answer.Done = now ≡ record was { number = now.number; sleepers = now.sleepers; state = now.state; claim = now.claim }
+OnlyGrant was now answer.Unfinished = now ≡ record was { number = now.number; state = now.state; claim = now.claim }
+OnlyGrant was now _ = now ≡ was
 
 -- the outer word
 abbrev pub OnlyOuter : Ticket → Ticket → Type 0
@@ -59,9 +72,15 @@ OnlyOuter was now = now ≡ record was { outer = now.outer; state = now.state; c
 abbrev pub OnlyEntry : Ticket → Ticket → Type 0
 OnlyEntry was now = now ≡ record was { outer = now.outer; label = now.label; state = now.state; claim = now.claim }
 
--- the outer word, and whether the queue head sleeps there
-abbrev pub OnlyExit : Ticket → Ticket → Type 0
-OnlyExit was now = now ≡ record was { outer = now.outer; state = now.state; head_sleeps = now.head_sleeps; claim = now.claim }
+-- the outer word; whether the queue head sleeps there, where it left
+abbrev pub OnlyExit : Ticket → Ticket → Answer → Type 0
+OnlyExit was now answer.Done = now ≡ record was { outer = now.outer; state = now.state; head_sleeps = now.head_sleeps; claim = now.claim }
+OnlyExit was now answer.Busy = now ≡ record was { outer = now.outer; claim = now.claim }
+OnlyExit was now _ = now ≡ was
+
+-- a new seat, and the label of its lock
+abbrev pub OnlySeat : Ticket → Ticket → Type 0
+OnlySeat was now = now ≡ record was { label = now.label; claim = now.claim }
 
 -- the seat of the ticket's caller, and this is so of it: what its last steps found
 abbrev pub Shows : Ticket → (Seat ℕ View → Type 0) → Type 0
@@ -75,11 +94,15 @@ Learns was now P = (v w : View) × (was.claim.views ≡ v ∷ []) × (now.claim.
 abbrev pub IsBehind : View → View → Type 0
 IsBehind v w = (v.ended ≤ w.first_pending) × (w.first_pending ≤ w.ticket) × (v.newcomers_seen ≤ w.newcomers_at_ask)
 
--- where a call drew a ticket
+-- where a call drew a ticket; where a request is at its turn
 abbrev pub IfDrawn : Answer → Type 0 → Type 0
 IfDrawn answer.Granted P = P
 IfDrawn answer.Waiting P = P
 IfDrawn _ P = Unit {0}
+
+abbrev pub IfGranted : Answer → Type 0 → Type 0
+IfGranted answer.Granted P = P
+IfGranted _ P = Unit {0}
 
 -- no more newcomers overtook the request than the bound allows
 abbrev pub InBounds : Lock → Ticket → Type 0
@@ -102,14 +125,14 @@ AsksOpen lock now _ = ⊥
 
 -- `try_ask`
 abbrev pub Tries : Lock → Ticket → Answer → Type 0
-Tries lock now answer.Granted = Has state.AtTurn lock now
+Tries lock now answer.Granted = Has state.AtTurn lock now × InBounds lock now
 Tries lock now answer.Busy = Has state.Free lock now
     × Shows now (λ seat. FoundNext (λ rounds. 0 < rounds) seat ⊎ FoundTailMoved seat)
 Tries lock now _ = ⊥
 
 -- `ask_near`: what it draws could be withdrawn
 abbrev pub AsksNear : Lock → Ticket → Answer → Type 0
-AsksNear lock now answer.Granted = Has state.AtTurn lock now
+AsksNear lock now answer.Granted = Has state.AtTurn lock now × InBounds lock now
 AsksNear lock now answer.Waiting = Has state.Waiting lock now × (0 < now.rounds) × (now.rounds ≤ 15)
     × Shows now (looks.FoundBefore (cell_at now.number) (λ n. to_go n now.number ≡ now.rounds))
 AsksNear lock now answer.Far = Has state.Free lock now × (15 < now.rounds)
@@ -250,6 +273,10 @@ SleepsAsHead lock was now answer.Waiting = Has state.AtTurn lock now × (now.out
     × Shows now (λ seat. Found outer_at (λ n. state_of n ≢ 1) seat ⊎ FoundChanged outer_at seat)
 SleepsAsHead lock was now _ = ⊥
 
--- the ticket keeps its seat, and its caller makes at most k word steps
+-- the ticket keeps its seat, and its caller makes at most k word steps, and has seen no less load after them
 abbrev pub StepsUpTo : ℕ → Ticket → Ticket → Type 0
-StepsUpTo k was now = (v w : View) × (was.claim.views ≡ v ∷ []) × (now.claim.views ≡ w ∷ []) × (w.looks.steps ≤ v.looks.steps + k)
+StepsUpTo k was now = (v w : View) × (was.claim.views ≡ v ∷ []) × (now.claim.views ≡ w ∷ []) × (w.looks.steps ≤ v.looks.steps + k) × (v.most_open ≤ w.most_open)
+
+-- the ticket has a new seat, whose caller has made at most k word steps in all
+abbrev pub StepsFirst : ℕ → Ticket → Type 0
+StepsFirst k now = (w : View) × (now.claim.views ≡ w ∷ []) × (w.looks.steps ≤ k)

@@ -1,5 +1,5 @@
 -- What a ticket has, and what it knows of its lock. (Of this project.)
-use Rattle.std.specs.Prelude.{◌≡◌, ℕ, ◌==◌, if◌then◌else◌, ◌≤◌, [], ◌∷◌}
+use Rattle.std.specs.Prelude.{◌≡◌, ◌≢◌, ℕ, ◌==◌, if◌then◌else◌, ◌≤◌, [], ◌∷◌}
 use Rattle.lock_core.specs.declared.view.View.{View}
 use Rattle.lock_core.specs.Views.{max_newcomers_of, Timely, IsIdle, IsQueuedWithin, IsAsleep, IsAtTurn, HasTurnOf, IsInside, ServedOpen, ServedShut, KnowsShut}
 use Rattle.qolb_locks.specs.declared.lock.Lock.{Lock}
@@ -73,3 +73,7 @@ IsKnown lock t = t.label ≡ lock.label → Knows lock t (Says (state_of t.state
 -- it has no request of any lock
 abbrev pub IsFree : Ticket → Type 0
 IsFree t = t.state ≡ 0
+
+-- it has no request, and no seat of this lock: its next call that asks or goes in is its first at this lock
+abbrev pub IsNew : Lock → Ticket → Type 0
+IsNew lock t = (t.state ≡ 0) × (t.label ≢ lock.label)

@@ -1,8 +1,8 @@
 //! Requests.
 ghost use Rattle.std.specs.Prelude.{◌≡◌};
 ghost use Rattle.qolb_locks.specs.declared.ticket.State.{State};
-ghost use Rattle.qolb_locks.specs.Calls.{IsMisuse, OnlyRequest, OnlyEntry, StepsUpTo, Learns, IfDrawn, IsBehind, Looks, AsksOpen, Tries, AsksNear};
-ghost use Rattle.qolb_locks.specs.Tickets.{Is, Has, IsFree, IsKnown, IsStrict};
+ghost use Rattle.qolb_locks.specs.Calls.{IsMisuse, OnlyRequest, OnlySeat, StepsUpTo, StepsFirst, Learns, IfDrawn, IsBehind, Looks, AsksOpen, Tries, AsksNear};
+ghost use Rattle.qolb_locks.specs.Tickets.{Is, Has, IsFree, IsKnown, IsNew, IsStrict};
 
 use crate::answer::Answer;
 use crate::lock::Lock;
@@ -14,8 +14,8 @@ use lock_core::AskNearResult;
 pub(crate) fn take_new_seat(lock: &Lock, ticket: &mut Ticket)
     requires { IsFree ticket.old }
     ensures free { Has State.Free lock.now ticket.new }
-    ensures outer { ticket.new.outer ≡ ticket.old.outer }
-    ensures kept { OnlyEntry ticket.old ticket.new }
+    ensures steps { StepsFirst 1 ticket.new }
+    ensures kept { OnlySeat ticket.old ticket.new }
 {
     ticket.claim.put(lock_core::new_seat(&lock.table.shared));
     ticket.label = lock.label;
@@ -29,7 +29,7 @@ fn ask_again(lock: &Lock, ticket: &mut Ticket) -> Answer
     ensures does { Looks lock.now ticket.new result }
     ensures after { Learns ticket.old ticket.new IsBehind }
     ensures steps { StepsUpTo 2 ticket.old ticket.new }
-    ensures kept { OnlyRequest ticket.old ticket.new }
+    ensures kept { OnlyRequest ticket.old ticket.new result }
 {
     let mut seat = ticket.claim.take();
     ticket.number = lock_core::ask(&lock.table.shared, &mut seat);
@@ -46,7 +46,8 @@ fn ask_first(lock: &Lock, ticket: &mut Ticket) -> Answer
     requires { IsFree ticket.old }
     ensures known { IsKnown lock.now ticket.new }
     ensures does { Looks lock.now ticket.new result }
-    ensures kept { OnlyRequest ticket.old ticket.new }
+    ensures steps { StepsFirst 3 ticket.new }
+    ensures kept { OnlyRequest ticket.old ticket.new result }
 {
     take_new_seat(lock, ticket);
     ask_again(lock, ticket)
@@ -63,7 +64,8 @@ pub fn ask(lock: &Lock, ticket: &mut Ticket) -> Answer
     ensures does { IsFree ticket.old → Looks lock.now ticket.new result }
     ensures after { Is State.Free lock.now ticket.old → Learns ticket.old ticket.new IsBehind }
     ensures steps { Is State.Free lock.now ticket.old → StepsUpTo 2 ticket.old ticket.new }
-    ensures kept { OnlyRequest ticket.old ticket.new }
+    ensures first { IsNew lock.now ticket.old → StepsFirst 3 ticket.new }
+    ensures kept { OnlyRequest ticket.old ticket.new result }
 {
     if ticket.state != State::Free as u32 {
         return Answer::Misuse;
@@ -83,7 +85,7 @@ fn ask_open_again(lock: &Lock, ticket: &mut Ticket) -> Answer
     ensures does { AsksOpen lock.now ticket.new result }
     ensures after { Learns ticket.old ticket.new IsBehind }
     ensures steps { StepsUpTo 3 ticket.old ticket.new }
-    ensures kept { OnlyRequest ticket.old ticket.new }
+    ensures kept { OnlyRequest ticket.old ticket.new result }
 {
     let mut seat = ticket.claim.take();
     ticket.number = lock_core::ask(&lock.table.shared, &mut seat);
@@ -106,7 +108,8 @@ fn ask_open_first(lock: &Lock, ticket: &mut Ticket) -> Answer
     requires free { IsFree ticket.old }
     ensures known { IsKnown lock.now ticket.new }
     ensures does { AsksOpen lock.now ticket.new result }
-    ensures kept { OnlyRequest ticket.old ticket.new }
+    ensures steps { StepsFirst 4 ticket.new }
+    ensures kept { OnlyRequest ticket.old ticket.new result }
 {
     take_new_seat(lock, ticket);
     ask_open_again(lock, ticket)
@@ -126,7 +129,8 @@ pub fn ask_open(lock: &Lock, ticket: &mut Ticket) -> Answer
         Learns ticket.old ticket.new IsBehind }
     ensures steps { IsStrict lock.now → Is State.Free lock.now ticket.old →
         StepsUpTo 3 ticket.old ticket.new }
-    ensures kept { OnlyRequest ticket.old ticket.new }
+    ensures first { IsStrict lock.now → IsNew lock.now ticket.old → StepsFirst 4 ticket.new }
+    ensures kept { OnlyRequest ticket.old ticket.new result }
 {
     if lock.burst > 1 || ticket.state != State::Free as u32 {
         return Answer::Misuse;
@@ -145,7 +149,7 @@ fn try_ask_again(lock: &Lock, ticket: &mut Ticket) -> Answer
     ensures does { Tries lock.now ticket.new result }
     ensures after { IfDrawn result (Learns ticket.old ticket.new IsBehind) }
     ensures steps { StepsUpTo 3 ticket.old ticket.new }
-    ensures kept { OnlyRequest ticket.old ticket.new }
+    ensures kept { OnlyRequest ticket.old ticket.new result }
 {
     let mut seat = ticket.claim.take();
     let drawn = lock_core::try_ask(&lock.table.shared, &mut seat);
@@ -166,7 +170,8 @@ fn try_ask_first(lock: &Lock, ticket: &mut Ticket) -> Answer
     requires { IsFree ticket.old }
     ensures known { IsKnown lock.now ticket.new }
     ensures does { Tries lock.now ticket.new result }
-    ensures kept { OnlyRequest ticket.old ticket.new }
+    ensures steps { StepsFirst 4 ticket.new }
+    ensures kept { OnlyRequest ticket.old ticket.new result }
 {
     take_new_seat(lock, ticket);
     try_ask_again(lock, ticket)
@@ -184,7 +189,8 @@ pub fn try_ask(lock: &Lock, ticket: &mut Ticket) -> Answer
     ensures after { Is State.Free lock.now ticket.old →
         IfDrawn result (Learns ticket.old ticket.new IsBehind) }
     ensures steps { Is State.Free lock.now ticket.old → StepsUpTo 3 ticket.old ticket.new }
-    ensures kept { OnlyRequest ticket.old ticket.new }
+    ensures first { IsNew lock.now ticket.old → StepsFirst 4 ticket.new }
+    ensures kept { OnlyRequest ticket.old ticket.new result }
 {
     if ticket.state != State::Free as u32 {
         return Answer::Misuse;
@@ -203,7 +209,7 @@ fn ask_near_again(lock: &Lock, ticket: &mut Ticket) -> Answer
     ensures does { AsksNear lock.now ticket.new result }
     ensures after { IfDrawn result (Learns ticket.old ticket.new IsBehind) }
     ensures steps { StepsUpTo 3 ticket.old ticket.new }
-    ensures kept { OnlyRequest ticket.old ticket.new }
+    ensures kept { OnlyRequest ticket.old ticket.new result }
 {
     let mut seat = ticket.claim.take();
     let asked = lock_core::ask_near(&lock.table.shared, &mut seat);
@@ -239,7 +245,8 @@ fn ask_near_first(lock: &Lock, ticket: &mut Ticket) -> Answer
     requires { IsFree ticket.old }
     ensures known { IsKnown lock.now ticket.new }
     ensures does { AsksNear lock.now ticket.new result }
-    ensures kept { OnlyRequest ticket.old ticket.new }
+    ensures steps { StepsFirst 4 ticket.new }
+    ensures kept { OnlyRequest ticket.old ticket.new result }
 {
     take_new_seat(lock, ticket);
     ask_near_again(lock, ticket)
@@ -257,7 +264,8 @@ pub fn ask_near(lock: &Lock, ticket: &mut Ticket) -> Answer
     ensures after { Is State.Free lock.now ticket.old →
         IfDrawn result (Learns ticket.old ticket.new IsBehind) }
     ensures steps { Is State.Free lock.now ticket.old → StepsUpTo 3 ticket.old ticket.new }
-    ensures kept { OnlyRequest ticket.old ticket.new }
+    ensures first { IsNew lock.now ticket.old → StepsFirst 4 ticket.new }
+    ensures kept { OnlyRequest ticket.old ticket.new result }
 {
     if ticket.state != State::Free as u32 {
         return Answer::Misuse;

@@ -3,8 +3,8 @@ ghost use Rattle.std.specs.Prelude.{◌≡◌, ◌+◌, ◌%◌, ◌^◌, ◌≤
 ghost use Rattle.lock_core.specs.Views.{HasEnded, HasTurnOf, IsIdle, IsNewcomersTurn, SameRequest, ServedOpen, ServedShut, KnowsShut};
 ghost use Rattle.qolb_locks.specs.declared.answer.Answer.{Answer};
 ghost use Rattle.qolb_locks.specs.declared.ticket.State.{State};
-ghost use Rattle.qolb_locks.specs.Calls.{IsMisuse, OnlyState, OnlyGrant, OnlyOuter, OnlyEntry, OnlyExit, StepsUpTo, Learns, SameTicket, GrantsNext, Releases, GoesIn, IsHead, TakesOuterWord, Leaves, RequestsHandoff, SleepsAsHead};
-ghost use Rattle.qolb_locks.specs.Tickets.{Has, Is, IsFree, IsWithin, IsKnown, HasBursts, Knows, Says};
+ghost use Rattle.qolb_locks.specs.Calls.{IsMisuse, OnlyState, OnlyGrant, OnlyOuter, OnlyEntry, OnlyExit, StepsUpTo, StepsFirst, Learns, SameTicket, GrantsNext, Releases, GoesIn, IsHead, TakesOuterWord, Leaves, RequestsHandoff, SleepsAsHead};
+ghost use Rattle.qolb_locks.specs.Tickets.{Has, Is, IsFree, IsNew, IsWithin, IsKnown, HasBursts, Knows, Says};
 
 use crate::answer::Answer;
 use crate::asking::take_new_seat;
@@ -35,7 +35,8 @@ fn pass_on(lock: &Lock, ticket: &mut Ticket) -> bool
         Knows lock.now ticket.old (Says State.HeadInsideShut ticket.old.number ticket.old.rounds) →
         Knows lock.now ticket.new (Says State.HeadInsideShut ticket.new.number ticket.new.rounds) }
     ensures steps { StepsUpTo 128 ticket.old ticket.new }
-    ensures kept { OnlyGrant ticket.old ticket.new }
+    ensures kept { result ≡ true → OnlyGrant ticket.old ticket.new Answer.Done }
+    ensures kept_unfinished { result ≡ false → OnlyGrant ticket.old ticket.new Answer.Unfinished }
 {
     let mut seat = ticket.claim.take();
     let released = lock_core::release(&lock.table.shared, &mut seat, &mut ticket.number);
@@ -60,7 +61,7 @@ pub fn release(lock: &Lock, ticket: &mut Ticket) -> Answer
     ensures does { IsWithin 3 8 lock.now ticket.old →
         Releases lock.now ticket.old ticket.new result }
     ensures steps { IsWithin 3 8 lock.now ticket.old → StepsUpTo 128 ticket.old ticket.new }
-    ensures kept { OnlyGrant ticket.old ticket.new }
+    ensures kept { OnlyGrant ticket.old ticket.new result }
 {
     if ticket.has_turn_outside(lock) {
         if !pass_on(lock, ticket) {
@@ -82,7 +83,7 @@ fn release_inside(lock: &Lock, ticket: &mut Ticket) -> Answer
     ensures does { IsWithin 7 8 lock.now ticket.old →
         Releases lock.now ticket.old ticket.new result }
     ensures steps { IsWithin 7 8 lock.now ticket.old → StepsUpTo 128 ticket.old ticket.new }
-    ensures kept { OnlyGrant ticket.old ticket.new }
+    ensures kept { OnlyGrant ticket.old ticket.new result }
 {
     if ticket.has(State::HeadInside, lock) {
         if !pass_on(lock, ticket) {
@@ -138,6 +139,7 @@ fn go_in_first(lock: &Lock, ticket: &mut Ticket) -> Answer
     ensures known { IsKnown lock.now ticket.new }
     ensures kept { OnlyEntry ticket.old ticket.new }
     ensures does { GoesIn lock.now ticket.old.outer ticket.new result }
+    ensures steps { StepsFirst 2 ticket.new }
 {
     take_new_seat(lock, ticket);
     go_in_again(lock, ticket)
@@ -157,6 +159,7 @@ pub fn go_in(lock: &Lock, ticket: &mut Ticket) -> Answer
         GoesIn lock.now ticket.old.outer ticket.new result }
     ensures steps { HasBursts lock.now → Is State.Free lock.now ticket.old
         → StepsUpTo 1 ticket.old ticket.new }
+    ensures first { HasBursts lock.now → IsNew lock.now ticket.old → StepsFirst 2 ticket.new }
 {
     if lock.burst < 2 || ticket.state != State::Free as u32 {
         return Answer::Misuse;
@@ -213,7 +216,7 @@ pub fn leave(lock: &Lock, ticket: &mut Ticket) -> Answer
     requires { IsKnown lock.now ticket.old }
     ensures known { IsKnown lock.now ticket.new }
     ensures misuse { ¬ IsWithin 9 10 lock.now ticket.old → IsMisuse ticket.old ticket.new result }
-    ensures kept { OnlyExit ticket.old ticket.new }
+    ensures kept { OnlyExit ticket.old ticket.new result }
     ensures does { IsWithin 9 10 lock.now ticket.old →
         Leaves lock.now ticket.old ticket.new result }
     ensures steps { IsWithin 9 10 lock.now ticket.old → StepsUpTo 1 ticket.old ticket.new }

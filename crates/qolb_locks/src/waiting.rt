@@ -2,7 +2,7 @@
 ghost use Rattle.std.specs.Prelude.{◌≡◌};
 ghost use Rattle.lock_core.specs.Views.{SameRequest};
 ghost use Rattle.qolb_locks.specs.declared.ticket.State.{State};
-ghost use Rattle.qolb_locks.specs.Calls.{IsMisuse, OnlyState, OnlyRounds, OnlySleep, StepsUpTo, Learns, Looks, AnnouncesSleep, Withdraws};
+ghost use Rattle.qolb_locks.specs.Calls.{IsMisuse, OnlyState, OnlyRounds, OnlySleep, StepsUpTo, Learns, IfGranted, Looks, AnnouncesSleep, Withdraws};
 ghost use Rattle.qolb_locks.specs.Tickets.{Is, IsKnown};
 
 use crate::answer::Answer;
@@ -23,7 +23,7 @@ pub fn poll(lock: &Lock, ticket: &mut Ticket) -> Answer
     ensures does { Is State.Waiting lock.now ticket.old → Looks lock.now ticket.new result }
     ensures same { Is State.Waiting lock.now ticket.old → Learns ticket.old ticket.new SameRequest }
     ensures steps { Is State.Waiting lock.now ticket.old → StepsUpTo 1 ticket.old ticket.new }
-    ensures kept { OnlyRounds ticket.old ticket.new }
+    ensures kept { OnlyRounds ticket.old ticket.new result }
 {
     if !ticket.has(State::Waiting, lock) {
         return Answer::Misuse;
@@ -47,7 +47,7 @@ pub fn announce_sleep(lock: &Lock, ticket: &mut Ticket) -> Answer
         AnnouncesSleep lock.now ticket.new result }
     ensures same { Is State.Waiting lock.now ticket.old → Learns ticket.old ticket.new SameRequest }
     ensures steps { Is State.Waiting lock.now ticket.old → StepsUpTo 2 ticket.old ticket.new }
-    ensures kept { OnlySleep ticket.old ticket.new }
+    ensures kept { OnlySleep ticket.old ticket.new result }
 {
     if !ticket.has(State::Waiting, lock) {
         return Answer::Misuse;
@@ -86,7 +86,7 @@ pub fn retract_sleep(lock: &Lock, ticket: &mut Ticket) -> Answer
     ensures does { Is State.Asleep lock.now ticket.old → Looks lock.now ticket.new result }
     ensures same { Is State.Asleep lock.now ticket.old → Learns ticket.old ticket.new SameRequest }
     ensures steps { Is State.Asleep lock.now ticket.old → StepsUpTo 1 ticket.old ticket.new }
-    ensures kept { OnlyRounds ticket.old ticket.new }
+    ensures kept { OnlyRounds ticket.old ticket.new result }
 {
     if !ticket.has(State::Asleep, lock) {
         return Answer::Misuse;
@@ -106,6 +106,8 @@ pub fn withdraw(lock: &Lock, ticket: &mut Ticket) -> Answer
         IsMisuse ticket.old ticket.new result }
     ensures does { Is State.Waiting lock.now ticket.old →
         Withdraws lock.now ticket.old ticket.new result }
+    ensures same { Is State.Waiting lock.now ticket.old →
+        IfGranted result (Learns ticket.old ticket.new SameRequest) }
     ensures steps { Is State.Waiting lock.now ticket.old → StepsUpTo 2 ticket.old ticket.new }
     ensures kept { OnlyState ticket.old ticket.new }
 {

@@ -1,7 +1,7 @@
 //! Each answer, by one thread.
 use super::{add, add_within, lock_of, try_add};
 use fair_lock::{EnterError, FairLock, NewError, OpenError, TryEnterError};
-use std::time::Duration;
+use std::time::{Duration, Instant};
 
 #[test]
 fn bursts_of_one_turn_are_refused_and_the_value_comes_back(rt: HostRuntime) {
@@ -55,6 +55,27 @@ fn a_held_lock_is_busy_and_late(rt: HostRuntime) {
         guard.leave(&rt);
         assert_eq!(&rt; add(&rt, &lock, 3), 3);
         assert_eq!(&rt; lock.into_inner(), 9);
+    }
+}
+
+#[test]
+fn a_late_call_waits_as_long_as_it_may(rt: HostRuntime) {
+    let limit = Duration::from_millis(20);
+    for burst in [1, 2, 8] {
+        let lock = lock_of(rt.alloc(), burst, 0).expect(&rt, "memory");
+        let guard = lock.enter(&rt).ok().expect(&rt, "open");
+        let begun = Instant::now(&rt).ok().expect(&rt, "clock");
+        if let Ok(second) = lock.enter_within(&rt, limit) {
+            second.leave(&rt);
+            panic!(&rt; "two were served, at {burst}")
+        }
+        let waited = begun.elapsed(&rt).ok().expect(&rt, "clock");
+        guard.leave(&rt);
+        assert!(&rt; waited >= limit, "late too early, at {burst}");
+        assert!(&rt;
+            waited < Duration::from_secs(20),
+            "late too late, at {burst}"
+        );
     }
 }
 

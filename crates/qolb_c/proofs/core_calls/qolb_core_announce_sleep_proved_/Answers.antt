@@ -11,3 +11,6 @@ returns-clause-does c = (c.get.result.now, c.announce_sleep.result, c.get.ensure
 
 pub returns-clause-same : goal.returns-clause-same
 returns-clause-same c = (c.get.result.now, c.announce_sleep.result, c.get.ensures, c.number.ensures, c.announce_sleep.ensures.same)
+
+pub returns-clause-kept : goal.returns-clause-kept
+returns-clause-kept c = (c.get.result.now, c.announce_sleep.result, c.get.ensures, c.number.ensures, c.announce_sleep.ensures.kept)

@@ -11,3 +11,6 @@ returns-clause-does c = (c.get.result.now, c.ask_near.result, c.get.ensures, c.n
 
 pub returns-clause-after : goal.returns-clause-after
 returns-clause-after c = (c.get.result.now, c.ask_near.result, c.get.ensures, c.number.ensures, c.ask_near.ensures.after)
+
+pub returns-clause-kept : goal.returns-clause-kept
+returns-clause-kept c = (c.get.result.now, c.ask_near.result, c.get.ensures, c.number.ensures, c.ask_near.ensures.kept)

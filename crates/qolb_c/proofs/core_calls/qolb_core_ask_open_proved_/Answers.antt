@@ -14,3 +14,6 @@ returns-clause-after c = (c.get.result.now, c.ask_open.result, c.get.ensures, c.
 
 pub returns-clause-bursts : goal.returns-clause-bursts
 returns-clause-bursts c = (c.get.result.now, c.ask_open.result, c.get.ensures, c.number.ensures, c.ask_open.ensures.bursts)
+
+pub returns-clause-kept : goal.returns-clause-kept
+returns-clause-kept c = (c.get.result.now, c.ask_open.result, c.get.ensures, c.number.ensures, c.ask_open.ensures.kept)

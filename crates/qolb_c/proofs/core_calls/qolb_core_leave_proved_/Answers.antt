@@ -8,3 +8,6 @@ returns-clause-misuse c = (c.get.result.now, c.leave.result, c.get.ensures, c.nu
 
 pub returns-clause-does : goal.returns-clause-does
 returns-clause-does c = (c.get.result.now, c.leave.result, c.get.ensures, c.number.ensures, c.leave.ensures.does)
+
+pub returns-clause-kept : goal.returns-clause-kept
+returns-clause-kept c = (c.get.result.now, c.leave.result, c.get.ensures, c.number.ensures, c.leave.ensures.kept)

@@ -8,3 +8,6 @@ returns-clause-misuse c = (c.get.result.now, c.release.result, c.get.ensures, c.
 
 pub returns-clause-does : goal.returns-clause-does
 returns-clause-does c = (c.get.result.now, c.release.result, c.get.ensures, c.number.ensures, c.release.ensures.does)
+
+pub returns-clause-kept : goal.returns-clause-kept
+returns-clause-kept c = (c.get.result.now, c.release.result, c.get.ensures, c.number.ensures, c.release.ensures.kept)

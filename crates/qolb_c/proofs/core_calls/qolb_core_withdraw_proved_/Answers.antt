@@ -8,3 +8,6 @@ returns-clause-misuse c = (c.get.result.now, c.withdraw.result, c.get.ensures, c
 
 pub returns-clause-does : goal.returns-clause-does
 returns-clause-does c = (c.get.result.now, c.withdraw.result, c.get.ensures, c.number.ensures, c.withdraw.ensures.does)
+
+pub returns-clause-same : goal.returns-clause-same
+returns-clause-same c = (c.get.result.now, c.withdraw.result, c.get.ensures, c.number.ensures, c.withdraw.ensures.same)

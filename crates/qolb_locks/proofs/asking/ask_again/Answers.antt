@@ -23,4 +23,5 @@ returns-clause-steps c = (
   c.take-seat.ensures.view,
   ap (λ (claim : Claim). claim.views) c.settle.ensures.claim ∙ c.put.ensures.view,
   omega (arith, c.ask-ticket.ensures.steps, c.poll-rounds.ensures.steps),
+  omega (arith, c.ask-ticket.ensures.load, c.poll-rounds.ensures.load),
 )

@@ -23,6 +23,7 @@ returns-then-to_go-gt0-clause-steps c = (
   c.take-seat.ensures.view,
   ap (λ (claim : Claim). claim.views) c.settle.ensures.claim ∙ c.put.ensures.view,
   omega (arith, c.ask-ticket.ensures.steps, c.poll-to_go.ensures.steps),
+  omega (arith, c.ask-ticket.ensures.load, c.poll-to_go.ensures.load),
 )
 
 pub returns-clause-after : goal.returns-clause-after
@@ -47,4 +48,5 @@ returns-clause-steps c = (
   c.take-seat.ensures.view,
   ap (λ (claim : Claim). claim.views) c.tell.ensures.claim ∙ c.put-2.ensures.view,
   omega (arith, c.ask-ticket.ensures.steps, c.poll-to_go.ensures.steps, c.check_open-open.ensures.steps),
+  omega (arith, c.ask-ticket.ensures.load, c.poll-to_go.ensures.load, c.check_open-open.ensures.load),
 )

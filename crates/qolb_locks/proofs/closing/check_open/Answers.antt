@@ -9,4 +9,5 @@ returns-clause-steps c = λ _. (
   c.take-seat.ensures.view,
   ap (λ (claim : Claim). claim.views) c.tell.ensures.claim ∙ c.put.ensures.view,
   omega (arith, c.check_open-open.ensures.steps),
+  c.check_open-open.ensures.load,
 )

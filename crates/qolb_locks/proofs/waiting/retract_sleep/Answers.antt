@@ -19,4 +19,5 @@ returns-clause-steps c = λ _. (
   c.take-seat.ensures.view,
   ap (λ (claim : Claim). claim.views) c.settle.ensures.claim ∙ c.put.ensures.view,
   omega (arith, c.retract_sleep-rounds.ensures.steps),
+  c.retract_sleep-rounds.ensures.load,
 )

@@ -1,0 +1,92 @@
+//! Who ends a turn, or leaves the outer word, is told of sleepers, and has to wake them.
+ghost use Rattle.std.specs.Prelude.{◌≡◌, ◌<◌, ◌≤◌};
+ghost use Rattle.lock_core.specs.Views.{view_of, InTime, InTimeFrom, LoadGrows, IsSeatOf, IsIdle, IsInside, IsOutside, IsNotServed, HasEnded, HasTurnOf, SameKnown, SameOvertaking, SameTurn};
+ghost use Rattle.lock_core.specs.Looks.{LeavesAsFound};
+
+use crate::lock::FairLock;
+use crate::wake::{HEAD, WakeWords};
+use lock_core::{LeaveResult, ReleaseResult, ValueSeat, leave, release};
+use std::sync::{Wait, WaitMethods};
+
+/// The duty to wake the sleepers that a call was told of.
+///
+/// A linear token: the type is not `Drop`, and its fields are this file's. So whoever has it can only wake.
+pub(crate) struct ToWake {
+    place: usize,
+    asleep: bool,
+    ghost within: { place < 5 },
+}
+
+impl WakeWords {
+    /// Wakes whoever sleeps at the place of `told`, if it says that somebody does.
+    #[inline]
+    pub(crate) fn wake(&self, told: ToWake) {
+        let ToWake { place, asleep } = told;
+        if asleep {
+            self.wake_all(place);
+        }
+    }
+}
+
+impl<T> FairLock<T> {
+    ghost use Rattle.fair_lock.specs.Wakes.{IsToldOf, IsToldOfHead};
+
+    /// Ends the turn of `ticket`: passes withdrawn requests, and grants the first one that is not withdrawn. A queue head
+    /// that is inside stays inside.
+    pub(crate) fn pass_on<R: Wait>(&self, rt: &R, seat: &mut ValueSeat<T>, ticket: u64) -> ToWake
+        requires seat { IsSeatOf self.now.table.shared.table_id self.now.table.shared.key seat.old }
+        requires has { InTime seat.old (HasTurnOf ticket) }
+        ensures seat { IsSeatOf self.now.table.shared.table_id self.now.table.shared.key seat.new }
+        ensures load { LoadGrows seat.old seat.new }
+        ensures turn { SameTurn (view_of seat.old) (view_of seat.new) }
+        ensures idle { InTime seat.new IsIdle }
+        ensures ended { InTimeFrom seat.old seat.new HasEnded }
+        ensures later { InTimeFrom seat.old seat.new (λ v w. v.ticket ≤ w.ticket) }
+        ensures overtaking { InTimeFrom seat.old seat.new SameOvertaking }
+        ensures strict { self.now.burst ≤ 1 → InTime seat.new IsNotServed }
+        ensures told { InTime seat.new (IsToldOf result) }
+    {
+        let mut last = ticket;
+        for _ in rt.forever() {
+            if let ReleaseResult::Granted { sleepers } = release(
+                &self.table.shared,
+                seat,
+                &mut last,
+            ) {
+                let place = (last.wrapping_add(1) % 4) as usize;
+                return ToWake {
+                    place,
+                    asleep: sleepers != 0,
+                };
+            }
+        }
+        unreachable!()
+    }
+
+    /// Leaves the outer word. The queue head is to be woken if it sleeps there.
+    pub(crate) fn leave_outer<R: Wait>(&self, rt: &R, seat: &mut ValueSeat<T>) -> ToWake
+        requires seat { IsSeatOf self.now.table.shared.table_id self.now.table.shared.key seat.old }
+        requires inside { InTime seat.old IsInside }
+        ensures seat { IsSeatOf self.now.table.shared.table_id self.now.table.shared.key seat.new }
+        ensures outside { InTime seat.new IsOutside }
+        ensures home { InTime seat.new IsNotServed }
+        ensures known { SameKnown (view_of seat.old) (view_of seat.new) }
+        ensures load { LoadGrows seat.old seat.new }
+        ensures left { LeavesAsFound self.now.burst seat.new }
+        ensures told { InTime seat.new (IsToldOfHead result) }
+    {
+        for _ in rt.forever() {
+            if let LeaveResult::Outside { head_asleep } = leave(
+                &self.table.shared,
+                seat,
+                self.burst,
+            ) {
+                return ToWake {
+                    place: HEAD,
+                    asleep: head_asleep,
+                };
+            }
+        }
+        unreachable!()
+    }
+}

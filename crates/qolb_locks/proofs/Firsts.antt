@@ -1,0 +1,13 @@
+-- The steps of a ticket's first call.
+use Rattle.std.proofs.Common.{◌≡◌, ℕ, ◌+◌, [], ◌∷◌, sym, ap, ◌∙◌, arith}
+use Rattle.lock_core.specs.declared.view.View.{View}
+use Rattle.qolb_locks.specs.declared.ticket.Ticket.{Ticket}
+use Rattle.qolb_locks.specs.Calls.{StepsFirst, StepsUpTo}
+
+-- a new seat's steps, and then the call's
+pub first_then : (k m : ℕ) (mid now : Ticket) → StepsFirst k mid → StepsUpTo m mid now → StepsFirst (k + m) now
+first_then k m mid now first later =
+    let one : first.0 ∷ [] ≡ later.0 ∷ [] = sym first.1 ∙ later.2 in
+    let same : first.0 ≡ later.0 = cc in
+    let steps : first.0.looks.steps ≡ later.0.looks.steps = ap (λ (v : View). v.looks.steps) same in
+    (later.1, later.3, omega arith)
