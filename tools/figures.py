@@ -160,8 +160,8 @@ def measured():
 def choice():
     """Which lock to take: who may overtake, what is proved, and what was measured."""
     rows = [
-        ["later calls before a waiter", "none, up to 16,380 requests", "at most 1,023, and 1,023 for each waiter before it", "any number"],
-        ["[proved](#what-is-proved) of who has the turn", "one at a time, in order", "one at a time, waiters in order, at most 1,023 between two", "nothing"],
+        ["newcomers before a waiting ticket", "none", "at most 1,023, and 1,023 for each waiter before it (argued)", "any number"],
+        ["[proved](#what-is-proved) of its core", "one turn at a time, tickets in order", "the same; at most 1,023 newcomers counted between two", "nothing"],
     ]
     return table(["", *CHOICE.values()], rows + measured())
 
@@ -179,8 +179,7 @@ def advice():
     return [
         ("Take strict if each wait counts", min(waits, key=waits.get) == "strict"),
         ("bursts for many short turns", quickest("quiet", "4") == min(CHOICE, key=crowd.get) == "bursts"),
-        # Of sleepers at conditions no figures are kept.
-        ("or outnumber the processors, its short turns may take many times as long", crowd["strict"] > 5 * crowd["bursts"]),
+        ("want processors than there are, its short turns may take many times as long", crowd["strict"] > 5 * crowd["bursts"]),
         ("If one thread uses the lock almost alone, a mutex is quicker", quickest("alone", "1") == "mutex"),
     ]
 
@@ -189,7 +188,7 @@ def choice_of_archive():
     """The same for the README of the archive, which is no page: in columns, indented."""
     rows = [
         ["", *(name.replace("`", "") for name in CHOICE.values())],
-        ["later calls before a waiter", "none, up to 16,380 requests", "1,023 for it and for each waiter before it", "any number"],
+        ["newcomers before a waiting ticket", "none", "1,023 for it and for each waiter before it", "any number"],
         *(row for row in measured() if not row[0].startswith("32 threads together")),
     ]
     widths = [max(map(len, column)) for column in zip(*rows)]

@@ -1,4 +1,4 @@
-/* QOLB for C and C++: locks, strict in the order of asking, or with bursts, in which later calls go first.
+/* QOLB for C and C++: locks, strict in the order of tickets, or with bursts, in which newcomers go first.
  *
  * A lock (qolb_lock) guards any data, for any number of threads, as a mutex does. A line is a lock that hands over 64
  * bytes, among 1 to 200 nodes (qolb_node). A task (qolb_task) enters a lock from an event loop, which must not wait.
@@ -9,14 +9,14 @@
  *
  * PROOFS
  *
- * Proved of a lock: its core, which decides who is next, gives one turn at a time, to waiters in order, with bursts of
- * B turns at most B - 1 to later calls between two waiters, and tells who leaves if the next has announced its sleep.
- * Explored with two and three threads and one or two switches, and tested: the C around it, with wakes, limits,
- * conditions, tasks. Argued: the bound for a waiter, and that a holder sees what the last one wrote. No proof speaks of
+ * Proved of a lock: its core, which decides who is next, gives one turn at a time, to tickets in order, with bursts
+ * of B turns counts at most B - 1 newcomers, without a ticket, from one waiter to the next, and tells a leaver
+ * whether the next has announced its sleep. Tested: the C around it, with wakes, time limits, conditions, tasks; at
+ * the commits that PROVED names also explored, with a stand-in for the core, two or three threads, one or two
+ * switches. Argued: the bound for a waiter, and that a holder sees what earlier holders wrote. No proof speaks of
  * the guarded data.
  *
- * What calls do to a line, with its 64 bytes, is proved. Their waits, notifications and memory are C: explored and
- * tested.
+ * Of a line, order and bytes are proved. Waits, notifications and memory are C: explored and tested.
  *
  * SANITIZERS AND DEBUGGERS
  *
@@ -88,19 +88,18 @@
  * A thread that enters a strict lock draws a ticket, by one step, and has its turn in the order of tickets. No call
  * that begins afterwards is served before it while it waits.
  *
- * A lock with bursts stays free when its holder leaves, though threads wait, for whoever enters next: that is one
- * burst, of at most `turns` turns. A thread that finds it taken draws a ticket, and waiters keep their order. Before a
- * request with p requests before it there are at most
+ * A lock with bursts stays free when its holder leaves, though threads wait, for whoever enters next, a newcomer:
+ * that is one burst, of at most `turns` turns. A thread that finds it taken draws a ticket, and waiters keep their
+ * order. Before a request with p requests before it there are at most
  *
  *     (p + 1) * (turns - 1)
  *
- * turns of calls that began later: to enter, to try, or the end of a wait at a condition. Usually there are fewer: the
- * first waiter watches, and after a sixteenth of `turns` or 1 ms requests the lock: then the next leave ends the burst.
- * If it sleeps, a leave wakes it first. More than 65,535 count as 65,535; with 0 or 1 a lock is strict.
+ * turns of newcomers: to enter, to try, or the end of a wait at a condition. Usually fewer: the first waiter
+ * watches, and after a sixteenth of `turns` or 1 ms requests the lock: then the next leave ends the burst. If it
+ * sleeps, a leave wakes it first. More than 65,535 count as 65,535; with 0 or 1 a lock is strict.
  *
- * Take strict order if each wait counts, bursts of 1,024 turns in place of a mutex: for many short turns, and if
- * threads sleep at conditions or outnumber the processors (WAITING). Take fewer if those may last too long for a
- * waiter.
+ * Take strict order if each wait counts, bursts of 1,024 turns in place of a mutex: for many short turns, and if too
+ * few processors are free (WAITING). Take fewer if those may last too long for a waiter.
  *
  * LIMITS
  *
@@ -124,8 +123,8 @@
  * Leaving wakes the next holder. If the leaver had slept, it wakes the waiter behind that one, too. In a burst it wakes
  * the first waiter alone. It calls the system only if it may have to wake a sleeper.
  *
- * A strict lock is the next thread's, even before that runs: all behind wait until it has woken up and had its turn. So
- * where threads sleep, as at conditions, each turn may cost a wake-up, many times a short turn's time. A lock with
+ * A strict lock is the next thread's, even before that runs: all behind wait until it has had its turn. So if more
+ * threads, of any program, want processors than there are, short turns may take many times as long. A lock with
  * bursts stays free meanwhile. No turn is promised: a thread waits until each earlier one has ended.
  *
  * No wait is a cancellation point. A thread that is cancelled while it waits is granted the lock or is late, and ends

@@ -1,8 +1,8 @@
-// QOLB for C++14 and later: locks, strict in the order of asking, or with bursts. The manual pages qolb_lock(3),
+// QOLB for C++14 and later: locks, strict in the order of tickets, or with bursts. The manual pages qolb_lock(3),
 // qolb_node(3) and qolb_task(3) have what each call answers, and the rules for callers.
 //
 //     qolb::lock lock;                             // a timed mutex, for the standard library's guards
-//     qolb::lock often(qolb::burst{1024});         // later calls may be first, a bounded number of times
+//     qolb::lock often(qolb::burst{1024});         // newcomers may be first, a bounded number of times
 //     qolb::Condition some;                        // as a std::condition_variable
 //     std::unique_lock<qolb::lock> held(lock);     // throws Closed after a shut, Deadlock if the thread holds it
 //     some.wait_for(held, std::chrono::milliseconds(1), [&] { return jobs > 0; });

@@ -1,4 +1,4 @@
-//! Locks that are strict, in the order of the calls, or have bounded bursts. A [`Mutex`] guards a value, as `std::sync::Mutex` does.
+//! Locks that are strict, in the order of tickets, or have bounded bursts. A [`Mutex`] guards a value, as `std::sync::Mutex` does.
 //!
 //! ```
 //! use qolb::{Condition, Mutex, Stopped};
@@ -23,18 +23,19 @@
 //!
 //! # Beside `std::sync::Mutex`
 //!
-//! - Turns are in the order of the calls, so all wait until the next thread runs. A mutex made by [`Mutex::with_burst`] lets later calls in first, a
-//!   bounded number of times: take it if threads wait at a [`Condition`].
+//! - A call draws a ticket by one step, and turns are in the order of tickets, so all wait until the next thread runs. A mutex made by
+//!   [`Mutex::with_burst`] lets newcomers in first, a bounded number of times: take it if more threads, of any program, want processors than there are.
 //! - [`Mutex::lock`] fails if the mutex was shut ([`MutexGuard::shut`]) or this thread holds it: [`Stopped`]. There is no poison.
 //! - [`Mutex::try_lock_for`] has a time limit, and [`Mutex::lock_async`] is for tasks.
 //! - The lock's 320 bytes are put in a box at its first use: as at any allocation, the process ends if there is no memory.
 //!
 //! # What is proved
 //!
-//! Proved of a lock: its core, which decides who is next, gives one turn at a time, to waiters in order, with bursts of B turns at most B - 1 to later
-//! calls between two waiters, and tells who leaves if the next has announced its sleep. Explored with two and three threads and one or two switches,
-//! and tested: the C around it, with wakes, limits, conditions, tasks. Argued: the bound for a waiter, and that a holder sees what the last one wrote.
-//! No proof speaks of the guarded data.
+//! Proved of a lock: its core, which decides who is next, gives one turn at a time, to tickets in order, with bursts of B turns counts at most
+//! B - 1 newcomers, without a ticket, from one waiter to the next, and tells a leaver whether the next has announced its sleep. Tested: the C
+//! around it, with wakes, time limits, conditions, tasks; at the commits that PROVED names also explored, with a stand-in for the core, two or
+//! three threads, one or two switches. Argued: the bound for a waiter, and that a holder sees what earlier holders wrote. No proof speaks of the
+//! guarded data.
 //!
 //! # Nodes
 //!
@@ -685,7 +686,7 @@ impl RawQolb {
 
     /// A lock with bursts of at most `turns` turns, for threads that enter again and again; with 0 or 1 it is strict.
     ///
-    /// With `p` threads before it, a waiter is overtaken by at most `(p + 1) * (turns - 1)` turns of later calls.
+    /// With `p` threads before it, a waiter is overtaken by at most `(p + 1) * (turns - 1)` turns of newcomers.
     pub const fn with_burst(turns: u16) -> RawQolb {
         RawQolb { boxed: AtomicPtr::new(null_mut()), turns }
     }

@@ -1,6 +1,6 @@
 /* A queue of at most eight jobs, under a lock with two conditions. Who takes a job looks up each millisecond. At the
- * end the lock is shut, which ends all waits. The lock has bursts, as its threads sleep: a strict one would wait at
- * each turn until the next thread has woken up. Prints 4000. */
+ * end the lock is shut, which ends all waits. The lock has bursts, as processors may be few: a strict one waits at
+ * each turn until the next thread runs. Prints 4000. */
 #include <pthread.h>
 #include <qolb.h>
 #include <stdint.h>

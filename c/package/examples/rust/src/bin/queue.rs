@@ -1,5 +1,5 @@
 //! A queue of at most eight jobs, under a mutex with two conditions. Who takes a job looks up each millisecond; at the end the mutex is shut, which ends all waits.
-//! It has bursts, as its threads sleep: a strict one would wait at each turn until the next thread has woken up.
+//! It has bursts, as processors may be few: a strict one waits at each turn until the next thread runs.
 use qolb::{Condition, Mutex, Stopped};
 use std::collections::VecDeque;
 use std::thread;
