@@ -32,7 +32,7 @@
 //! # What is proved
 //!
 //! Proved of a lock: its core, which decides who is next, gives one turn at a time, to tickets in order, with bursts of B turns counts at most
-//! B - 1 newcomers, without a ticket, from one waiter to the next, and tells a leaver whether the next has announced its sleep. Tested: the C
+//! B - 1 newcomers, without a ticket, from one waiter to the next, and tells a leaver of the next one's announced sleep. Tested: the C
 //! around it, with wakes, time limits, conditions, tasks; at the commits that PROVED names also explored, with a stand-in for the core, two or
 //! three threads, one or two switches. Argued: the bound for a waiter, and that a holder sees what earlier holders wrote. No proof speaks of the
 //! guarded data.
