@@ -123,21 +123,6 @@ fn the_help_tells_options_and_limits(rt: HostRuntime) -> Result<(), Fail> {
     Ok(())
 }
 
-#[test]
-fn each_help_fits_a_terminal_of_80_columns(rt: HostRuntime) -> Result<(), Fail> {
-    let top = help_of(&rt, rt.alloc(), &[])?;
-    for line in top.as_str().split('\n') {
-        assert!(rt; line.len() <= 80, "{line}");
-    }
-    for (name, _) in &LINES {
-        let help = help_of(&rt, rt.alloc(), &[*name])?;
-        for line in help.as_str().split('\n') {
-            assert!(rt; line.len() <= 80, "{line} in the help of {name}");
-        }
-    }
-    Ok(())
-}
-
 /// The words of the example of each help, what the help says that they print, and what they print.
 static EXAMPLES: [(&[&str], &str, &str); 5] = [
     (
