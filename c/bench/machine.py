@@ -4,6 +4,8 @@ import contextlib
 import os
 import pathlib
 import re
+import subprocess
+import sys
 import time
 
 HERTZ = os.sysconf("SC_CLK_TCK")
@@ -17,6 +19,21 @@ def machine():
     """The processors' number and name."""
     names = names_of_processors()
     return f"{len(names)} processors of an {names[0]}"
+
+
+def named(word):
+    """A word of a command line; in place of a path of this machine alone the commit of what is checked out there, or its name."""
+    path = pathlib.Path(word)
+    if not path.is_absolute():
+        return word
+    found = subprocess.run(["git", "-C", word, "rev-parse", "--short", "HEAD"], capture_output=True, text=True, check=False)
+    return path.name if found.returncode else found.stdout.strip()
+
+
+def command():
+    """The command line, as a file of figures has it: without that it is to be written."""
+    words = (word for word in sys.argv[1:] if word != "--keep" and not word.endswith(".tsv"))
+    return " ".join([f"c/bench/{pathlib.Path(sys.argv[0]).name}", *map(named, words)])
 
 
 # A hand-over of a cache line between two hyperthreads of one core takes fewer nanoseconds than this, and between two cores more.

@@ -14,7 +14,7 @@ import subprocess
 import sys
 from collections import namedtuple
 
-from machine import Load, apart, least_of, machine, names_of_processors, quick_pairs
+from machine import Load, apart, command, least_of, machine, names_of_processors, quick_pairs
 
 HERE = pathlib.Path(__file__).resolve().parent
 ROOT = HERE.parent.parent
@@ -135,7 +135,6 @@ def lines_of_older(part, measured, older, names, keys):
 def head(title, asked, runner, load):
     """The lines at the top of a file of figures."""
     at = told(runner.program, "machine", ALL)
-    words = " ".join([f"c/bench/{pathlib.Path(sys.argv[0]).name}", *(word for word in sys.argv[1:] if word != "--keep")])
     return [
         f"# {title}: nanoseconds a turn over all threads, in phases that take turns. ratio: of this lock's median to that of the lock beside it; goal: the most of it; again: "
         "programs that were run again; kept: what a run is not that was kept.",
@@ -143,7 +142,7 @@ def head(title, asked, runner, load):
         f"# machine {machine()}, a pause of {re.search(r'a pause, ns: ([0-9.]+)', at)[1]} ns",
         f"# hand-overs in ns at the end: {' '.join(f'{a}-{b} {time:.0f}' for (a, b), time in pairs_of(at).items())}",
         f"# meanwhile {load}",
-        f"# command {words}",
+        f"# command {command()}",
         "\t".join(HEADS),
     ]
 

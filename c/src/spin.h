@@ -27,14 +27,13 @@
 
 enum {
     POLL_PAUSE = 90,     /* between two polls */
-    POLL_FARTHER = 150,  /* more for each turn between, if it can tell; so a pause is no longer than LONGEST_PAUSE */
-    LONGEST_PAUSE = 540, /* as it can tell of three */
+    POLL_FARTHER = 150,  /* more for each turn between, if it can tell: of three at most */
     SPIN_NEAR = 50000,   /* before a sleep, with at most NEAR_TURNS before the waiter, the holder among them */
     SPIN_FAR = 2000,     /* with more; and the least that a thread learns */
     SPIN_WOKEN = 10000,  /* the least after a sleep, unless more are before it */
     SPIN_UNKNOWN = 20000 /* if it can't be told how many */
 };
-enum { NEAR_TURNS = 4, GROWS_BY = 8, SHRINKS_BY = 2 };
+enum { LONGEST_PAUSE = POLL_PAUSE + 3 * POLL_FARTHER, NEAR_TURNS = 4, GROWS_BY = 8, SHRINKS_BY = 2 };
 
 /* The queue head of a lock with bursts (lock/waits.c) watches it: the pause between two looks, POLL_PAUSE once it has
  * requested the handoff; and how long newcomers may go in before it requests that: a time, and a part of the bound. */
