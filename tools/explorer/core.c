@@ -10,8 +10,8 @@
 #include <stdbool.h>
 #include <stddef.h>
 
-/* ../explore_lock.py: told of each drawn ticket, of each withdrawn one, and of who takes the outer word or sleeps there,
- * by the same step; and what is otherwise the width of a cell's fields, by scenes. */
+/* ../explore_lock.py: told of each drawn ticket, of each withdrawn one, and of who takes the outer word or sleeps
+ * there, by the same step; and what is otherwise the width of a cell's fields, by scenes. */
 #ifdef EXPLORED
 extern unsigned model_near, model_sleepers;
 void hook_draws(void);

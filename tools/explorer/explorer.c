@@ -390,8 +390,8 @@ static void run(void) {
     check_end(scene);
 }
 
-/* explorer MOST [BEGINNING [SECONDS]]: all scenes, or those whose names begin so, with runs of at most MOST turns of the
- * schedule, each for at most so long a time of the processor; it ends with 2 if one did not end by then. */
+/* explorer MOST [BEGINNING [SECONDS]]: all scenes, or those whose names begin so, with runs of at most MOST turns of
+ * the schedule, each for at most so long a time of the processor; it ends with 2 if one did not end by then. */
 int main(int argc, char **argv) {
     int left = 0;
     long most_seconds = argc > 3 ? atol(argv[3]) : 0;

@@ -84,7 +84,7 @@ FAULTS = {
     "a call with a limit draws a ticket while too many are open": (1, "far: crowded", (LOCK, "ask", "    if (my->until != FOR_EVER && !has_room(my->lock)) return QOLB_FAR_;\n", "")),
     # Leaving, shutting and closing.
     "who closes looks at the guests after it has looked who asked": (2, "", (LOCK, "is_alone", "atomic_load(&lock->guests) || tail_word(lock) != at->ticket.number + 1", "tail_word(lock) != at->ticket.number + 1 || atomic_load(&lock->guests)")),
-    "a shut tells those at a condition once it has left": (1, "", (LOCK, "qolb_shut_at_", "    qolb_tell_shut_(lock);\n", ""), (LOCK, "qolb_shut_at_", "    qolb_leave_at_(lock, at);\n", "    qolb_leave_at_(lock, at);\n    qolb_tell_shut_(lock);\n")),
+    "a shut tells those at a condition once it has left": (1, "who is told", (LOCK, "qolb_shut_at_", "    qolb_tell_shut_(lock);\n", ""), (LOCK, "qolb_shut_at_", "    qolb_leave_at_(lock, at);\n", "    qolb_leave_at_(lock, at);\n    qolb_tell_shut_(lock);\n")),
     "who leaves looks afterwards whether the lock has bursts": (1, "crowded: the last frees", (LOCK, "leave_on", "if (with_bursts)", "if (has_bursts(lock))")),
     "a shut is told to nobody by the core": (1, "", (LOCK, "qolb_shut_at_", "    qolb_core_shut_proved_(&lock->core, &at->ticket);\n", "")),
     "a shut tells nobody at a condition": (1, "", (LOCK, "qolb_shut_at_", "    qolb_tell_shut_(lock);\n", "")),

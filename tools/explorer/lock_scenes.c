@@ -385,7 +385,7 @@ static void late_at_a_younger_lock(int self) {
     is_late_at_the_younger();
 }
 
-/* The same, where one is woken by time now and then, and the other's time is over soon after it has drawn its ticket. */
+/* The same, where one is woken by time now and then, and the other's time is over once it has drawn its ticket. */
 static void late_soon_at_a_younger_lock(int self) {
     if (self == 0) return enters_with(2);
     if (self == 1) {
@@ -489,7 +489,24 @@ static void shuts_and_frees(int self) {
     free_lock();
 }
 
-/* The same of a lock that stays open. */
+/* Who is told of the shut frees the lock as soon as it may, while the other is still in its last call. */
+static void told_of_a_shut_frees(int self) {
+    if (self) {
+        MUST(qolb_lock_enter(it.lock) == QOLB_GRANTED);
+        it.has = 1;
+        MUST(qolb_cond_wait(&it.cond, it.lock) == QOLB_CLOSED);
+        while (qolb_lock_close(it.lock) != QOLB_DONE) sched_yield();
+        return free_lock();
+    }
+    for (int waits = 0; !waits;) {
+        MUST(qolb_lock_enter(it.lock) == QOLB_GRANTED);
+        waits = it.has;
+        MUST((waits ? qolb_lock_shut : qolb_lock_leave)(it.lock) == QOLB_DONE);
+        if (!waits) sched_yield();
+    }
+}
+
+/* As shuts_and_frees, of a lock that stays open. */
 static void signals_and_frees(int self) {
     if (self) {
         MUST(qolb_lock_enter(it.lock) == QOLB_GRANTED);
@@ -784,6 +801,8 @@ const struct scene scenes[] = {
     {"tasks: no memory", a_task_finds_no_memory, 2, 0, 0, 15, MANY, MANY, NO_MEMORY},
     {"tasks: crowded", a_task_finds_no_memory, 2, 0, 0, 15, MANY, 0, 0},
     {"tasks: room for one sleeper", a_task_beside_one_that_yields, 3, 0, 0, 15, 1, MANY, 0},
+    {"who is told of a shut frees", told_of_a_shut_frees, 2, 0, 0, ROOMY},
+    {"bursts: who is told of a shut frees", told_of_a_shut_frees, 2, 2, 0, ROOMY},
     {"late while one stays in", is_late_while_one_stays_in, 2, 0, 0, ROOMY},
     {"far: late while one stays in", is_late_while_one_stays_in, 2, 0, 0, FAR},
     {"far: crowded: late while one stays in", is_late_while_one_stays_in, 2, 0, 0, 0, MANY, 0, 0},
