@@ -145,10 +145,11 @@ uint32_t qolb_lock_enter_within(qolb_lock *lock, uint64_t nanoseconds) {
 
 /* For as long as it takes, in the thread's own place for a strict lock, with a ticket. */
 static uint32_t enter_after_wait(struct request *my) {
-    PROBE(wait, of_request(my));
+    struct probed it = of_request(my);
+    PROBE(wait, it);
     qolb_await_turn_(my);
     uint32_t got = enter_at_turn(my);
-    PROBE_END(got, of_request(my));
+    PROBE_END(got, it);
     if (got == QOLB_GRANTED) set_core(my->at, core_at(my->at) + HELD - LAST);
     return got;
 }
