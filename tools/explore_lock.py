@@ -2,13 +2,15 @@
 """Explores runs of the lock (c/src/lock), with two and three threads, over the stand-in for its proved calls (tools/explorer/core.c), on the model
 of the processor's memory that tools/explore_nodes.py says.
 
-tools/explore_lock.py [MOST] [--scene BEGINNING ..] [--fault WORDS | --no-faults] [--jobs 2]
+tools/explore_lock.py [MOST] [--scene BEGINNING ..] [--fault WORDS | --no-faults] [--seconds S] [--jobs 2]
     all runs of at most MOST turns of the schedule, 2, of the library as it is, where four tickets and where one ticket are in a round; and of each library
-    with a fault, as many turns as it says. It needs GCC
+    with a fault those of few turns first, up to as many as it says. With --seconds each scene takes at most so long a time of the processor, and those that
+    did not end by then are named. It needs GCC
 
 In no run may a thread sleep without being woken, two threads have the lock at once, freed memory be touched, two accesses race, an answer be wrong, a shut lock
-be entered, or a thread that has a ticket be overtaken by a call that began later; with bursts, by more of them than they allow. Each library with a fault must fail in some
-run, and after each change that is harmless none may fail. It ends with 1 if this is not so.
+be entered, an entry of the registry stay, or a thread that has a ticket be overtaken by a call that began later; with bursts, by more of them than they allow, or by any once
+a task sleeps as the first of those that wait. Each library with a fault must fail in some run, and after each change that is harmless none may fail. It ends with 1 if this
+is not so, or if a scene did not end.
 
 A fault is an edit of one function, or of a file's other text: where that does not have the edit's text once, the program says what it has and where the text
 is now, and ends.
@@ -35,7 +37,7 @@ SOURCE = ROOT / "c/src"
 MODEL = ROOT / "tools/explorer"
 # What is built, in a copy of c/src; those of tools/explorer beside it.
 LIBRARY = ("bells.c", "notify.c", *(f"lock/{name}.c" for name in ("conditions", "lock", "opens", "registry", "tasks", "turns", "waits")))
-SCENES = ("core.c", "lock_scenes.c", "holder_scenes.c", "task_scenes.c", "explorer.c")
+SCENES = ("core.c", "lock_scenes.c", "holder_scenes.c", "limit_scenes.c", "task_scenes.c", "explorer.c")
 # Objects by what they were made of: most faults change one file.
 OBJECTS = tempfile.TemporaryDirectory()
 RENAMED = [f"-D{name}=model_{short}" for name, short in (("malloc", "malloc"), ("free", "free"), ("syscall", "syscall"), ("sched_yield", "yield"), ("clock_gettime", "clock"), ("pthread_once", "once"), ("pthread_key_create", "key"), ("pthread_setspecific", "set"), ("pthread_atfork", "atfork"))]
@@ -94,45 +96,53 @@ def built(folder, edits, width):
     return folder / "explorer"
 
 
-def run(edits, width, most, scene):
-    """The output of the runs, and whether all of them passed."""
+def run(edits, width, most, scene, seconds):
+    """The output of the runs, whether one failed, and the scenes that did not end."""
     with tempfile.TemporaryDirectory() as name:
-        done = subprocess.run([built(pathlib.Path(name), edits, width), str(most), scene], capture_output=True, text=True, check=False)
-    return done.stdout.splitlines(), done.returncode == 0
+        done = subprocess.run([built(pathlib.Path(name), edits, width), str(most), scene, str(seconds)], capture_output=True, text=True, check=False)
+    told = done.stdout.splitlines()
+    return told, done.returncode not in (0, 2), [line.rsplit(": ", 1)[0] for line in told if line.endswith(" runs, not all")]
 
 
 def last_of(told):
-    return told[-1] if told else "it ended by a signal"
+    return told[-1] if told and not told[-1].endswith((" runs", " runs, not all")) else "it ended by a signal"
 
 
-def goes_well(most, scene, width):
-    """Prints how many runs there are of the library as it is; False if one fails."""
-    told, well = run((), width, most, scene)
-    if not well:
+def goes_well(most, scene, width, seconds):
+    """Prints how many runs there are of the library as it is; False if one fails, or a scene does not end."""
+    told, failed, left = run((), width, most, scene, seconds)
+    if failed:
         print(f"as it is, {width} in a round: {last_of(told)}", flush=True)
         return False
-    runs = sum(int(line.rsplit(" ", 2)[1]) for line in told)
-    print(f"as it is, {width} in a round: {runs:,} runs of at most {most} turns of {len(told)} scenes go well", flush=True)
-    return True
+    runs = sum(int(re.search(r": (\d+) runs", line).group(1)) for line in told)
+    ended = f"{len(told)} scenes" if not left else f"{len(told)} scenes, not all of: {'; '.join(left)};"
+    print(f"as it is, {width} in a round: {runs:,} runs of at most {most} turns of {ended} go well", flush=True)
+    return not left
 
 
-def is_found(name):
+def is_found(name, seconds):
     """Prints where a library with this fault fails; False if it does not."""
     most, scene, *edits = FAULTS[name]
-    for width in (1, 4):
-        told, well = run(edits, width, most, scene)
-        if not well:
-            print(f"{name}: at {most}, {last_of(told)}", flush=True)
-            return True
-    print(f"{name}: all runs go well", flush=True)
+    left = []
+    for turns in range(most + 1):
+        for width in (1, 4):
+            told, failed, left = run(edits, width, turns, scene, seconds)
+            if failed:
+                print(f"{name}: at {turns}, {last_of(told)}", flush=True)
+                return True
+    print(f"{name}: {'runs' if left else 'all runs'} go well", flush=True)
     return False
 
 
-def is_harmless(name):
+def is_harmless(name, seconds):
     """Prints whether all runs of at most one turn go well after this change."""
-    told, well = run(HARMLESS[name], 1, 1, "")
-    print(f"harmless: {name}: all runs go well" if well else f"harmless: {name}: {last_of(told)}", flush=True)
-    return well
+    for width in (1, 4):
+        told, failed, left = run(HARMLESS[name], width, 1, "", seconds)
+        if failed or left:
+            print(f"harmless: {name}: {last_of(told) if failed else 'not all runs'}", flush=True)
+            return False
+    print(f"harmless: {name}: all runs go well", flush=True)
+    return True
 
 
 def main():
@@ -141,16 +151,17 @@ def main():
     words.add_argument("--scene", action="append", default=[])
     words.add_argument("--fault", default="")
     words.add_argument("--no-faults", action="store_true")
+    words.add_argument("--seconds", type=int, default=0)
     words.add_argument("--jobs", type=int, default=2)
     asked = words.parse_args()
     since = time.monotonic()
     faults = [name for name in FAULTS if asked.fault in name and not asked.no_faults]
     changes = [name for name in HARMLESS if asked.fault in name and not asked.no_faults]
-    whole = [(asked.most, scene, width) for scene in asked.scene or [""] for width in (4, 1)] if not asked.fault else []
+    whole = [(asked.most, scene, width, asked.seconds) for scene in asked.scene or [""] for width in (4, 1)] if not asked.fault else []
     with concurrent.futures.ThreadPoolExecutor(asked.jobs) as pool:
         well = list(pool.map(lambda it: goes_well(*it), whole))
-        found = list(pool.map(is_found, faults))
-        harmless = list(pool.map(is_harmless, changes))
+        found = list(pool.map(lambda name: is_found(name, asked.seconds), faults))
+        harmless = list(pool.map(lambda name: is_harmless(name, asked.seconds), changes))
     if faults or changes:
         print(f"{sum(found)} of {len(faults)} faults are found, and {sum(harmless)} of {len(changes)} other changes are harmless")
     print(f"{time.monotonic() - since:.0f} seconds")

@@ -10,18 +10,24 @@
 #include <stdbool.h>
 #include <stddef.h>
 
-/* ../explore_lock.py: told of each drawn ticket, and of each withdrawn one, by the same step; and what is otherwise the
- * width of a cell's fields, by scenes. */
+/* ../explore_lock.py: told of each drawn ticket, of each withdrawn one, and of who takes the outer word or sleeps
+ * there, by the same step; and what is otherwise the width of a cell's fields, by scenes. */
 #ifdef EXPLORED
 extern unsigned model_near, model_sleepers;
 void hook_draws(void);
 void hook_withdraws(void);
+void hook_goes_in(uint64_t label);
+void hook_takes_outer(uint64_t label);
+void hook_head_sleeps(const struct qolb_ticket *ticket);
 #define MOST_NEAR model_near
 #define MOST_SLEEPERS model_sleepers
 enum { MOST_PASSED = 1 };
 #else
 #define hook_draws() ((void)0)
 #define hook_withdraws() ((void)0)
+#define hook_goes_in(label) ((void)0)
+#define hook_takes_outer(label) ((void)0)
+#define hook_head_sleeps(ticket) ((void)0)
 enum { MOST_NEAR = 15, MOST_SLEEPERS = 65535, MOST_PASSED = 64 };
 #endif
 
@@ -208,6 +214,7 @@ uint32_t qolb_core_go_in_proved_(const struct qolb_core *core, struct qolb_ticke
     uint64_t guess = ticket->outer, in = guess + NEWCOMER + HELD;
     if (guess & (STATE | SHUT)) return found(ticket, atomic_load(outer_of(lock)), QOLB_BUSY);
     if (!atomic_compare_exchange_strong(outer_of(lock), &guess, in)) return found(ticket, guess, QOLB_BUSY);
+    hook_goes_in(lock->label);
     ticket->outer = in;
     ticket->label = lock->label;
     return in_state(ticket, QOLB_TICKET_INSIDE_, QOLB_GRANTED);
@@ -219,6 +226,7 @@ uint32_t qolb_core_take_outer_proved_(const struct qolb_core *core, struct qolb_
     uint64_t was = atomic_load(outer_of(lock)), in = (was & SHUT) + HELD;
     if ((was & STATE) == HELD || !atomic_compare_exchange_strong(outer_of(lock), &was, in))
         return found(ticket, was, QOLB_WAITING);
+    hook_takes_outer(lock->label);
     ticket->outer = in;
     return in & SHUT ? in_state(ticket, QOLB_TICKET_HEAD_INSIDE_SHUT_, QOLB_CLOSED)
                      : in_state(ticket, QOLB_TICKET_HEAD_INSIDE_, QOLB_GRANTED);
@@ -248,6 +256,7 @@ uint32_t qolb_core_announce_head_sleep_proved_(const struct qolb_core *core, str
     if (lock->burst <= 1 || !is(lock, ticket, BIT(AT_TURN))) return QOLB_MISUSE;
     uint64_t was = atomic_load(outer_of(lock)), asleep = was | HEAD_SLEEPS;
     if ((was & STATE) != HELD || !atomic_compare_exchange_strong(outer_of(lock), &was, asleep)) return QOLB_WAITING;
+    hook_head_sleeps(ticket);
     ticket->outer = asleep;
     return QOLB_ASLEEP_;
 }

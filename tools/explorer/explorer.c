@@ -28,7 +28,7 @@ static struct thread {
     uintptr_t word;
     uint32_t classes; /* of those at the word */
     int times_out, lates;
-    uint64_t now;
+    uint64_t now, goes_on;
     struct clock clock;
     struct late late[32]; /* oldest first */
     char stack[1 << 16];
@@ -82,11 +82,13 @@ static void go_to(int k) {
 
 /* ---- Memory ---- */
 
-/* Four bytes: the last accesses of each thread, and what an acquiring load takes over. */
+/* Four bytes: the last accesses of each thread, and what an acquiring load takes over; and whose access was the last,
+ * of which kind. */
 struct cell {
     uintptr_t at;
     long run;
     struct clock told, done[4];
+    int last;
 };
 static struct cell cells[1 << 13];
 static struct { uintptr_t from, to; } freed[64];
@@ -107,7 +109,14 @@ static void join(struct clock *to, const struct clock *from) {
         if (to->at[k] < from->at[k]) to->at[k] = from->at[k];
 }
 
-/* An access, which must follow all accesses that it would race with. */
+/* Whether another thread made such an access, of which this one has not heard. */
+static int is_unheard(const struct clock *done) {
+    int is = 0;
+    for (int k = 0; k <= THREADS; k++) is |= (done->at[k] > me()->clock.at[k]) & (k != self_);
+    return is;
+}
+
+/* An access, which must follow all accesses that it would race with. Behind one of the same thread and kind it does. */
 void touch(const volatile void *where, unsigned size, int how) {
     static const int races[4][4] = {{0, 1, 0, 1}, {1, 1, 1, 1}, {0, 1, 0, 0}, {1, 1, 0, 0}};
     if (is_own((uintptr_t)where)) return;
@@ -115,9 +124,10 @@ void touch(const volatile void *where, unsigned size, int how) {
         must((uintptr_t)where + size <= freed[k].from || (uintptr_t)where >= freed[k].to, "it was freed");
     for (uintptr_t at = (uintptr_t)where / 4 * 4; at < (uintptr_t)where + size; at += 4) {
         struct cell *cell = cell_of(at);
-        for (int other = 0; other < 4; other++)
-            for (int k = 0; k <= THREADS; k++)
-                must(!races[how][other] || cell->done[other].at[k] <= me()->clock.at[k] || k == self_, "a race");
+        int access = 1 + how + 4 * self_;
+        for (int other = 0; other < 4 && cell->last != access; other++)
+            must(!races[how][other] || !is_unheard(&cell->done[other]), "a race");
+        cell->last = access;
         cell->done[how].at[self_] = me()->clock.at[self_];
     }
 }
@@ -279,11 +289,29 @@ void model_free(void *block) {
     freed[many_freed].from = (uintptr_t)block, freed[many_freed++].to = (uintptr_t)block + size;
 }
 
+int was_freed(const void *block) {
+    int was = 0;
+    for (int k = 0; k < many_freed; k++) was |= freed[k].from == (uintptr_t)block;
+    return was;
+}
+
 int model_yield(void) { return step(1), 0; }
+
+void time_goes_on(uint64_t by) { me()->goes_on = by; }
+
+int times_out(void) {
+    int many = 0;
+    step(0);
+    for (int k = 0; k < scene->threads; k++)
+        if (threads[k].state == SLEEPS && threads[k].times_out)
+            threads[k].state = RUNS, threads[k].now += 10 * MS, many++;
+    return many;
+}
 
 int model_clock(int clock, struct timespec *out) {
     (void)clock;
-    if (me()->now % MS == 0 && choose(2, 1)) me()->now += 10 * MS + 1;
+    if (me()->goes_on) me()->now += me()->goes_on;
+    else if (me()->now % MS == 0 && choose(2, 1)) me()->now += 10 * MS + 1;
     return *out = (struct timespec){0, (long)me()->now}, 0;
 }
 
@@ -347,7 +375,7 @@ static void run(void) {
     set_up(scene);
     for (int k = 0; k < scene->threads; k++) {
         threads[k].own = (struct own_data){0}, threads[k].in_call = NULL, threads[k].state = RUNS, threads[k].now = 0,
-        threads[k].lates = 0;
+        threads[k].goes_on = 0, threads[k].lates = 0;
         threads[k].clock = threads[THREADS].clock, threads[k].clock.at[k] = 1;
         getcontext(&threads[k].context);
         threads[k].context.uc_stack.ss_sp = threads[k].stack,
@@ -362,18 +390,23 @@ static void run(void) {
     check_end(scene);
 }
 
-/* explorer MOST [BEGINNING]: all scenes, or those whose names begin so, with runs of at most MOST turns of the
- * schedule. */
+/* explorer MOST [BEGINNING [SECONDS]]: all scenes, or those whose names begin so, with runs of at most MOST turns of
+ * the schedule, each for at most so long a time of the processor; it ends with 2 if one did not end by then. */
 int main(int argc, char **argv) {
+    int left = 0;
+    long most_seconds = argc > 3 ? atol(argv[3]) : 0;
     most = argc > 1 ? atoi(argv[1]) : 2;
     for (scene = scenes; scene->name; scene++) {
         if (argc > 2 && strncmp(argv[2], scene->name, strlen(argv[2]))) continue;
         long before = runs;
+        int more;
+        clock_t since = clock();
         planned = 0;
-        do run();
-        while (next_path());
-        printf("%s: %ld runs\n", scene->name, runs - before);
+        do run(), more = next_path();
+        while (more && (runs % 1024 || !most_seconds || (clock() - since) / CLOCKS_PER_SEC < most_seconds));
+        printf("%s: %ld runs%s\n", scene->name, runs - before, more ? ", not all" : "");
         fflush(stdout);
+        left |= more;
     }
-    return 0;
+    return left ? 2 : 0;
 }

@@ -61,6 +61,12 @@ void must(int is_so, const char *what);
 void __tsan_write_range(void *at, size_t size);
 void *model_malloc(size_t size);
 void model_free(void *block);
+int was_freed(const void *block);
+
+/* From now on each look of this thread at the clock finds it so much later. */
+void time_goes_on(uint64_t by);
+/* The time is over of all that sleep for a time: how many. */
+int times_out(void);
 
 /* For line.c: another thread may be next; an access, which must follow all that it races with; all stores of this
  * thread are seen; what happened before, as a call takes it over or hands it on. */

@@ -58,10 +58,9 @@ void new_data_of_threads(int looked_at) {
     are_looked_at = looked_at;
 }
 
+/* They lie one behind another. */
 UNSEEN int is_in_table(uintptr_t at) {
-    int is = 0;
-    for (int k = 0; k <= THREADS; k++) is |= owns[k] && at - (uintptr_t)owns[k] < sizeof *owns[k];
-    return is && !are_looked_at;
+    return !are_looked_at && at >= (uintptr_t)owns[0] && at < (uintptr_t)(owns[THREADS] + 1);
 }
 
 /* ---- Who holds the lock ---- */

@@ -30,6 +30,7 @@ HOOKED = [
     ("bells.h", "", "enum { BELLS = 1024 };", "enum { BELLS = 2 };"),
     (TASKS, "qolb_task_enter", "(uint64_t)(uintptr_t)me / sizeof *me << 32 | NO_WORD", "NO_WORD"),
     ("bells.h", "", "GUARD_LOOKS = 64", "GUARD_LOOKS = 1"),
+    (REGISTRY, "waits_on", "    e->number = HEAD;\n", "    e->number = HEAD;\n    { void hook_is_head(const struct qolb_ticket *); hook_is_head(ticket); }\n"),
 ]
 
 
@@ -51,6 +52,10 @@ FAULTS = {
     "who gives up keeps a turn that came first": (2, "", (WAITS, "give_up", "got == QOLB_GRANTED ? got : told", "told")),
     "who gives up looks whether the lock is shut after it has withdrawn": (2, "one frees", (WAITS, "give_up", "uint32_t told = closed_or(QOLB_LATE, my->lock), got = qolb_core_withdraw_proved_(core_of(my), ticket_of(my));", "uint32_t got = qolb_core_withdraw_proved_(core_of(my), ticket_of(my)), told = closed_or(QOLB_LATE, my->lock);")),
     "who gives up after a shut is told that it is late": (1, "", (WAITS, "give_up", "closed_or(QOLB_LATE, my->lock)", "QOLB_LATE"), (LOCK, "ask_later", "closed_or(QOLB_LATE, my->lock)", "(uint32_t)QOLB_LATE")),
+    "who passes on wakes behind its own ticket, though that one was withdrawn": (2, "", (WAITS, "qolb_end_turn_", "ahead = at->ticket.number + 2, key = 0;", "ahead = at->ticket.number + 2, key = 0, next = at->ticket.number + 1;"), (WAITS, "qolb_end_turn_", "key = tell(lock, at->ticket.number + 1);", "key = tell(lock, next);")),
+    "who passes an abandoned turn on wakes behind it, though that one was withdrawn": (1, "far: tasks: one gives up far, before", (WAITS, "tell", "number = ticket.number + 1", "number++")),
+    "a waiter that has a limit sleeps until it is woken": (1, "late while", (WAITS, "qolb_await_turn_", "sleep_for_turn(my, my->until)", "sleep_for_turn(my, FOR_EVER)")),
+    "the queue head that has a limit sleeps until it is woken": (1, "bursts: late while", (WAITS, "sleep_as_head", "UINT32_MAX, my->until", "UINT32_MAX, FOR_EVER")),
     # The queue head, and the outer word.
     "who leaves the outer word wakes nobody": (1, "bursts", (WAITS, "qolb_end_inside_", "        qolb_unpark_(outer_half(words_of(lock)), UINT32_MAX);\n", "        (void)lock;\n")),
     "who leaves the outer word gives up where it is another": (1, "bursts", (WAITS, "qolb_end_inside_", "    while (got == QOLB_BUSY) got =", "    if (got == QOLB_BUSY)"), (LOCK, "leave_on", "qolb_end_inside_(lock, at, got);", "qolb_end_inside_(lock, at, QOLB_DONE);")),
@@ -74,7 +79,12 @@ FAULTS = {
     "who has no ticket is no guest": (2, "crowded: ", (LOCK, "ask_later", "        be_guest(my);\n", "")),
     "who has no ticket stays a guest": (1, "crowded", (LOCK, "await", "    be_no_guest(my);\n", "")),
     "who could not be withdrawn waits for ever": (1, "far: ", (LOCK, "ask_later", "got == QOLB_FAR_ && !is_over(my->until)", "got == QOLB_FAR_ && my->until")),
+    "who has no ticket is no guest any more when it draws one": (2, "crowded: one", (LOCK, "ask_later", "        nap(my->until);\n", "        nap(my->until);\n        be_no_guest(my);\n")),
+    "a call whose time is over draws a ticket that it can't withdraw": (1, "far: two look in", (LOCK, "ask", "    if (my->until != FOR_EVER && is_over(my->until)) return ask_near(my);\n", "")),
+    "a call with a limit draws a ticket while too many are open": (1, "far: crowded", (LOCK, "ask", "    if (my->until != FOR_EVER && !has_room(my->lock)) return QOLB_FAR_;\n", "")),
     # Leaving, shutting and closing.
+    "who closes looks at the guests after it has looked who asked": (2, "", (LOCK, "is_alone", "atomic_load(&lock->guests) || tail_word(lock) != at->ticket.number + 1", "tail_word(lock) != at->ticket.number + 1 || atomic_load(&lock->guests)")),
+    "a shut tells those at a condition once it has left": (1, "who is told", (LOCK, "qolb_shut_at_", "    qolb_tell_shut_(lock);\n", ""), (LOCK, "qolb_shut_at_", "    qolb_leave_at_(lock, at);\n", "    qolb_leave_at_(lock, at);\n    qolb_tell_shut_(lock);\n")),
     "who leaves looks afterwards whether the lock has bursts": (1, "crowded: the last frees", (LOCK, "leave_on", "if (with_bursts)", "if (has_bursts(lock))")),
     "a shut is told to nobody by the core": (1, "", (LOCK, "qolb_shut_at_", "    qolb_core_shut_proved_(&lock->core, &at->ticket);\n", "")),
     "a shut tells nobody at a condition": (1, "", (LOCK, "qolb_shut_at_", "    qolb_tell_shut_(lock);\n", "")),
@@ -101,11 +111,15 @@ FAULTS = {
     "a turn beyond the table forgets its lock": (1, "holds three", (TURNS, "qolb_take_turn_", "    this_thread()->beyond--;\n", "    this_thread()->beyond--;\n    beyond->ticket.label = 0;\n")),
     "a turn beyond the table lies in the core's words": (1, "holds three", (HEADER, "spare_of", "lock->words + (which < before ? which : which + CORE_WORDS)", "which == KEPT_NUMBER ? words_of(lock) + TAIL : lock->words + (which < before ? which : which + CORE_WORDS)"), (HEADER, "", "enum spare {", "enum { TAIL = 16 };\nenum spare {"), (HEADER, "", "TICKETS_IN_ROUND = 4, TAIL = 16,", "TICKETS_IN_ROUND = 4,")),
     "who waits at a condition keeps no turn beyond the table": (1, "waits beyond", (CONDITIONS, "qolb_cond_wait_within", "    qolb_keep_turn_(lock, at, &beyond);\n", "")),
+    "a thread counts one lock beyond its table": (1, "holds three", (TURNS, "move_into", "this_thread()->beyond++;", "this_thread()->beyond = 1;"), (TURNS, "qolb_take_turn_", "this_thread()->beyond--;", "this_thread()->beyond = 0;")),
     # The registry.
+    "who is granted as it abandons its ticket keeps the entry": (2, "far: ", (REGISTRY, "qolb_abandon_", "    if (got != QOLB_ASLEEP_) free(e);\n", "")),
+    "who looks for an entry looks at its number alone": (1, "tasks: the last frees beside", (REGISTRY, "find_before", "e->lock == lock && e->number == number", "e->number == number")),
+    "who leaves looks whether the entry of a queue head is granted": (1, "bursts: tasks", (REGISTRY, "qolb_find_entry_", "number == HEAD || rounds_to_go", "rounds_to_go")),
     "an entry announces its sleep before it is in its list": (2, "", (REGISTRY, "stand", "    put_in(e);\n", ""), (REGISTRY, "stand", "    if (got != QOLB_ASLEEP_) take_out(e);\n", "    if (got == QOLB_ASLEEP_) put_in(e);\n")),
     "an entry announces no sleep": (1, "", (REGISTRY, "stand", "    while (got == QOLB_WAITING);\n", "    while (0);\n"), (REGISTRY, "stand", "got = qolb_core_announce_sleep_proved_(&e->lock->core, ticket)", "got = qolb_core_poll_proved_(&e->lock->core, ticket) == QOLB_WAITING ? QOLB_ASLEEP_ : QOLB_GRANTED")),
     "an entry whose ticket is at its turn stays in": (2, "", (REGISTRY, "stand", "    if (got != QOLB_ASLEEP_) take_out(e);\n", "")),
-    "who finds an entry does not look whether it is granted": (3, "far: a younger lock", (REGISTRY, "qolb_find_entry_", "e && (number == HEAD || rounds_to_go(lock, number) == 0)", "e")),
+    "who finds an entry does not look whether it is granted": (1, "far: late soon at a younger lock", (REGISTRY, "qolb_find_entry_", "e && (number == HEAD || rounds_to_go(lock, number) == 0)", "e")),
     "who finds the entry of a task does not look whether it is granted": (2, "tasks: a task comes to a younger lock", (REGISTRY, "qolb_find_entry_", "e && (number == HEAD || rounds_to_go(lock, number) == 0)", "e")),
     "who looks whether an entry is granted does not look for one": (2, "tasks: the last frees beside", (REGISTRY, "qolb_find_entry_", "e && (number == HEAD || rounds_to_go(lock, number) == 0)", "(number == HEAD || rounds_to_go(lock, number) == 0) && e")),
     "who takes an entry out does not retract its sleep": (1, "far: ", (REGISTRY, "out_of", "qolb_core_retract_sleep_proved_(&e->lock->core, &ticket);", "ticket.state = QOLB_TICKET_AT_TURN_;")),
@@ -122,7 +136,7 @@ FAULTS = {
     "a list forgets all but its last entry": (2, "tasks: three tasks", (HEADER, "put_last", "    it->next = last ? last->next : it;\n    if (last) last->next = it;\n", "    it->next = it, (void)last;\n")),
     # A task as the queue head.
     "a queue head is told of before it is in its list": (2, "bursts: tasks", (REGISTRY, "waits_on", "    put_in(e);\n", ""), (REGISTRY, "waits_on", "            return 1;\n", "            return put_in(e), 1;\n"), (REGISTRY, "waits_on", "    take_out(e);\n", "")),
-    "a task as the queue head requests no handoff": (2, "bursts: tasks", (REGISTRY, "waits_on", "qolb_core_request_handoff_proved_(core, ticket) == QOLB_DONE &&\n            ", "")),
+    "a task as the queue head requests no handoff": (1, "bursts of four: tasks", (REGISTRY, "waits_on", "qolb_core_request_handoff_proved_(core, ticket) == QOLB_DONE &&\n            ", "")),
     "a task as the queue head announces no sleep": (1, "bursts: tasks", (REGISTRY, "waits_on", " &&\n            qolb_core_announce_head_sleep_proved_(core, ticket) == QOLB_ASLEEP_", "")),
     "a task as the queue head announces its sleep before it requests": (2, "bursts of four: tasks: a task beside one that yields", (REGISTRY, "waits_on", "qolb_core_request_handoff_proved_(core, ticket) == QOLB_DONE &&\n            qolb_core_announce_head_sleep_proved_(core, ticket) == QOLB_ASLEEP_", "qolb_core_announce_head_sleep_proved_(core, ticket) == QOLB_ASLEEP_ &&\n            qolb_core_request_handoff_proved_(core, ticket) == QOLB_DONE")),
     "a task as the queue head that is in stays in its list": (2, "bursts: tasks", (REGISTRY, "waits_on", "    take_out(e);\n", "")),
@@ -156,6 +170,10 @@ FAULTS = {
     "a task's shut is told to nobody at a condition": (1, "tasks", (TASKS, "leave", "qolb_shut_at_(lock, &at);", "qolb_core_shut_proved_(&lock->core, &at.ticket), qolb_leave_at_(lock, &at);")),
     "a task shuts nothing": (1, "tasks", (TASKS, "leave", "qolb_shut_at_(lock, &at);", "qolb_tell_shut_(lock), qolb_leave_at_(lock, &at);")),
     "who waits at a condition keeps its place while calls are made": (1, "tasks: one waits while a call enters", (CONDITIONS, "qolb_cond_wait_within", "    struct turn turn = *at; /* not in the table: a call of a task may enter other locks */\n    at->ticket = (struct qolb_ticket){0};\n", ""), (CONDITIONS, "qolb_cond_wait_within", "qolb_cond_wait_at_(cond, lock, &turn, nanoseconds)", "qolb_cond_wait_at_(cond, lock, at, nanoseconds)"), (CONDITIONS, "qolb_cond_wait_within", "    at = qolb_place_for_(lock, &beyond);\n    at->ticket = turn.ticket;\n", "")),
+    "who cancels looks at a task's state before it has the guard": (2, "tasks: a task gives up", (REGISTRY, "qolb_state_of_", "    unsigned state = atomic_load(&task->state);\n", ""), (REGISTRY, "qolb_state_of_", "    atomic_uint *guard =", "    unsigned state = atomic_load(&task->state);\n    atomic_uint *guard =")),
+    "a task that leaves is idle once it has left": (1, "tasks: the task that left", (TASKS, "leave", "    atomic_store(&me->state, IDLE);\n", ""), (TASKS, "leave", "    return QOLB_DONE;\n", "    return atomic_store(&me->state, IDLE), QOLB_DONE;\n")),
+    "a task that is told of a shut is idle once it has passed on": (1, "tasks: the task that is told", (TASKS, "settle", "    if (got != QOLB_GRANTED) atomic_store(&me->state, IDLE);\n", ""), (TASKS, "settle", "    if (got == QOLB_GRANTED) hold(me, &at);\n", "    if (got == QOLB_GRANTED) hold(me, &at);\n    else atomic_store(&me->state, IDLE);\n")),
+    "a task that gives up looks afterwards whether the lock is shut": (1, "tasks: one frees", (TASKS, "qolb_task_cancel", "    uint32_t told = closed_or(QOLB_WITHDRAWN, lock);\n", ""), (TASKS, "qolb_task_cancel", "        return told;\n", "        return closed_or(QOLB_WITHDRAWN, lock);\n")),
     # Who holds a lock.
     "the tables are looked through without the guard": (2, "holder: ", (TURNS, "qolb_lock_holder", "    take_guard(&tables.guard);\n", "")),
     "a table comes into the list without the guard": (2, "holder: ", (TURNS, "know_table", "    take_guard(&tables.guard);\n", "")),
@@ -170,6 +188,10 @@ FAULTS = {
     # Conditions.
     "who waits stands in the list after it has left": (1, "", (CONDITIONS, "qolb_cond_wait_at_", "    stand(cond, lock, &me);\n", ""), (CONDITIONS, "qolb_cond_wait_at_", "    qolb_leave_at_(lock, at);\n", "    qolb_leave_at_(lock, at);\n    stand(cond, lock, &me);\n")),
     "who waits at a condition is no guest": (1, "one closes beside", (CONDITIONS, "qolb_cond_wait_at_", "    atomic_fetch_add(&lock->guests, 1);\n", ""), (CONDITIONS, "qolb_cond_wait_at_", "        atomic_fetch_sub(&lock->guests, 1); /* its last access to the lock */\n", ""), (CONDITIONS, "qolb_cond_wait_at_", "qolb_enter_at_(lock, at, FOR_EVER, 1)", "qolb_enter_at_(lock, at, FOR_EVER, 0)")),
+    "who waits at a condition is a guest once it has left": (2, "one ", (CONDITIONS, "qolb_cond_wait_at_", "    atomic_fetch_add(&lock->guests, 1);\n", ""), (CONDITIONS, "qolb_cond_wait_at_", "    qolb_leave_at_(lock, at);\n", "    qolb_leave_at_(lock, at);\n    atomic_fetch_add(&lock->guests, 1);\n")),
+    "who has a signal when its time is over is told that it is late": (1, "one signal, to", (CONDITIONS, "qolb_cond_wait_at_", "return stood ? (uint32_t)QOLB_LATE : got;", "return stood || !told ? (uint32_t)QOLB_LATE : got;")),
+    "a signal goes to one that is told of a shut": (1, "one signal at", (CONDITIONS, "signal_some", "told = tell(first, SIGNALLED);", "told = 1, tell(first, SIGNALLED);")),
+    "who comes last stands first in a list": (1, "who waits longest", (HEADER, "put_last", "__atomic_store_n(list, it, __ATOMIC_SEQ_CST);", "if (!last) __atomic_store_n(list, it, __ATOMIC_SEQ_CST);")),
     "who is told of a shut stays a guest": (1, "", (CONDITIONS, "qolb_cond_wait_at_", "        atomic_fetch_sub(&lock->guests, 1); /* its last access to the lock */\n", "")),
     "who is signalled stays a guest": (1, "", (CONDITIONS, "qolb_cond_wait_at_", "qolb_enter_at_(lock, at, FOR_EVER, 1)", "qolb_enter_at_(lock, at, FOR_EVER, 0)")),
     "who is told is not woken": (1, "", (CONDITIONS, "tell", "    qolb_wake_at_(word, 1);\n", "")),

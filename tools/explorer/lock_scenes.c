@@ -25,8 +25,16 @@ UNSEEN void *qolb_malloc_(size_t size) {
 void qolb_free_(void *block) { (void)block; }
 
 /* For an entry of the registry, where the scene has memory for it. */
+static struct {
+    void *at[16];
+    int many;
+} entries;
 void *model_entry(size_t size);
-void *model_entry(size_t size) { return model_memory ? model_malloc(size) : NULL; }
+UNSEEN void *model_entry(size_t size) {
+    if (!model_memory) return NULL;
+    MUST(entries.many < 16);
+    return entries.at[entries.many++] = model_malloc(size);
+}
 
 /* ---- Who may be served before whom ----
  *
@@ -34,7 +42,7 @@ void *model_entry(size_t size) { return model_memory ? model_malloc(size) : NULL
  * it has seen, and how many threads have gone that were in their calls then. A task counts as the thread that makes its
  * calls. */
 static struct {
-    int in_call, waits, passed, gone;
+    int in_call, waits, passed, gone, drawn;
     long began, since;
 } order[THREADS + 1];
 static int for_second;
@@ -50,9 +58,11 @@ UNSEEN void begins_call(void) {
 }
 UNSEEN void hook_draws(void) {
     int me = who();
+    order[me].drawn++;
     if (self_number() < THREADS && order[me].in_call)
         order[me].waits = 1, order[me].since = ++time_of_order, order[me].passed = order[me].gone = 0;
 }
+UNSEEN int has_drawn(int self) { return order[self].drawn > 0; }
 UNSEEN void hook_withdraws(void) { order[who()].waits = 0; }
 UNSEEN void ends_call(void) {
     int me = who();
@@ -70,6 +80,35 @@ UNSEEN static void enters_turn(void) {
         must(!order[me].waits, "a thread that waits is overtaken by one behind it");
     }
     ends_call();
+}
+
+/* ---- The handoff to a task ----
+ *
+ * A task that is the first of those that wait ends a burst with the turn of who is in: once it sleeps as the queue head
+ * of a lock no newcomer goes in before the queue head does. */
+static const struct qolb_ticket *head_of[THREADS + 1]; /* of a task that is to be one, by the thread that sees to it */
+static uint64_t handed_over[2 * LOCKS];                /* the labels of locks with such a head */
+void hook_is_head(const struct qolb_ticket *ticket);
+void hook_head_sleeps(const struct qolb_ticket *ticket);
+void hook_takes_outer(uint64_t label);
+void hook_goes_in(uint64_t label);
+
+UNSEEN static uint64_t *hand_over(uint64_t label) {
+    uint64_t *place = handed_over;
+    while (*place != label && place < handed_over + 2 * LOCKS - 1) place++;
+    return place;
+}
+UNSEEN void hook_is_head(const struct qolb_ticket *ticket) { head_of[self_number()] = ticket; }
+UNSEEN void hook_head_sleeps(const struct qolb_ticket *ticket) {
+    if (head_of[self_number()] == ticket) *hand_over(0) = ticket->label;
+    head_of[self_number()] = NULL;
+}
+UNSEEN void hook_takes_outer(uint64_t label) {
+    head_of[self_number()] = NULL;
+    if (*hand_over(label) == label) *hand_over(label) = 0;
+}
+UNSEEN void hook_goes_in(uint64_t label) {
+    must(*hand_over(label) != label, "a newcomer goes in before a task that is the first of those that wait");
 }
 
 static void turn_with(int yields) {
@@ -200,7 +239,7 @@ static void shuts_and_asks(int self) {
 
 /* The lock is closed only once no thread is about to call: so the other waits, without a ticket or with one, or is in a
  * call no more. */
-UNSEEN static int is_known(int other) {
+UNSEEN int is_known(int other) {
     struct lock *lock = lock_of(it.lock);
     return order[other].waits || *(unsigned *)&lock->guests;
 }
@@ -320,25 +359,45 @@ UNSEEN int had_turns(int turns) { return it.turns >= turns; }
 
 /* The lock is closed as soon as it may be, and used again at the same address, where another's ticket is abandoned. Who
  * left the first lock may be in that call still. */
-static void late_at_a_younger_lock(int self) {
-    if (self == 0) return enters_with(1);
-    if (self == 2) {
-        while (!atomic_fetch_add(&it.over, 0)) sched_yield();
-        begins_call();
-        uint32_t got = qolb_lock_enter_within(it.lock, MS);
-        ends_call();
-        if (got == QOLB_LATE) got = (atomic_store(&it.over, 2), qolb_lock_enter(it.lock));
-        MUST(got == QOLB_GRANTED);
-        atomic_store(&it.over, 2);
-        return leave();
-    }
-    enters(self);
+static void is_late_at_the_younger(void) {
+    begins_call();
+    uint32_t got = qolb_lock_enter_within(it.lock, MS);
+    ends_call();
+    if (got == QOLB_LATE) got = (atomic_store(&it.over, 2), qolb_lock_enter(it.lock));
+    MUST(got == QOLB_GRANTED);
+    atomic_store(&it.over, 2);
+    leave();
+}
+
+static void closes_and_comes_again(void) {
     while (!had_turns(2) || qolb_lock_close(it.lock) != QOLB_DONE) sched_yield();
     MUST(qolb_lock_enter(it.lock) == QOLB_GRANTED);
     atomic_store(&it.over, 1);
     while (atomic_fetch_add(&it.over, 0) < 2 && !is_known(2)) sched_yield();
     sched_yield();
     leave();
+}
+
+static void late_at_a_younger_lock(int self) {
+    if (self == 0) return enters_with(1);
+    if (self == 1) return enters(self), closes_and_comes_again();
+    while (!atomic_fetch_add(&it.over, 0)) sched_yield();
+    is_late_at_the_younger();
+}
+
+/* The same, where one is woken by time now and then, and the other's time is over once it has drawn its ticket. */
+static void late_soon_at_a_younger_lock(int self) {
+    if (self == 0) return enters_with(2);
+    if (self == 1) {
+        begins_call();
+        MUST(qolb_lock_enter_within(it.lock, 100 * MS) == QOLB_GRANTED);
+        turn();
+        leave();
+        return closes_and_comes_again();
+    }
+    while (!atomic_fetch_add(&it.over, 0)) sched_yield(), times_out();
+    time_goes_on(MS / 2);
+    is_late_at_the_younger();
 }
 
 /* ---- Conditions ---- */
@@ -430,7 +489,24 @@ static void shuts_and_frees(int self) {
     free_lock();
 }
 
-/* The same of a lock that stays open. */
+/* Who is told of the shut frees the lock as soon as it may, while the other is still in its last call. */
+static void told_of_a_shut_frees(int self) {
+    if (self) {
+        MUST(qolb_lock_enter(it.lock) == QOLB_GRANTED);
+        it.has = 1;
+        MUST(qolb_cond_wait(&it.cond, it.lock) == QOLB_CLOSED);
+        while (qolb_lock_close(it.lock) != QOLB_DONE) sched_yield();
+        return free_lock();
+    }
+    for (int waits = 0; !waits;) {
+        MUST(qolb_lock_enter(it.lock) == QOLB_GRANTED);
+        waits = it.has;
+        MUST((waits ? qolb_lock_shut : qolb_lock_leave)(it.lock) == QOLB_DONE);
+        if (!waits) sched_yield();
+    }
+}
+
+/* As shuts_and_frees, of a lock that stays open. */
 static void signals_and_frees(int self) {
     if (self) {
         MUST(qolb_lock_enter(it.lock) == QOLB_GRANTED);
@@ -533,6 +609,7 @@ const struct scene scenes[] = {
     {"far: room for one sleeper", two_late_beside_one_that_yields, 3, 0, 0, 0, 1, MANY, 0},
     {"far: no memory", two_late_beside_one_that_yields, 3, 0, 0, 0, MANY, MANY, NO_MEMORY},
     {"far: a younger lock", late_at_a_younger_lock, 3, 0, 0, FAR},
+    {"far: late soon at a younger lock", late_soon_at_a_younger_lock, 3, 0, 0, FAR},
     {"crowded: two are late", is_late, 3, 0, 0, CROWDED},
     {"crowded: two are late beside one that yields", two_late_beside_one_that_yields, 3, 0, 0, CROWDED},
     {"crowded: one shuts", shuts, 3, 0, 0, CROWDED},
@@ -724,6 +801,28 @@ const struct scene scenes[] = {
     {"tasks: no memory", a_task_finds_no_memory, 2, 0, 0, 15, MANY, MANY, NO_MEMORY},
     {"tasks: crowded", a_task_finds_no_memory, 2, 0, 0, 15, MANY, 0, 0},
     {"tasks: room for one sleeper", a_task_beside_one_that_yields, 3, 0, 0, 15, 1, MANY, 0},
+    {"who is told of a shut frees", told_of_a_shut_frees, 2, 0, 0, ROOMY},
+    {"bursts: who is told of a shut frees", told_of_a_shut_frees, 2, 2, 0, ROOMY},
+    {"late while one stays in", is_late_while_one_stays_in, 2, 0, 0, ROOMY},
+    {"far: late while one stays in", is_late_while_one_stays_in, 2, 0, 0, FAR},
+    {"far: crowded: late while one stays in", is_late_while_one_stays_in, 2, 0, 0, 0, MANY, 0, 0},
+    {"bursts: late while one stays in", is_late_while_one_stays_in, 2, 2, 0, ROOMY},
+    {"bursts: far: crowded: late while one stays in", is_late_while_one_stays_in, 2, 2, 0, 0, MANY, 0, 0},
+    {"late at a condition", is_late_at_a_condition, 2, 0, 0, ROOMY},
+    {"bursts: late at a condition", is_late_at_a_condition, 2, 2, 0, ROOMY},
+    {"who waits longest at a condition is signalled", signals_in_order, 3, 0, 0, ROOMY},
+    {"one signal, to one whose time is over", signals_whose_time_is_over, 3, 0, 0, ROOMY},
+    {"one signal at two locks, one of which is shut", signals_at_two_locks, 3, 0, 0, ROOMY},
+    {"bursts: one signal at two locks, one of which is shut", signals_at_two_locks, 3, 2, 0, ROOMY},
+    {"far: tasks: one gives up far, before one near", gives_up_far_before_one_near, 2, 0, 0, 2, MANY, MANY, 0},
+    {"tasks: one frees beside a task", one_frees_beside_a_task, 2, 0, 0, ROOMY},
+    {"far: tasks: one frees beside a task", one_frees_beside_a_task, 2, 0, 0, FAR},
+    {"bursts: tasks: one frees beside a task", one_frees_beside_a_task, 2, 2, 0, ROOMY},
+    {"bursts: far: tasks: one frees beside a task", one_frees_beside_a_task, 2, 2, 0, FAR},
+    {"tasks: the task that left enters in the call", enters_by_the_task_that_left, 2, 0, 0, ROOMY},
+    {"bursts: tasks: the task that left enters in the call", enters_by_the_task_that_left, 2, 2, 0, ROOMY},
+    {"tasks: the task that is told of a shut asks in the call", asks_by_the_task_that_was_told, 2, 0, 0, ROOMY},
+    {"bursts: tasks: the task that is told of a shut asks in the call", asks_by_the_task_that_was_told, 2, 2, 0, ROOMY},
     {NULL, NULL, 0, 0, 0, 0, 0, 0, 0},
 };
 
@@ -740,6 +839,7 @@ static qolb_lock *unopened(const struct scene *scene, int k) {
 void set_up(const struct scene *scene) {
     memset(&it, 0, sizeof it), memset(order, 0, sizeof order);
     new_data_of_threads(asks_for_holder(scene->does));
+    memset(head_of, 0, sizeof head_of), memset(handed_over, 0, sizeof handed_over), entries.many = 0;
     time_of_order = 0, it.users = scene->threads, model_near = scene->near, model_sleepers = scene->sleepers,
     model_open = scene->open;
     model_memory = !scene->no_memory, for_second = 0;
@@ -766,6 +866,7 @@ void check_end(const struct scene *scene) {
         MUST(scene->does != each[k].does || it.turns == each[k].turns * scene->threads);
     MUST(scene->does != one_stays || it.turns == 6);
     MUST(it.inside == 0 && it.cond.own == NULL);
+    MUST(scene->does != looks_in || entries.many == 0);
     if (scene->does == ends_as_holder) {
         is_held_by(0);
         MUST(qolb_lock_close(it.lock) == QOLB_MISUSE);
@@ -777,9 +878,10 @@ void check_end(const struct scene *scene) {
         if (lock->own) check_lock(lock_of(lock));
         MUST(qolb_lock_close(lock) == QOLB_DONE && lock->own == NULL);
     }
+    for (int k = 0; k < entries.many; k++) must(was_freed(entries.at[k]), "an entry is not freed");
 }
 
-int is_own(uintptr_t at) {
+UNSEEN int is_own(uintptr_t at) {
     return is_in_table(at) || at - (uintptr_t)&qolb_core_room_ < sizeof qolb_core_room_ ||
            at - (uintptr_t)&qolb_learned_ < sizeof qolb_learned_ || at - (uintptr_t)&errno < sizeof errno;
 }

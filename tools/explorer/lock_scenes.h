@@ -30,7 +30,10 @@ extern struct it it;
 void begins_call(void);
 void ends_call(void);
 void is_second(int self, int so);
-/* Whether the lock knows of another that is in its call, or that is in no call any more. */
+/* Whether a thread has ever drawn a ticket. */
+int has_drawn(int self);
+/* Whether the lock knows of another that is in its call; and until then, or until it is in no call any more. */
+int is_known(int other);
 void await_other(int other);
 
 void turn(void);
@@ -57,6 +60,15 @@ void is_held_by(int self);
 #define DECLARED(name) void name(int self);
 HOLDER_SCENES(DECLARED)
 
+/* ---- limit_scenes.c ---- */
+
+/* clang-format off */
+#define LIMIT_SCENES(of)                                                                                              \
+    of(is_late_while_one_stays_in) of(is_late_at_a_condition) of(signals_in_order) of(signals_whose_time_is_over)     \
+    of(signals_at_two_locks)
+/* clang-format on */
+LIMIT_SCENES(DECLARED)
+
 /* ---- task_scenes.c ---- */
 
 /* clang-format off */
@@ -72,7 +84,8 @@ HOLDER_SCENES(DECLARED)
     of(a_task_polls_early) of(one_closes_beside_a_task) of(closes_while_both_wait) of(a_task_signals)                 \
     of(has_task_turn_in_call) of(task_asks_again_in_call) of(enters_another_in_call) of(waits_while_a_call_enters)    \
     of(a_task_comes_to_a_younger_lock) of(a_task_finds_no_memory) of(last_frees_beside_entries)                       \
-    of(a_task_shuts_beside_a_waiter) of(a_task_beside_one_that_yields_once)
+    of(a_task_shuts_beside_a_waiter) of(a_task_beside_one_that_yields_once) of(gives_up_far_before_one_near)          \
+    of(enters_by_the_task_that_left) of(one_frees_beside_a_task) of(asks_by_the_task_that_was_told)
 /* clang-format on */
 TASK_SCENES(DECLARED)
 

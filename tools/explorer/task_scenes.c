@@ -164,6 +164,27 @@ void first_of_two_gives_up(int self) { two_tasks(self, 1, 0); }
 void second_of_two_gives_up(int self) { two_tasks(self, 0, 1); }
 void both_of_two_give_up(int self) { two_tasks(self, 1, 1); }
 
+/* Thread 0 has a turn, and four tasks behind it: the third gives up while it is far, and the fourth once it is near, in
+ * the turn of the second. Another waits behind all of them. */
+void gives_up_far_before_one_near(int self) {
+    if (self) {
+        while (!atomic_fetch_add(&it.over, 0)) sched_yield();
+        return enters(self);
+    }
+    MUST(qolb_lock_enter(it.lock) == QOLB_GRANTED);
+    for (int k = 0; k <= THREADS; k++)
+        MUST(qolb_task_enter(&it.task[k], it.lock, tells, (void *)(intptr_t)k) == QOLB_WAITING);
+    atomic_store(&it.over, 1);
+    while (!is_known(1)) sched_yield();
+    MUST(qolb_task_cancel(&it.task[2]) == QOLB_WITHDRAWN);
+    leave();
+    for (int k = 0; k < 2; k++) {
+        MUST(task_waits(k, FOR_EVER) == QOLB_GRANTED);
+        if (k == 1) MUST(qolb_task_cancel(&it.task[3]) == QOLB_WITHDRAWN);
+        MUST(qolb_task_leave(&it.task[k]) == QOLB_DONE);
+    }
+}
+
 /* ---- Shutting, closing and freeing ---- */
 
 static void task_until_shut(int self, int shuts) {
@@ -194,6 +215,21 @@ void last_task_frees(int self) {
 }
 
 void last_of_both_frees(int self) { self == 1 ? last_task_frees(self) : last_frees(self); }
+
+/* One frees the lock as soon as it may, while the task of another gives up, which makes no access to it afterwards. */
+void one_frees_beside_a_task(int self) {
+    if (self) {
+        if (task_asks(1) == QOLB_GRANTED) task_turn(1);
+        else task_gives_up(1);
+        atomic_store(&it.over, 1);
+        return;
+    }
+    MUST(qolb_lock_enter(it.lock) == QOLB_GRANTED);
+    await_other(1);
+    leave();
+    while (qolb_lock_close(it.lock) != QOLB_DONE) sched_yield();
+    free_lock();
+}
 
 /* The task polls all the time, called or not. */
 void last_that_polls_frees(int self) {
@@ -402,4 +438,53 @@ void waits_while_a_call_enters(int self) {
         if (signalled) qolb_cond_signal(&it.cond);
         leave();
     }
+}
+
+/* A call in the leave of the first task enters by that one: it is idle. */
+static void enters_by_first(void *task) {
+    int k = (int)(intptr_t)task;
+    uint32_t got;
+    MUST(qolb_task_poll(&it.task[k]) == QOLB_GRANTED && qolb_task_leave(&it.task[k]) == QOLB_DONE);
+    if (self_number() == 0) {
+        got = qolb_task_enter(&it.task[0], it.lock, tells, NULL);
+        MUST(got == QOLB_GRANTED || got == QOLB_WAITING);
+        it.has = got == QOLB_WAITING;
+        if (got == QOLB_GRANTED) MUST(qolb_task_leave(&it.task[0]) == QOLB_DONE);
+    }
+    task_ended(k);
+}
+
+void enters_by_the_task_that_left(int self) {
+    if (self) return enters(self);
+    MUST(task_enters(0, FOR_EVER) == QOLB_GRANTED);
+    turn();
+    MUST(qolb_task_enter(&it.task[1], it.lock, enters_by_first, (void *)(intptr_t)1) == QOLB_WAITING);
+    MUST(qolb_task_leave(&it.task[0]) == QOLB_DONE);
+    while (!is_told(1, FOR_EVER)) {}
+    if (!it.has) return;
+    MUST(task_waits(0, FOR_EVER) == QOLB_GRANTED && qolb_task_leave(&it.task[0]) == QOLB_DONE);
+}
+
+/* The same in the poll by which the first is told of a shut. */
+static void asks_by_first(void *task) {
+    int k = (int)(intptr_t)task;
+    MUST(qolb_task_poll(&it.task[k]) == QOLB_CLOSED);
+    if (self_number() == 0) MUST(qolb_task_enter(&it.task[0], it.lock, tells, NULL) == QOLB_CLOSED);
+    task_ended(k);
+}
+
+void asks_by_the_task_that_was_told(int self) {
+    if (self) {
+        MUST(qolb_lock_enter(it.lock) == QOLB_GRANTED);
+        atomic_store(&it.over, 1);
+        while (atomic_fetch_add(&it.over, 0) < 2) sched_yield();
+        MUST(qolb_lock_shut(it.lock) == QOLB_DONE);
+        return;
+    }
+    while (!atomic_fetch_add(&it.over, 0)) sched_yield();
+    MUST(qolb_task_enter(&it.task[0], it.lock, tells, NULL) == QOLB_WAITING);
+    MUST(qolb_task_enter(&it.task[1], it.lock, asks_by_first, (void *)(intptr_t)1) == QOLB_WAITING);
+    atomic_store(&it.over, 2);
+    MUST(task_waits(0, FOR_EVER) == QOLB_CLOSED);
+    while (!is_told(1, FOR_EVER)) {}
 }

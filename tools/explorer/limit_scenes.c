@@ -1,0 +1,96 @@
+/* Scenes of limits that run out while another stays in, and of whom a signal reaches (lock_scenes.c). */
+#include "lock_scenes.h"
+
+/* ---- Limits ---- */
+
+/* So often time passes until another must have ended its call, though there are turns of the schedule. */
+enum { OFTEN = 12 };
+
+static void stays_until(int what) {
+    for (int k = 0; k < OFTEN && atomic_fetch_add(&it.over, 0) < what; k++) sched_yield(), times_out();
+    MUST(atomic_fetch_add(&it.over, 0) == what);
+}
+
+/* One has the lock until another was told that it is late. Where too many requests are open that one has no ticket. */
+void is_late_while_one_stays_in(int self) {
+    if (self == 0) {
+        MUST(qolb_lock_enter(it.lock) == QOLB_GRANTED);
+        atomic_store(&it.over, 1);
+        stays_until(2);
+        return leave();
+    }
+    while (!atomic_fetch_add(&it.over, 0)) sched_yield();
+    if (model_open == 0) time_goes_on(MS / 2);
+    MUST(qolb_lock_enter_within(it.lock, MS) == QOLB_LATE);
+    MUST(model_open || has_bursts(lock_of(it.lock)) || !has_drawn(self));
+    atomic_store(&it.over, 2);
+}
+
+/* Nobody signals, and the other goes on when it is told that it is late. */
+void is_late_at_a_condition(int self) {
+    if (self == 0) return stays_until(1);
+    MUST(qolb_lock_enter(it.lock) == QOLB_GRANTED);
+    MUST(qolb_cond_wait_within(&it.cond, it.lock, MS) == QOLB_LATE);
+    turn();
+    leave();
+    atomic_store(&it.over, 1);
+}
+
+/* ---- Signals ---- */
+
+/* Enters once so many have come before. */
+static void enters_after(qolb_lock *lock, int many) {
+    for (;; sched_yield()) {
+        MUST(qolb_lock_enter(lock) == QOLB_GRANTED);
+        if (it.has >= many) return;
+        MUST(qolb_lock_leave(lock) == QOLB_DONE);
+    }
+}
+
+/* Two wait, one behind the other; there are two signals, the second by who had the first. */
+void signals_in_order(int self) {
+    enters_after(it.lock, self);
+    it.has++;
+    if (self == 2) {
+        MUST(qolb_cond_signal(&it.cond) == QOLB_DONE);
+        return leave();
+    }
+    MUST(qolb_cond_wait(&it.cond, it.lock) == QOLB_GRANTED);
+    MUST(it.has++ == 3 + self);
+    if (self == 0) MUST(qolb_cond_signal(&it.cond) == QOLB_DONE);
+    leave();
+}
+
+/* The same, where the time of the first is over at once: who is told LATE has not taken the signal from the other. */
+void signals_whose_time_is_over(int self) {
+    uint32_t got;
+    if (self == 0) time_goes_on(2 * MS);
+    enters_after(it.lock, self);
+    it.has++;
+    if (self == 2) {
+        MUST(qolb_cond_signal(&it.cond) == QOLB_DONE);
+        return leave();
+    }
+    got = self ? qolb_cond_wait(&it.cond, it.lock) : qolb_cond_wait_within(&it.cond, it.lock, MS);
+    MUST(got == QOLB_GRANTED || (got == QOLB_LATE && self == 0));
+    if (self == 0 && got == QOLB_GRANTED) MUST(qolb_cond_signal(&it.cond) == QOLB_DONE);
+    leave();
+}
+
+/* Two wait at one condition, each with a lock of its own. One lock is shut, and then there is one signal: it is the
+ * other's. */
+void signals_at_two_locks(int self) {
+    if (self < 2) {
+        qolb_lock *lock = it.locks[self];
+        while (self && !atomic_fetch_add(&it.over, 0)) sched_yield();
+        MUST(qolb_lock_enter(lock) == QOLB_GRANTED);
+        atomic_fetch_add(&it.over, 1);
+        MUST(qolb_cond_wait(&it.cond, lock) == (self ? QOLB_GRANTED : QOLB_CLOSED));
+        if (self) MUST(qolb_lock_leave(lock) == QOLB_DONE);
+        return;
+    }
+    while (atomic_fetch_add(&it.over, 0) < 2) sched_yield();
+    MUST(qolb_lock_enter(it.locks[1]) == QOLB_GRANTED && qolb_lock_enter(it.locks[0]) == QOLB_GRANTED);
+    MUST(qolb_lock_shut(it.locks[0]) == QOLB_DONE && qolb_cond_signal(&it.cond) == QOLB_DONE);
+    MUST(qolb_lock_leave(it.locks[1]) == QOLB_DONE);
+}
