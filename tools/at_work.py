@@ -311,17 +311,19 @@ def pictures_of_the_pages(program):
 
 
 # Jobs of `CROWD` workers at one line, each a turn of the line. A worker that waits awake gives up its processor voluntarily at most a hundred
-# times; a worker that sleeps does so for each long wait. A run without sleepers makes few calls that wake: at the ends of its threads.
+# times; a worker that sleeps does so for each long wait, which at a crowded line is each of its jobs. A run without sleepers makes few calls that
+# wake: at the ends of its threads. Work whose progress is told lasts until all workers have been seen.
 CROWD = 8
-TURNS = 12_000
+TURNS = 1_500
+LONG_TURNS = 12_000
 FEW_SLEEPS = 1_000
 CROWDED_RUNS = 10
 FEW_WAKES = 100
 
 
-def crowded_script(task):
+def crowded_script(task, turns=TURNS):
     lines = [f"{task} workers {CROWD}" + (" lines 1" if task == "bank" else "")]
-    for turn in range(TURNS):
+    for turn in range(turns):
         for worker in range(1, CROWD + 1):
             job = "in 0 1" if task == "bank" else "take" if (worker + turn) % 2 else f"put {worker}"
             lines.append(f"{worker} {job}")
@@ -374,7 +376,7 @@ def nobody_is_woken(program):
 def progress_is_told(program):
     """Work that takes more than a second prints its progress if `--progress` is given, and else not."""
     pipe = subprocess.PIPE
-    told = rf"(\d+ of {CROWD * TURNS} jobs done\n)+"
+    told = rf"(\d+ of {CROWD * LONG_TURNS} jobs done\n)+"
     rows = (
         (["bank", "--sleep"], ""),
         (["bank", "--sleep", "--progress"], told),
@@ -384,7 +386,7 @@ def progress_is_told(program):
     )
     for words, said in rows:
         with tempfile.TemporaryFile() as script:
-            script.write(crowded_script(words[0]))
+            script.write(crowded_script(words[0], LONG_TURNS))
             script.seek(0)
             running = spawned(program, words, script, pipe, pipe)
             # The workers are running, and are then stopped for a while.

@@ -105,7 +105,7 @@ def run(edits, width, most, scene, seconds):
 
 
 def last_of(told):
-    return told[-1] if told else "it ended by a signal"
+    return told[-1] if told and not told[-1].endswith((" runs", " runs, not all")) else "it ended by a signal"
 
 
 def goes_well(most, scene, width, seconds):

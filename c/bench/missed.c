@@ -24,10 +24,11 @@
 #include <x86intrin.h>
 
 #if QOLB_VERSION_MAJOR < 2 /* of an older library */
-static qolb_lock strict = QOLB_LOCK_INIT_DEFAULT, bursts = QOLB_LOCK_INIT_BURSTS(QOLB_LINK, 4, 1024);
+#define OF_BURSTS(turns) QOLB_LOCK_INIT_BURSTS(QOLB_LINK, 4, turns)
 #else
-static qolb_lock strict = QOLB_LOCK_INIT, bursts = QOLB_LOCK_INIT_BURSTS(1024);
+#define OF_BURSTS(turns) QOLB_LOCK_INIT_BURSTS(turns)
 #endif
+static qolb_lock strict = OF_BURSTS(0), bursts = OF_BURSTS(1024);
 static pthread_mutex_t mutex = PTHREAD_MUTEX_INITIALIZER;
 static ck_spinlock_mcs_t mcs = CK_SPINLOCK_MCS_INITIALIZER;
 static const char *const names[] = {"strict", "bursts", "mutex", "mcs"};

@@ -241,7 +241,7 @@
  *
  * WAITING
  *
- * Two of these calls wait for other threads: qolb_acquire and qolb_acquire_within. They poll each 90 ns, for at most
+ * Two of these calls wait for other threads: qolb_acquire and qolb_acquire_within. They poll each 60 ns, for at most
  * 50 us on a line of five nodes or fewer and 20 us on others, then sleep by a futex until the line is released, and
  * poll anew. What qolb_lock(3) says of waiting holds here, too.
  *

@@ -12,6 +12,8 @@
 
 /* The longest sleep of a busy node in nanoseconds: no call rings for it. */
 enum { NAP = 200000 };
+/* The nodes of a line, at most. */
+enum { MOST_NODES = 200 };
 
 /* ---- Opening ---- */
 
@@ -23,25 +25,40 @@ static struct { _Alignas(APART) atomic_uint waiting; } anywhere;
  * part of all bells. */
 enum { NEXT_BELLS = 633 };
 
+/* The bytes of a ticket line's slots: one for each cell, of which there are a power of two, more than nodes. Its words
+ * take as many bytes, and are allocated before them. */
+static size_t ticket_slots(uint64_t nodes) {
+    size_t cells = 2;
+    while (cells <= nodes) cells *= 2;
+    return cells * SLOT_BYTES;
+}
+
 static uint32_t open_noted(uint32_t kind, uint64_t label, uint64_t nodes, uint64_t lease, const qolb_bytes *opening,
                            qolb_node *out, size_t handles) {
-    struct noted_blocks none = {0}, of_link = {.size = {(nodes + 1) * PLACE_WORDS * sizeof(uint64_t), SLOT_BYTES}};
-    qolb_noted_blocks_ = kind == QOLB_LINK ? of_link : none;
-    return qolb_open_proved_(kind, label, nodes, lease, opening, out, handles);
+    struct noted_blocks noted = {.size = {0, SLOT_BYTES}, .keeps_freed = 1};
+    if (nodes <= MOST_NODES && kind == QOLB_LINK)
+        noted.size[NOTED_WORDS] = (nodes + 1) * PLACE_WORDS * sizeof(uint64_t);
+    if (nodes <= MOST_NODES && kind == QOLB_TICKET) noted.size[NOTED_SLOTS] = ticket_slots(nodes);
+    qolb_noted_blocks_ = noted;
+    uint32_t got = qolb_open_proved_(kind, label, nodes, lease, opening, out, handles);
+    qolb_give_back_();
+    return got;
 }
 
 /* The hints of the first node of the line that open_noted opened. */
-static struct hints first_hints(void) {
-    struct hints none = {0}, hints = {noted_block(NOTED_WORDS), noted_block(NOTED_SLOTS), 1};
+static struct hints first_hints(uint32_t kind) {
+    struct hints none = {0}, hints = {.slots = noted_block(NOTED_SLOTS), .node = 1};
+    if (kind == QOLB_LINK) hints.home = noted_block(NOTED_WORDS);
+    if (kind == QOLB_TICKET) hints.step = SLOT_BYTES;
     qolb_noted_blocks_ = (struct noted_blocks){0};
-    return hints.home && hints.bytes ? hints : none;
+    return hints.slots && (hints.home || kind != QOLB_LINK) ? hints : none;
 }
 
 uint32_t qolb_open(uint32_t kind, uint64_t label, uint64_t nodes, uint64_t lease, const qolb_bytes *opening,
                    qolb_node *out, size_t handles) {
     static atomic_uint drawn;
     uint32_t got = open_noted(kind, label, nodes, lease, opening, out, handles);
-    struct hints hints = first_hints();
+    struct hints hints = first_hints(kind);
     if (got != QOLB_DONE) return got;
     uint32_t bell = atomic_fetch_add(&drawn, NEXT_BELLS);
     for (uint64_t k = 0; k < nodes; k++, hints.node++) {
@@ -130,8 +147,9 @@ static uint64_t most_before(const qolb_node *node) {
 /* Polls until it is time to sleep, or the limit is over: GRANTED, CLOSED, WAITING. It polls at least once. */
 static uint32_t spin(qolb_node *node, const struct limit *limit, struct spin *spun) {
     uint64_t before = most_before(node);
+    const char *slot = slot_of(node);
     for (;;) {
-        hint_turn(hints_of(node));
+        hint_turn(hints_of(node), slot);
         uint32_t got = qolb_poll_proved_(node);
         if (got != QOLB_WAITING || !left(limit) || !qolb_spin_once_(spun, before)) return got;
     }

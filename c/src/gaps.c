@@ -34,14 +34,26 @@ static struct before *before(void *block) { return (struct before *)block - 1; }
 static void *noted(void *block, size_t size) {
     struct noted_blocks *blocks = &qolb_noted_blocks_;
     for (int k = 0; k < NOTED_SIZES; k++)
-        if (size == blocks->size[k]) blocks->block[k][blocks->block[k][0] != NULL] = block;
+        if (size && size == blocks->size[k] && blocks->many[k] < NOTED_MOST)
+            blocks->block[k][blocks->many[k]++] = block;
     return block;
 }
 
 static void forget(const void *block) {
     void **noted = qolb_noted_blocks_.block[0];
-    for (int k = 0; k < 2 * NOTED_SIZES; k++)
+    for (int k = 0; k < NOTED_MOST * NOTED_SIZES; k++)
         if (noted[k] == block) noted[k] = NULL;
+}
+
+void qolb_give_back_(void) {
+    void *block = qolb_noted_blocks_.freed;
+    while (block) {
+        void *next = *(void **)block;
+        free(before(block)->given);
+        block = next;
+    }
+    qolb_noted_blocks_.keeps_freed = 0;
+    qolb_noted_blocks_.freed = NULL;
 }
 
 /* If nothing can be added to the size, the allocation fails. What malloc gives is a multiple of 16, so there is room
@@ -68,5 +80,10 @@ void *qolb_realloc_(void *block, size_t size) {
 void qolb_free_(void *block) {
     if (!block) return;
     forget(block);
-    free(before(block)->given);
+    if (qolb_noted_blocks_.keeps_freed) {
+        *(void **)block = qolb_noted_blocks_.freed;
+        qolb_noted_blocks_.freed = block;
+    } else {
+        free(before(block)->given);
+    }
 }

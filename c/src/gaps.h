@@ -42,27 +42,39 @@ struct core_room {
 
 extern BY_THREAD __attribute__((visibility("hidden"))) struct core_room qolb_core_room_;
 
-/* The blocks of two sizes that a thread has allocated and not freed since it set the sizes: up to two of each, as
- * opening allocates a table's contents twice and frees one. */
-enum { NOTED_WORDS, NOTED_SLOTS, NOTED_SIZES };
+/* The blocks of two sizes, of which 0 is none, that a thread has allocated and not freed since it set the sizes, in the
+ * order of their allocation: opening allocates a table's contents twice and frees one, and may have another block of
+ * such a size for a while. What the thread frees meanwhile it may keep until qolb_give_back_. So what opening frees
+ * lies between a line's slots and its nodes: processors fetch lines ahead of those that are used in order, and would
+ * take the nodes' from their owners. */
+enum { NOTED_WORDS, NOTED_SLOTS, NOTED_SIZES, NOTED_MOST = 4 };
 struct noted_blocks {
     size_t size[NOTED_SIZES];
-    void *block[NOTED_SIZES][2];
+    void *block[NOTED_SIZES][NOTED_MOST];
+    unsigned many[NOTED_SIZES];
+    int keeps_freed;
+    void *freed; /* the last; each begins with the one before it */
 };
 
 extern BY_THREAD __attribute__((visibility("hidden"))) struct noted_blocks qolb_noted_blocks_;
 
-/* The one block of that size; NULL if there is none, or two. */
+/* Frees what the thread kept. */
+__attribute__((visibility("hidden"))) void qolb_give_back_(void);
+
+/* The block of that size that was allocated last, or NULL. */
 static inline void *noted_block(int k) {
-    void **block = qolb_noted_blocks_.block[k];
-    return !block[0] ? block[1] : !block[1] ? block[0] : NULL;
+    void *last = NULL;
+    for (int n = 0; n < NOTED_MOST; n++)
+        if (qolb_noted_blocks_.block[k][n]) last = qolb_noted_blocks_.block[k][n];
+    return last;
 }
 
-/* Where a node of a link line finds the words that its handoff writes (hints.h). */
+/* Where a node finds what its handoff reads and writes (hints.h). Zeros: there are no hints. */
 struct hints {
-    _Atomic uint64_t *home; /* the first of the line's words: of the last request. NULL: there are no hints */
-    const void *bytes;      /* the line's slot */
-    uint64_t node;          /* the node's number */
+    _Atomic uint64_t *home; /* the first of a link line's words: of the last request. NULL in other lines */
+    const char *slots;      /* the line's slots */
+    uint32_t node;          /* the node's number */
+    uint32_t step;          /* the distance of two slots; 0 in a line of one slot */
 };
 
 _Static_assert(NOTICE_BYTES <= GAP_BYTES / 2, "it is before the number");

@@ -1,9 +1,9 @@
 /* How long a waiter spins before it sleeps, and how long it pauses between two polls: the one policy of nodes and of
  * locks (docs/DECISIONS.md says what was tried). One of the library's internal files.
  *
- * A waiter that finds that it is not at its turn calls qolb_spin_once_, which pauses for some 90 ns, and polls again.
- * One that can tell who is between it and the turn pauses for some 150 ns more for each: a poll takes the cache line
- * from who passes the turn on (Mellor-Crummey and Scott, TOCS 1991).
+ * A waiter that finds that it is not at its turn pauses, and polls again: a node for some 60 ns (qolb_spin_once_), as
+ * nobody else polls its word; at a lock for some 90 ns, and, if others are between it and the turn, for some 150 ns
+ * more for each: a poll takes the cache line from who passes the turn on (Mellor-Crummey and Scott, TOCS 1991).
  *
  * Once the call answers 0 the waiter sleeps, and calls it anew when it is woken. At most it spins 50 us if four or
  * fewer are before it; 2 us if more are, as its turn is far; and 20 us if it can't tell. Sleeping and waking cost about
@@ -27,6 +27,7 @@
 
 enum {
     POLL_PAUSE = 90,     /* between two polls */
+    NODE_PAUSE = 60,     /* the same, of a node */
     POLL_FARTHER = 150,  /* more for each turn between, if it can tell: of three at most */
     SPIN_NEAR = 50000,   /* before a sleep, with at most NEAR_TURNS before the waiter, the holder among them */
     SPIN_FAR = 2000,     /* with more; and the least that a thread learns */
@@ -115,9 +116,9 @@ static inline void qolb_spin_for_(struct spin *spin, unsigned pause) {
     spin->spun += pause;
 }
 
-/* Both: pauses, and returns 1; or 0, at once. */
+/* Both, of a node: pauses, and returns 1; or 0, at once. */
 static inline int qolb_spin_once_(struct spin *spin, uint64_t before) {
-    return qolb_spins_on_(spin, before) ? qolb_spin_for_(spin, POLL_PAUSE), 1 : 0;
+    return qolb_spins_on_(spin, before) ? qolb_spin_for_(spin, NODE_PAUSE), 1 : 0;
 }
 
 /* The same for the queue head of a lock with bursts, which pauses for so many nanoseconds between two looks. It has

@@ -1,5 +1,5 @@
-/* Whether the hints of a link line's nodes (../src/hints.h) are the words and the slot that a handoff writes, and a
- * node of another line has none. Prints only errors. */
+/* Whether a node's hints (../src/hints.h) are the words and the slots that a handoff reads and writes. Prints only
+ * errors. */
 #include <hints.h>
 #include <stdio.h>
 #include <stdlib.h>
@@ -24,12 +24,12 @@ static void close_line(uint64_t nodes) {
     for (uint64_t k = 0; k < nodes; k++) CHECK(qolb_close(&node[k]) == QOLB_DONE);
 }
 
-/* Node 2 has the line, node 3 waits for it and gets it. */
-static void hand_over(const qolb_bytes *opening) {
+/* Of a link line: node 2 has the line, node 3 waits for it and gets it. */
+static void hand_over_link(const qolb_bytes *opening) {
     const struct hints *hints = hints_of(&node[1]);
     qolb_bytes bytes = *opening;
     uint64_t was;
-    CHECK(memcmp(hints->bytes, opening, sizeof *opening) == 0);
+    CHECK(memcmp(hints->slots, opening, sizeof *opening) == 0);
     CHECK(qolb_enqolb(&node[1]) == QOLB_GRANTED);
     CHECK(read_word(hints->home) == 2);
     CHECK(qolb_enqolb(&node[2]) == QOLB_QUEUED);
@@ -39,24 +39,56 @@ static void hand_over(const qolb_bytes *opening) {
     CHECK(qolb_add_lane(&node[1], 0, 5, &was) == QOLB_DONE && qolb_deqolb(&node[1]) == QOLB_DONE);
     CHECK(read_word(entry_of(hints, 3)) & IS_GRANTED);
     bytes.byte[0] += 5;
-    CHECK(memcmp(hints->bytes, &bytes, sizeof bytes) == 0);
+    CHECK(memcmp(hints->slots, &bytes, sizeof bytes) == 0);
     CHECK(qolb_poll(&node[2]) == QOLB_GRANTED && qolb_deqolb(&node[2]) == QOLB_DONE);
     CHECK(read_word(hints->home) == 0);
 }
 
+/* Of another line: two nodes take turns, and each finds the bytes of the other in its slot once it is granted the line;
+ * of a ticket line in each slot. */
+static void hand_over(uint32_t kind, const qolb_bytes *opening) {
+    enum { TURNS = 2 * 256 };
+    qolb_bytes bytes = *opening;
+    const char *first = slot_of(&node[0]);
+    int apart = 0;
+    uint64_t was;
+    CHECK(qolb_enqolb(&node[0]) == QOLB_GRANTED);
+    for (int k = 0; k < TURNS; k++) {
+        qolb_node *holder = &node[k % 2], *next = &node[(k + 1) % 2];
+        CHECK(qolb_enqolb(next) == QOLB_QUEUED);
+        const char *slot = slot_of(next);
+        CHECK(qolb_add_lane(holder, 0, 1, &was) == QOLB_DONE);
+        CHECK(kind == QOLB_RING || memcmp(slot, &bytes, sizeof bytes) != 0 || k == 0);
+        CHECK(qolb_read(holder, &bytes) == QOLB_DONE && qolb_deqolb(holder) == QOLB_DONE);
+        CHECK(memcmp(slot, &bytes, sizeof bytes) == 0);
+        CHECK(qolb_poll(next) == QOLB_GRANTED);
+        apart |= slot != first;
+    }
+    CHECK(apart == (kind == QOLB_TICKET));
+    CHECK(qolb_deqolb(&node[TURNS % 2]) == QOLB_DONE);
+}
+
+/* All nodes of a line have the same, but for their number. */
+static void check_hints(uint32_t kind, uint64_t nodes) {
+    const struct hints *first = hints_of(&node[0]);
+    CHECK((first->home != NULL) == (kind == QOLB_LINK) && first->slots && (first->step != 0) == (kind == QOLB_TICKET));
+    for (uint64_t k = 0; k < nodes; k++) {
+        const struct hints *hints = hints_of(&node[k]);
+        CHECK(hints->home == first->home && hints->slots == first->slots && hints->step == first->step);
+        CHECK(hints->node == k + 1);
+    }
+}
+
 int main(void) {
-    static const uint64_t counts[] = {1, 2, 3, 16, 64, MOST};
+    static const uint64_t counts[] = {1, 2, 3, 8, 16, 64, MOST};
     qolb_bytes opening;
     for (size_t k = 0; k < sizeof opening.byte; k++) opening.byte[k] = (uint8_t)(k + 1);
     for (uint32_t kind = 0; kind < QOLB_KINDS; kind++)
         for (size_t n = 0; n < sizeof counts / sizeof counts[0]; n++) {
             open_line(kind, counts[n], &opening);
-            for (uint64_t k = 0; k < counts[n]; k++) {
-                const struct hints *hints = hints_of(&node[k]);
-                CHECK((hints->home != NULL) == (kind == QOLB_LINK));
-                CHECK(!hints->home || (hints->home == hints_of(&node[0])->home && hints->node == k + 1));
-            }
-            if (kind == QOLB_LINK && counts[n] >= 3) hand_over(&opening);
+            check_hints(kind, counts[n]);
+            if (kind == QOLB_LINK && counts[n] >= 3) hand_over_link(&opening);
+            if (kind != QOLB_LINK && counts[n] >= 2) hand_over(kind, &opening);
             close_line(counts[n]);
         }
     return 0;

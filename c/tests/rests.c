@@ -26,12 +26,14 @@ enum { US = 1000, MS = 1000000 };
  * holder, the number of wakes, and the calls that a waiter must not make. */
 static uint64_t now, clocks, yields, sleeps, longest, asks, spins, spun, looks, names, wakes, wrong;
 
-/* How often a node polls before it sleeps, each 90 ns, as qolb.h says: for 50 us on a line of at most five nodes and
- * for 20 us on others; at least for 2 us, and once it has slept, for 10. A poll is before the pauses and behind each,
- * and one more comes before the sleep. */
-enum { NEAR = 555, UNKNOWN = 222, LEAST = 22 };
+/* How often a node polls before it sleeps, each 60 ns, as qolb.h says: for 50 us on a line of at most five nodes and
+ * for 20 us on others; at least for 2 us, and once it has slept, for 10. It pauses while 90 ns are left. A poll is
+ * before the pauses and behind each, and one more comes before the sleep. */
+enum { PAUSE = 60 };
+#define POLLS(nanoseconds) (((nanoseconds)-90) / PAUSE + 1)
+enum { NEAR = POLLS(50000), UNKNOWN = POLLS(20000), LEAST = POLLS(2000) };
 /* The same behind a spin in vain: half as often, and an eighth of that more. */
-enum { LESS = NEAR * 90 / 2 * 9 / 8 / 90 };
+enum { LESS = POLLS(NEAR * PAUSE / 2 * 9 / 8) };
 /* How long 64 pauses take by the clock in each of the runs in which they are timed, between two clock calls; the number
  * of clock calls for that. */
 enum { TIMED = 5 };
@@ -347,8 +349,8 @@ static int rests(uint32_t kind) {
 static uint64_t next_spin(uint64_t *length, uint64_t nodes, uint64_t least) {
     uint64_t grown = *length + *length / 8;
     *length = *length && grown < 50000 ? grown : 50000;
-    uint64_t polls = (nodes > 5 && *length > 20000 ? 20000 : *length) / 90, half = polls * 90 / 2;
-    if (polls * 90 > 2540) *length = half > least ? half : least;
+    uint64_t polls = POLLS(nodes > 5 && *length > 20000 ? 20000 : *length), half = polls * PAUSE / 2;
+    if (polls * PAUSE > 2540) *length = half > least ? half : least;
     return polls;
 }
 
@@ -372,7 +374,7 @@ static int learns(uint32_t kind, uint64_t nodes) {
         WANT(looks, first + 2 + woken + 2 + 1);
     }
     WANT(first >= LEAST && first <= LEAST * 3 / 2, 1);
-    WANT(woken, 10000 * 9 / 8 / 90);
+    WANT(woken, POLLS(10000 * 9 / 8));
     for (unsigned k = 0; k < 60; k++) {
         holder = &n[k % 2];
         event.does = releases;

@@ -85,7 +85,7 @@ LIMIT_SCENES(DECLARED)
     of(has_task_turn_in_call) of(task_asks_again_in_call) of(enters_another_in_call) of(waits_while_a_call_enters)    \
     of(a_task_comes_to_a_younger_lock) of(a_task_finds_no_memory) of(last_frees_beside_entries)                       \
     of(a_task_shuts_beside_a_waiter) of(a_task_beside_one_that_yields_once) of(gives_up_far_before_one_near)          \
-    of(enters_by_the_task_that_left) of(asks_by_the_task_that_was_told)
+    of(enters_by_the_task_that_left) of(one_frees_beside_a_task) of(asks_by_the_task_that_was_told)
 /* clang-format on */
 TASK_SCENES(DECLARED)
 

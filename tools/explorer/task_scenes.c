@@ -216,6 +216,21 @@ void last_task_frees(int self) {
 
 void last_of_both_frees(int self) { self == 1 ? last_task_frees(self) : last_frees(self); }
 
+/* One frees the lock as soon as it may, while the task of another gives up, which makes no access to it afterwards. */
+void one_frees_beside_a_task(int self) {
+    if (self) {
+        if (task_asks(1) == QOLB_GRANTED) task_turn(1);
+        else task_gives_up(1);
+        atomic_store(&it.over, 1);
+        return;
+    }
+    MUST(qolb_lock_enter(it.lock) == QOLB_GRANTED);
+    await_other(1);
+    leave();
+    while (qolb_lock_close(it.lock) != QOLB_DONE) sched_yield();
+    free_lock();
+}
+
 /* The task polls all the time, called or not. */
 void last_that_polls_frees(int self) {
     if (self != 1) return last_frees(self);

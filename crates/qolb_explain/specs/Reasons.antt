@@ -81,6 +81,10 @@ why_event nodes (first ∷ rest) =
 abbrev pub any_number_at : ℕ → Reason
 any_number_at place = Number place 0 (2 ^ 64 - 1)
 
+-- the fault of a job whose second word names none: the first word's, where that is no worker, as of a job without its worker
+abbrev pub no_verb : Allowed → ℕ → List ℕ → Reason
+no_verb all workers worker = unless_number 1 1 workers worker (Word 2 all)
+
 -- the faults of jobs behind the worker and the second word, at a board and at a bank
 abbrev pub why_take : ℕ → List (List ℕ) → Reason
 why_take workers [] = Number 1 1 workers
@@ -92,7 +96,8 @@ why_put workers worker words = Count form.Put
 
 abbrev pub why_board_verb : ℕ → List ℕ → List ℕ → List (List ℕ) → Reason
 why_board_verb workers worker verb rest =
-    if bytes_eq verb (codes "take") then why_take workers rest else if bytes_eq verb (codes "put") then why_put workers worker rest else Word 2 allowed.BoardJobs
+    if bytes_eq verb (codes "take") then why_take workers rest else if bytes_eq verb (codes "put") then why_put workers worker rest
+    else no_verb allowed.BoardJobs workers worker
 
 abbrev pub why_payment : ℕ → ℕ → List ℕ → List (List ℕ) → Reason
 why_payment workers lines worker (account ∷ amount ∷ []) =
@@ -110,7 +115,7 @@ why_bank_verb workers lines worker verb rest =
     if bytes_eq verb (codes "in") then why_payment workers lines worker rest
     else if bytes_eq verb (codes "out") then why_payment workers lines worker rest
     else if bytes_eq verb (codes "move") then why_move workers lines worker rest
-    else Word 2 allowed.BankJobs
+    else no_verb allowed.BankJobs workers worker
 
 -- the kind of the scripts of this work
 abbrev pub script_kind : WorkKind → ScriptKind

@@ -1,8 +1,8 @@
 //! The words that are near others: what a word of another subcommand or of a library of locks means here.
 use crate::reason::Allowed;
 
-/// The largest number of bytes of a word that is repeated.
-pub const MAX_WORD: usize = 20;
+/// More bytes than any word has that is near another.
+const MAX_WORD: usize = 20;
 
 /// Returns the allowed word that does what another word says, in capitals too: of another subcommand or of a library of locks. It is a list, as
 /// `withdraw` is far from `out` by its letters.
@@ -55,7 +55,9 @@ fn near_command(word: &[u8]) -> Option<&'static str> {
         | b"done"
         | b"grant"
         | b"freed" => Some("deq"),
-        b"out" | b"withdraw" | b"roll" | b"rollout" | b"cancel" => Some("out"),
+        b"out" | b"withdraw" | b"roll" | b"rollout" | b"cancel" | b"abort" | b"abandon" => {
+            Some("out")
+        }
         b"shut" | b"close" => Some("shut"),
         _ => None,
     }
@@ -72,9 +74,9 @@ fn near_event(word: &[u8]) -> Option<&'static str> {
         | b"enter"
         | b"lock"
         | b"request"
-        | b"swap" => Some("reset, prepend and link"),
+        | b"swap" => Some("reset`, `prepend` and `link"),
         b"deq" | b"deqolb" | b"dequeue" | b"release" | b"leave" | b"unlock" => {
-            Some("home, done and grant")
+            Some("home`, `done` and `grant")
         }
         b"reset" => Some("reset"),
         b"prepend" => Some("prepend"),
@@ -83,7 +85,9 @@ fn near_event(word: &[u8]) -> Option<&'static str> {
         b"home" => Some("home"),
         b"done" => Some("done"),
         b"grant" => Some("grant"),
-        b"roll" | b"out" | b"withdraw" | b"rollout" | b"cancel" => Some("roll"),
+        b"roll" | b"out" | b"withdraw" | b"rollout" | b"cancel" | b"abort" | b"abandon" => {
+            Some("roll")
+        }
         b"freed" | b"free" => Some("freed"),
         b"write" => Some("write"),
         b"close" | b"shut" => Some("close"),
@@ -94,8 +98,11 @@ fn near_event(word: &[u8]) -> Option<&'static str> {
 /// Returns the job of a board that is near this word.
 fn near_board_job(word: &[u8]) -> Option<&'static str> {
     match word {
-        b"put" | b"push" | b"add" | b"give" | b"store" | b"in" => Some("put"),
-        b"take" | b"pop" | b"get" | b"remove" | b"out" => Some("take"),
+        b"put" | b"push" | b"add" | b"give" | b"store" | b"in" | b"insert" | b"enq" | b"enqueue" =>
+            Some("put"),
+        b"take" | b"pop" | b"get" | b"remove" | b"out" | b"fetch" | b"deq" | b"dequeue" => {
+            Some("take")
+        }
         _ => None,
     }
 }
@@ -103,9 +110,9 @@ fn near_board_job(word: &[u8]) -> Option<&'static str> {
 /// Returns the job of a bank that is near this word.
 fn near_bank_job(word: &[u8]) -> Option<&'static str> {
     match word {
-        b"in" | b"deposit" | b"pay" | b"put" => Some("in"),
-        b"out" | b"withdraw" | b"take" | b"take_out" => Some("out"),
-        b"move" | b"transfer" => Some("move"),
+        b"in" | b"deposit" | b"pay" | b"put" | b"add" | b"credit" => Some("in"),
+        b"out" | b"withdraw" | b"take" | b"take_out" | b"debit" => Some("out"),
+        b"move" | b"transfer" | b"send" => Some("move"),
         _ => None,
     }
 }

@@ -1,11 +1,14 @@
 //! Complaints as text: the refused line, and what may stand there.
-use crate::near::{MAX_WORD, near};
+use crate::near::near;
 use crate::reason::{Allowed, Complaint, Form, Reason, ScriptKind};
 use qolb_script::readers::Words;
 use std::fmt;
 
 /// The largest number of bytes of a line that are shown.
 const MAX_SHOWN: usize = 200;
+
+/// The largest number of digits of a number.
+const MAX_DIGITS: usize = 20;
 
 impl<'a> fmt::Display for Complaint<'a> {
     fn fmt<W: fmt::Write>(&self, f: &mut fmt::Formatter<W>) -> fmt::Result {
@@ -25,7 +28,7 @@ impl<'a> fmt::Display for Complaint<'a> {
             Reason::Byte => write_byte(f, self.line),
             Reason::Word { place, allowed } => write_word(f, self.line, place, allowed),
             Reason::Count(form) => write_form(f, self.line, form),
-            Reason::Number { place, low, high } => write_range(f, place, low, high),
+            Reason::Number { place, low, high } => write_range(f, self.line, place, low, high),
             Reason::Hex(place) => write!(f, "word {place} is not hex, of two digits a byte"),
             Reason::Fit(place) => {
                 write!(f, "the bytes of word {place} do not fit: a line has 64")
@@ -108,18 +111,32 @@ fn hint_of(line: &[u8], byte: u8) -> &'static str {
     }
 }
 
-/// Writes that a word is no number of a range.
+/// Writes that a word is no number of a range; how long a number may be, if it has more digits; and what a job begins with: no other line has a number
+/// for its first word.
 fn write_range<W: fmt::Write>(
     f: &mut fmt::Formatter<W>,
+    line: &[u8],
     place: u64,
     low: u64,
     high: u64,
 ) -> fmt::Result {
     if low == high {
-        write!(f, "word {place} is not {low}")
+        write!(f, "word {place} is not {low}")?;
     } else {
-        write!(f, "word {place} is no number from {low} to {high}")
+        write!(f, "word {place} is no number from {low} to {high}")?;
     }
+    if has_many_digits(word_at(line, place)) {
+        write!(f, " of at most {MAX_DIGITS} digits")?;
+    }
+    if place == 1 {
+        f.write_str("; a job begins with the number of its worker")?;
+    }
+    Ok(())
+}
+
+/// Returns `true` if a word is digits alone, and more than a number may have.
+fn has_many_digits(word: &[u8]) -> bool {
+    word.len() > MAX_DIGITS && word.iter().all(|&b| matches!(b, b'0'..=b'9'))
 }
 
 /// Returns the words that are allowed.
@@ -149,9 +166,9 @@ fn write_word<W: fmt::Write>(
     let word = word_at(line, place);
     match near(allowed, word) {
         Some(meant) => {
-            f.write_str("; for ")?;
+            f.write_str("; for `")?;
             write_bytes(f, word)?;
-            write!(f, " take {meant}")
+            write!(f, "` write `{meant}`")
         }
         None => Ok(()),
     }
@@ -194,12 +211,12 @@ fn write_form<W: fmt::Write>(f: &mut fmt::Formatter<W>, line: &[u8], form: Form)
     f.write_str("`")
 }
 
-/// Returns the word at this place of a line, of at most `MAX_WORD` bytes; empty if there is none.
+/// Returns the word at this place of a line; empty if there is none.
 fn word_at(line: &[u8], place: u64) -> &[u8] {
     let mut at = 0u64;
     for word in Words::new(line) {
         at = at.saturating_add(1);
-        if at == place && word.len() <= MAX_WORD {
+        if at == place {
             return word;
         }
     }

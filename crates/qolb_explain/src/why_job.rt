@@ -49,11 +49,15 @@ fn why_board_job(workers: u64, worker: &[u8], verb: &[u8], words: Words) -> Reas
     } else if verb == PUT {
         why_put(workers, worker, words)
     } else {
-        Reason::Word {
-            place: 2,
-            allowed: Allowed::BoardJobs,
-        }
+        no_verb(Allowed::BoardJobs, workers, worker)
     }
+}
+
+/// Returns the fault of a job whose second word names none: the first word's, where that is no worker, as of a job without its worker.
+fn no_verb(allowed: Allowed, workers: u64, worker: &[u8]) -> Reason
+    ensures { result ≡ spec.no_verb allowed workers worker.now }
+{
+    Reason::Word { place: 2, allowed }.unless_number(1, 1, workers, worker)
 }
 
 /// Returns the fault of a job behind `take`.
@@ -92,10 +96,7 @@ fn why_bank_job(workers: u64, lines: u64, worker: &[u8], verb: &[u8], words: Wor
     } else if verb == MOVE {
         why_move(workers, lines, worker, words)
     } else {
-        Reason::Word {
-            place: 2,
-            allowed: Allowed::BankJobs,
-        }
+        no_verb(Allowed::BankJobs, workers, worker)
     }
 }
 

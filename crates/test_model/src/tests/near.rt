@@ -3,7 +3,7 @@ use crate::tests::rows::expect;
 use qolb_explain::{Allowed, Complaint, Reason};
 use std::test::Fail;
 
-/// Words that may not stand at a place, and the word to take there: one that may, and that does what those say.
+/// Words that may not stand at a place, and the words to write there: those that may, and that do what those say.
 static NEAR: [(Allowed, &[&str], &str); 25] = [
     (
         Allowed::Commands,
@@ -26,7 +26,9 @@ static NEAR: [(Allowed, &[&str], &str); 25] = [
     ),
     (
         Allowed::Commands,
-        &["Out", "withdraw", "roll", "rollout", "cancel"],
+        &[
+            "Out", "withdraw", "roll", "rollout", "cancel", "abort", "abandon",
+        ],
         "out",
     ),
     (Allowed::Commands, &["SHUT", "close"], "shut"),
@@ -35,7 +37,7 @@ static NEAR: [(Allowed, &[&str], &str); 25] = [
         &[
             "enq", "enqolb", "enqueue", "ask", "acquire", "enter", "lock", "request", "swap",
         ],
-        "reset, prepend and link",
+        "reset`, `prepend` and `link",
     ),
     (Allowed::Events, &["RESET"], "reset"),
     (Allowed::Events, &["Prepend"], "prepend"),
@@ -44,11 +46,13 @@ static NEAR: [(Allowed, &[&str], &str); 25] = [
     (
         Allowed::Events,
         &["deq", "deqolb", "dequeue", "release", "leave", "unlock"],
-        "home, done and grant",
+        "home`, `done` and `grant",
     ),
     (
         Allowed::Events,
-        &["ROLL", "out", "withdraw", "rollout", "cancel"],
+        &[
+            "ROLL", "out", "withdraw", "rollout", "cancel", "abort", "abandon",
+        ],
         "roll",
     ),
     (Allowed::Events, &["Home"], "home"),
@@ -59,25 +63,33 @@ static NEAR: [(Allowed, &[&str], &str); 25] = [
     (Allowed::Events, &["Close", "shut"], "close"),
     (
         Allowed::BoardJobs,
-        &["PUT", "push", "add", "give", "store", "in"],
+        &[
+            "PUT", "push", "add", "give", "store", "in", "insert", "enq", "enqueue",
+        ],
         "put",
     ),
     (
         Allowed::BoardJobs,
-        &["TAKE", "pop", "get", "remove", "out"],
+        &[
+            "TAKE", "pop", "get", "remove", "out", "fetch", "deq", "dequeue",
+        ],
         "take",
     ),
-    (Allowed::BankJobs, &["IN", "deposit", "pay", "put"], "in"),
     (
         Allowed::BankJobs,
-        &["Out", "withdraw", "take", "take_out"],
+        &["IN", "deposit", "pay", "put", "add", "credit"],
+        "in",
+    ),
+    (
+        Allowed::BankJobs,
+        &["Out", "withdraw", "take", "take_out", "debit"],
         "out",
     ),
-    (Allowed::BankJobs, &["MOVE", "transfer"], "move"),
+    (Allowed::BankJobs, &["MOVE", "transfer", "send"], "move"),
 ];
 
 #[test]
-fn says_which_word_to_take(rt: HostRuntime) -> Result<(), Fail> {
+fn says_which_word_to_write(rt: HostRuntime) -> Result<(), Fail> {
     let alloc = rt.alloc();
     for (allowed, words, meant) in &NEAR {
         for word in *words {
@@ -90,7 +102,7 @@ fn says_which_word_to_take(rt: HostRuntime) -> Result<(), Fail> {
                 },
             };
             let text = format!(in alloc; "{complaint}")?;
-            let end = format!(in alloc; "; for {word} take {meant}")?;
+            let end = format!(in alloc; "; for `{word}` write `{meant}`")?;
             expect(&rt, *word, text.as_str().ends_with(end.as_str()), true);
         }
     }

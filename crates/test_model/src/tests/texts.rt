@@ -4,7 +4,7 @@ use qolb_explain::{Allowed, Complaint, Form, Reason, ScriptKind};
 use std::test::Fail;
 
 /// Lines, their faults, and what is said of them.
-static TEXTS: [(&str, Reason, &str); 46] = [
+static TEXTS: [(&str, Reason, &str); 51] = [
     (
         "",
         Reason::Empty(ScriptKind::Schedule),
@@ -121,6 +121,51 @@ static TEXTS: [(&str, Reason, &str); 46] = [
         "    enq 1 1\nword 3 is not 0",
     ),
     (
+        "in 0 1",
+        Reason::Number {
+            place: 1,
+            low: 1,
+            high: 2,
+        },
+        "    in 0 1\nword 1 is no number from 1 to 2; a job begins with the number of its worker",
+    ),
+    (
+        "2 take",
+        Reason::Number {
+            place: 1,
+            low: 1,
+            high: 1,
+        },
+        "    2 take\nword 1 is not 1; a job begins with the number of its worker",
+    ),
+    (
+        "enq 000000000000000000001 0",
+        Reason::Number {
+            place: 2,
+            low: 1,
+            high: 2,
+        },
+        "    enq 000000000000000000001 0\nword 2 is no number from 1 to 2 of at most 20 digits",
+    ),
+    (
+        "enq 00000000000000000003 0",
+        Reason::Number {
+            place: 2,
+            low: 1,
+            high: 2,
+        },
+        "    enq 00000000000000000003 0\nword 2 is no number from 1 to 2",
+    ),
+    (
+        "enq 1x0000000000000000000 0",
+        Reason::Number {
+            place: 2,
+            low: 1,
+            high: 2,
+        },
+        "    enq 1x0000000000000000000 0\nword 2 is no number from 1 to 2",
+    ),
+    (
         "write 1 0 0 a",
         Reason::Hex(5),
         "    write 1 0 0 a\nword 5 is not hex, of two digits a byte",
@@ -136,7 +181,7 @@ static TEXTS: [(&str, Reason, &str); 46] = [
             place: 1,
             allowed: Allowed::Commands,
         },
-        "    withdraw 1 0\nword 1 is none of enq, poll, write, show, deq, out, shut; for withdraw take out",
+        "    withdraw 1 0\nword 1 is none of enq, poll, write, show, deq, out, shut; for `withdraw` write `out`",
     ),
     (
         "withdraws 1 0",
@@ -160,7 +205,7 @@ static TEXTS: [(&str, Reason, &str); 46] = [
             place: 1,
             allowed: Allowed::Commands,
         },
-        "    Release 1 0\nword 1 is none of enq, poll, write, show, deq, out, shut; for Release take deq",
+        "    Release 1 0\nword 1 is none of enq, poll, write, show, deq, out, shut; for `Release` write `deq`",
     ),
     (
         "poll 1",
@@ -168,7 +213,7 @@ static TEXTS: [(&str, Reason, &str); 46] = [
             place: 1,
             allowed: Allowed::Events,
         },
-        "    poll 1\nword 1 is none of reset, prepend, link, load, home, done, grant, roll, freed, write, close; for poll take load",
+        "    poll 1\nword 1 is none of reset, prepend, link, load, home, done, grant, roll, freed, write, close; for `poll` write `load`",
     ),
     (
         "1 push 5",
@@ -176,7 +221,7 @@ static TEXTS: [(&str, Reason, &str); 46] = [
             place: 2,
             allowed: Allowed::BoardJobs,
         },
-        "    1 push 5\nword 2 is neither put nor take; for push take put",
+        "    1 push 5\nword 2 is neither put nor take; for `push` write `put`",
     ),
     (
         "1 withdraw 0 5",
@@ -184,7 +229,7 @@ static TEXTS: [(&str, Reason, &str); 46] = [
             place: 2,
             allowed: Allowed::BankJobs,
         },
-        "    1 withdraw 0 5\nword 2 is none of in, out, move; for withdraw take out",
+        "    1 withdraw 0 5\nword 2 is none of in, out, move; for `withdraw` write `out`",
     ),
     (
         "nodes 2 line 1",

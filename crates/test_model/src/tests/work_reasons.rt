@@ -5,7 +5,7 @@ use qolb_explain::{Allowed, Form, Reason, ScriptKind, explain_work};
 use qolb_script::WorkKind;
 
 /// Work scripts of boards, with the number of the refused line and the reason.
-static BOARDS: [(&str, Option<(u64, Reason)>); 14] = [
+static BOARDS: [(&str, Option<(u64, Reason)>); 16] = [
     ("", Some((1, Reason::Empty(ScriptKind::Board)))),
     (
         "bank workers 1 lines 1\n",
@@ -47,12 +47,34 @@ static BOARDS: [(&str, Option<(u64, Reason)>); 14] = [
         Some((2, Reason::Count(Form::Job(ScriptKind::Board)))),
     ),
     (
-        "board workers 1\n2 give 3\n",
+        "board workers 1\n1 give 3\n",
         Some((
             2,
             Reason::Word {
                 place: 2,
                 allowed: Allowed::BoardJobs,
+            },
+        )),
+    ),
+    (
+        "board workers 1\n2 give 3\n",
+        Some((
+            2,
+            Reason::Number {
+                place: 1,
+                low: 1,
+                high: 1,
+            },
+        )),
+    ),
+    (
+        "board workers 7\nput 3\n",
+        Some((
+            2,
+            Reason::Number {
+                place: 1,
+                low: 1,
+                high: 7,
             },
         )),
     ),
@@ -114,7 +136,7 @@ static BOARDS: [(&str, Option<(u64, Reason)>); 14] = [
 ];
 
 /// Work scripts of banks, with the number of the refused line and the reason.
-static BANKS: [(&str, Option<(u64, Reason)>); 21] = [
+static BANKS: [(&str, Option<(u64, Reason)>); 23] = [
     (
         "board workers 1\n",
         Some((
@@ -182,6 +204,28 @@ static BANKS: [(&str, Option<(u64, Reason)>); 21] = [
             Reason::Word {
                 place: 2,
                 allowed: Allowed::BankJobs,
+            },
+        )),
+    ),
+    (
+        "bank workers 5 lines 2\n6 put 2\n",
+        Some((
+            2,
+            Reason::Number {
+                place: 1,
+                low: 1,
+                high: 5,
+            },
+        )),
+    ),
+    (
+        "bank workers 5 lines 2\nin 0 1\n",
+        Some((
+            2,
+            Reason::Number {
+                place: 1,
+                low: 1,
+                high: 5,
             },
         )),
     ),

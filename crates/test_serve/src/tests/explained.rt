@@ -18,7 +18,7 @@ static EXPLAINED: [(&[&str], &str, &str); 16] = [
     (
         &["replay", "--kind", "link"],
         "nodes 2 lines 1\nenq 1 0\nask 1 0",
-        "bad line 3\n    ask 1 0\nword 1 is none of enq, poll, write, show, deq, out, shut; for ask take enq\n",
+        "bad line 3\n    ask 1 0\nword 1 is none of enq, poll, write, show, deq, out, shut; for `ask` write `enq`\n",
     ),
     (
         &["replay", "--kind", "ticket"],
@@ -43,7 +43,7 @@ static EXPLAINED: [(&[&str], &str, &str); 16] = [
     (
         &["steps"],
         "nodes 2\nenq 1\n",
-        "bad line 2\n    enq 1\nword 1 is none of reset, prepend, link, load, home, done, grant, roll, freed, write, close; for enq take reset, prepend and link\n",
+        "bad line 2\n    enq 1\nword 1 is none of reset, prepend, link, load, home, done, grant, roll, freed, write, close; for `enq` write `reset`, `prepend` and `link`\n",
     ),
     (
         &["draw", "--steps"],
@@ -63,7 +63,7 @@ static EXPLAINED: [(&[&str], &str, &str); 16] = [
     (
         &["board"],
         "board workers 3\n1 give 2\n",
-        "bad line 2\n    1 give 2\nword 2 is neither put nor take; for give take put\n",
+        "bad line 2\n    1 give 2\nword 2 is neither put nor take; for `give` write `put`\n",
     ),
     (
         &["board", "--sleep"],

@@ -201,7 +201,7 @@ static BEHIND_EMPTY_LINES: [(&[&str], &str, (u8, &str, &str)); 2] = [
         (
             1,
             "",
-            "bad line 1499978\n    ask 1 0\nword 1 is none of enq, poll, write, show, deq, out, shut; for ask take enq\n",
+            "bad line 1499978\n    ask 1 0\nword 1 is none of enq, poll, write, show, deq, out, shut; for `ask` write `enq`\n",
         ),
     ),
 ];
@@ -226,22 +226,22 @@ static REFUSED: [(&[&str], Long, &str); 6] = [
     (
         &["replay", "--kind", "link"],
         ["nodes 1 lines 1\n", "show 1 0\n", "ask 1 0\n"],
-        "    ask 1 0\nword 1 is none of enq, poll, write, show, deq, out, shut; for ask take enq\n",
+        "    ask 1 0\nword 1 is none of enq, poll, write, show, deq, out, shut; for `ask` write `enq`\n",
     ),
     (
         &["draw", "--svg"],
         ["nodes 1 lines 1\n", "show 1 0\n", "ask 1 0\n"],
-        "    ask 1 0\nword 1 is none of enq, poll, write, show, deq, out, shut; for ask take enq\n",
+        "    ask 1 0\nword 1 is none of enq, poll, write, show, deq, out, shut; for `ask` write `enq`\n",
     ),
     (
         &["steps"],
         ["nodes 1\n", "link 1\n", "ask 1\n"],
-        "    ask 1\nword 1 is none of reset, prepend, link, load, home, done, grant, roll, freed, write, close; for ask take reset, prepend and link\n",
+        "    ask 1\nword 1 is none of reset, prepend, link, load, home, done, grant, roll, freed, write, close; for `ask` write `reset`, `prepend` and `link`\n",
     ),
     (
         &["draw", "--steps"],
         ["nodes 1\n", "link 1\n", "ask 1\n"],
-        "    ask 1\nword 1 is none of reset, prepend, link, load, home, done, grant, roll, freed, write, close; for ask take reset, prepend and link\n",
+        "    ask 1\nword 1 is none of reset, prepend, link, load, home, done, grant, roll, freed, write, close; for `ask` write `reset`, `prepend` and `link`\n",
     ),
     (
         &["board"],
