@@ -100,8 +100,7 @@ UNSEEN static uint64_t *hand_over(uint64_t label) {
 }
 UNSEEN void hook_is_head(const struct qolb_ticket *ticket) { head_of[self_number()] = ticket; }
 UNSEEN void hook_head_sleeps(const struct qolb_ticket *ticket) {
-    if (head_of[self_number()] == ticket && *hand_over(ticket->label) != ticket->label)
-        *hand_over(0) = ticket->label;
+    if (head_of[self_number()] == ticket && *hand_over(ticket->label) != ticket->label) *hand_over(0) = ticket->label;
     head_of[self_number()] = NULL;
 }
 UNSEEN void hook_takes_outer(uint64_t label) {
