@@ -82,7 +82,10 @@ FAULTS = {
     "who has no ticket is no guest any more when it draws one": (2, "crowded: one", (LOCK, "ask_later", "        nap(my->until);\n", "        nap(my->until);\n        be_no_guest(my);\n")),
     "a call whose time is over draws a ticket that it can't withdraw": (1, "far: two look in", (LOCK, "ask", "    if (my->until != FOR_EVER && is_over(my->until)) return ask_near(my);\n", "")),
     "a call with a limit draws a ticket while too many are open": (1, "far: crowded", (LOCK, "ask", "    if (my->until != FOR_EVER && !has_room(my->lock)) return QOLB_FAR_;\n", "")),
+    "who waited and is told of a shut holds the lock": (1, "one enters until", (LOCK, "enter_after_wait", "    if (got == QOLB_GRANTED) set_core", "    set_core")),
+    "who went in before and is told of a shut holds the lock": (1, "bursts: one enters until", (LOCK, "enter_on", "    if (got == QOLB_GRANTED) hold_by", "    hold_by")),
     # Leaving, shutting and closing.
+    "who leaves the quick way looks for no sleeper": (1, "", (LOCK, "qolb_lock_leave", "likely(got == QOLB_DONE && !at->ticket.sleepers)", "likely(got == QOLB_DONE)")),
     "who closes looks at the guests after it has looked who asked": (2, "", (LOCK, "is_alone", "atomic_load(&lock->guests) || tail_word(lock) != at->ticket.number + 1", "tail_word(lock) != at->ticket.number + 1 || atomic_load(&lock->guests)")),
     "a shut tells those at a condition once it has left": (1, "who is told", (LOCK, "qolb_shut_at_", "    qolb_tell_shut_(lock);\n", ""), (LOCK, "qolb_shut_at_", "    qolb_leave_at_(lock, at);\n", "    qolb_leave_at_(lock, at);\n    qolb_tell_shut_(lock);\n")),
     "who leaves looks afterwards whether the lock has bursts": (1, "crowded: the last frees", (LOCK, "leave_on", "if (with_bursts)", "if (has_bursts(lock))")),
@@ -208,6 +211,8 @@ HARMLESS = {
     # The lock's bound is the core's count of newcomers.
     "the queue head requests no handoff": ((WAITS, "watch_held", "!requested && is_long(my, watch, outer)", "!requested && !my && is_long(my, watch, outer)"),),
     "the queue head takes any free word at once": ((WAITS, "may_take", "had == watch->had", "1"),),
+    # No head sleeps at a word that nobody holds: so a leave that finds it as it was when this turn began is told of none.
+    "who leaves a burst the quick way looks for no sleeper": ((LOCK, "leave_burst", "likely(got == QOLB_DONE && !at->ticket.head_sleeps)", "likely(got == QOLB_DONE)"),),
     # It sleeps with its own count at its cell, and is told again.
     "nobody is woken ahead": ((WAITS, "qolb_end_turn_", "    if (wakes) qolb_unpark_(cell_half(words, ahead), class_of(ahead));\n", ""),),
     "a newcomer goes to the outer word once": ((LOCK, "goes_in", "        if (at->ticket.outer & (OUTER_STATE | OUTER_SHUT)) return 0;\n", "        return 0;\n"),),
