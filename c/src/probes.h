@@ -38,7 +38,7 @@ static inline struct probed of_node(qolb_node *node) {
         DTRACE_PROBE3(qolb, name, it_.label, it_.number, it_.line); \
     } while (0)
 #else
-#define PROBE(name, of) ((void)0)
+#define PROBE(name, of) ((void)sizeof(of))
 #endif
 
 /* The probe of a wait's end. */

@@ -82,7 +82,10 @@ FAULTS = {
     "who has no ticket is no guest any more when it draws one": (2, "crowded: one", (LOCK, "ask_later", "        nap(my->until);\n", "        nap(my->until);\n        be_no_guest(my);\n")),
     "a call whose time is over draws a ticket that it can't withdraw": (1, "far: two look in", (LOCK, "ask", "    if (my->until != FOR_EVER && is_over(my->until)) return ask_near(my);\n", "")),
     "a call with a limit draws a ticket while too many are open": (1, "far: crowded", (LOCK, "ask", "    if (my->until != FOR_EVER && !has_room(my->lock)) return QOLB_FAR_;\n", "")),
+    "who waited and is told of a shut holds the lock": (1, "one enters until", (LOCK, "enter_after_wait", "    if (got == QOLB_GRANTED) set_core", "    set_core")),
+    "who went in before and is told of a shut holds the lock": (1, "bursts: one enters until", (LOCK, "enter_on", "    if (got == QOLB_GRANTED) hold_by", "    hold_by")),
     # Leaving, shutting and closing.
+    "who leaves the quick way looks for no sleeper": (1, "", (LOCK, "qolb_lock_leave", "likely(got == QOLB_DONE && !at->ticket.sleepers)", "likely(got == QOLB_DONE)")),
     "who closes looks at the guests after it has looked who asked": (2, "", (LOCK, "is_alone", "atomic_load(&lock->guests) || tail_word(lock) != at->ticket.number + 1", "tail_word(lock) != at->ticket.number + 1 || atomic_load(&lock->guests)")),
     "a shut tells those at a condition once it has left": (1, "who is told", (LOCK, "qolb_shut_at_", "    qolb_tell_shut_(lock);\n", ""), (LOCK, "qolb_shut_at_", "    qolb_leave_at_(lock, at);\n", "    qolb_leave_at_(lock, at);\n    qolb_tell_shut_(lock);\n")),
     "who leaves looks afterwards whether the lock has bursts": (1, "crowded: the last frees", (LOCK, "leave_on", "if (with_bursts)", "if (has_bursts(lock))")),
@@ -119,12 +122,12 @@ FAULTS = {
     "an entry announces its sleep before it is in its list": (2, "", (REGISTRY, "stand", "    put_in(e);\n", ""), (REGISTRY, "stand", "    if (got != QOLB_ASLEEP_) take_out(e);\n", "    if (got == QOLB_ASLEEP_) put_in(e);\n")),
     "an entry announces no sleep": (1, "", (REGISTRY, "stand", "    while (got == QOLB_WAITING);\n", "    while (0);\n"), (REGISTRY, "stand", "got = qolb_core_announce_sleep_proved_(&e->lock->core, ticket)", "got = qolb_core_poll_proved_(&e->lock->core, ticket) == QOLB_WAITING ? QOLB_ASLEEP_ : QOLB_GRANTED")),
     "an entry whose ticket is at its turn stays in": (2, "", (REGISTRY, "stand", "    if (got != QOLB_ASLEEP_) take_out(e);\n", "")),
-    "who finds an entry does not look whether it is granted": (1, "far: late soon at a younger lock", (REGISTRY, "qolb_find_entry_", "e && (number == HEAD || rounds_to_go(lock, number) == 0)", "e")),
-    "who finds the entry of a task does not look whether it is granted": (2, "tasks: a task comes to a younger lock", (REGISTRY, "qolb_find_entry_", "e && (number == HEAD || rounds_to_go(lock, number) == 0)", "e")),
-    "who looks whether an entry is granted does not look for one": (2, "tasks: the last frees beside", (REGISTRY, "qolb_find_entry_", "e && (number == HEAD || rounds_to_go(lock, number) == 0)", "(number == HEAD || rounds_to_go(lock, number) == 0) && e")),
+    "who finds an entry does not look whether it is granted": (1, "far: late soon at a younger lock", (REGISTRY, "find_at", "e && (number == HEAD || rounds_to_go(lock, number) == 0)", "e")),
+    "who finds the entry of a task does not look whether it is granted": (2, "tasks: a task comes to a younger lock", (REGISTRY, "find_at", "e && (number == HEAD || rounds_to_go(lock, number) == 0)", "e")),
+    "who looks whether an entry is granted does not look for one": (2, "tasks: the last frees beside", (REGISTRY, "find_at", "e && (number == HEAD || rounds_to_go(lock, number) == 0)", "(number == HEAD || rounds_to_go(lock, number) == 0) && e")),
     "who takes an entry out does not retract its sleep": (1, "far: ", (REGISTRY, "out_of", "qolb_core_retract_sleep_proved_(&e->lock->core, &ticket);", "ticket.state = QOLB_TICKET_AT_TURN_;")),
     "who finds an entry leaves it in": (1, "", (REGISTRY, "out_of", "    take_out(e);\n", "")),
-    "who grants does not look for an entry": (1, "far: ", (REGISTRY, "qolb_find_entry_", "if (!last_of(list_of(lock, number))) return NOBODY;", "if (number != HEAD) return NOBODY;")),
+    "who grants does not look for an entry": (1, "far: ", (REGISTRY, "find_at", "if (!last_of(list_of(at, number))) return NOBODY;", "if (number != HEAD) return NOBODY;")),
     "an abandoned ticket that is granted stays so": (1, "far: ", (WAITS, "tell", "        if (found != ABANDONED) return key;\n", "        return key;\n")),
     "who passes an abandoned turn on wakes nobody behind it": (1, "", (WAITS, "tell", "        if (!ticket.sleepers) return 0;\n", "        return 0;\n")),
     "the registry has no guard": (2, "", (REGISTRY, "qolb_guard_", "    take_guard(guard);\n", "")),
@@ -142,7 +145,7 @@ FAULTS = {
     "a task as the queue head that is in stays in its list": (2, "bursts: tasks", (REGISTRY, "waits_on", "    take_out(e);\n", "")),
     "who leaves the outer word does not look for a task": (1, "bursts: tasks", (WAITS, "qolb_end_inside_", "at->ticket.head_sleeps && qolb_find_entry_(lock, HEAD, &unused, &key) == NOBODY", "at->ticket.head_sleeps")),
     "who finds a task as the queue head leaves it in its list": (1, "bursts: tasks", (REGISTRY, "out_of", "    take_out(e);\n", "    if (e->number != HEAD) take_out(e);\n")),
-    "who finds a task as the queue head takes no word for it": (1, "bursts: tasks", (REGISTRY, "qolb_find_entry_", "else if (!waits_on(e, ticket))", "else if (number == HEAD ? put_in(e), 0 : !waits_on(e, ticket))")),
+    "who finds a task as the queue head takes no word for it": (1, "bursts: tasks", (REGISTRY, "find_at", "else if (!waits_on(e, ticket))", "else if (number == HEAD ? put_in(e), 0 : !waits_on(e, ticket))")),
     # Tasks.
     "who passes on makes no call": (1, "tasks", (WAITS, "qolb_end_turn_", "    make_call(key);\n", "")),
     "who leaves the outer word makes no call": (1, "bursts: tasks", (WAITS, "qolb_end_inside_", "    make_call(key);\n", "")),
@@ -208,6 +211,8 @@ HARMLESS = {
     # The lock's bound is the core's count of newcomers.
     "the queue head requests no handoff": ((WAITS, "watch_held", "!requested && is_long(my, watch, outer)", "!requested && !my && is_long(my, watch, outer)"),),
     "the queue head takes any free word at once": ((WAITS, "may_take", "had == watch->had", "1"),),
+    # No head sleeps at a word that nobody holds: so a leave that finds it as it was when this turn began is told of none.
+    "who leaves a burst the quick way looks for no sleeper": ((LOCK, "leave_burst", "likely(got == QOLB_DONE && !at->ticket.head_sleeps)", "likely(got == QOLB_DONE)"),),
     # It sleeps with its own count at its cell, and is told again.
     "nobody is woken ahead": ((WAITS, "qolb_end_turn_", "    if (wakes) qolb_unpark_(cell_half(words, ahead), class_of(ahead));\n", ""),),
     "a newcomer goes to the outer word once": ((LOCK, "goes_in", "        if (at->ticket.outer & (OUTER_STATE | OUTER_SHUT)) return 0;\n", "        return 0;\n"),),

@@ -100,7 +100,7 @@ UNSEEN static uint64_t *hand_over(uint64_t label) {
 }
 UNSEEN void hook_is_head(const struct qolb_ticket *ticket) { head_of[self_number()] = ticket; }
 UNSEEN void hook_head_sleeps(const struct qolb_ticket *ticket) {
-    if (head_of[self_number()] == ticket) *hand_over(0) = ticket->label;
+    if (head_of[self_number()] == ticket && *hand_over(ticket->label) != ticket->label) *hand_over(0) = ticket->label;
     head_of[self_number()] = NULL;
 }
 UNSEEN void hook_takes_outer(uint64_t label) {
@@ -235,6 +235,27 @@ static void shuts_and_asks(int self) {
     MUST(qolb_lock_try(it.lock) == QOLB_CLOSED);
     MUST(qolb_lock_enter_within(it.lock, 0) == QOLB_CLOSED);
     for (int k = 0; k < 2; k++) MUST(qolb_lock_enter(it.lock) == QOLB_CLOSED);
+}
+
+/* One has had the lock, waits for it again, and is told: it does not hold it, now and at each later call. */
+static void enters_until_shut(int self) {
+    uint32_t got = QOLB_GRANTED;
+    if (self == 0) {
+        enters_with(1);
+        MUST(qolb_lock_enter(it.lock) == QOLB_GRANTED);
+        turn_with(1);
+        it.shut = 1;
+        MUST(qolb_lock_shut(it.lock) == QOLB_DONE);
+        return;
+    }
+    for (;; sched_yield()) {
+        got = qolb_lock_enter(it.lock);
+        if (got != QOLB_GRANTED) break;
+        turn();
+        leave();
+    }
+    MUST(got == QOLB_CLOSED && !qolb_lock_is_mine(it.lock) && qolb_lock_leave(it.lock) == QOLB_MISUSE);
+    MUST(qolb_lock_enter(it.lock) == QOLB_CLOSED && qolb_lock_try(it.lock) == QOLB_CLOSED);
 }
 
 /* The lock is closed only once no thread is about to call: so the other waits, without a ticket or with one, or is in a
@@ -801,6 +822,8 @@ const struct scene scenes[] = {
     {"tasks: no memory", a_task_finds_no_memory, 2, 0, 0, 15, MANY, MANY, NO_MEMORY},
     {"tasks: crowded", a_task_finds_no_memory, 2, 0, 0, 15, MANY, 0, 0},
     {"tasks: room for one sleeper", a_task_beside_one_that_yields, 3, 0, 0, 15, 1, MANY, 0},
+    {"one enters until one shuts", enters_until_shut, 2, 0, 0, ROOMY},
+    {"bursts: one enters until one shuts", enters_until_shut, 2, 2, 0, ROOMY},
     {"who is told of a shut frees", told_of_a_shut_frees, 2, 0, 0, ROOMY},
     {"bursts: who is told of a shut frees", told_of_a_shut_frees, 2, 2, 0, ROOMY},
     {"late while one stays in", is_late_while_one_stays_in, 2, 0, 0, ROOMY},

@@ -216,16 +216,16 @@ void last_task_frees(int self) {
 
 void last_of_both_frees(int self) { self == 1 ? last_task_frees(self) : last_frees(self); }
 
-/* One frees the lock as soon as it may, while the task of another gives up, which makes no access to it afterwards. */
+/* One frees the lock as soon as it may, while the task of another, which waits, gives up and makes no access to it
+ * afterwards. */
 void one_frees_beside_a_task(int self) {
     if (self) {
-        if (task_asks(1) == QOLB_GRANTED) task_turn(1);
-        else task_gives_up(1);
+        uint32_t got = task_asks(1);
         atomic_store(&it.over, 1);
-        return;
+        return got == QOLB_GRANTED ? task_turn(1) : task_gives_up(1);
     }
     MUST(qolb_lock_enter(it.lock) == QOLB_GRANTED);
-    await_other(1);
+    while (!atomic_fetch_add(&it.over, 0)) sched_yield();
     leave();
     while (qolb_lock_close(it.lock) != QOLB_DONE) sched_yield();
     free_lock();

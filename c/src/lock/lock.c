@@ -124,7 +124,7 @@ static uint32_t enter_by(struct request *my, uint32_t got) {
 }
 
 SLOW uint32_t qolb_enter_at_(struct lock *lock, struct turn *at, uint64_t nanoseconds, int is_guest) {
-    struct request my = {lock, at, end_of(nanoseconds), is_guest};
+    struct request my = {lock, at, end_of(nanoseconds), is_guest, NULL};
     return enter_by(&my, ask(&my));
 }
 
@@ -145,17 +145,18 @@ uint32_t qolb_lock_enter_within(qolb_lock *lock, uint64_t nanoseconds) {
 
 /* For as long as it takes, in the thread's own place for a strict lock, with a ticket. */
 static uint32_t enter_after_wait(struct request *my) {
-    PROBE(wait, of_request(my));
+    struct probed it = of_request(my);
+    PROBE(wait, it);
     qolb_await_turn_(my);
     uint32_t got = enter_at_turn(my);
-    PROBE_END(got, of_request(my));
+    PROBE_END(got, it);
     if (got == QOLB_GRANTED) set_core(my->at, core_at(my->at) + HELD - LAST);
     return got;
 }
 
 /* In the thread's own place for the lock, after a proved call that answered this. */
 SLOW static uint32_t enter_on(struct turn *at, uint32_t got) {
-    struct request my = {lock_by(at), at, FOR_EVER, 0};
+    struct request my = {lock_by(at), at, FOR_EVER, 0, NULL};
     if (likely(got == QOLB_WAITING)) return enter_after_wait(&my);
     if (got == QOLB_BUSY) got = ask(&my);
     if (got == QOLB_CLOSED) qolb_pass_on_(my.lock, at);

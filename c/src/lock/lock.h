@@ -266,9 +266,9 @@ _Static_assert(sizeof(struct task) <= sizeof(qolb_task), "a task has room");
 /* NULL if there is no memory. */
 HIDDEN struct entry *qolb_new_entry_(struct lock *lock, struct task *task);
 
-/* For a call that gives up with a ticket that WAITS: ASLEEP, and the ticket is the registry's; GRANTED; WAITING, and
- * nothing changed, if there is no memory or no room at its cell. */
-HIDDEN uint32_t qolb_abandon_(struct lock *lock, struct qolb_ticket *ticket);
+/* For a call that gives up with a ticket that WAITS, and perhaps a spare entry: ASLEEP, and both are the registry's;
+ * GRANTED; WAITING, and nothing changed, if there is no memory or no room at its cell. */
+HIDDEN uint32_t qolb_abandon_(struct lock *lock, struct qolb_ticket *ticket, struct entry **spare);
 
 /* For a task, whose ticket WAITS or is AT_TURN: WAITING, and it will be due, if it is not already; or GRANTED: at its
  * turn, with bursts in by the outer word. */
@@ -298,7 +298,8 @@ struct request {
     struct lock *lock;
     struct turn *at;
     uint64_t until;
-    int is_guest; /* it is counted among the lock's guests */
+    int is_guest;        /* it is counted among the lock's guests */
+    struct entry *spare; /* for a ticket that it abandons, or NULL */
 };
 
 /* For the probes: the lock's address, and the ticket's number from 1 on; 0 while it has none. */

@@ -14,7 +14,8 @@
  *   held, its entry goes to the list of heads, and then requests the handoff, so that no newcomer follows who is in,
  *   and announces the head's sleep. Who leaves is told of that, looks there, and takes the word for the task.
  *
- * All lists of a lock have one guard, which sleeps. No call of a task is made under it. */
+ * The lists of a lock's tasks have one guard, which sleeps; abandoned tickets have others, so that calls which give up
+ * at the same time don't sleep at one. No call of a task is made under a guard. */
 #include "lock.h"
 #include <stdlib.h>
 
@@ -25,9 +26,9 @@ struct entry {
     struct lock *lock;
     uint64_t number;   /* its ticket's, or HEAD */
     struct task *task; /* NULL: it is abandoned */
+    const void *at;    /* its row is by this: the lock, or of a ticket that a call abandons place_of */
 };
 
-/* The lists of a lock are in one row. */
 static struct row {
     _Alignas(APART) atomic_uint guard;
     struct link *last[COLUMNS], *heads;
@@ -47,19 +48,23 @@ void qolb_free_guards_(void) {
 
 /* ---- The lists ---- */
 
-static struct link **list_of(const struct lock *lock, uint64_t number) {
-    struct row *row = row_of(lock);
+static const void *place_of(const struct lock *lock, uint64_t number) {
+    return (const void *)((uintptr_t)lock + number * 16);
+}
+
+static struct link **list_of(const void *at, uint64_t number) {
+    struct row *row = row_of(at);
     return number == HEAD ? &row->heads : &row->last[number % COLUMNS];
 }
 
 static void put_in(struct entry *e) {
-    put_last(list_of(e->lock, e->number), &e->link);
+    put_last(list_of(e->at, e->number), &e->link);
     qolb_tell_release_(e); /* another thread may free it */
 }
 
 /* What is before the entry of this ticket, the oldest of the list first; NULL if there is none. */
-static struct link *find_before(const struct lock *lock, uint64_t number) {
-    struct link *last = last_of(list_of(lock, number)), *it = last;
+static struct link *find_before(const void *at, const struct lock *lock, uint64_t number) {
+    struct link *last = last_of(list_of(at, number)), *it = last;
     if (it) do {
             const struct entry *e = (struct entry *)it->next;
             if (e->lock == lock && e->number == number) return it;
@@ -68,12 +73,14 @@ static struct link *find_before(const struct lock *lock, uint64_t number) {
     return NULL;
 }
 
-static struct entry *find(const struct lock *lock, uint64_t number) {
-    struct link *before = find_before(lock, number);
+static struct entry *find(const void *at, const struct lock *lock, uint64_t number) {
+    struct link *before = find_before(at, lock, number);
     return before ? (struct entry *)before->next : NULL;
 }
 
-static void take_out(struct entry *e) { take_behind(list_of(e->lock, e->number), find_before(e->lock, e->number)); }
+static void take_out(struct entry *e) {
+    take_behind(list_of(e->at, e->number), find_before(e->at, e->lock, e->number));
+}
 
 /* Takes out an entry that has announced its sleep, and takes that back: the ticket, which WAITS or is AT_TURN. */
 static struct qolb_ticket out_of(struct entry *e) {
@@ -95,7 +102,7 @@ static void free_entry(struct entry *e) {
 
 struct entry *qolb_new_entry_(struct lock *lock, struct task *task) {
     struct entry *e = malloc(sizeof *e);
-    if (e) *e = (struct entry){.lock = lock, .task = task};
+    if (e) *e = (struct entry){.lock = lock, .task = task, .at = lock};
     return e;
 }
 
@@ -110,13 +117,14 @@ static uint32_t stand(struct entry *e, struct qolb_ticket *ticket) {
     return got;
 }
 
-uint32_t qolb_abandon_(struct lock *lock, struct qolb_ticket *ticket) {
-    struct entry *e = qolb_new_entry_(lock, NULL);
+uint32_t qolb_abandon_(struct lock *lock, struct qolb_ticket *ticket, struct entry **spare) {
+    struct entry *e = *spare ? *spare : qolb_new_entry_(lock, NULL);
     if (!e) return QOLB_WAITING;
-    atomic_uint *guard = qolb_guard_(lock);
+    e->at = place_of(lock, ticket->number);
+    atomic_uint *guard = qolb_guard_(e->at);
     uint32_t got = stand(e, ticket);
     return_guard(guard);
-    if (got != QOLB_ASLEEP_) free(e);
+    *spare = got == QOLB_ASLEEP_ ? NULL : e;
     if (got == QOLB_ASLEEP_) *ticket = (struct qolb_ticket){.outer = ticket->outer};
     return got == QOLB_FULL_ ? (uint32_t)QOLB_WAITING : got;
 }
@@ -168,13 +176,13 @@ uint32_t qolb_stand_for_(struct entry *e, struct qolb_ticket *ticket) {
 
 /* ---- Who is granted, and who is told ---- */
 
-enum found qolb_find_entry_(struct lock *lock, uint64_t number, struct qolb_ticket *ticket, uint64_t *key) {
+static enum found find_at(const void *at, struct lock *lock, uint64_t number, struct qolb_ticket *ticket,
+                          uint64_t *key) {
     enum found found = NOBODY;
     struct entry *gone = NULL;
-    *key = 0;
-    if (!last_of(list_of(lock, number))) return NOBODY;
-    atomic_uint *guard = qolb_guard_(lock);
-    struct entry *e = find(lock, number);
+    if (!last_of(list_of(at, number))) return NOBODY;
+    atomic_uint *guard = qolb_guard_(at);
+    struct entry *e = find(at, lock, number);
     if (e && (number == HEAD || rounds_to_go(lock, number) == 0)) {
         found = e->task ? A_TASK : ABANDONED;
         *ticket = out_of(e);
@@ -184,6 +192,12 @@ enum found qolb_find_entry_(struct lock *lock, uint64_t number, struct qolb_tick
     return_guard(guard);
     free_entry(gone);
     return found;
+}
+
+enum found qolb_find_entry_(struct lock *lock, uint64_t number, struct qolb_ticket *ticket, uint64_t *key) {
+    *key = 0;
+    enum found found = number == HEAD ? NOBODY : find_at(place_of(lock, number), lock, number, ticket, key);
+    return found == NOBODY ? find_at(lock, lock, number, ticket, key) : found;
 }
 
 /* ---- A task gives up ---- */

@@ -13,6 +13,7 @@
  * Who slept for its turn wakes the waiter behind the one that it grants as well, while others sleep there: that one's
  * thread gets up during the turn before its own. */
 #include "lock.h"
+#include <stdlib.h>
 
 static inline const struct qolb_core *core_of(const struct request *my) { return &my->lock->core; }
 static inline struct qolb_ticket *ticket_of(const struct request *my) { return &my->at->ticket; }
@@ -39,9 +40,9 @@ static uint32_t sleep_for_turn(const struct request *my, uint64_t until) {
 }
 
 /* Where the registry can't have the ticket it waits for a millisecond more. It looks at the lock while it may. */
-static uint32_t give_up(const struct request *my) {
+static uint32_t give_up(struct request *my) {
     uint32_t told = closed_or(QOLB_LATE, my->lock), got = qolb_core_withdraw_proved_(core_of(my), ticket_of(my));
-    if (got == QOLB_FAR_) got = qolb_abandon_(my->lock, ticket_of(my));
+    if (got == QOLB_FAR_) got = qolb_abandon_(my->lock, ticket_of(my), &my->spare);
     if (got == QOLB_WAITING) return sleep_for_turn(my, end_of(NAP));
     return got == QOLB_GRANTED ? got : told;
 }
@@ -51,6 +52,12 @@ static unsigned turns_between(const struct request *my) {
     unsigned k = 0;
     while (k + 1 < TICKETS_IN_ROUND && rounds_to_go(my->lock, ticket_of(my)->number - k - 1) > 0) k++;
     return k;
+}
+
+/* Before it sleeps with a limit, too far from its turn to withdraw: so it is late by no malloc. */
+static void make_spare(struct request *my) {
+    if (my->until != FOR_EVER && !my->spare && ticket_of(my)->rounds > MOST_ROUNDS_NEAR)
+        my->spare = qolb_new_entry_(my->lock, NULL);
 }
 
 uint32_t qolb_await_turn_(struct request *my) {
@@ -63,9 +70,11 @@ uint32_t qolb_await_turn_(struct request *my) {
             qolb_spin_for_(&spin, POLL_PAUSE + turns_between(my) * POLL_FARTHER);
             got = qolb_core_poll_proved_(core_of(my), ticket_of(my));
         } else {
+            make_spare(my);
             got = sleep_for_turn(my, my->until);
         }
     }
+    if (my->spare) free(my->spare);
     return got;
 }
 
