@@ -48,8 +48,9 @@ impl<J: Naming> Recorded<J> {
         Recorded { number: 0, front }
     }
 
+    /// Adds to the number: a turn that begins with what the last one left. `None` where the history is full, or was not seen
+    /// whole: then nothing changes.
     #[tactic(auto, using(crate::proofs::Chains::left_after))]
-    /// Adds to the number: a turn that begins with what the last one left.
     fn add(&mut self, book: &Book<J>, amount: u64) -> Option<Had<J>>
         ensures turn { IfSome result (λ had. (self.new ≡ self.old ++ had.turn ∷ [])
             × (had.turn.found ≡ last_left self.old) × (had.place ≡ length self.old)) }
@@ -86,7 +87,8 @@ fn have_turn<J: Naming, R: Wait>(
     had
 }
 
-/// Two threads have a turn each. Both turns stand in one history, in which each begins with what the one before left.
+/// Two threads have a turn each. Both turns stand in one history, in which each begins with what the one before left. `None`
+/// without memory, or where a thread's turn could not be added.
 pub fn two_turns<J: Naming + Send + Sync, R: Threads + Wait + Sync>(
     rt: &R,
     alloc: Global,

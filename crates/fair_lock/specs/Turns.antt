@@ -3,6 +3,7 @@ use Rattle.std.specs.Prelude.{◌≡◌, ◌≢◌, ℕ, ◌+◌, ◌-◌, ◌*�
 use Rattle.std.specs.Borrow.{Lends, MutBor, Fml}
 use mir.Syntax.{named}
 use denote.RattleType.{RattleType}
+use Rattle.atomic_table.specs.declared.shared.Seat.{Seat}
 use Rattle.atomic_table.specs.Lent.{seat_with}
 use Rattle.lock_core.specs.declared.view.View.{View}
 use Rattle.lock_core.specs.Views.{view_of, IsSeatOf, IsAtTurn, IsInside, IsNewcomersTurn, ServedOpen}
@@ -23,6 +24,10 @@ abbrev pub CameInOrder : ℕ → ℕ → View → Type 0
 CameInOrder burst ticket v = CameByTicket burst ticket v ⊎ IsNewcomersTurn v
 
 module _ {T : Type 0} where
+  -- its call has taken at most k word steps
+  abbrev pub TookAtMost : ℕ → Seat T View → Type 0
+  TookAtMost k seat = (view_of seat).looks.steps ≤ k
+
   -- its turn came in order, with at most as many newcomers before it as the bound allows
   abbrev pub IsInOrder : Guard T → Type 0
   IsInOrder g = CameInOrder g.lock.now.burst g.ticket (view_of g.seat)

@@ -1,8 +1,10 @@
--- What an announcement of a sleep and a release say.
-use Rattle.std.specs.Prelude.{◌≡◌, ◌%◌, false}
+-- What an announcement of a sleep, a release and a wake say.
+use Rattle.std.specs.Prelude.{◌≡◌, ℕ, ◌+◌, ◌*◌, ◌%◌, false}
+use Rattle.atomic_table.specs.declared.shared.Seat.{Seat}
 use Rattle.lock_core.specs.declared.view.View.{View}
 use Rattle.lock_core.specs.Views.{GrantedToNobodyAsleep, LeftQuietly}
 use Rattle.fair_lock.specs.declared.duty.ToWake.{ToWake}
+use Rattle.fair_lock.specs.declared.wake.Look.{Look}
 use Rattle.fair_lock.specs.declared.wake.Seen.{Seen}
 use Rattle.fair_lock.specs.declared.wake.Counted.{Counted}
 use Rattle.fair_lock.specs.declared.wake.Announced.{Announced}
@@ -40,3 +42,11 @@ IsToldOf told v = (told.place ≡ v.granted % 4) × (told.asleep ≡ false → G
 -- Who left the outer word is to wake the queue head at its wake word. Where it is to wake nobody, no queue head slept there.
 abbrev pub IsToldOfHead : ToWake → View → Type 0
 IsToldOfHead told v = (told.place ≡ 4) × (told.asleep ≡ false → LeftQuietly v)
+
+-- the last step found this in the wake word of this place
+abbrev pub Finds : ℕ → ℕ → Seat ℕ Look → Type 0
+Finds place n step = (step.me.0.word ≡ place * 8) × (step.me.0.found ≡ n)
+
+-- the last step added one to the wake word of this place
+abbrev pub AddsOne : ℕ → Seat ℕ Look → Type 0
+AddsOne place step = (step.me.0.word ≡ place * 8) × (step.me.0.left ≡ (step.me.0.found + 1) % 18446744073709551616)

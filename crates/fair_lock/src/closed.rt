@@ -1,4 +1,4 @@
-//! Why a thread has no turn.
+//! Why a thread has no turn, and what it has after one.
 ghost use Rattle.std.specs.Prelude.{◌≡◌};
 
 use crate::found::FoundTaken;

@@ -1,10 +1,11 @@
 //! Who ends a turn, or leaves the outer word, is told of sleepers, and has to wake them.
-ghost use Rattle.std.specs.Prelude.{◌≡◌, ◌<◌, ◌≤◌};
+ghost use Rattle.std.specs.Prelude.{◌≡◌, ◌<◌, ◌≤◌, true};
+ghost use Rattle.std.specs.Option.{ForSome};
 ghost use Rattle.lock_core.specs.Views.{view_of, InTime, InTimeFrom, LoadGrows, IsSeatOf, IsIdle, IsInside, IsOutside, IsNotServed, HasEnded, HasTurnOf, SameKnown, SameOvertaking, SameTurn};
 ghost use Rattle.lock_core.specs.Looks.{LeavesAsFound};
 
 use crate::lock::FairLock;
-use crate::wake::{HEAD, WakeWords};
+use crate::wake::{HEAD, WakeWords, WordSeat};
 use lock_core::{LeaveResult, ReleaseResult, ValueSeat, leave, release};
 use std::sync::{Wait, WaitMethods};
 
@@ -18,13 +19,18 @@ pub(crate) struct ToWake {
 }
 
 impl WakeWords {
-    /// Wakes whoever sleeps at the place of `told`, if it says that somebody does.
+    ghost use Rattle.fair_lock.specs.Wakes.{AddsOne};
+
+    /// Wakes whoever sleeps at the place of `told`, if it says that somebody does: then it changes the word there.
     #[inline]
-    pub(crate) fn wake(&self, told: ToWake) {
+    pub(crate) fn wake(&self, told: ToWake) -> Option<WordSeat>
+        ensures { told.asleep ≡ true → ForSome result (AddsOne told.place) }
+    {
         let ToWake { place, asleep } = told;
         if asleep {
-            self.wake_all(place);
+            return Some(self.wake_all(place));
         }
+        None
     }
 }
 

@@ -1,17 +1,20 @@
 //! A token without bytes, of what a seat showed at one moment. Only the function here makes it.
 ghost use Rattle.std.specs.Prelude.{◌≡◌, ◌<◌, ◌≤◌, ◌⊎◌};
+ghost use Rattle.lock_core.specs.Views.{InTime};
+ghost use Rattle.fair_lock.specs.Closing.{IsOut};
 ghost use Rattle.fair_lock.specs.Found.{ShowsTaken};
 
 use lock_core::ValueSeat;
 
-/// The lock was taken: another thread was served, waited, or asked at that moment.
+/// The lock was taken: another thread was served, waited, or asked at that moment. The caller was outside.
 #[derive(Drop)]
 pub(crate) struct FoundTaken(());
 
 impl FoundTaken {
     /// By the last steps of the seat.
     pub(crate) fn by<T>(seat: &ValueSeat<T>) -> FoundTaken
-        requires { ShowsTaken seat.now }
+        requires taken { ShowsTaken seat.now }
+        requires out { InTime seat.now IsOut }
     {
         let _ = seat;
         FoundTaken(())

@@ -63,7 +63,8 @@ impl<T> Guard<'_, T> {
         lock_core::shut(&self.lock.table.shared, &mut self.seat);
     }
 
-    /// Ends the turn: grants the next one, and wakes its waiter if that sleeps. A lock that was shut stays shut.
+    /// Ends the turn: grants the next one, and wakes its waiter if that sleeps. Does not block. A lock that was shut stays
+    /// shut.
     #[tactic(auto, unfolding(crate::specs::Turns::IsGuard))]
     pub fn leave<R: Wait>(self, rt: &R) -> Left<T>
         requires guard { IsGuard self }

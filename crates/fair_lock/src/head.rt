@@ -1,5 +1,6 @@
 //! The queue head of a lock with bursts waits until it is inside.
 ghost use Rattle.std.specs.Prelude.{◌≡◌, ◌≤◌, true, false};
+ghost use Rattle.fair_lock.specs.Closing.{IsOut};
 ghost use Rattle.lock_core.specs.Views.{view_of, InTime, LoadGrows, IsSeatOf, IsAtTurn, IsHeadInside, IsOvertakenInBounds, ServedOpen, ServedShut, KnowsShut, SameInside};
 
 use crate::lock::FairLock;
@@ -8,7 +9,7 @@ use lock_core::{TakeResult, ValueSeat, request_handoff, take_outer};
 use std::sync::{Wait, WaitMethods};
 
 /// So often the queue head looks at the outer word before it asks for a handoff and sleeps.
-const LOOKS: u32 = 100;
+pub(crate) const LOOKS: u32 = 100;
 
 impl<T> FairLock<T> {
     /// Waits as the queue head until it is inside. `false`: the lock is shut. Blocks.
@@ -21,6 +22,7 @@ impl<T> FairLock<T> {
         requires bursts { 2 ≤ self.now.burst }
         requires seat { IsSeatOf self.now.table.shared.table_id self.now.table.shared.key seat.old }
         requires at_turn { InTime seat.old (IsAtTurn ticket) }
+        requires out { InTime seat.old IsOut }
         ensures seat { IsSeatOf self.now.table.shared.table_id self.now.table.shared.key seat.new }
         ensures load { LoadGrows seat.old seat.new }
         ensures inside { InTime seat.new (IsHeadInside ticket) }
@@ -48,7 +50,8 @@ impl<T> FairLock<T> {
         unreachable!()
     }
 
-    /// Asks for a handoff, and sleeps until the outer word may be free. Blocks.
+    /// Asks for a handoff, and sleeps until the outer word may be reserved. Blocks. It returns at once where that word
+    /// changed at that moment.
     fn sleep_as_head<R: Wait>(&self, rt: &R, seat: &mut ValueSeat<T>, ticket: u64)
         requires seat { IsSeatOf self.now.table.shared.table_id self.now.table.shared.key seat.old }
         requires at_turn { InTime seat.old (IsAtTurn ticket) }
@@ -58,7 +61,9 @@ impl<T> FairLock<T> {
         ensures at_turn { InTime seat.new (IsAtTurn ticket) }
     {
         let table = &self.table.shared;
-        request_handoff(table, seat);
+        if !request_handoff(table, seat) {
+            return;
+        }
         if let Some(counted) = self.wakes.see_head().announce_head(table, seat) {
             self.wakes.park(rt, &counted);
             counted.woken();

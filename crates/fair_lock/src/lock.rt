@@ -29,6 +29,10 @@ pub struct NewError<T> {
 
 impl<T> FairLock<T> {
     /// Makes a strict lock: turns are in the order of requests. Allocates.
+    ///
+    /// # Errors
+    ///
+    /// `OpenError::Memory` where memory is short. The value is returned.
     pub fn new(alloc: Global, value: T) -> Result<FairLock<T>, NewError<T>>
         ensures strict { IfOk result (λ lock. lock.burst ≡ 1) }
         ensures err { IfErr result (λ e. (e.value ≡ value) × (e.error ≡ OpenError.Memory)) }

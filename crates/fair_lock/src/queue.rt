@@ -1,5 +1,6 @@
 //! A thread in the queue: it draws a ticket, and waits for its turn.
 ghost use Rattle.std.specs.Prelude.{◌≡◌, ◌≤◌, true, false};
+ghost use Rattle.fair_lock.specs.Closing.{IsOut};
 ghost use Rattle.lock_core.specs.Views.{view_of, InTime, LoadGrows, IsSeatOf, IsIdle, IsQueued, IsAtTurn, IsOvertakenInBounds, SameInside};
 
 use crate::lock::FairLock;
@@ -33,6 +34,7 @@ impl<T> FairLock<T> {
     pub(crate) fn come_to_turn<R: Wait>(&self, rt: &R, seat: &mut ValueSeat<T>) -> u64
         requires seat { IsSeatOf self.now.table.shared.table_id self.now.table.shared.key seat.old }
         requires idle { InTime seat.old IsIdle }
+        requires out { InTime seat.old IsOut }
         ensures seat { IsSeatOf self.now.table.shared.table_id self.now.table.shared.key seat.new }
         ensures load { LoadGrows seat.old seat.new }
         ensures stays { SameInside (view_of seat.old) (view_of seat.new) }
@@ -59,6 +61,7 @@ impl<T> FairLock<T> {
     fn wait<R: Wait>(&self, rt: &R, seat: &mut ValueSeat<T>, ticket: u64)
         requires seat { IsSeatOf self.now.table.shared.table_id self.now.table.shared.key seat.old }
         requires queued { InTime seat.old (IsQueued ticket) }
+        requires out { InTime seat.old IsOut }
         ensures seat { IsSeatOf self.now.table.shared.table_id self.now.table.shared.key seat.new }
         ensures load { LoadGrows seat.old seat.new }
         ensures stays { SameInside (view_of seat.old) (view_of seat.new) }

@@ -23,6 +23,7 @@ pub(crate) struct Over {
 }
 
 impl Span {
+    /// Begins a span, by a reading of the clock.
     pub(crate) fn begin<R: Clock>(rt: &R, at_most: Duration) -> Span
         ensures { result.at_most ≡ at_most }
     {

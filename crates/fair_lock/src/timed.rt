@@ -6,6 +6,7 @@ ghost use Rattle.fair_lock.specs.Closing.{IsToldShut, IsLateAt, IsOut, IfEnterCl
 
 use crate::closed::{EnterError, Late};
 use crate::guard::Guard;
+use crate::head::LOOKS;
 use crate::lock::FairLock;
 use crate::queue::pause;
 use crate::span::{Over, Span};
@@ -21,9 +22,6 @@ use std::time::Duration;
 
 /// A request can be taken back while at most this number of rounds is to be granted until its own.
 const NEAR: u64 = 15;
-
-/// So often the queue head looks at the outer word before it sleeps.
-const LOOKS: u32 = 100;
 
 impl<T> FairLock<T> {
     /// Enters within `at_most`, or not at all. Blocks for no longer than about that.
@@ -85,6 +83,7 @@ impl<T> FairLock<T> {
     ) -> Result<(), Over>
         requires seat { IsSeatOf self.now.table.shared.table_id self.now.table.shared.key seat.old }
         requires near { InTime seat.old (IsQueuedWithin 15 ticket) }
+        requires out { InTime seat.old IsOut }
         ensures seat { IsSeatOf self.now.table.shared.table_id self.now.table.shared.key seat.new }
         ensures load { LoadGrows seat.old seat.new }
         ensures stays { SameInside (view_of seat.old) (view_of seat.new) }
@@ -194,6 +193,7 @@ impl<T> FairLock<T> {
         requires bursts { 2 ≤ self.now.burst }
         requires seat { IsSeatOf self.now.table.shared.table_id self.now.table.shared.key seat.old }
         requires at_turn { InTime seat.old (IsAtTurn ticket) }
+        requires out { InTime seat.old IsOut }
         ensures seat { IsSeatOf self.now.table.shared.table_id self.now.table.shared.key seat.new }
         ensures load { LoadGrows seat.old seat.new }
         ensures inside { IfOk result (λ _. InTime seat.new (IsHeadInside ticket)) }
@@ -224,7 +224,8 @@ impl<T> FairLock<T> {
         unreachable!()
     }
 
-    /// Asks for a handoff, and sleeps until the outer word may be free, for at most `at_most`. Blocks.
+    /// Asks for a handoff, and sleeps until the outer word may be reserved, for at most `at_most`. Blocks. It returns at
+    /// once where that word changed at that moment.
     fn sleep_as_head_within<R: Wait>(
         &self,
         rt: &R,
@@ -240,7 +241,9 @@ impl<T> FairLock<T> {
         ensures at_turn { InTime seat.new (IsAtTurn ticket) }
     {
         let table = &self.table.shared;
-        request_handoff(table, seat);
+        if !request_handoff(table, seat) {
+            return;
+        }
         if let Some(counted) = self.wakes.see_head().announce_head(table, seat) {
             self.wakes.park_timeout(rt, &counted, at_most);
             counted.woken();

@@ -1,7 +1,8 @@
 //! A thread enters, and leaves.
 ghost use Rattle.std.specs.Prelude.{◌≡◌, ◌≤◌, IfOk, IfErr, true, false};
 ghost use Rattle.lock_core.specs.Views.{InTime, IsSeatOf, IsAtTurn, IsHeadInside, IsOvertakenInBounds, ServedOpen, KnowsShut};
-ghost use Rattle.fair_lock.specs.Turns.{IsGuard, IsInOrder, IsOpen};
+ghost use Rattle.lock_core.specs.Looks.{StepsLater};
+ghost use Rattle.fair_lock.specs.Turns.{IsGuard, IsInOrder, IsOpen, TookAtMost};
 ghost use Rattle.fair_lock.specs.Closing.{IsToldShut, AsksNothing, IsOut, IfTryClosed, IfTryBusy};
 
 use crate::closed::{Busy, Closed, TryEnterError};
@@ -41,7 +42,9 @@ impl<T> FairLock<T> {
         self.pass_on_inside(rt, seat, ticket, open)
     }
 
-    /// Enters if that can be done at once, and leaves nothing behind if not. Does not wait for another thread's turn.
+    /// Enters if that can be done at once, and leaves nothing behind if not. Does not block.
+    ///
+    /// In a strict lock it enters, or is refused as busy, by at most five word steps.
     ///
     /// # Errors
     ///
@@ -52,6 +55,9 @@ impl<T> FairLock<T> {
         ensures lock { IfOk result (λ guard. guard.lock.now ≡ self.now) }
         ensures closed { IfErr result (IfTryClosed (IsToldShut self.now)) }
         ensures busy { IfErr result (IfTryBusy (λ busy. AsksNothing self.now busy.seat)) }
+        ensures in_at_once { self.now.burst ≤ 1 → IfOk result (λ guard. TookAtMost 5 guard.seat) }
+        ensures busy_at_once { self.now.burst ≤ 1
+            → IfErr result (IfTryBusy (λ busy. TookAtMost 4 busy.seat)) }
     {
         let mut seat = new_seat(&self.table.shared);
         if self.burst >= 2 && go_in(&self.table.shared, &mut seat) {
@@ -104,6 +110,7 @@ impl<T> FairLock<T> {
         requires overtaken { InTime seat IsOvertakenInBounds }
         requires out { InTime seat IsOut }
         ensures guard { IfOk result (λ guard. IsGuard guard × IsOpen guard) }
+        ensures steps { IfOk result (λ guard. StepsLater 1 seat guard.seat) }
         ensures order { IfOk result IsInOrder }
         ensures lock { IfOk result (λ guard. guard.lock.now ≡ self.now) }
         ensures closed { IfErr result (IsToldShut self.now) }

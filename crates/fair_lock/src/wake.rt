@@ -3,14 +3,14 @@
 //! The kernel compares the low half of a word before it puts a thread to sleep, and a grant changes the high half of a
 //! cell. So waiters sleep at words of their own, one for each cell and one for the queue head. A waiter reads that word,
 //! announces its sleep by the proved call, and sleeps while the word is what it read. Who is told of sleepers adds one to
-//! the word and wakes all. So between the announcement and the sleep no wake is lost.
-ghost use Rattle.std.specs.Prelude.{◌≡◌, ◌<◌, ◌≤◌, ◌%◌, IfSome};
-ghost use Rattle.lock_core.specs.Layout.{HasLockWords, outer_at};
+//! the word, and then wakes all. So between the announcement and the sleep no wake is lost.
+ghost use Rattle.std.specs.Prelude.{◌≡◌, ◌*◌, ◌<◌, ◌≤◌, ◌%◌, IfSome};
+ghost use Rattle.lock_core.specs.Layout.{HasLockWords, outer_at, handoff_of};
 ghost use Rattle.lock_core.specs.Views.{view_of, InTime, InTimeFrom, LoadGrows, IsSeatOf, IsQueued, IsQueuedWithin, IsAsleep, IsAtTurn, IsOvertakenInBounds, SameInside, SleepsAtOuter, SleepsInTake, Kept};
-ghost use Rattle.lock_core.specs.Looks.{StepsLater, Changes, IsNotedAsleep};
+ghost use Rattle.lock_core.specs.Looks.{StepsLater, Leaves, Changes, IsNotedAsleep};
 ghost use Rattle.fair_lock.specs.WakeSteps as steps;
 
-use atomic_table::{Play, Shared, Table, TableRule};
+use atomic_table::{Play, Seat, Table, TableRule};
 use lock_core::{
     HeadSleepResult, SharedValue, SleepResult, ValueSeat, announce_head_sleep, announce_sleep,
     retract_sleep,
@@ -25,26 +25,43 @@ pub(crate) const HEAD: usize = 4;
 /// The distance between two wake words.
 const STRIDE: usize = 8;
 
+/// What a step on a wake word showed: the word, what was found there, and what was left. No value of it is made.
+pub(crate) struct Look {
+    pub word: u64,
+    pub found: u64,
+    pub left: u64,
+}
+
+/// Shows in proofs what the last step on a wake word was. It has no bytes.
+pub(crate) type WordSeat = Seat<u64, Look>;
+
 /// The rule of the wake words: none.
 pub(crate) struct WakeRule;
 
-impl TableRule<u64, u64, u64> for WakeRule {
+impl TableRule<u64, Look, u64> for WakeRule {
     ghost holds = { λ _ _. Unit {0} };
 
-    ghost first = { λ _. 0 };
+    ghost first = { λ _. steps.nothing_shown };
 }
 
-/// A step on a wake word, which tells nothing.
-pub(crate) struct Any;
+/// A look at a wake word.
+pub(crate) struct Read;
 
-impl Play<u64, u64> for Any {
-    ghost then = { steps.tells_nothing };
+impl Play<u64, Look> for Read {
+    ghost then = { steps.reads };
+}
+
+/// A number is added to a wake word.
+pub(crate) struct Add;
+
+impl Play<u64, Look> for Add {
+    ghost then = { steps.adds };
 }
 
 /// The wake words of a lock.
 #[derive(Drop)]
 pub(crate) struct WakeWords {
-    table: Table<u64, u64, u64, WakeRule, Global>,
+    table: Table<u64, Look, u64, WakeRule, Global>,
     ghost sized: { table.shared.table_id.words ≡ 40 },
 }
 
@@ -55,7 +72,9 @@ pub(crate) struct WakeWords {
 pub(crate) struct Seen {
     place: usize,
     low: u32,
+    step: WordSeat,
     ghost within: { place < 5 },
+    ghost as_found: { (step.me.0.word ≡ place * 8) × (low ≡ step.me.0.found % 4294967296) },
 }
 
 /// A waiter that has announced its sleep after it read its wake word, and is counted where a release finds it.
@@ -76,6 +95,8 @@ pub(crate) enum Announced {
 }
 
 impl WakeWords {
+    ghost use Rattle.fair_lock.specs.Wakes.{Finds, AddsOne};
+
     /// Makes wake words at which nobody sleeps. Allocates 320 bytes.
     pub(crate) fn new(alloc: Global) -> Result<WakeWords, AllocError> {
         let (table, _) = Table::of_words(alloc, &[0; 40], &0)?;
@@ -100,8 +121,17 @@ impl WakeWords {
         requires { place < 5 }
         ensures { result.place ≡ place }
     {
-        let low = (self.table.shared.peek(place * STRIDE) % (1 << 32)) as u32;
-        Seen { place, low }
+        let (found, step) = self.look(place);
+        let low = (found % (1 << 32)) as u32;
+        Seen { place, low, step }
+    }
+
+    fn look(&self, place: usize) -> (u64, WordSeat)
+        requires { place < 5 }
+        ensures table { result.1.table_id ≡ self.now.table.shared.table_id }
+        ensures found { Finds place result.0 result.1 }
+    {
+        self.table.shared.load_new_seat::<Read>(place * STRIDE)
     }
 
     /// Sleeps while the wake word is what the waiter read before it announced its sleep; may return early. Blocks.
@@ -118,15 +148,36 @@ impl WakeWords {
             .park_timeout(rt, counted.place * STRIDE, counted.low, at_most);
     }
 
-    /// Wakes all that sleep at the place.
+    /// Wakes all that sleep at the place: first its word changes, so that nobody goes to sleep there any more.
     #[cold]
-    pub(crate) fn wake_all(&self, place: usize)
+    pub(crate) fn wake_all(&self, place: usize) -> WordSeat
         requires { place < 5 }
+        ensures { AddsOne place result }
     {
-        let table = &self.table.shared;
-        let (_, mut seat) = table.load_new_seat::<Any>(0);
-        table.fetch_add::<Any>(&mut seat, place * STRIDE, 1);
-        table.wake_all(place * STRIDE);
+        let step = self.change(place);
+        self.wake_sleepers(place, &step);
+        step
+    }
+
+    /// Adds one to the word of the place.
+    fn change(&self, place: usize) -> WordSeat
+        requires { place < 5 }
+        ensures { AddsOne place result }
+    {
+        let (_, mut step) = self.look(place);
+        self.table
+            .shared
+            .fetch_add::<Add>(&mut step, place * STRIDE, 1);
+        step
+    }
+
+    /// Has the kernel wake all that sleep at the place, whose word has changed.
+    fn wake_sleepers(&self, place: usize, changed: &WordSeat)
+        requires place { place < 5 }
+        requires changed { AddsOne place changed.now }
+    {
+        let _ = changed;
+        self.table.shared.wake_all(place * STRIDE);
     }
 }
 
@@ -154,7 +205,11 @@ impl Seen {
         ensures place { IfCounted result (λ counted. counted.place ≡ ticket % 4) }
         ensures queued { IfNotAnnounced result (InTime seat.new (IsQueued ticket)) }
     {
-        let Seen { place, low } = self;
+        let Seen {
+            place,
+            low,
+            step: _,
+        } = self;
         match announce_sleep(table, seat, ticket) {
             SleepResult::AtTurn => Announced::AtTurn,
             SleepResult::Asleep { rounds: _, cell: _ } => {
@@ -164,7 +219,8 @@ impl Seen {
         }
     }
 
-    /// Announces the sleep of the queue head that has read its wake word. What it answers is noted by a step of this call.
+    /// Announces the sleep of the queue head that has requested a handoff and read its wake word. What it answers is noted
+    /// by a step of this call.
     pub(crate) fn announce_head<T>(
         self,
         table: &SharedValue<T>,
@@ -173,6 +229,7 @@ impl Seen {
         requires table { HasLockWords table.now.table_id }
         requires place { self.place ≡ 4 }
         requires seat { IsSeatOf table.now.table_id table.now.key seat.old }
+        requires requested { Leaves outer_at (λ n. handoff_of n ≡ 1) seat.old }
         ensures seat { IsSeatOf table.now.table_id table.now.key seat.new }
         ensures load { LoadGrows seat.old seat.new }
         ensures kept { Kept (view_of seat.old) (view_of seat.new) }
@@ -183,7 +240,11 @@ impl Seen {
         ensures word { IfSome result (IsAtWordOf self) }
         ensures place { IfSome result (λ counted. counted.place ≡ 4) }
     {
-        let Seen { place, low } = self;
+        let Seen {
+            place,
+            low,
+            step: _,
+        } = self;
         match announce_head_sleep(table, seat) {
             HeadSleepResult::Asleep { outer: _ } => Some(Counted { place, low }),
             HeadSleepResult::NotHeld | HeadSleepResult::Changed => None,

@@ -132,3 +132,21 @@ fn a_withdrawn_request_is_passed(rt: HostRuntime) {
         assert_eq!(&rt; lock.into_inner(), 10);
     }
 }
+
+#[test]
+fn a_guard_learns_of_who_left_before(rt: HostRuntime) {
+    let Ok(lock) = FairLock::new(rt.alloc(), 3u64) else {
+        panic!(&rt; "memory")
+    };
+    let Ok(first) = lock.enter(&rt) else {
+        panic!(&rt; "shut")
+    };
+    let left = first.leave(&rt);
+    let Ok(mut second) = lock.enter(&rt) else {
+        panic!(&rt; "shut")
+    };
+    second.learn_order(left);
+    assert_eq!(&rt; *second.value_mut(), 3);
+    second.leave(&rt);
+    assert_eq!(&rt; lock.into_inner(), 3);
+}

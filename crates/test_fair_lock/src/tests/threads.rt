@@ -1,5 +1,10 @@
 //! Threads that share a value: no turn is lost, and no two are at one time.
 use super::{add, add_within, lock_of, try_add};
+use fair_lock::FairLock;
+use std::rt::Clock;
+use std::sync::Wait;
+use std::sync::atomic::AtomicU64;
+use std::sync::atomic::Ordering::SeqCst;
 use std::thread;
 use std::time::Duration;
 
@@ -110,5 +115,78 @@ fn those_that_sleep_are_woken(rt: HostRuntime) {
         .expect(&rt, "memory");
         assert_eq!(&rt; sum(&had), 164, "at {burst}");
         assert_eq!(&rt; lock.into_inner(), 160, "at {burst}");
+    }
+}
+
+/// Waits until the stage is reached.
+fn wait_for<R: Wait + Clock>(rt: &R, stage: &AtomicU64, wanted: u64) {
+    for _ in rt.forever() {
+        if stage.load(SeqCst) >= wanted {
+            return;
+        }
+        thread::sleep(rt, Duration::from_micros(20));
+    }
+    unreachable!()
+}
+
+/// Has a turn, with a limit or without: the value becomes ten times itself and `digit`.
+fn append<R: Wait + Clock>(rt: &R, lock: &FairLock<u64>, digit: u64, has_limit: bool) {
+    let entered = if has_limit {
+        lock.enter_within(rt, Duration::from_secs(50)).ok()
+    } else {
+        lock.enter(rt).ok()
+    };
+    if let Some(mut guard) = entered {
+        let value = guard.value_mut();
+        *value = value.wrapping_mul(10).wrapping_add(digit);
+        guard.leave(rt);
+    }
+}
+
+/// Holds the lock until another waits for it, leaves, and asks again.
+fn hold_and_ask_again<R: Wait + Clock>(
+    rt: &R,
+    lock: &FairLock<u64>,
+    stage: &AtomicU64,
+    has_limit: bool,
+) {
+    if let Ok(guard) = lock.enter(rt) {
+        stage.store(1, SeqCst);
+        wait_for(rt, stage, 2);
+        thread::sleep(rt, Duration::from_millis(2));
+        guard.leave(rt);
+    }
+    append(rt, lock, 2, has_limit);
+}
+
+/// A thread may be stopped between its last step before the call and its request, so not each round has to show the order.
+#[test]
+fn who_waits_is_served_before_who_asks_later(rt: HostRuntime) {
+    for waiter_has_limit in [false, true] {
+        let mut in_order = 0u64;
+        for _ in 0..20 {
+            let lock = lock_of(rt.alloc(), 1, 0).expect(&rt, "memory");
+            let stage = AtomicU64::new(0);
+            thread::map_indices(
+                &rt,
+                rt.alloc(),
+                2,
+                &|i| {
+                    if i == 0 {
+                        hold_and_ask_again(&rt, &lock, &stage, !waiter_has_limit);
+                    } else {
+                        wait_for(&rt, &stage, 1);
+                        stage.store(2, SeqCst);
+                        append(&rt, &lock, 1, waiter_has_limit);
+                    }
+                },
+            )
+            .ok()
+            .expect(&rt, "memory");
+            if lock.into_inner() == 12 {
+                in_order = in_order.wrapping_add(1);
+            }
+        }
+        assert!(&rt; in_order >= 18, "in order {in_order} times of 20");
     }
 }
