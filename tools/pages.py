@@ -45,7 +45,7 @@ CLAIMING_SHORT = ["c/package/qolb.pc.in", "c/rust/Cargo.toml.in"]
 # Sentences that claim more.
 TOO_MUCH = re.compile(r"library is proved|proved (?:queue )?locks?\b(?!_)|(?:nobody|no thread) is overtaken|no wake-up is lost")
 # What an exploration runs: each row of PROVED's table begins with one of these, and ends with the commit whose code it ran.
-EXPLORED = {"lock": ["c/src/lock", "c/src/bells.c", "c/src/bells.h", "c/src/notify.c"], "nodes": ["c/src/calls.c", "c/src/bells.c", "c/src/bells.h", "c/src/notify.c"]}
+EXPLORED = {"lock": ["c/src/lock", "c/src/bells.c", "c/src/bells.h", "c/src/notify.c", "c/src/spin.h"], "nodes": ["c/src/calls.c", "c/src/bells.c", "c/src/bells.h", "c/src/notify.c", "c/src/spin.h"]}
 # The README of the archive, which has a table of figures too.
 ARCHIVE = "c/package/README"
 # A first screen has a program in each language.
