@@ -1,6 +1,5 @@
 //! Who ends a turn, or leaves the outer word, is told of sleepers, and has to wake them.
-ghost use Rattle.std.specs.Prelude.{◌≡◌, ◌<◌, ◌≤◌, true};
-ghost use Rattle.std.specs.Option.{ForSome};
+ghost use Rattle.std.specs.Prelude.{◌≡◌, ◌<◌, ◌≤◌, false, IfSome, IfNone};
 ghost use Rattle.lock_core.specs.Views.{view_of, InTime, InTimeFrom, LoadGrows, IsSeatOf, IsIdle, IsInside, IsOutside, IsNotServed, HasEnded, HasTurnOf, SameKnown, SameOvertaking, SameTurn};
 ghost use Rattle.lock_core.specs.Looks.{LeavesAsFound};
 
@@ -24,7 +23,8 @@ impl WakeWords {
     /// Wakes whoever sleeps at the place of `told`, if it says that somebody does: then it changes the word there.
     #[inline]
     pub(crate) fn wake(&self, told: ToWake) -> Option<WordSeat>
-        ensures { told.asleep ≡ true → ForSome result (AddsOne told.place) }
+        ensures woken { IfSome result (AddsOne told.place) }
+        ensures nobody { IfNone result (told.asleep ≡ false) }
     {
         let ToWake { place, asleep } = told;
         if asleep {
