@@ -10,16 +10,13 @@
  * nanoseconds, and how many such gaps took more than a millisecond; and for 1,000 turns how often a thread slept or
  * yielded while it entered, and lost its processor in its turn. */
 #define _GNU_SOURCE
+#include "clock.h"
 #include <ck_spinlock.h>
 #include <pthread.h>
 #include <qolb.h>
-#include <sched.h>
-#include <stdint.h>
 #include <stdio.h>
-#include <stdlib.h>
 #include <string.h>
 #include <sys/resource.h>
-#include <time.h>
 #include <unistd.h>
 #include <x86intrin.h>
 
@@ -46,19 +43,6 @@ static struct {
     double gap;
 } counted[MOST];
 
-static uint64_t now(void) {
-    struct timespec time;
-    if (clock_gettime(CLOCK_MONOTONIC, &time)) abort();
-    return (uint64_t)time.tv_sec * 1000000000 + (uint64_t)time.tv_nsec;
-}
-
-static void stay_at(long processor) {
-    cpu_set_t set;
-    CPU_ZERO(&set);
-    CPU_SET(processor % sysconf(_SC_NPROCESSORS_ONLN), &set);
-    if (sched_setaffinity(0, sizeof set, &set)) abort();
-}
-
 static void enter(ck_spinlock_mcs_context_t *me) {
     if (way == MCS) ck_spinlock_mcs_lock(&mcs, me);
     else if (way == MUTEX) pthread_mutex_lock(&mutex);
@@ -76,7 +60,7 @@ static void *take_turns(void *arg) {
     long thread = (long)arg;
     ck_spinlock_mcs_context_t me;
     struct rusage before = {0}, granted = {0}, after = {0};
-    stay_at(thread);
+    stay_at((int)(thread % sysconf(_SC_NPROCESSORS_ONLN)));
     while (!is_over) {
         if (turn) getrusage(RUSAGE_THREAD, &before);
         uint64_t asked = __rdtsc();
@@ -99,7 +83,7 @@ static void *take_turns(void *arg) {
 }
 
 static void *loop(void *arg) {
-    stay_at((long)arg);
+    stay_at((int)(long)arg);
     while (!is_over) __asm__ volatile("");
     return NULL;
 }

@@ -6,16 +6,15 @@
 #ifndef PHASES_H
 #define PHASES_H
 
+#include "clock.h"
 #include <ck_pr.h>
 #include <ck_spinlock.h>
 #include <pthread.h>
-#include <sched.h>
 #include <stdatomic.h>
 #include <stdint.h>
 #include <stdio.h>
 #include <stdlib.h>
 #include <string.h>
-#include <time.h>
 #include <unistd.h>
 
 enum { MOST = 64, PLACES = 8, PHASES = 20000, MOST_PROCESSORS = 8, PAGE = 4096, APART = 128, BINS = 976 };
@@ -28,19 +27,6 @@ static void begin_phase(enum way by, int at);
 static void end_phase(long thread, enum way by, int at);
 
 /* ---- Time ---- */
-
-static uint64_t now(void) {
-    struct timespec time;
-    if (clock_gettime(CLOCK_MONOTONIC, &time)) abort();
-    return (uint64_t)time.tv_sec * 1000000000 + (uint64_t)time.tv_nsec;
-}
-
-static void stay_at(int processor) {
-    cpu_set_t set;
-    CPU_ZERO(&set);
-    CPU_SET(processor, &set);
-    if (sched_setaffinity(0, sizeof set, &set)) abort();
-}
 
 /* Sixteen bins for each power of two. */
 static unsigned bin_of(uint64_t ns) {

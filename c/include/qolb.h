@@ -117,8 +117,8 @@
  *
  * A waiter polls: each 90 ns if it is next, else more seldom; for at most 50 us, with more than four threads before it
  * for 2 us. Then it sleeps by a futex until its turn. At a condition it sleeps at once, and so does a process that may
- * use one processor only. After polls without success a thread polls for less the next time. It never yields: a
- * real-time thread may wait for another.
+ * use one processor only. After polls without success a thread polls for less the next time. A thread that is woken
+ * before its turn yields once.
  *
  * Leaving wakes the next holder. If the leaver had slept, it wakes the waiter behind that one, too. In a burst it wakes
  * the first waiter alone. It calls the system only if it may have to wake a sleeper.

@@ -28,9 +28,9 @@ enum {
     LESS = NEAR * 90 / 2 * 9 / 8 / 90
 };
 
-/* The time; and since `begins` the numbers of clock calls, sleeps, polls and wakes, the longest time that a sleep may
- * have lasted, and the calls that a waiter must not make. */
-static uint64_t now = 5000000000, clocks, sleeps, longest, polls, wakes, wrong;
+/* The time; and since `begins` the numbers of clock calls, sleeps, polls, yields and wakes, the longest time that a
+ * sleep may have lasted, and the calls that a waiter must not make. */
+static uint64_t now = 5000000000, clocks, sleeps, longest, polls, yields, wakes, wrong;
 static const void *slept_at[KEPT], *woken_at[KEPT];
 
 /* An action during this number of sleeps, before this number of polls, or before a request is withdrawn. It happens
@@ -49,7 +49,7 @@ static void happens(void) {
 
 static void begins(void (*does)(void)) {
     for (int k = 0; k < SPINS; k++) qolb_learned_[k] = 0;
-    clocks = sleeps = longest = polls = wakes = 0;
+    clocks = sleeps = longest = polls = yields = wakes = 0;
     event.does = does;
     event.at_sleep = event.at_poll = 0;
     event.at_withdrawal = 0;
@@ -64,7 +64,7 @@ int __wrap_clock_gettime(clockid_t clock, struct timespec *out) {
 }
 
 int __wrap_nanosleep(const struct timespec *time, struct timespec *left) { return (void)time, (void)left, wrong++, 0; }
-int __wrap_sched_yield(void) { return wrong++, 0; }
+int __wrap_sched_yield(void) { return yields++, 0; }
 
 /* A sleep without a limit ends for no reason, and so does one in which something happens; any other takes its time. */
 static void sleep_until(const void *word, uint64_t end) {
@@ -169,6 +169,7 @@ static int late(uint64_t burst) {
         WANT(enters(20 * MS), QOLB_LATE);
         WANT(now - since, 20 * MS);
         WANT(sleeps, 1);
+        WANT(yields, 0);
         WANT(longest, 20 * MS);
         WANT(polls, burst ? 0 : again ? BEHIND_ONE : NEAR);
     }
@@ -178,8 +179,8 @@ static int late(uint64_t burst) {
     return is_left();
 }
 
-/* As long as it takes, without a look at the clock: it sleeps, and if it is woken for no reason it polls anew. A leave
- * wakes it, by one call. */
+/* As long as it takes, without a look at the clock: it sleeps, and if it is woken for no reason it yields and polls
+ * anew. A leave wakes it, by one call. */
 static int sleeps_on(void) {
     if (is_held(0)) return 1;
     begins(leaves);
@@ -187,6 +188,7 @@ static int sleeps_on(void) {
     WANT(enters(NEVER), QOLB_GRANTED);
     WANT(clocks, 0);
     WANT(sleeps, 3);
+    WANT(yields, 2);
     WANT(longest, NEVER);
     WANT(polls, NEAR + NEAR + LESS);
     WANT(wakes, 1);
@@ -201,6 +203,7 @@ static int head_sleeps_on(void) {
     event.at_sleep = 2;
     WANT(enters(NEVER), QOLB_GRANTED);
     WANT(sleeps, 2);
+    WANT(yields, 0);
     WANT(longest, NEVER);
     WANT(wakes, 1);
     WANT(woken_at[0] == slept_at[1], 1);
@@ -214,11 +217,11 @@ static int granted_awake(void) {
     event.at_poll = 5;
     WANT(enters(NEVER), QOLB_GRANTED);
     WANT(polls, 5);
-    WANT(sleeps + wakes + clocks, 0);
+    WANT(sleeps + yields + wakes + clocks, 0);
     qolb_leave_at_(lock_of(&lock), &other);
     begins(NULL);
     WANT(qolb_lock_enter(&lock), QOLB_GRANTED);
-    WANT(polls + sleeps + wakes + clocks, 0);
+    WANT(polls + sleeps + yields + wakes + clocks, 0);
     return is_left();
 }
 
@@ -256,7 +259,7 @@ static int at_the_end(int is_shut) {
 
 static void time_passes(void) { now += 5 * MS; }
 
-/* Woken without a grant: the rest of the time is used. */
+/* Woken without a grant: the rest of the time is used. Who waits for its turn of the queue yields. */
 static int woken_for_nothing(uint64_t burst) {
     qolb_cond cond = QOLB_COND_INIT;
     if (is_held(burst)) return 1;
@@ -267,6 +270,7 @@ static int woken_for_nothing(uint64_t burst) {
         WANT(way ? qolb_cond_wait_within(&cond, &lock, 20 * MS) : enters(20 * MS), QOLB_LATE);
         WANT(now - since, 20 * MS);
         WANT(sleeps, 2);
+        WANT(yields, way || burst ? 0 : 1);
         WANT(longest, 20 * MS);
     }
     return is_left();
@@ -281,7 +285,7 @@ static int at_condition(void) {
     WANT(qolb_cond_wait_within(&cond, &lock, 20 * MS), QOLB_LATE);
     WANT(now - since, 20 * MS);
     WANT(sleeps, 1);
-    WANT(polls + wakes, 0);
+    WANT(polls + yields + wakes, 0);
     return is_left();
 }
 
@@ -343,6 +347,7 @@ static int wakes_in_order(unsigned has_slept) {
     event.at_sleep = 1;
     WANT(enters(NEVER), QOLB_GRANTED);
     WANT(slept_at[0] != slept_at[1] && slept_at[1] != slept_at[2] && slept_at[2] != slept_at[0], 1);
+    WANT(yields, 1); /* of the last one, whose sleep the leave ends */
     WANT(wakes, 1 + has_slept);
     for (unsigned k = 0; k < wakes; k++) WANT(woken_at[k] == slept_at[k], 1);
     return is_left_by_other();

@@ -2,8 +2,8 @@
  * acquires the line and then starts the other, which preempts it and acquires, too. So the other must sleep before it
  * can go on, and must be woken by the release.
  *
- * A thread that spins or yields keeps the processor until the system throttles it, after most of a second. So the test
- * counts the processor time of each wait, which no other program lengthens.
+ * A thread that spins, or yields again and again, keeps the processor until the system throttles it, after most of a
+ * second. So the test counts the processor time of each wait, which no other program lengthens.
  *
  *   realtime [TURNS]   of each kind of line; with threads that are kept at one processor, and then with the whole
  *                      process kept there, which does not spin at all

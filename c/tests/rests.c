@@ -252,8 +252,8 @@ static int late(qolb_node *n) {
     return 0;
 }
 
-/* It waits as long as it takes, and reads no clock: it sleeps, and if it is woken for no reason it polls anew. A
- * release wakes it, by one call. */
+/* It waits as long as it takes, and reads no clock: it sleeps, and if it is woken for no reason it yields and polls
+ * anew. A release wakes it, by one call. */
 static int sleeps_on(qolb_node *n, int limited) {
     holder = &n[0];
     begins(releases);
@@ -264,7 +264,8 @@ static int sleeps_on(qolb_node *n, int limited) {
     WANT(longest, NEVER);
     WANT(asks, 1);
     WANT(looks, 2 * (NEAR + 2) + LESS + 2 + 1);
-    WANT(yields + spins, 0);
+    WANT(yields, 2);
+    WANT(spins, 0);
     WANT(wakes, 1);
     WANT(qolb_deqolb(&n[1]), QOLB_DONE);
     WANT(qolb_acquire(&n[0]), QOLB_GRANTED);
