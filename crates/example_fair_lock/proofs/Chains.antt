@@ -1,9 +1,9 @@
 -- Histories of turns.
-use Rattle.std.proofs.Common.{◌≡◌, ℕ, zero, suc, ◌+◌, ◌==◌, ◌&&◌, Bool, true, false, List, [], ◌∷◌, ◌++◌, length, refl, ap, sym, ◌∙◌, subst, arith, Some, slice_get}
+use Rattle.std.proofs.Common.{◌≡◌, ℕ, zero, suc, ◌+◌, ◌==◌, true, List, [], ◌∷◌, ◌++◌, refl, ap, sym, ◌∙◌, subst, arith, Some, slice_get}
 use Rattle.std.proofs.lemmas.Bool.{and_parts, and_from}
 use Rattle.std.proofs.lemmas.Bool.Decides.{nat_tests}
 use Rattle.example_fair_lock.specs.declared.turn.Turn.{Turn}
-use Rattle.example_fair_lock.specs.Turns.{is_chain, left_by, IsChain, BeginsWithTheLast}
+use Rattle.example_fair_lock.specs.Turns.{is_chain, left_by, BeginsWithTheLast}
 
 pub left_after : (v : ℕ) (log : List Turn) (t : Turn) → left_by v (log ++ t ∷ []) ≡ t.left
 left_after v [] t = refl

@@ -1,5 +1,5 @@
 -- Histories of turns.
-use Rattle.std.specs.Prelude.{◌≡◌, ℕ, ◌+◌, ◌<◌, ◌==◌, ◌&&◌, Bool, true, List, [], ◌∷◌, length, Some, slice_get}
+use Rattle.std.specs.Prelude.{◌≡◌, ℕ, ◌+◌, ◌%◌, ◌^◌, ◌<◌, ◌==◌, ◌&&◌, Bool, true, List, [], ◌∷◌, length, Some, slice_get}
 use mathlib.Core.List.{IsPrefix}
 use Rattle.example_fair_lock.specs.declared.turn.Turn.{Turn}
 
@@ -22,6 +22,10 @@ last_left log = left_by 0 log
 -- each turn but the first begins with what the one before left
 abbrev pub BeginsWithTheLast : List Turn → Type 0
 BeginsWithTheLast log = (n : ℕ) (t u : Turn) → slice_get log n ≡ Some t → slice_get log (n + 1) ≡ Some u → u.found ≡ t.left
+
+-- the turn left what it found and this amount
+abbrev pub HasAdded : ℕ → Turn → Type 0
+HasAdded amount t = t.left ≡ (t.found + amount) % 2 ^ 64
 
 -- ys begins with xs, and goes on
 abbrev pub IsLonger : List Turn → List Turn → Type 0

@@ -2,7 +2,7 @@
 //!
 //! Each thread has tickets, one for each turn that it is to have. The value under the lock has the book of all tickets
 //! that are left: so the count and they make up the number of turns.
-ghost use Rattle.std.specs.Prelude.{◌≡◌, ℕ, ◌+◌, ◌*◌, ◌^◌, ◌<◌, IfSome};
+ghost use Rattle.std.specs.Prelude.{◌≡◌, ℕ, ◌+◌, ◌*◌, ◌^◌, ◌<◌, ◌≤◌, IfSome};
 
 use fair_lock::FairLock;
 use std::alloc::Global;
@@ -99,7 +99,7 @@ fn have_turns<N: Turns, R: Wait>(
     After { tickets }
 }
 
-/// Has `threads` threads count `turns` turns each. Returns the count at the end, or `None` without memory.
+/// Has each of `threads` threads count `each` turns. Returns the count at the end, or `None` without memory.
 fn run<N: Turns + Send + Sync, R: Threads + Wait + Sync>(
     rt: &R,
     alloc: Global,
@@ -133,8 +133,11 @@ fn run<N: Turns + Send + Sync, R: Threads + Wait + Sync>(
     Some(lock.into_inner().total(&mut all))
 }
 
-/// A strict lock, or one with bursts of at least two turns.
-fn make<T: Drop>(alloc: Global, burst: u16, value: T) -> Option<FairLock<T>> {
+/// A lock with bursts of at most `burst` turns, or a strict one if they are fewer than two. `None` without memory.
+fn make<T: Drop>(alloc: Global, burst: u16, value: T) -> Option<FairLock<T>>
+    ensures strict { burst < 2 → IfSome result (λ lock. lock.burst ≡ 1) }
+    ensures bursts { 2 ≤ burst → IfSome result (λ lock. lock.burst ≡ burst) }
+{
     if burst < 2 {
         FairLock::new(alloc, value).ok()
     } else {
@@ -142,7 +145,7 @@ fn make<T: Drop>(alloc: Global, burst: u16, value: T) -> Option<FairLock<T>> {
     }
 }
 
-/// Has `threads` threads count `turns` turns each. Returns the count at the end, or `None` without memory.
+/// Has each of `threads` threads count `each` turns. Returns the count at the end, or `None` without memory.
 pub fn count<R: Threads + Wait + Sync>(
     rt: &R,
     alloc: Global,

@@ -1,6 +1,6 @@
 //! A number, and the history of all turns at it: each turn begins with what the last one left, whichever thread had it.
 ghost use Rattle.std.specs.Prelude.{◌≡◌, [], ◌∷◌, ◌++◌, length, Some, IfSome, IfNone, slice_get};
-ghost use Rattle.example_fair_lock.specs.Turns.{BeginsWithTheLast, last_left};
+ghost use Rattle.example_fair_lock.specs.Turns.{BeginsWithTheLast, HasAdded, last_left};
 
 use crate::book::{Book, Front, Naming, Opened};
 use crate::turn::Turn;
@@ -48,12 +48,13 @@ impl<J: Naming> Recorded<J> {
         Recorded { number: 0, front }
     }
 
-    /// Adds to the number: a turn that begins with what the last one left. `None` where the history is full, or was not seen
-    /// whole: then nothing changes.
+    /// Adds to the number, modulo 2^64: a turn that begins with what the last one left. `None` where the history is full, or
+    /// was not seen whole: then nothing changes.
     #[tactic(auto, using(crate::proofs::Chains::left_after))]
     fn add(&mut self, book: &Book<J>, amount: u64) -> Option<Had<J>>
         ensures turn { IfSome result (λ had. (self.new ≡ self.old ++ had.turn ∷ [])
             × (had.turn.found ≡ last_left self.old) × (had.place ≡ length self.old)) }
+        ensures sum { IfSome result (λ had. HasAdded amount had.turn) }
         ensures none { IfNone result (self.new ≡ self.old) }
     {
         if self.front.len() >= MOST {
@@ -74,21 +75,23 @@ impl<J: Naming> Recorded<J> {
     }
 }
 
-/// A thread has a turn.
+/// A thread adds to the number, in a turn. `None` if the turn could not be added to the history.
 fn have_turn<J: Naming, R: Wait>(
     rt: &R,
     book: &Book<J>,
     lock: &FairLock<Recorded<J>>,
     amount: u64,
-) -> Option<Had<J>> {
+) -> Option<Had<J>>
+    ensures sum { IfSome result (λ had. HasAdded amount had.turn) }
+{
     let mut guard = lock.enter(rt).ok()?;
     let had = guard.value_mut().add(book, amount);
     guard.leave(rt);
     had
 }
 
-/// Two threads have a turn each. Both turns stand in one history, in which each begins with what the one before left. `None`
-/// without memory, or where a thread's turn could not be added.
+/// Two threads add to the number, each in a turn. Both turns stand in one history, in which each begins with what the one
+/// before left. `None` without memory, or if a thread's turn could not be added.
 pub fn two_turns<J: Naming + Send + Sync, R: Threads + Wait + Sync>(
     rt: &R,
     alloc: Global,
@@ -99,6 +102,7 @@ pub fn two_turns<J: Naming + Send + Sync, R: Threads + Wait + Sync>(
     ensures begins { IfSome result (λ r. BeginsWithTheLast r.0) }
     ensures first { IfSome result (λ r. slice_get r.0 r.1.place ≡ Some r.1.turn) }
     ensures second { IfSome result (λ r. slice_get r.0 r.2.place ≡ Some r.2.turn) }
+    ensures sums { IfSome result (λ r. HasAdded amounts.0 r.1.turn × HasAdded amounts.1 r.2.turn) }
 {
     let (book, front) = opened.named::<J>();
     let lock = FairLock::new(alloc, Recorded::new(front)).ok()?;
@@ -112,7 +116,7 @@ pub fn two_turns<J: Naming + Send + Sync, R: Threads + Wait + Sync>(
     Some((one.front.longer(&two.front), one, two))
 }
 
-/// What two threads found and left, each in a turn of its own; `None` without memory.
+/// What two threads found and left, each in a turn of its own. `None` without memory, or if a turn could not be added.
 fn turns_of<J: Naming + Send + Sync, R: Threads + Wait + Sync>(
     rt: &R,
     alloc: Global,
@@ -120,6 +124,7 @@ fn turns_of<J: Naming + Send + Sync, R: Threads + Wait + Sync>(
     amounts: (u64, u64),
 ) -> Option<(Turn, Turn)>
     requires book { opened.seen.book ≡ J.book }
+    ensures sums { IfSome result (λ r. HasAdded amounts.0 r.0 × HasAdded amounts.1 r.1) }
 {
     let (_, one, two) = two_turns::<J, R>(rt, alloc, opened, amounts)?;
     Some((one.turn, two.turn))
@@ -130,6 +135,8 @@ pub fn found_and_left<R: Threads + Wait + Sync>(
     rt: &R,
     alloc: Global,
     amounts: (u64, u64),
-) -> Option<(Turn, Turn)> {
+) -> Option<(Turn, Turn)>
+    ensures sums { IfSome result (λ r. HasAdded amounts.0 r.0 × HasAdded amounts.1 r.1) }
+{
     turns_of::<Brand, R>(rt, alloc, Opened::new(), amounts)
 }

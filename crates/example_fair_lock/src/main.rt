@@ -14,9 +14,11 @@ fn main(rt: HostRuntime) -> anyhow::Result<()> {
     println!(rt; "8 threads had 500 turns each, in the order of requests: {strict}")?;
     let bursts = count::count(&rt, rt.alloc(), 32, 8, 500).context("no memory")?;
     println!(rt; "8 threads had 500 turns each, in bursts of at most 32: {bursts}")?;
-    let sum = pair::sum_after(&rt, rt.alloc(), 8, 500).context("no memory")?;
-    println!(rt; "8 threads moved coins between two purses 500 times each: {sum} coins")?;
-    let (one, two) = history::found_and_left(&rt, rt.alloc(), (3, 4)).context("no memory")?;
+    let (left, right) = pair::purses_after(&rt, rt.alloc(), 8, 50).context("no memory")?;
+    println!(rt; "8 threads moved a coin from the fuller purse 50 times each: {left} and {right}")?;
+    let (one, two) = history::found_and_left(&rt, rt.alloc(), (3, 4)).context(
+        "no memory, or a turn was not added",
+    )?;
     let found_left = one.found == two.left || two.found == one.left;
     println!(rt; "of 2 turns one found what the other left: {found_left}")?;
     Ok(())

@@ -1,5 +1,5 @@
 //! Two purses under one lock: whoever is served sees as many coins as there were, however they are moved.
-ghost use Rattle.std.specs.Prelude.{◌≡◌, ◌+◌, IfSome};
+ghost use Rattle.std.specs.Prelude.{◌≡◌, ◌+◌, ◌<◌, ◌≤◌, IfSome};
 
 use fair_lock::FairLock;
 use std::alloc::Global;
@@ -16,24 +16,29 @@ struct Purses {
 }
 
 impl Purses {
-    /// Moves one coin to the purse that has fewer.
-    fn level(&mut self) {
+    /// Moves one coin out of the purse that has more; out of the right one if both have as many.
+    fn level(&mut self)
+        ensures to_right { self.old.right < self.old.left → self.new.left + 1 ≡ self.old.left }
+        ensures to_left { self.old.left ≤ self.old.right → self.new.left ≡ self.old.left + 1 }
+    {
         let Purses { left, right } = self;
         if *left > *right {
             *left -= 1;
             *right += 1;
-        } else if *right > 0 {
+        } else {
             *right -= 1;
             *left += 1;
         }
     }
 
-    /// The coins in both.
-    fn coins(self) -> u32
-        ensures { result ≡ 1000 }
+    /// The coins in each.
+    fn coins(self) -> (u32, u32)
+        ensures left { result.0 ≡ self.left }
+        ensures right { result.1 ≡ self.right }
+        ensures sum { result.0 + result.1 ≡ 1000 }
     {
         let Purses { left, right } = self;
-        left + right
+        (left, right)
     }
 }
 
@@ -47,14 +52,14 @@ fn move_coins<R: Wait>(rt: &R, lock: &FairLock<Purses>, times: u32) {
     }
 }
 
-/// The coins after all threads have moved them as often as asked; `None` without memory.
-pub fn sum_after<R: Threads + Wait + Sync>(
+/// The coins in each purse after every one of `threads` threads moved one `times` times; `None` without memory.
+pub fn purses_after<R: Threads + Wait + Sync>(
     rt: &R,
     alloc: Global,
     threads: usize,
     times: u32,
-) -> Option<u32>
-    ensures { IfSome result (λ coins. coins ≡ 1000) }
+) -> Option<(u32, u32)>
+    ensures { IfSome result (λ coins. coins.0 + coins.1 ≡ 1000) }
 {
     let lock = FairLock::new(
         alloc,

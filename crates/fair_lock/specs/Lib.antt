@@ -2,4 +2,6 @@ pub mod WakeSteps
 pub mod Wakes
 pub mod Turns
 pub mod Found
+pub mod Spans
+pub mod Limits
 pub mod Closing

@@ -39,7 +39,7 @@ pub enum TryEnterError<T> {
 pub enum EnterError<T> {
     /// The lock is shut.
     Closed(Closed<T>),
-    /// The time was over before the turn. A request that was made is withdrawn.
+    /// The time was over before the turn. A request that was made is withdrawn, or its turn of the queue passed on.
     Late(Late<T>),
 }
 

@@ -2,7 +2,7 @@
 ghost use Rattle.std.specs.Prelude.{◌≡◌, ◌<◌, ◌≤◌, ◌∷◌, [], IsTrue};
 ghost use Rattle.std.specs.Borrow.{sem, Lends};
 ghost use Rattle.lock_core.specs.Views.{view_of, InTime, IsSeatOf, KnowsShut, SameKnown};
-ghost use Rattle.lock_core.specs.Looks.{LeavesAsFound};
+ghost use Rattle.lock_core.specs.Looks.{StepsLater, LeavesAsFound};
 ghost use Rattle.fair_lock.specs.Closing.{HasLeft, ended_by};
 ghost use Rattle.fair_lock.specs.Turns.{IsServed, CameInOrder, IsGuard, IsInOrder, IsOpen, LendsValue, SameValue, number_of, with_value};
 
@@ -50,7 +50,8 @@ impl<T> Guard<'_, T> {
         self.seat.slot_mut(&lock.table.shared, 0)
     }
 
-    /// Shuts the lock: every later request is told of it, and so are those that wait. One word step.
+    /// Shuts the lock: there are no turns after this one, and who waits for one learns that. One word step. Until this
+    /// turn ends `try_enter` is busy.
     #[tactic(auto, unfolding(crate::specs::Turns::IsGuard))]
     pub fn shut(&mut self)
         requires guard { IsGuard self.old }
@@ -58,13 +59,14 @@ impl<T> Guard<'_, T> {
         ensures guard { IsGuard self.new }
         ensures order { IsInOrder self.old → IsInOrder self.new }
         ensures value { SameValue self.old self.new }
+        ensures step { StepsLater 1 self.old.seat self.new.seat }
         ensures knows { KnowsShut (view_of self.new.seat) }
     {
         lock_core::shut(&self.lock.table.shared, &mut self.seat);
     }
 
-    /// Ends the turn: grants the next one, and wakes its waiter if that sleeps. Does not block. A lock that was shut stays
-    /// shut.
+    /// Ends the turn: grants the next ticket, or with bursts leaves the outer word, and wakes who sleeps for that. Does not
+    /// block. A lock that was shut stays shut.
     #[tactic(auto, unfolding(crate::specs::Turns::IsGuard))]
     pub fn leave<R: Wait>(self, rt: &R) -> Left<T>
         requires guard { IsGuard self }

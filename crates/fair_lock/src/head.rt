@@ -1,15 +1,13 @@
 //! The queue head of a lock with bursts waits until it is inside.
 ghost use Rattle.std.specs.Prelude.{◌≡◌, ◌≤◌, true, false};
 ghost use Rattle.fair_lock.specs.Closing.{IsOut};
+ghost use Rattle.fair_lock.specs.Found.{NotedOrNotHeld};
 ghost use Rattle.lock_core.specs.Views.{view_of, InTime, LoadGrows, IsSeatOf, IsAtTurn, IsHeadInside, IsOvertakenInBounds, ServedOpen, ServedShut, KnowsShut, SameInside};
 
 use crate::lock::FairLock;
-use crate::queue::pause;
-use lock_core::{TakeResult, ValueSeat, request_handoff, take_outer};
+use crate::watch::{Next, Watch};
+use lock_core::{TakeResult, ValueSeat, look_outer, request_handoff, take_outer};
 use std::sync::{Wait, WaitMethods};
-
-/// So often the queue head looks at the outer word before it asks for a handoff and sleeps.
-pub(crate) const LOOKS: u32 = 100;
 
 impl<T> FairLock<T> {
     /// Waits as the queue head until it is inside. `false`: the lock is shut. Blocks.
@@ -31,20 +29,20 @@ impl<T> FairLock<T> {
         ensures shut { result ≡ false → InTime seat.new ServedShut }
         ensures knows { result ≡ false → InTime seat.new KnowsShut }
     {
-        let mut looks = 0;
+        let table = &self.table.shared;
+        let mut watch = Watch::new(self.burst);
         for _ in rt.forever() {
-            match take_outer(&self.table.shared, seat, ticket) {
-                TakeResult::Open => return true,
-                TakeResult::Shut => return false,
-                TakeResult::Changed { outer: _ } => {}
-                TakeResult::Held { outer: _ } => {
-                    if looks < LOOKS {
-                        looks += 1;
-                        pause();
-                    } else {
-                        self.sleep_as_head(rt, seat, ticket);
-                    }
+            match watch.next(look_outer(table, seat)) {
+                Next::Take => match take_outer(table, seat, ticket) {
+                    TakeResult::Open => return true,
+                    TakeResult::Shut => return false,
+                    TakeResult::Held { outer: _ } | TakeResult::Changed { outer: _ } => {}
+                },
+                Next::Look => watch.pause(),
+                Next::Request => {
+                    request_handoff(table, seat);
                 }
+                Next::Sleep => self.sleep_as_head(rt, seat, ticket),
             }
         }
         unreachable!()
@@ -59,14 +57,16 @@ impl<T> FairLock<T> {
         ensures load { LoadGrows seat.old seat.new }
         ensures stays { SameInside (view_of seat.old) (view_of seat.new) }
         ensures at_turn { InTime seat.new (IsAtTurn ticket) }
+        ensures looked { NotedOrNotHeld seat.new }
     {
         let table = &self.table.shared;
         if !request_handoff(table, seat) {
             return;
         }
-        if let Some(counted) = self.wakes.see_head().announce_head(table, seat) {
-            self.wakes.park(rt, &counted);
-            counted.woken();
-        }
+        let Some(counted) = self.wakes.see_head().announce_head(table, seat) else {
+            return;
+        };
+        self.wakes.park(rt, &counted);
+        counted.woken();
     }
 }

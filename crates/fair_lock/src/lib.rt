@@ -8,10 +8,12 @@ mod guard;
 mod head;
 mod lock;
 mod queue;
+mod reading;
 mod span;
 mod timed;
 mod turns;
 mod wake;
+mod watch;
 
 pub use closed::{Busy, Closed, EnterError, Late, Left, TryEnterError};
 pub use guard::Guard;

@@ -1,6 +1,7 @@
 //! A thread in the queue: it draws a ticket, and waits for its turn.
 ghost use Rattle.std.specs.Prelude.{◌≡◌, ◌≤◌, true, false};
 ghost use Rattle.fair_lock.specs.Closing.{IsOut};
+ghost use Rattle.fair_lock.specs.Found.{FoundWaiting, ShowsNoEntry};
 ghost use Rattle.lock_core.specs.Views.{view_of, InTime, LoadGrows, IsSeatOf, IsIdle, IsQueued, IsAtTurn, IsOvertakenInBounds, SameInside};
 
 use crate::lock::FairLock;
@@ -9,6 +10,7 @@ use crossbeam_utils::Backoff;
 use lock_core::{AskWithinResult, ValueSeat, ask_within, poll};
 use std::hint::spin_loop;
 use std::sync::{Wait, WaitMethods};
+use std::thread::yield_now;
 
 /// A request is made while at most this number of rounds, of four tickets each, is before it.
 const WINDOW: u64 = 1 << 27;
@@ -27,7 +29,7 @@ pub(crate) fn pause() {
 }
 
 impl<T> FairLock<T> {
-    /// Draws a ticket, and waits until that is at its turn. Blocks.
+    /// Draws a ticket, and waits until that is at its turn. Blocks. With bursts its caller has tried to go in.
     ///
     /// While 2^29 requests are open it draws none, and looks again now and then. Once 2^63 tickets are drawn it waits
     /// forever.
@@ -35,6 +37,7 @@ impl<T> FairLock<T> {
         requires seat { IsSeatOf self.now.table.shared.table_id self.now.table.shared.key seat.old }
         requires idle { InTime seat.old IsIdle }
         requires out { InTime seat.old IsOut }
+        requires tried { 2 ≤ self.now.burst → ShowsNoEntry seat.old }
         ensures seat { IsSeatOf self.now.table.shared.table_id self.now.table.shared.key seat.new }
         ensures load { LoadGrows seat.old seat.new }
         ensures stays { SameInside (view_of seat.old) (view_of seat.new) }
@@ -72,6 +75,8 @@ impl<T> FairLock<T> {
             if self.spin(seat, ticket) || self.sleep(rt, seat, ticket) {
                 return;
             }
+            // A thread that is woken may have taken the processor of the one that is inside.
+            yield_now();
         }
         unreachable!()
     }
@@ -86,6 +91,7 @@ impl<T> FairLock<T> {
         ensures at_turn { result ≡ true → InTime seat.new (IsAtTurn ticket) }
         ensures overtaken { result ≡ true → InTime seat.new IsOvertakenInBounds }
         ensures queued { result ≡ false → InTime seat.new (IsQueued ticket) }
+        ensures not_yet { result ≡ false → FoundWaiting ticket seat.new }
     {
         for _ in 0..POLLS {
             if poll(&self.table.shared, seat, ticket) == 0 {
@@ -106,6 +112,7 @@ impl<T> FairLock<T> {
         ensures at_turn { result ≡ true → InTime seat.new (IsAtTurn ticket) }
         ensures overtaken { result ≡ true → InTime seat.new IsOvertakenInBounds }
         ensures queued { result ≡ false → InTime seat.new (IsQueued ticket) }
+        ensures not_yet { result ≡ false → FoundWaiting ticket seat.new }
     {
         let table = &self.table.shared;
         match self.wakes.see_cell(ticket).announce(table, seat, ticket) {

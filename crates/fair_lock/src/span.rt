@@ -1,57 +1,89 @@
-//! A span of time.
-ghost use Rattle.std.specs.Prelude.{◌≡◌, ◌≤◌, IfOk, IfErr};
-ghost use Rattle.std.specs.Option.{ForSome};
+//! A span of time, by readings of the clock.
+ghost use Rattle.std.specs.Prelude.{◌≡◌, ◌<◌, IfOk, IfErr};
 ghost use Rattle.std.specs.Duration.{as_nanos};
+ghost use Rattle.fair_lock.specs.Spans.{nanos_left};
 
+use crate::reading::Reading;
 use std::rt::Clock;
 use std::time::{Duration, Instant};
 
 /// A span of time. It counts as over if the clock could not be read.
 #[derive(Drop)]
 pub(crate) struct Span {
-    since: Option<Instant>,
+    since: Reading,
     at_most: Duration,
 }
 
-/// A span of `at_most` was over. Only `Span::left` makes one.
+/// A span of `at_most` was over. Only `Span::left` makes one, by a reading of its own.
 #[derive(Drop)]
 pub(crate) struct Over {
+    since: Option<Instant>,
     at_most: Duration,
-    /// What had passed, by two readings of the clock; none if one failed.
-    passed: Option<Duration>,
-    ghost whole: { ForSome passed (λ passed. as_nanos at_most ≤ as_nanos passed) },
+    by: Reading,
+    ghost whole: { nanos_left since at_most by.at ≡ 0 },
+}
+
+/// What was left of a span that was not over. Only `Span::left` makes one, by a reading of its own.
+#[derive(Drop)]
+pub(crate) struct Rest {
+    since: Option<Instant>,
+    at_most: Duration,
+    by: Reading,
+    left: Duration,
+    ghost exact: { as_nanos left ≡ nanos_left since at_most by.at },
+    ghost some: { 0 < as_nanos left },
 }
 
 impl Span {
+    ghost use Rattle.fair_lock.specs.Limits.{IsRestOf};
+
     /// Begins a span, by a reading of the clock.
     pub(crate) fn begin<R: Clock>(rt: &R, at_most: Duration) -> Span
         ensures { result.at_most ≡ at_most }
     {
         Span {
-            since: Instant::now(rt).ok(),
+            since: Reading::now(rt),
             at_most,
         }
     }
 
     /// What is left of the span, unless it is over.
-    pub(crate) fn left<R: Clock>(&self, rt: &R) -> Result<Duration, Over>
+    pub(crate) fn left<R: Clock>(&self, rt: &R) -> Result<Rest, Over>
         ensures over { IfErr result (λ over. over.at_most ≡ self.now.at_most) }
-        ensures left { IfOk result (λ left. as_nanos left ≤ as_nanos self.now.at_most) }
+        ensures since { IfErr result (λ over. over.since ≡ self.now.since.at) }
+        ensures left { IfOk result (IsRestOf self.now) }
     {
-        let (Some(since), Some(now)) = (self.since, Instant::now(rt).ok()) else {
-            return Err(Over {
-                at_most: self.at_most,
-                passed: None,
-            });
-        };
-        let passed = now.duration_since(since);
-        let left = self.at_most.saturating_sub(passed);
+        let (since, at_most) = (self.since.at(), self.at_most);
+        let by = Reading::now(rt);
+        let left = left_at(since, at_most, by.at());
         if left.as_nanos() > 0 {
-            return Ok(left);
+            return Ok(Rest {
+                since,
+                at_most,
+                by,
+                left,
+            });
         }
-        Err(Over {
-            at_most: self.at_most,
-            passed: Some(passed),
-        })
+        Err(Over { since, at_most, by })
     }
+}
+
+impl Rest {
+    /// How long it is.
+    pub(crate) fn left(&self) -> Duration
+        ensures { result ≡ self.now.left }
+    {
+        self.left
+    }
+}
+
+/// What is left of `at_most` since the one reading, by the other: nothing if either failed.
+#[tactic(auto, unfolding(crate::specs::Spans::nanos_left))]
+fn left_at(since: Option<Instant>, at_most: Duration, now: Option<Instant>) -> Duration
+    ensures { as_nanos result ≡ nanos_left since at_most now }
+{
+    let (Some(since), Some(now)) = (since, now) else {
+        return Duration::ZERO;
+    };
+    at_most.saturating_sub(now.duration_since(since))
 }

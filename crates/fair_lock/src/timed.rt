@@ -1,30 +1,32 @@
 //! A thread enters within a limit of time.
 ghost use Rattle.std.specs.Prelude.{◌≡◌, ◌≤◌, IfOk, IfErr, true, false};
-ghost use Rattle.lock_core.specs.Views.{view_of, InTime, InTimeFrom, LoadGrows, IsSeatOf, IsQueued, IsQueuedWithin, IsAtTurn, IsIdle, IsHeadInside, IsOvertakenInBounds, SameInside, ServedOpen, KnowsShut};
+ghost use Rattle.lock_core.specs.Views.{view_of, InTime, InTimeFrom, LoadGrows, IsSeatOf, IsQueued, IsQueuedWithin, IsAtTurn, IsIdle, IsOutside, IsHeadInside, IsOvertakenInBounds, SameInside, ServedOpen, KnowsShut};
 ghost use Rattle.fair_lock.specs.Turns.{IsGuard, IsInOrder, IsOpen};
+ghost use Rattle.fair_lock.specs.Limits.{IsOverOf};
 ghost use Rattle.fair_lock.specs.Closing.{IsToldShut, IsLateAt, IsOut, IfEnterClosed, IfEnterLate};
+ghost use Rattle.fair_lock.specs.Found.{FoundWaiting, NotedOrNotHeld};
 
 use crate::closed::{EnterError, Late};
 use crate::guard::Guard;
-use crate::head::LOOKS;
 use crate::lock::FairLock;
-use crate::queue::pause;
-use crate::span::{Over, Span};
+use crate::span::{Over, Rest, Span};
 use crate::wake::Announced;
+use crate::watch::{Next, Watch};
 use crossbeam_utils::Backoff;
 use lock_core::{
-    AskWithinResult, TakeResult, ValueSeat, ask_within, go_in, new_seat, poll, request_handoff,
-    take_outer, withdraw,
+    AskWithinResult, TakeResult, ValueSeat, ask_within, go_in, look_outer, new_seat, poll,
+    request_handoff, take_outer, withdraw,
 };
 use std::rt::Clock;
 use std::sync::{Wait, WaitMethods};
+use std::thread::yield_now;
 use std::time::Duration;
 
 /// A request can be taken back while at most this number of rounds is to be granted until its own.
 const NEAR: u64 = 15;
 
 impl<T> FairLock<T> {
-    /// Enters within `at_most`, or not at all. Blocks for no longer than about that.
+    /// Enters, or is late once `at_most` is over and its turn has not come. Blocks for no longer than about that.
     ///
     /// It draws a ticket only while its request could be taken back: with more than some 60 requests before it, it waits
     /// without a ticket, looks again now and then, and may be late. Who came later and waits without a limit is then
@@ -32,7 +34,7 @@ impl<T> FairLock<T> {
     ///
     /// # Errors
     ///
-    /// If the lock is shut, or the time was over before the turn.
+    /// If the lock is shut, or the time was over and the turn had not come.
     pub fn enter_within<R: Wait + Clock>(
         &self,
         rt: &R,
@@ -66,11 +68,21 @@ impl<T> FairLock<T> {
                 | AskWithinResult::Spent => {}
             }
             if let Err(over) = span.left(rt) {
-                return Err(EnterError::Late(Late { seat, over }));
+                return Err(self.late(seat, over));
             }
             backoff.snooze();
         }
         unreachable!()
+    }
+
+    /// The answer of a caller that has no request, once its span is over.
+    fn late(&self, seat: ValueSeat<T>, over: Over) -> EnterError<T>
+        requires seat { IsSeatOf self.now.table.shared.table_id self.now.table.shared.key seat }
+        requires outside { InTime seat IsOutside }
+        ensures closed { IfEnterClosed (IsToldShut self.now) result }
+        ensures late { IfEnterLate (IsLateAt self.now over.at_most) result }
+    {
+        EnterError::Late(Late { seat, over })
     }
 
     /// Waits until a ticket that could be taken back is at its turn, or withdraws the request once the span is over.
@@ -90,17 +102,18 @@ impl<T> FairLock<T> {
         ensures at_turn { IfOk result (λ _. InTime seat.new (IsAtTurn ticket)) }
         ensures overtaken { IfOk result (λ _. InTime seat.new IsOvertakenInBounds) }
         ensures withdrawn { IfErr result (λ _. InTime seat.new IsIdle) }
-        ensures over { IfErr result (λ over. over.at_most ≡ span.now.at_most) }
+        ensures over { IfErr result (IsOverOf span.now) }
     {
         for _ in rt.forever() {
             if self.spin(seat, ticket) {
                 return Ok(());
             }
             match span.left(rt) {
-                Ok(left) => {
-                    if self.sleep_within(rt, seat, ticket, left) {
+                Ok(rest) => {
+                    if self.sleep_within(rt, seat, ticket, &rest) {
                         return Ok(());
                     }
+                    yield_now();
                 }
                 Err(over) => {
                     let rounds = poll(&self.table.shared, seat, ticket);
@@ -119,13 +132,13 @@ impl<T> FairLock<T> {
         unreachable!()
     }
 
-    /// Sleeps until the ticket may be at its turn, for at most `at_most`. `true`: it is. Blocks.
+    /// Sleeps until the ticket may be at its turn, for no longer than is left. `true`: it is. Blocks.
     fn sleep_within<R: Wait>(
         &self,
         rt: &R,
         seat: &mut ValueSeat<T>,
         ticket: u64,
-        at_most: Duration,
+        rest: &Rest,
     ) -> bool
         requires seat { IsSeatOf self.now.table.shared.table_id self.now.table.shared.key seat.old }
         requires queued { InTime seat.old (IsQueued ticket) }
@@ -135,19 +148,20 @@ impl<T> FairLock<T> {
         ensures at_turn { result ≡ true → InTime seat.new (IsAtTurn ticket) }
         ensures overtaken { result ≡ true → InTime seat.new IsOvertakenInBounds }
         ensures queued { result ≡ false → InTime seat.new (IsQueued ticket) }
+        ensures not_yet { result ≡ false → FoundWaiting ticket seat.new }
     {
         let table = &self.table.shared;
         match self.wakes.see_cell(ticket).announce(table, seat, ticket) {
             Announced::AtTurn => true,
             Announced::Not => false,
             Announced::Counted(counted) => {
-                self.wakes.park_timeout(rt, &counted, at_most);
+                self.wakes.park_timeout(rt, &counted, rest);
                 counted.retract(table, seat, ticket) == 0
             }
         }
     }
 
-    /// At the turn of the queue: begins the turn, in a lock with bursts before the span is over.
+    /// At the turn of the queue: begins the turn. With bursts it is late if it has to wait until the span is over.
     fn begin_within<R: Wait + Clock>(
         &self,
         rt: &R,
@@ -202,36 +216,38 @@ impl<T> FairLock<T> {
         ensures shut { IfOk result (λ is_open. is_open ≡ false → InTime seat.new KnowsShut) }
         ensures at_turn { IfErr result (λ _. InTime seat.new (IsAtTurn ticket)) }
         ensures stays { IfErr result (λ _. InTimeFrom seat.old seat.new SameInside) }
-        ensures over { IfErr result (λ over. over.at_most ≡ span.now.at_most) }
+        ensures over { IfErr result (IsOverOf span.now) }
     {
-        let mut looks = 0;
+        let table = &self.table.shared;
+        let mut watch = Watch::new(self.burst);
         for _ in rt.forever() {
-            match take_outer(&self.table.shared, seat, ticket) {
-                TakeResult::Open => return Ok(true),
-                TakeResult::Shut => return Ok(false),
-                TakeResult::Changed { outer: _ } => {}
-                TakeResult::Held { outer: _ } => {
-                    if looks < LOOKS {
-                        looks += 1;
-                        pause();
-                    } else {
-                        let left = span.left(rt)?;
-                        self.sleep_as_head_within(rt, seat, ticket, left);
-                    }
+            match watch.next(look_outer(table, seat)) {
+                Next::Take => match take_outer(table, seat, ticket) {
+                    TakeResult::Open => return Ok(true),
+                    TakeResult::Shut => return Ok(false),
+                    TakeResult::Held { outer: _ } | TakeResult::Changed { outer: _ } => {}
+                },
+                Next::Look => watch.pause(),
+                Next::Request => {
+                    request_handoff(table, seat);
+                }
+                Next::Sleep => {
+                    let rest = span.left(rt)?;
+                    self.sleep_as_head_within(rt, seat, ticket, &rest);
                 }
             }
         }
         unreachable!()
     }
 
-    /// Asks for a handoff, and sleeps until the outer word may be reserved, for at most `at_most`. Blocks. It returns at
-    /// once where that word changed at that moment.
+    /// Asks for a handoff, and sleeps until the outer word may be reserved, for no longer than is left. Blocks. It
+    /// returns at once where that word changed at that moment.
     fn sleep_as_head_within<R: Wait>(
         &self,
         rt: &R,
         seat: &mut ValueSeat<T>,
         ticket: u64,
-        at_most: Duration,
+        rest: &Rest,
     )
         requires seat { IsSeatOf self.now.table.shared.table_id self.now.table.shared.key seat.old }
         requires at_turn { InTime seat.old (IsAtTurn ticket) }
@@ -239,14 +255,16 @@ impl<T> FairLock<T> {
         ensures load { LoadGrows seat.old seat.new }
         ensures stays { SameInside (view_of seat.old) (view_of seat.new) }
         ensures at_turn { InTime seat.new (IsAtTurn ticket) }
+        ensures looked { NotedOrNotHeld seat.new }
     {
         let table = &self.table.shared;
         if !request_handoff(table, seat) {
             return;
         }
-        if let Some(counted) = self.wakes.see_head().announce_head(table, seat) {
-            self.wakes.park_timeout(rt, &counted, at_most);
-            counted.woken();
-        }
+        let Some(counted) = self.wakes.see_head().announce_head(table, seat) else {
+            return;
+        };
+        self.wakes.park_timeout(rt, &counted, rest);
+        counted.woken();
     }
 }

@@ -4,12 +4,14 @@
 //! cell. So waiters sleep at words of their own, one for each cell and one for the queue head. A waiter reads that word,
 //! announces its sleep by the proved call, and sleeps while the word is what it read. Who is told of sleepers adds one to
 //! the word, and then wakes all. So between the announcement and the sleep no wake is lost.
-ghost use Rattle.std.specs.Prelude.{◌≡◌, ◌*◌, ◌<◌, ◌≤◌, ◌%◌, IfSome};
-ghost use Rattle.lock_core.specs.Layout.{HasLockWords, outer_at, handoff_of};
+ghost use Rattle.std.specs.Prelude.{◌≡◌, ◌*◌, ◌<◌, ◌≤◌, ◌%◌, IfSome, IfNone};
+ghost use Rattle.lock_core.specs.Layout.{HasLockWords, cell_at, outer_at, handoff_of, to_go};
 ghost use Rattle.lock_core.specs.Views.{view_of, InTime, InTimeFrom, LoadGrows, IsSeatOf, IsQueued, IsQueuedWithin, IsAsleep, IsAtTurn, IsOvertakenInBounds, SameInside, SleepsAtOuter, SleepsInTake, Kept};
-ghost use Rattle.lock_core.specs.Looks.{StepsLater, Leaves, Changes, IsNotedAsleep};
+ghost use Rattle.lock_core.specs.Looks.{StepsLater, Found, Leaves, Changes, IsNotedAsleep};
+ghost use Rattle.fair_lock.specs.Found.{FoundWaiting, FoundNoPlace, FoundNotHeld};
 ghost use Rattle.fair_lock.specs.WakeSteps as steps;
 
+use crate::span::Rest;
 use atomic_table::{Play, Seat, Table, TableRule};
 use lock_core::{
     HeadSleepResult, SharedValue, SleepResult, ValueSeat, announce_head_sleep, announce_sleep,
@@ -79,7 +81,7 @@ pub(crate) struct Seen {
 
 /// A waiter that has announced its sleep after it read its wake word, and is counted where a release finds it.
 ///
-/// A linear token, which only an announcement makes. A thread sleeps by it, and has to retract.
+/// A linear token, which only an announcement makes. A thread sleeps by it, and then has to look again.
 pub(crate) struct Counted {
     place: usize,
     low: u32,
@@ -136,16 +138,42 @@ impl WakeWords {
 
     /// Sleeps while the wake word is what the waiter read before it announced its sleep; may return early. Blocks.
     pub(crate) fn park<R: Wait>(&self, rt: &R, counted: &Counted) {
-        self.table
-            .shared
-            .park(rt, counted.place * STRIDE, counted.low);
+        self.sleep_at(rt, counted.place, counted.low, counted);
+    }
+
+    /// The same, for no longer than is left.
+    pub(crate) fn park_timeout<R: Wait>(&self, rt: &R, counted: &Counted, rest: &Rest) {
+        self.sleep_at_within(rt, counted.place, counted.low, counted, rest.left(), rest);
+    }
+
+    /// Has the kernel put the thread to sleep at the place, while the low half of the word there is `low`.
+    fn sleep_at<R: Wait>(&self, rt: &R, place: usize, low: u32, counted: &Counted)
+        requires place { place ≡ counted.now.place }
+        requires low { low ≡ counted.now.low }
+    {
+        let _ = counted;
+        self.table.shared.park(rt, place * STRIDE, low);
     }
 
     /// The same, for at most `at_most`.
-    pub(crate) fn park_timeout<R: Wait>(&self, rt: &R, counted: &Counted, at_most: Duration) {
+    fn sleep_at_within<R: Wait>(
+        &self,
+        rt: &R,
+        place: usize,
+        low: u32,
+        counted: &Counted,
+        at_most: Duration,
+        rest: &Rest,
+    )
+        requires place { place ≡ counted.now.place }
+        requires low { low ≡ counted.now.low }
+        requires limit { at_most ≡ rest.now.left }
+    {
+        let _ = counted;
+        let _ = rest;
         self.table
             .shared
-            .park_timeout(rt, counted.place * STRIDE, counted.low, at_most);
+            .park_timeout(rt, place * STRIDE, low, at_most);
     }
 
     /// Wakes all that sleep at the place: first its word changes, so that nobody goes to sleep there any more.
@@ -204,6 +232,8 @@ impl Seen {
         ensures word { IfCounted result (IsAtWordOf self) }
         ensures place { IfCounted result (λ counted. counted.place ≡ ticket % 4) }
         ensures queued { IfNotAnnounced result (InTime seat.new (IsQueued ticket)) }
+        ensures not_yet { IfNotAnnounced result (FoundWaiting ticket seat.new) }
+        ensures no_place { IfNotAnnounced result (FoundNoPlace ticket seat.new) }
     {
         let Seen {
             place,
@@ -239,6 +269,7 @@ impl Seen {
         ensures noted { IfSome result (λ _. Changes outer_at IsNotedAsleep seat.new) }
         ensures word { IfSome result (IsAtWordOf self) }
         ensures place { IfSome result (λ counted. counted.place ≡ 4) }
+        ensures not_held { IfNone result (FoundNotHeld seat.new) }
     {
         let Seen {
             place,
@@ -269,6 +300,7 @@ impl Counted {
         ensures at_turn { result ≡ 0 → InTime seat.new (IsAtTurn ticket) }
         ensures overtaken { result ≡ 0 → InTime seat.new IsOvertakenInBounds }
         ensures queued { 0 < result → InTime seat.new (IsQueuedWithin result ticket) }
+        ensures found { Found (cell_at ticket) (λ n. to_go n ticket ≡ result) seat.new }
     {
         let Counted { place: _, low: _ } = self;
         retract_sleep(table, seat, ticket)

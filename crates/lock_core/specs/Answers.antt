@@ -14,6 +14,8 @@ use Rattle.lock_core.specs.declared.handoff.ReleaseResult.{ReleaseResult}
 use Rattle.lock_core.specs.declared.handoff.ReleaseResult.TheVariants as release
 use Rattle.lock_core.specs.declared.outer.GoInResult.{GoInResult}
 use Rattle.lock_core.specs.declared.outer.GoInResult.TheVariants as went
+use Rattle.lock_core.specs.declared.outer.OuterState.{OuterState}
+use Rattle.lock_core.specs.declared.outer.OuterState.TheVariants as seen
 use Rattle.lock_core.specs.declared.outer.TakeResult.{TakeResult}
 use Rattle.lock_core.specs.declared.outer.TakeResult.TheVariants as taken
 use Rattle.lock_core.specs.declared.outer.LeaveResult.{LeaveResult}
@@ -171,6 +173,22 @@ IfIn (went.Outside outer) P = Unit {0}
 abbrev pub IfNotIn : GoInResult → (ℕ → Type 0) → Type 0
 IfNotIn went.Inside P = Unit {0}
 IfNotIn (went.Outside outer) P = P outer
+
+-- a look found the outer word held, free for newcomers, or for the queue head alone
+abbrev pub IfSeenHeld : OuterState → (ℕ → Bool → Type 0) → Type 0
+IfSeenHeld (seen.Held newcomers requested) P = P newcomers requested
+IfSeenHeld (seen.Free newcomers) P = Unit {0}
+IfSeenHeld seen.ForHead P = Unit {0}
+
+abbrev pub IfSeenFree : OuterState → (ℕ → Type 0) → Type 0
+IfSeenFree (seen.Held newcomers requested) P = Unit {0}
+IfSeenFree (seen.Free newcomers) P = P newcomers
+IfSeenFree seen.ForHead P = Unit {0}
+
+abbrev pub IfSeenForHead : OuterState → Type 0 → Type 0
+IfSeenForHead (seen.Held newcomers requested) P = Unit {0}
+IfSeenForHead (seen.Free newcomers) P = Unit {0}
+IfSeenForHead seen.ForHead P = P
 
 -- `take_outer` took the outer word, of an open lock or of a shut one, or not
 abbrev pub IfTaken : TakeResult → Type 0 → Type 0

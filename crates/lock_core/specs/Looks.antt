@@ -1,5 +1,5 @@
 -- What a caller's last word steps found: so an answer that gives up says what the word showed.
-use Rattle.std.specs.Prelude.{◌≡◌, ◌≢◌, ℕ, ◌+◌, ◌*◌, ◌/◌, ◌%◌, ◌<◌, ◌≤◌, ◌⊎◌}
+use Rattle.std.specs.Prelude.{◌≡◌, ◌≢◌, ℕ, Bool, true, false, ◌+◌, ◌*◌, ◌/◌, ◌%◌, ◌<◌, ◌≤◌, ◌⊎◌}
 use Rattle.atomic_table.specs.Table.{Step}
 use Rattle.atomic_table.specs.declared.shared.Seat.{Seat}
 use Rattle.lock_core.specs.declared.view.View.{View}
@@ -58,6 +58,18 @@ FoundBusy old new = (StepsLater 2 old new × FoundNext (λ rounds. 0 < rounds) n
 -- the outer word is not free for a newcomer: held, reserved, or shut
 abbrev pub IsNoEntry : ℕ → Type 0
 IsNoEntry outer = 0 < state_of outer + shut_of outer
+
+-- the outer word is held, after this number of newcomers, and with a handoff requested or not
+abbrev pub IsSeenHeld : ℕ → Bool → ℕ → Type 0
+IsSeenHeld newcomers requested outer = (state_of outer ≡ 1) × (came_of outer ≡ newcomers) × (requested ≡ true → handoff_of outer ≡ 1) × (requested ≡ false → handoff_of outer ≡ 0)
+
+-- the outer word is free for a newcomer, after this number
+abbrev pub IsSeenFree : ℕ → ℕ → Type 0
+IsSeenFree newcomers outer = (state_of outer ≡ 0) × (shut_of outer ≡ 0) × (came_of outer ≡ newcomers)
+
+-- nobody is inside, and the outer word is no entry for a newcomer
+abbrev pub IsForHead : ℕ → Type 0
+IsForHead outer = (state_of outer ≢ 1) × IsNoEntry outer
 
 -- the outer word is no entry, or has changed
 abbrev pub FoundNotFree : {T : Type 0} → Seat T View → Seat T View → Type 0

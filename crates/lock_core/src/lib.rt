@@ -24,8 +24,8 @@ pub use meets::{
 };
 pub use opening::{LockKind, OpenError, OpenValueError, check_kind, new_seat, open, open_value};
 pub use outer::{
-    GoInResult, HeadSleepResult, LeaveResult, TakeResult, announce_head_sleep, go_in, go_in_if,
-    leave, leave_if, request_handoff, take_outer,
+    GoInResult, HeadSleepResult, LeaveResult, OuterState, TakeResult, announce_head_sleep, go_in,
+    go_in_if, leave, leave_if, look_outer, request_handoff, take_outer,
 };
 pub use rule::{
     LockRule, SharedTable, SharedValue, TicketSeat, TicketTable, ValueSeat, ValueTable,

@@ -2,8 +2,8 @@
 ghost use Rattle.std.specs.Prelude.{◌≡◌, ◌≢◌, ◌+◌, ◌/◌, ◌%◌, ◌<◌, ◌≤◌, ◌⊎◌, true, false};
 ghost use Rattle.lock_core.specs.Layout.{HasLockWords, outer_at, state_of, handoff_of, asleep_of};
 ghost use Rattle.lock_core.specs.Views.{view_of, InTime, InTimeFrom, LoadGrows, IsSeatOf, IsIdle, IsAtTurn, IsOvertakenInBounds, IsInside, IsOutside, IsHeadInside, IsNewcomersTurn, IsNotServed, GoesInAfter, TakesOuter, LeftQuietly, SleepsAtOuter, ServedOpen, ServedShut, KnowsShut, Kept, SameRequest, SameNewcomerTurn, SameKnown, SameSleepAtOuter, IsLaterEpoch, LeavesSameTake, SleepsInTake, SameDoor, SameInside, OnlyLooks};
-ghost use Rattle.lock_core.specs.Looks.{StepsLater, LooksOnce, Found, Changes, IsHeldByNewcomer, IsLeftClean, IsNoEntry, IsRequested, IsNotedAsleep, FoundChanged, FoundNotFree, Leaves, LeavesAsFound, IsHeldAnew, IsLeftAs};
-ghost use Rattle.lock_core.specs.Answers.{IfIn, IfNotIn, IfTakenOpen, IfTakenShut, IfTaken, IfNotTaken, IfHeld, IfTakeChanged, IfLeft, IfNotLeft, IfHeadAsleep, IfNotHeld, IfHeadChanged};
+ghost use Rattle.lock_core.specs.Looks.{StepsLater, LooksOnce, Found, Changes, IsHeldByNewcomer, IsLeftClean, IsNoEntry, IsSeenHeld, IsSeenFree, IsForHead, IsRequested, IsNotedAsleep, FoundChanged, FoundNotFree, Leaves, LeavesAsFound, IsHeldAnew, IsLeftAs};
+ghost use Rattle.lock_core.specs.Answers.{IfIn, IfNotIn, IfSeenHeld, IfSeenFree, IfSeenForHead, IfTakenOpen, IfTakenShut, IfTaken, IfNotTaken, IfHeld, IfTakeChanged, IfLeft, IfNotLeft, IfHeadAsleep, IfNotHeld, IfHeadChanged};
 
 use crate::layout::{HANDOFF, HEAD_ASLEEP, HELD, NEWCOMER, OUTER, RESERVED, SHUT, is_shut, state};
 use crate::plays::{AnnounceHeadSleep, GoIn, Leave, ReadOuter, RequestHandoff, TakeOuter};
@@ -16,6 +16,17 @@ pub enum GoInResult {
     Inside,
     /// It is not. Its step found this outer word.
     Outside { outer: u64 },
+}
+
+/// What a look at the outer word found.
+#[derive(Clone, Copy, Debug, PartialEq, Eq)]
+pub enum OuterState {
+    /// A caller is inside, with this number of newcomers since the last queue head, and a handoff requested or not.
+    Held { newcomers: u64, requested: bool },
+    /// Nobody is inside, and newcomers may go in: this number did since the last queue head.
+    Free { newcomers: u64 },
+    /// Nobody is inside, and none but the queue head may go in: the word is reserved, or the lock shut.
+    ForHead,
 }
 
 /// What `take_outer` did.
@@ -141,6 +152,34 @@ pub fn go_in<T>(table: &SharedValue<T>, seat: &mut ValueSeat<T>) -> bool
         return false;
     }
     go_in_from(table, seat, outer) == outer
+}
+
+/// Looks at the outer word: one word step, which changes nothing.
+#[inline(always)]
+pub fn look_outer<T>(table: &SharedValue<T>, seat: &mut ValueSeat<T>) -> OuterState
+    requires table { HasLockWords table.now.table_id }
+    requires seat { IsSeatOf table.now.table_id table.now.key seat.old }
+    ensures seat { IsSeatOf table.now.table_id table.now.key seat.new }
+    ensures same { OnlyLooks (view_of seat.old) (view_of seat.new) }
+    ensures steps { StepsLater 1 seat.old seat.new }
+    ensures held { IfSeenHeld result (λ newcomers requested.
+        Found outer_at (IsSeenHeld newcomers requested) seat.new) }
+    ensures free { IfSeenFree result (λ newcomers. Found outer_at (IsSeenFree newcomers) seat.new) }
+    ensures for_head { IfSeenForHead result (Found outer_at IsForHead seat.new) }
+{
+    let outer = table.load::<ReadOuter>(seat, OUTER);
+    let newcomers = outer / NEWCOMER;
+    let is_held = state(outer) == 1;
+    if is_held {
+        OuterState::Held {
+            newcomers,
+            requested: outer % 2 == 1,
+        }
+    } else if is_no_entry(outer) {
+        OuterState::ForHead
+    } else {
+        OuterState::Free { newcomers }
+    }
 }
 
 /// The queue head takes the outer word, free or reserved, and the count of newcomers starts anew: at most two word

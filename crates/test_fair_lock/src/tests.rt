@@ -1,5 +1,7 @@
 //! The tests, and the threads that they run.
 mod answers;
+mod limits;
+mod order;
 mod threads;
 
 use fair_lock::FairLock;

@@ -9,7 +9,7 @@ use std::thread;
 use std::time::Duration;
 
 /// The sum of what the threads had.
-fn sum(had: &Vec<u64>) -> u64 {
+pub(super) fn sum(had: &Vec<u64>) -> u64 {
     let mut all = 0u64;
     for n in had.iter() {
         all = all.wrapping_add(*n);
@@ -87,26 +87,54 @@ fn a_try_that_fails_leaves_nothing(rt: HostRuntime) {
     }
 }
 
+/// Waits until the stage is reached.
+pub(super) fn wait_for<R: Wait + Clock>(rt: &R, stage: &AtomicU64, wanted: u64) {
+    for _ in rt.forever() {
+        if stage.load(SeqCst) >= wanted {
+            return;
+        }
+        thread::sleep(rt, Duration::from_micros(20));
+    }
+    unreachable!()
+}
+
+/// Holds the lock, so often: until that number of threads has come, and then long enough for the others to fall asleep.
+/// Returns how many turns there were.
+fn hold_while_others_sleep<R: Wait + Clock>(
+    rt: &R,
+    lock: &FairLock<u64>,
+    stage: &AtomicU64,
+    threads: u64,
+    times: u64,
+) -> u64 {
+    let mut turns = 0u64;
+    for _ in 0..times {
+        if let Ok(guard) = lock.enter(rt) {
+            stage.fetch_add(1, SeqCst);
+            wait_for(rt, stage, threads);
+            thread::sleep(rt, Duration::from_millis(5));
+            guard.leave(rt);
+            turns = turns.wrapping_add(1);
+        }
+    }
+    turns
+}
+
 #[test]
 fn those_that_sleep_are_woken(rt: HostRuntime) {
     for burst in [1, 2] {
         let lock = lock_of(rt.alloc(), burst, 0).expect(&rt, "memory");
+        let stage = AtomicU64::new(0);
         let had = thread::map_indices(
             &rt,
             rt.alloc(),
             9,
             &|i| {
                 if i == 0 {
-                    let mut turns = 0u64;
-                    for _ in 0..4 {
-                        if let Ok(guard) = lock.enter(&rt) {
-                            thread::sleep(&rt, Duration::from_millis(5));
-                            guard.leave(&rt);
-                            turns = turns.wrapping_add(1);
-                        }
-                    }
-                    turns
+                    hold_while_others_sleep(&rt, &lock, &stage, 9, 4)
                 } else {
+                    wait_for(&rt, &stage, 1);
+                    stage.fetch_add(1, SeqCst);
                     add(&rt, &lock, 20)
                 }
             },
@@ -118,19 +146,8 @@ fn those_that_sleep_are_woken(rt: HostRuntime) {
     }
 }
 
-/// Waits until the stage is reached.
-fn wait_for<R: Wait + Clock>(rt: &R, stage: &AtomicU64, wanted: u64) {
-    for _ in rt.forever() {
-        if stage.load(SeqCst) >= wanted {
-            return;
-        }
-        thread::sleep(rt, Duration::from_micros(20));
-    }
-    unreachable!()
-}
-
-/// Has a turn, with a limit or without: the value becomes ten times itself and `digit`.
-fn append<R: Wait + Clock>(rt: &R, lock: &FairLock<u64>, digit: u64, has_limit: bool) {
+/// Has a turn, with a limit or without: the value becomes sixteen times itself and `digit`.
+pub(super) fn append<R: Wait + Clock>(rt: &R, lock: &FairLock<u64>, digit: u64, has_limit: bool) {
     let entered = if has_limit {
         lock.enter_within(rt, Duration::from_secs(50)).ok()
     } else {
@@ -138,7 +155,7 @@ fn append<R: Wait + Clock>(rt: &R, lock: &FairLock<u64>, digit: u64, has_limit: 
     };
     if let Some(mut guard) = entered {
         let value = guard.value_mut();
-        *value = value.wrapping_mul(10).wrapping_add(digit);
+        *value = value.wrapping_mul(16).wrapping_add(digit);
         guard.leave(rt);
     }
 }
@@ -153,7 +170,7 @@ fn hold_and_ask_again<R: Wait + Clock>(
     if let Ok(guard) = lock.enter(rt) {
         stage.store(1, SeqCst);
         wait_for(rt, stage, 2);
-        thread::sleep(rt, Duration::from_millis(2));
+        thread::sleep(rt, Duration::from_millis(20));
         guard.leave(rt);
     }
     append(rt, lock, 2, has_limit);
@@ -183,7 +200,7 @@ fn who_waits_is_served_before_who_asks_later(rt: HostRuntime) {
             )
             .ok()
             .expect(&rt, "memory");
-            if lock.into_inner() == 12 {
+            if lock.into_inner() == 0x12 {
                 in_order = in_order.wrapping_add(1);
             }
         }

@@ -1,0 +1,261 @@
+//! Who is served when: in the order of requests, also of those that slept.
+use super::lock_of;
+use super::threads::{append, sum, wait_for};
+use fair_lock::{FairLock, TryEnterError};
+use std::rt::Clock;
+use std::sync::Wait;
+use std::sync::atomic::AtomicU64;
+use std::sync::atomic::Ordering::SeqCst;
+use std::time::{Duration, Instant};
+use std::{io, thread};
+
+/// Holds the lock while these waiters come: each once the one before it has called, and some time later.
+fn hold_for<R: Wait + Clock>(rt: &R, lock: &FairLock<u64>, stage: &AtomicU64, waiters: u64) {
+    if let Ok(guard) = lock.enter(rt) {
+        for waiter in 1..=waiters {
+            stage.fetch_add(1, SeqCst);
+            wait_for(rt, stage, waiter.wrapping_mul(2));
+            thread::sleep(rt, Duration::from_millis(3));
+        }
+        guard.leave(rt);
+    }
+}
+
+/// Waits as the waiter of this number behind `hold_for`, and has a turn.
+fn come_as<R: Wait + Clock>(
+    rt: &R,
+    lock: &FairLock<u64>,
+    stage: &AtomicU64,
+    waiter: u64,
+    has_limit: bool,
+) {
+    wait_for(rt, stage, waiter.wrapping_mul(2).wrapping_sub(1));
+    stage.fetch_add(1, SeqCst);
+    append(rt, lock, waiter, has_limit);
+}
+
+/// None of the waiters has a limit, each has one, or each other one. A thread may be stopped between its last step before the call and its
+/// request, so not each round has to show the order: three of at most fifty.
+#[test]
+fn thirteen_waiters_are_served_as_they_came(rt: HostRuntime) {
+    for (burst, limits) in [(1, 0), (1, 1), (1, 2), (2, 0), (8, 2)] {
+        let mut in_order = 0u64;
+        for _ in 0..50 {
+            let lock = lock_of(rt.alloc(), burst, 0).expect(&rt, "memory");
+            let stage = AtomicU64::new(0);
+            thread::map_indices(
+                &rt,
+                rt.alloc(),
+                14,
+                &|i| {
+                    if i == 0 {
+                        hold_for(&rt, &lock, &stage, 13);
+                    } else {
+                        let has_limit = limits == 1 || limits == 2 && i % 2 == 0;
+                        come_as(&rt, &lock, &stage, i as u64, has_limit);
+                    }
+                },
+            )
+            .ok()
+            .expect(&rt, "memory");
+            if lock.into_inner() == 0x123456789abcd {
+                in_order = in_order.wrapping_add(1);
+                if in_order == 3 {
+                    break;
+                }
+            }
+        }
+        assert!(&rt;
+            in_order == 3,
+            "at {burst}, {limits}: in order {in_order} times of 50"
+        );
+    }
+}
+
+/// Holds the lock until another waits, and tries to enter it once more. Returns 1 if that was busy.
+fn try_while_another_waits<R: Wait + Clock>(
+    rt: &R,
+    lock: &FairLock<u64>,
+    stage: &AtomicU64,
+) -> u64 {
+    let Ok(guard) = lock.enter(rt) else { return 0 };
+    stage.store(1, SeqCst);
+    wait_for(rt, stage, 2);
+    thread::sleep(rt, Duration::from_millis(5));
+    let is_busy = match lock.try_enter(rt) {
+        Ok(second) => {
+            second.leave(rt);
+            false
+        }
+        Err(error) => match error {
+            TryEnterError::Busy(_busy) => true,
+            TryEnterError::Closed(_closed) => false,
+        },
+    };
+    guard.leave(rt);
+    u64::from(is_busy)
+}
+
+#[test]
+fn who_tries_does_not_wait_behind_a_waiter(rt: HostRuntime) {
+    for burst in [1, 2, 8] {
+        let lock = lock_of(rt.alloc(), burst, 0).expect(&rt, "memory");
+        let stage = AtomicU64::new(0);
+        let busy = thread::map_indices(
+            &rt,
+            rt.alloc(),
+            2,
+            &|i| {
+                if i == 0 {
+                    return try_while_another_waits(&rt, &lock, &stage);
+                }
+                come_as(&rt, &lock, &stage, 1, false);
+                0
+            },
+        )
+        .ok()
+        .expect(&rt, "memory");
+        assert_eq!(&rt; sum(&busy), 1, "at {burst}");
+        assert_eq!(&rt; lock.into_inner(), 1, "at {burst}");
+    }
+}
+
+/// A clock whose second reading waits until the gate is open.
+#[derive(Drop)]
+struct Gated<'r, R> {
+    /// Allows the clock's reader to wait.
+    _rt: &'r R,
+    readings: &'r AtomicU64,
+    gate: &'r AtomicU64,
+}
+
+impl<R: Wait> Wait for Gated<'_, R> {}
+
+impl<R> Clock for Gated<'_, R> {
+    fn monotonic(&self) -> io::Result<Duration> {
+        let reading = self.readings.fetch_add(1, SeqCst);
+        if reading == 1 {
+            for _ in 0..u64::MAX {
+                if self.gate.load(SeqCst) > 0 {
+                    break;
+                }
+                thread::yield_now();
+            }
+        }
+        Ok(Duration::from_nanos(reading))
+    }
+
+    fn since_1970(&self) -> io::Result<Duration> {
+        self.monotonic()
+    }
+}
+
+/// Holds the lock until the first waiter has its ticket and reads its clock, four more have theirs, and the first sleeps behind them.
+fn hold_past_the_gate<R: Wait + Clock>(
+    rt: &R,
+    lock: &FairLock<u64>,
+    stage: &AtomicU64,
+    readings: &AtomicU64,
+    gate: &AtomicU64,
+) {
+    if let Ok(guard) = lock.enter(rt) {
+        stage.fetch_add(1, SeqCst);
+        wait_for(rt, readings, 2);
+        stage.fetch_add(1, SeqCst);
+        for waiter in 2..=5u64 {
+            stage.fetch_add(1, SeqCst);
+            wait_for(rt, stage, waiter.wrapping_mul(2));
+            thread::sleep(rt, Duration::from_millis(3));
+        }
+        gate.store(1, SeqCst);
+        thread::sleep(rt, Duration::from_millis(5));
+        guard.leave(rt);
+    }
+}
+
+/// The first and the fifth waiter have one wake word, and the fifth slept first.
+#[test]
+fn both_that_sleep_at_one_word_are_woken(rt: HostRuntime) {
+    let lock = lock_of(rt.alloc(), 1, 0).expect(&rt, "memory");
+    let (stage, readings, gate) = (AtomicU64::new(0), AtomicU64::new(0), AtomicU64::new(0));
+    let begun = Instant::now(&rt).ok().expect(&rt, "clock");
+    thread::map_indices(
+        &rt,
+        rt.alloc(),
+        6,
+        &|i| {
+            if i == 0 {
+                hold_past_the_gate(&rt, &lock, &stage, &readings, &gate);
+            } else if i == 1 {
+                let clock = Gated {
+                    _rt: &rt,
+                    readings: &readings,
+                    gate: &gate,
+                };
+                wait_for(&rt, &stage, 1);
+                append(&clock, &lock, 1, true);
+            } else {
+                come_as(&rt, &lock, &stage, i as u64, false);
+            }
+        },
+    )
+    .ok()
+    .expect(&rt, "memory");
+    let took = begun.elapsed(&rt).ok().expect(&rt, "clock");
+    assert!(&rt; took < Duration::from_secs(25), "woken by no one");
+    assert_eq!(&rt; lock.into_inner() / 0x10000, 1);
+}
+
+/// Has a turn, and once another waits one more after another, until that has had its own. Returns how many more.
+fn take_again<R: Wait + Clock>(rt: &R, lock: &FairLock<u64>, stage: &AtomicU64) -> u64 {
+    let Ok(guard) = lock.enter(rt) else { return 0 };
+    stage.store(1, SeqCst);
+    wait_for(rt, stage, 2);
+    thread::sleep(rt, Duration::from_millis(20));
+    guard.leave(rt);
+    for more in 0..1_000_000u64 {
+        let Ok(mut guard) = lock.enter(rt) else {
+            return 0
+        };
+        let is_over = *guard.value_mut() != 0;
+        guard.leave(rt);
+        if is_over {
+            return more;
+        }
+    }
+    1_000_000
+}
+
+/// The queue head sleeps while a newcomer is inside that then takes the lock again and again: at most once less often than a burst has turns.
+#[test]
+fn a_queue_head_that_sleeps_has_its_turn_behind_a_burst(rt: HostRuntime) {
+    for (burst, has_limit) in [(2, false), (8, false), (8, true), (64, false), (64, true)] {
+        let mut within = 0u64;
+        for _ in 0..10 {
+            let lock = lock_of(rt.alloc(), burst, 0).expect(&rt, "memory");
+            let stage = AtomicU64::new(0);
+            let more = thread::map_indices(
+                &rt,
+                rt.alloc(),
+                2,
+                &|i| {
+                    if i == 0 {
+                        return take_again(&rt, &lock, &stage);
+                    }
+                    come_as(&rt, &lock, &stage, 1, has_limit);
+                    0
+                },
+            )
+            .ok()
+            .expect(&rt, "memory");
+            assert_eq!(&rt; lock.into_inner(), 1, "at {burst}");
+            if sum(&more) < u64::from(burst) {
+                within = within.wrapping_add(1);
+            }
+        }
+        assert!(&rt;
+            within >= 8,
+            "at {burst}: within the bound {within} times of 10"
+        );
+    }
+}
