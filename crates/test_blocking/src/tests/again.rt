@@ -29,7 +29,7 @@ enum Again {
 const AWAKE: u64 = 64;
 
 /// How many more tries of node 2 are busy, at least, before node 1 releases.
-const NAPS: u64 = 20;
+const NAPS: u64 = 200;
 
 /// Less than a brief sleep, in nanoseconds.
 const HASTE: u64 = 100_000;

@@ -51,13 +51,14 @@ pub(super) fn sleep_for<R: Wait + Clock, L: ParkingLine<Free>>(
     begin.elapsed(rt).ok()
 }
 
-/// Node 1 holds, nodes 2 and 3 queue. Node 2 sleeps `times` times with the limit `at_most`; then node 1 releases, and node 2 sleeps once
-/// more with a limit 1,000 times as long.
+/// Node 1 holds, nodes 2 and 3 queue. Node 2 sleeps with the limit `at_most` until it has slept so long, and once less than `less`; at most
+/// `times` times. Then node 1 releases, and node 2 sleeps once more with a limit 1,000 times as long.
 fn sleep_behind_another<R: Wait + Clock, L: SleepLine>(
     rt: &R,
     alloc: Global,
     times: u32,
     at_most: Duration,
+    less: Duration,
 ) -> Option<Took>
 where
     L::Port: Drop,
@@ -79,6 +80,9 @@ where
         let took = sleep_for(rt, &line, &two, at_most)?;
         shortest = shortest.min(took);
         longest = longest.max(took);
+        if longest >= at_most && shortest < less {
+            break;
+        }
     }
     line.deqolb(&mut one);
     let after = sleep_for(rt, &line, &two, at_most.saturating_mul(1_000))?;
@@ -89,13 +93,13 @@ where
     })
 }
 
-/// How often node 2 sleeps, its limit in microseconds, and a bound in microseconds that the shortest of these sleeps is under. The system
-/// ends a very short sleep some 60 microseconds late.
+/// How often node 2 sleeps at most, its limit in microseconds, and a bound in microseconds that the shortest of these sleeps is under. The
+/// system ends a very short sleep some 60 microseconds late, and where many threads want a processor a whole millisecond, mostly.
 static SLEEPS: [(u32, u64, u64); 4] = [
-    (10, 200, 1_000),
-    (10, 4_000, 8_000),
-    (10, 20_000, 40_000),
-    (1, 1_100_000, 2_200_000),
+    (5_000, 200, 1_000),
+    (1_000, 4_000, 8_000),
+    (200, 20_000, 40_000),
+    (5, 1_100_000, 2_200_000),
 ];
 
 /// The longest sleep takes at least its limit, and the shortest hardly longer. At its turn a node does not sleep.
@@ -108,10 +112,11 @@ where
 {
     for (times, micros, less) in &SLEEPS {
         let at_most = Duration::from_micros(*micros);
-        let took = sleep_behind_another::<R, L>(rt, alloc, *times, at_most);
+        let less = Duration::from_micros(*less);
+        let took = sleep_behind_another::<R, L>(rt, alloc, *times, at_most, less);
         let held = took.is_some_and(|took| {
             took.longest >= at_most
-                && took.shortest < Duration::from_micros(*less)
+                && took.shortest < less
                 && took.after < at_most.saturating_mul(500)
         });
         assert!(rt; held, "{times} times {micros} us: {took:?}");
