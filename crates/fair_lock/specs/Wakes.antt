@@ -1,5 +1,5 @@
 -- What an announcement of a sleep, a release and a wake say.
-use Rattle.std.specs.Prelude.{◌≡◌, ℕ, ◌+◌, ◌*◌, ◌%◌, ◌<◌, true, false}
+use Rattle.std.specs.Prelude.{◌≡◌, ℕ, ◌+◌, ◌%◌, ◌<◌, true, false}
 use Rattle.atomic_table.specs.declared.shared.Seat.{Seat}
 use Rattle.lock_core.specs.declared.view.View.{View}
 use Rattle.lock_core.specs.Layout.{count_of, asleep_of}
@@ -39,16 +39,16 @@ IsAtWordOf seen counted = (counted.place ≡ seen.place) × (counted.low ≡ see
 -- Who granted a ticket is to wake the sleepers at that ticket's wake word: where it is to wake any, its step found some counted there. Where it is to wake
 -- nobody, nobody slept for the ticket.
 abbrev pub IsToldOf : ToWake → View → Type 0
-IsToldOf told v = (told.place ≡ v.granted % 4) × (told.asleep ≡ true → 0 < count_of v.looks.found) × (told.asleep ≡ false → GrantedToNobodyAsleep v)
+IsToldOf told v = (told.place ≡ v.granted % 32) × (told.asleep ≡ true → 0 < count_of v.looks.found) × (told.asleep ≡ false → GrantedToNobodyAsleep v)
 
 -- Who left the outer word is to wake the queue head at its wake word, where its step found that asleep. Where it is to wake nobody, no queue head slept there.
 abbrev pub IsToldOfHead : ToWake → View → Type 0
-IsToldOfHead told v = (told.place ≡ 4) × (told.asleep ≡ true → asleep_of v.looks.found ≡ 1) × (told.asleep ≡ false → LeftQuietly v)
+IsToldOfHead told v = (told.place ≡ 32) × (told.asleep ≡ true → asleep_of v.looks.found ≡ 1) × (told.asleep ≡ false → LeftQuietly v)
 
 -- the last step found this in the wake word of this place
 abbrev pub Finds : ℕ → ℕ → Seat ℕ Look → Type 0
-Finds place n step = (step.me.0.word ≡ place * 8) × (step.me.0.found ≡ n)
+Finds place n step = (step.me.0.word ≡ place) × (step.me.0.found ≡ n)
 
 -- the last step added one to the wake word of this place
 abbrev pub AddsOne : ℕ → Seat ℕ Look → Type 0
-AddsOne place step = (step.me.0.word ≡ place * 8) × (step.me.0.left ≡ (step.me.0.found + 1) % 18446744073709551616)
+AddsOne place step = (step.me.0.word ≡ place) × (step.me.0.left ≡ (step.me.0.found + 1) % 18446744073709551616)

@@ -4,7 +4,8 @@ ghost use Rattle.lock_core.specs.Views.{view_of, InTime, InTimeFrom, LoadGrows, 
 ghost use Rattle.lock_core.specs.Looks.{LeavesAsFound};
 
 use crate::lock::FairLock;
-use crate::wake::{HEAD, WakeWords, WordSeat};
+use crate::queue::Turn;
+use crate::wake::{HEAD, TICKETS, WakeWords, WordSeat};
 use lock_core::{LeaveResult, ReleaseResult, ValueSeat, leave, release};
 use std::sync::{Wait, WaitMethods};
 
@@ -14,7 +15,9 @@ use std::sync::{Wait, WaitMethods};
 pub(crate) struct ToWake {
     place: usize,
     asleep: bool,
-    ghost within: { place < 5 },
+    /// The next one is to be woken ahead, too, if it sleeps.
+    ahead: bool,
+    ghost within: { place < 33 },
 }
 
 impl WakeWords {
@@ -26,22 +29,31 @@ impl WakeWords {
         ensures woken { IfSome result (AddsOne told.place) }
         ensures nobody { IfNone result (told.asleep ≡ false) }
     {
-        let ToWake { place, asleep } = told;
-        if asleep {
-            return Some(self.wake_all(place));
+        let ToWake {
+            place,
+            asleep,
+            ahead,
+        } = told;
+        let woken = if asleep {
+            Some(self.wake_all(place))
+        } else {
+            None
+        };
+        if ahead {
+            self.wake_all((place + 1) % TICKETS);
         }
-        None
+        woken
     }
 }
 
 impl<T> FairLock<T> {
     ghost use Rattle.fair_lock.specs.Wakes.{IsToldOf, IsToldOfHead};
 
-    /// Ends the turn of `ticket`: passes withdrawn requests, and grants the first one that is not withdrawn. A queue head
+    /// Ends the turn: passes withdrawn requests, and grants the first one that is not withdrawn. A queue head
     /// that is inside stays inside.
-    pub(crate) fn pass_on<R: Wait>(&self, rt: &R, seat: &mut ValueSeat<T>, ticket: u64) -> ToWake
+    pub(crate) fn pass_on<R: Wait>(&self, rt: &R, seat: &mut ValueSeat<T>, turn: Turn) -> ToWake
         requires seat { IsSeatOf self.now.table.shared.table_id self.now.table.shared.key seat.old }
-        requires has { InTime seat.old (HasTurnOf ticket) }
+        requires has { InTime seat.old (HasTurnOf turn.ticket) }
         ensures seat { IsSeatOf self.now.table.shared.table_id self.now.table.shared.key seat.new }
         ensures load { LoadGrows seat.old seat.new }
         ensures turn { SameTurn (view_of seat.old) (view_of seat.new) }
@@ -52,17 +64,18 @@ impl<T> FairLock<T> {
         ensures strict { self.now.burst ≤ 1 → InTime seat.new IsNotServed }
         ensures told { InTime seat.new (IsToldOf result) }
     {
-        let mut last = ticket;
+        let mut last = turn.ticket;
         for _ in rt.forever() {
             if let ReleaseResult::Granted { sleepers } = release(
                 &self.table.shared,
                 seat,
                 &mut last,
             ) {
-                let place = (last.wrapping_add(1) % 4) as usize;
+                let place = (last.wrapping_add(1) % TICKETS as u64) as usize;
                 return ToWake {
                     place,
                     asleep: sleepers != 0,
+                    ahead: turn.slept,
                 };
             }
         }
@@ -90,6 +103,7 @@ impl<T> FairLock<T> {
                 return ToWake {
                     place: HEAD,
                     asleep: head_asleep,
+                    ahead: false,
                 };
             }
         }

@@ -8,6 +8,7 @@ ghost use Rattle.fair_lock.specs.Turns.{IsServed, CameInOrder, IsGuard, IsInOrde
 
 use crate::closed::Left;
 use crate::lock::FairLock;
+use crate::queue::Turn;
 use lock_core::ValueSeat;
 use std::sync::Wait;
 
@@ -16,15 +17,16 @@ pub struct Guard<'a, T> {
     pub(crate) lock: &'a FairLock<T>,
     pub(crate) seat: ValueSeat<T>,
     pub(crate) ticket: u64,
+    pub(crate) slept: bool,
 }
 
 impl<T> FairLock<T> {
     /// The guard of a thread that is served, and came in its order.
     #[tactic(auto, unfolding(crate::specs::Turns::IsGuard))]
-    pub(crate) fn guard(&self, seat: ValueSeat<T>, ticket: u64) -> Guard<'_, T>
+    pub(crate) fn guard(&self, seat: ValueSeat<T>, turn: Turn) -> Guard<'_, T>
         requires seat { IsSeatOf self.now.table.shared.table_id self.now.table.shared.key seat }
-        requires served { InTime seat (IsServed self.now.burst ticket) }
-        requires order { InTime seat (CameInOrder self.now.burst ticket) }
+        requires served { InTime seat (IsServed self.now.burst turn.ticket) }
+        requires order { InTime seat (CameInOrder self.now.burst turn.ticket) }
         ensures guard { IsGuard result }
         ensures order { IsInOrder result }
         ensures lock { result.lock.now ≡ self.now }
@@ -33,7 +35,8 @@ impl<T> FairLock<T> {
         Guard {
             lock: self,
             seat,
-            ticket,
+            ticket: turn.ticket,
+            slept: turn.slept,
         }
     }
 }
@@ -76,10 +79,15 @@ impl<T> Guard<'_, T> {
         ensures bursts { 2 ≤ self.entry.lock.now.burst
             → LeavesAsFound self.entry.lock.now.burst result.seat }
     {
-        let Guard { lock, seat, ticket } = self;
-        let mut seat = seat;
+        let Guard {
+            lock,
+            mut seat,
+            ticket,
+            slept,
+        } = self;
         if lock.burst < 2 {
-            lock.wakes.wake(lock.pass_on(rt, &mut seat, ticket));
+            lock.wakes
+                .wake(lock.pass_on(rt, &mut seat, Turn { ticket, slept }));
         } else {
             lock.wakes.wake(lock.leave_outer(rt, &mut seat));
         }

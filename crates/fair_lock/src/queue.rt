@@ -15,11 +15,41 @@ use std::thread::yield_now;
 /// A request is made while at most this number of rounds, of four tickets each, is before it.
 const WINDOW: u64 = 1 << 27;
 
-/// So often a waiter polls before it sleeps.
+/// So often a waiter polls before it sleeps, with at most four before it.
 const POLLS: u32 = 200;
+
+/// The same with more: its turn is far.
+const POLLS_FAR: u32 = 20;
 
 /// The pauses between two polls: some 90 ns.
 const PAUSES: u32 = 16;
+
+/// A ticket at its turn.
+#[derive(Clone, Copy)]
+pub(crate) struct Turn {
+    pub(crate) ticket: u64,
+    /// Its thread may have slept for it. Then it wakes ahead: not only the one that it grants, but the one behind that.
+    pub(crate) slept: bool,
+}
+
+impl Turn {
+    /// A turn that was found at once.
+    pub(crate) fn at_once(ticket: u64) -> Turn
+        ensures { result.ticket ≡ ticket }
+    {
+        Turn {
+            ticket,
+            slept: false,
+        }
+    }
+
+    /// The turn of a newcomer to a lock with bursts, which has no ticket.
+    pub(crate) fn of_newcomer() -> Turn
+        ensures { result.ticket ≡ 0 }
+    {
+        Turn::at_once(0)
+    }
+}
 
 /// Pauses between two looks at a word.
 pub(crate) fn pause() {
@@ -33,7 +63,7 @@ impl<T> FairLock<T> {
     ///
     /// While 2^29 requests are open it draws none, and looks again now and then. Once 2^63 tickets are drawn it waits
     /// forever.
-    pub(crate) fn come_to_turn<R: Wait>(&self, rt: &R, seat: &mut ValueSeat<T>) -> u64
+    pub(crate) fn come_to_turn<R: Wait>(&self, rt: &R, seat: &mut ValueSeat<T>) -> Turn
         requires seat { IsSeatOf self.now.table.shared.table_id self.now.table.shared.key seat.old }
         requires idle { InTime seat.old IsIdle }
         requires out { InTime seat.old IsOut }
@@ -41,16 +71,16 @@ impl<T> FairLock<T> {
         ensures seat { IsSeatOf self.now.table.shared.table_id self.now.table.shared.key seat.new }
         ensures load { LoadGrows seat.old seat.new }
         ensures stays { SameInside (view_of seat.old) (view_of seat.new) }
-        ensures at_turn { InTime seat.new (IsAtTurn result) }
+        ensures at_turn { InTime seat.new (IsAtTurn result.ticket) }
         ensures overtaken { InTime seat.new IsOvertakenInBounds }
     {
         let backoff = Backoff::new();
         for _ in rt.forever() {
             match ask_within(&self.table.shared, seat, WINDOW) {
-                AskWithinResult::AtTurn { ticket } => return ticket,
+                AskWithinResult::AtTurn { ticket } => return Turn::at_once(ticket),
                 AskWithinResult::Queued { ticket, rounds: _ } => {
-                    self.wait(rt, seat, ticket);
-                    return ticket;
+                    let slept = self.wait(rt, seat, ticket);
+                    return Turn { ticket, slept };
                 }
                 AskWithinResult::Far { rounds: _ }
                 | AskWithinResult::Changed
@@ -60,8 +90,8 @@ impl<T> FairLock<T> {
         unreachable!()
     }
 
-    /// Waits until the ticket is at its turn: polls, and then sleeps. Blocks.
-    fn wait<R: Wait>(&self, rt: &R, seat: &mut ValueSeat<T>, ticket: u64)
+    /// Waits until the ticket is at its turn: polls, and then sleeps. `true`: it may have slept. Blocks.
+    fn wait<R: Wait>(&self, rt: &R, seat: &mut ValueSeat<T>, ticket: u64) -> bool
         requires seat { IsSeatOf self.now.table.shared.table_id self.now.table.shared.key seat.old }
         requires queued { InTime seat.old (IsQueued ticket) }
         requires out { InTime seat.old IsOut }
@@ -71,9 +101,14 @@ impl<T> FairLock<T> {
         ensures at_turn { InTime seat.new (IsAtTurn ticket) }
         ensures overtaken { InTime seat.new IsOvertakenInBounds }
     {
+        let mut slept = false;
         for _ in rt.forever() {
-            if self.spin(seat, ticket) || self.sleep(rt, seat, ticket) {
-                return;
+            if self.spin(seat, ticket) {
+                return slept;
+            }
+            slept = true;
+            if self.sleep(rt, seat, ticket) {
+                return slept;
             }
             // A thread that is woken may have taken the processor of the one that is inside.
             yield_now();
@@ -93,9 +128,13 @@ impl<T> FairLock<T> {
         ensures queued { result ≡ false → InTime seat.new (IsQueued ticket) }
         ensures not_yet { result ≡ false → FoundWaiting ticket seat.new }
     {
-        for _ in 0..POLLS {
-            if poll(&self.table.shared, seat, ticket) == 0 {
+        for polls in 0..POLLS {
+            let rounds = poll(&self.table.shared, seat, ticket);
+            if rounds == 0 {
                 return true;
+            }
+            if rounds > 1 && polls >= POLLS_FAR {
+                return false;
             }
             pause();
         }
@@ -115,7 +154,7 @@ impl<T> FairLock<T> {
         ensures not_yet { result ≡ false → FoundWaiting ticket seat.new }
     {
         let table = &self.table.shared;
-        match self.wakes.see_cell(ticket).announce(table, seat, ticket) {
+        match self.wakes.see_ticket(ticket).announce(table, seat, ticket) {
             Announced::AtTurn => true,
             Announced::Not => false,
             Announced::Counted(counted) => {

@@ -9,6 +9,7 @@ ghost use Rattle.fair_lock.specs.Found.{FoundWaiting, NotedOrNotHeld};
 use crate::closed::{EnterError, Late};
 use crate::guard::Guard;
 use crate::lock::FairLock;
+use crate::queue::Turn;
 use crate::span::{Over, Rest, Span};
 use crate::wake::Announced;
 use crate::watch::{Next, Watch};
@@ -51,15 +52,15 @@ impl<T> FairLock<T> {
         let backoff = Backoff::new();
         for _ in rt.forever() {
             if self.burst >= 2 && go_in(&self.table.shared, &mut seat) {
-                return Ok(self.guard(seat, 0));
+                return Ok(self.guard(seat, Turn::of_newcomer()));
             }
             match ask_within(&self.table.shared, &mut seat, NEAR) {
                 AskWithinResult::AtTurn { ticket } => {
-                    return self.begin_within(rt, seat, ticket, &span);
+                    return self.begin_within(rt, seat, Turn::at_once(ticket), &span);
                 }
                 AskWithinResult::Queued { ticket, rounds: _ } => {
                     return match self.wait_within(rt, &mut seat, ticket, &span) {
-                        Ok(()) => self.begin_within(rt, seat, ticket, &span),
+                        Ok(slept) => self.begin_within(rt, seat, Turn { ticket, slept }, &span),
                         Err(over) => Err(EnterError::Late(Late { seat, over })),
                     };
                 }
@@ -85,14 +86,15 @@ impl<T> FairLock<T> {
         EnterError::Late(Late { seat, over })
     }
 
-    /// Waits until a ticket that could be taken back is at its turn, or withdraws the request once the span is over.
+    /// Waits until a ticket that could be taken back is at its turn, or withdraws the request once the span is over. `true`:
+    /// it may have slept.
     fn wait_within<R: Wait + Clock>(
         &self,
         rt: &R,
         seat: &mut ValueSeat<T>,
         ticket: u64,
         span: &Span,
-    ) -> Result<(), Over>
+    ) -> Result<bool, Over>
         requires seat { IsSeatOf self.now.table.shared.table_id self.now.table.shared.key seat.old }
         requires near { InTime seat.old (IsQueuedWithin 15 ticket) }
         requires out { InTime seat.old IsOut }
@@ -104,27 +106,29 @@ impl<T> FairLock<T> {
         ensures withdrawn { IfErr result (λ _. InTime seat.new IsIdle) }
         ensures over { IfErr result (IsOverOf span.now) }
     {
+        let mut slept = false;
         for _ in rt.forever() {
             if self.spin(seat, ticket) {
-                return Ok(());
+                return Ok(slept);
             }
             match span.left(rt) {
                 Ok(rest) => {
+                    slept = true;
                     if self.sleep_within(rt, seat, ticket, &rest) {
-                        return Ok(());
+                        return Ok(slept);
                     }
                     yield_now();
                 }
                 Err(over) => {
                     let rounds = poll(&self.table.shared, seat, ticket);
                     if rounds == 0 {
-                        return Ok(());
+                        return Ok(slept);
                     }
                     if rounds <= NEAR {
                         if withdraw(&self.table.shared, seat, ticket, rounds) {
                             return Err(over);
                         }
-                        return Ok(());
+                        return Ok(slept);
                     }
                 }
             }
@@ -151,7 +155,7 @@ impl<T> FairLock<T> {
         ensures not_yet { result ≡ false → FoundWaiting ticket seat.new }
     {
         let table = &self.table.shared;
-        match self.wakes.see_cell(ticket).announce(table, seat, ticket) {
+        match self.wakes.see_ticket(ticket).announce(table, seat, ticket) {
             Announced::AtTurn => true,
             Announced::Not => false,
             Announced::Counted(counted) => {
@@ -166,11 +170,11 @@ impl<T> FairLock<T> {
         &self,
         rt: &R,
         mut seat: ValueSeat<T>,
-        ticket: u64,
+        turn: Turn,
         span: &Span,
     ) -> Result<Guard<'_, T>, EnterError<T>>
         requires seat { IsSeatOf self.now.table.shared.table_id self.now.table.shared.key seat }
-        requires at_turn { InTime seat (IsAtTurn ticket) }
+        requires at_turn { InTime seat (IsAtTurn turn.ticket) }
         requires overtaken { InTime seat IsOvertakenInBounds }
         requires out { InTime seat IsOut }
         ensures guard { IfOk result (λ guard. IsGuard guard × IsOpen guard) }
@@ -180,12 +184,12 @@ impl<T> FairLock<T> {
         ensures late { IfErr result (IfEnterLate (IsLateAt self.now span.now.at_most)) }
     {
         let answer = if self.burst < 2 {
-            self.look_and_begin(rt, seat, ticket)
+            self.look_and_begin(rt, seat, turn)
         } else {
-            match self.go_in_within(rt, &mut seat, ticket, span) {
-                Ok(open) => self.pass_on_inside(rt, seat, ticket, open),
+            match self.go_in_within(rt, &mut seat, turn.ticket, span) {
+                Ok(open) => self.pass_on_inside(rt, seat, turn, open),
                 Err(over) => {
-                    self.wakes.wake(self.pass_on(rt, &mut seat, ticket));
+                    self.wakes.wake(self.pass_on(rt, &mut seat, turn));
                     return Err(EnterError::Late(Late { seat, over }));
                 }
             }

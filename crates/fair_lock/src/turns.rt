@@ -9,13 +9,15 @@ use crate::closed::{Busy, Closed, TryEnterError};
 use crate::found::FoundTaken;
 use crate::guard::Guard;
 use crate::lock::FairLock;
+use crate::queue::Turn;
 use lock_core::{
     AskWithinResult, TakeResult, ValueSeat, ask_within, check_open, go_in, new_seat, take_outer,
 };
 use std::sync::Wait;
 
 impl<T> FairLock<T> {
-    /// Enters, and waits for that as long as it takes: polls for some 20 us, and then sleeps. Blocks.
+    /// Enters, and waits for that as long as it takes: polls for some 20 us, or for 2 with more than four before it, and then
+    /// sleeps. Blocks.
     ///
     /// In a strict lock turns are in the order of requests. In one with bursts a newcomer may be served at once. Between a
     /// request and its turn at most (p + 1) * (`turns` - 1) newcomers are served, with p requests before it.
@@ -31,15 +33,15 @@ impl<T> FairLock<T> {
     {
         let mut seat = new_seat(&self.table.shared);
         if self.burst < 2 {
-            let ticket = self.come_to_turn(rt, &mut seat);
-            return self.look_and_begin(rt, seat, ticket);
+            let turn = self.come_to_turn(rt, &mut seat);
+            return self.look_and_begin(rt, seat, turn);
         }
         if go_in(&self.table.shared, &mut seat) {
-            return Ok(self.guard(seat, 0));
+            return Ok(self.guard(seat, Turn::of_newcomer()));
         }
-        let ticket = self.come_to_turn(rt, &mut seat);
-        let open = self.go_in_as_head(rt, &mut seat, ticket);
-        self.pass_on_inside(rt, seat, ticket, open)
+        let turn = self.come_to_turn(rt, &mut seat);
+        let open = self.go_in_as_head(rt, &mut seat, turn.ticket);
+        self.pass_on_inside(rt, seat, turn, open)
     }
 
     /// Enters if that can be done at once, and leaves nothing behind if not. Does not block.
@@ -61,7 +63,7 @@ impl<T> FairLock<T> {
     {
         let mut seat = new_seat(&self.table.shared);
         if self.burst >= 2 && go_in(&self.table.shared, &mut seat) {
-            return Ok(self.guard(seat, 0));
+            return Ok(self.guard(seat, Turn::of_newcomer()));
         }
         let ticket = match ask_within(&self.table.shared, &mut seat, 0) {
             AskWithinResult::AtTurn { ticket } => ticket,
@@ -76,8 +78,9 @@ impl<T> FairLock<T> {
                 return Err(TryEnterError::Busy(Busy { seat, found }));
             }
         };
+        let turn = Turn::at_once(ticket);
         if self.burst < 2 {
-            return match self.look_and_begin(rt, seat, ticket) {
+            return match self.look_and_begin(rt, seat, turn) {
                 Ok(guard) => Ok(guard),
                 Err(closed) => Err(TryEnterError::Closed(closed)),
             };
@@ -87,11 +90,11 @@ impl<T> FairLock<T> {
             TakeResult::Shut => false,
             TakeResult::Held { outer: _ } | TakeResult::Changed { outer: _ } => {
                 let found = FoundTaken::by(&seat);
-                self.wakes.wake(self.pass_on(rt, &mut seat, ticket));
+                self.wakes.wake(self.pass_on(rt, &mut seat, turn));
                 return Err(TryEnterError::Busy(Busy { seat, found }));
             }
         };
-        match self.pass_on_inside(rt, seat, ticket, open) {
+        match self.pass_on_inside(rt, seat, turn, open) {
             Ok(guard) => Ok(guard),
             Err(closed) => Err(TryEnterError::Closed(closed)),
         }
@@ -102,11 +105,11 @@ impl<T> FairLock<T> {
         &self,
         rt: &R,
         mut seat: ValueSeat<T>,
-        ticket: u64,
+        turn: Turn,
     ) -> Result<Guard<'_, T>, Closed<T>>
         requires strict { self.now.burst ≤ 1 }
         requires seat { IsSeatOf self.now.table.shared.table_id self.now.table.shared.key seat }
-        requires at_turn { InTime seat (IsAtTurn ticket) }
+        requires at_turn { InTime seat (IsAtTurn turn.ticket) }
         requires overtaken { InTime seat IsOvertakenInBounds }
         requires out { InTime seat IsOut }
         ensures guard { IfOk result (λ guard. IsGuard guard × IsOpen guard) }
@@ -115,10 +118,10 @@ impl<T> FairLock<T> {
         ensures lock { IfOk result (λ guard. guard.lock.now ≡ self.now) }
         ensures closed { IfErr result (IsToldShut self.now) }
     {
-        if check_open(&self.table.shared, &mut seat, ticket) {
-            return Ok(self.guard(seat, ticket));
+        if check_open(&self.table.shared, &mut seat, turn.ticket) {
+            return Ok(self.guard(seat, turn));
         }
-        self.wakes.wake(self.pass_on(rt, &mut seat, ticket));
+        self.wakes.wake(self.pass_on(rt, &mut seat, turn));
         Err(Closed { seat })
     }
 
@@ -127,12 +130,12 @@ impl<T> FairLock<T> {
         &self,
         rt: &R,
         mut seat: ValueSeat<T>,
-        ticket: u64,
+        turn: Turn,
         is_open: bool,
     ) -> Result<Guard<'_, T>, Closed<T>>
         requires bursts { 2 ≤ self.now.burst }
         requires seat { IsSeatOf self.now.table.shared.table_id self.now.table.shared.key seat }
-        requires inside { InTime seat (IsHeadInside ticket) }
+        requires inside { InTime seat (IsHeadInside turn.ticket) }
         requires overtaken { InTime seat IsOvertakenInBounds }
         requires open { is_open ≡ true → InTime seat ServedOpen }
         requires shut { is_open ≡ false → InTime seat KnowsShut }
@@ -141,9 +144,9 @@ impl<T> FairLock<T> {
         ensures lock { IfOk result (λ guard. guard.lock.now ≡ self.now) }
         ensures closed { IfErr result (IsToldShut self.now) }
     {
-        self.wakes.wake(self.pass_on(rt, &mut seat, ticket));
+        self.wakes.wake(self.pass_on(rt, &mut seat, turn));
         if is_open {
-            return Ok(self.guard(seat, ticket));
+            return Ok(self.guard(seat, turn));
         }
         self.wakes.wake(self.leave_outer(rt, &mut seat));
         Err(Closed { seat })

@@ -1,10 +1,11 @@
 //! Where waiters sleep, and how they are woken. Nothing here decides who has a turn.
 //!
 //! The kernel compares the low half of a word before it puts a thread to sleep, and a grant changes the high half of a
-//! cell. So waiters sleep at words of their own, one for each cell and one for the queue head. A waiter reads that word,
+//! cell. So waiters sleep at words of their own, 32 by their tickets and one for the queue head. A waiter reads that word,
 //! announces its sleep by the proved call, and sleeps while the word is what it read. Who is told of sleepers adds one to
-//! the word, and then wakes all. So between the announcement and the sleep no wake is lost.
-ghost use Rattle.std.specs.Prelude.{◌≡◌, ◌*◌, ◌<◌, ◌≤◌, ◌%◌, IfSome, IfNone};
+//! the word of the ticket that it granted, and then wakes all there. So between the announcement and the sleep no wake is
+//! lost, and at most one of 32 waiters is woken before its turn.
+ghost use Rattle.std.specs.Prelude.{◌≡◌, ◌<◌, ◌≤◌, ◌%◌, IfSome, IfNone};
 ghost use Rattle.lock_core.specs.Layout.{HasLockWords, cell_at, outer_at, handoff_of, to_go};
 ghost use Rattle.lock_core.specs.Views.{view_of, InTime, InTimeFrom, LoadGrows, IsSeatOf, IsQueued, IsQueuedWithin, IsAsleep, IsAtTurn, IsOvertakenInBounds, SameInside, SleepsAtOuter, SleepsInTake, Kept};
 ghost use Rattle.lock_core.specs.Looks.{StepsLater, Found, Leaves, Changes, IsNotedAsleep};
@@ -21,11 +22,11 @@ use std::alloc::{AllocError, Global};
 use std::sync::{Wait, WaitMethods};
 use std::time::Duration;
 
-/// The wake word of the queue head.
-pub(crate) const HEAD: usize = 4;
+/// The number of wake words of tickets, which have them in turn.
+pub(crate) const TICKETS: usize = 32;
 
-/// The distance between two wake words.
-const STRIDE: usize = 8;
+/// The wake word of the queue head, behind those.
+pub(crate) const HEAD: usize = TICKETS;
 
 /// What a step on a wake word showed: the word, what was found there, and what was left. No value of it is made.
 pub(crate) struct Look {
@@ -69,14 +70,14 @@ pub(crate) struct WakeWords {
 
 /// What a waiter read at its wake word, before it announces its sleep.
 ///
-/// A linear token: the type is not `Drop`, and its fields are this file's. Only `WakeWords::see_cell` and `see_head` make
+/// A linear token: the type is not `Drop`, and its fields are this file's. Only `WakeWords::see_ticket` and `see_head` make
 /// one, and only an announcement ends it.
 pub(crate) struct Seen {
     place: usize,
     low: u32,
     step: WordSeat,
-    ghost within: { place < 5 },
-    ghost as_found: { (step.me.0.word ≡ place * 8) × (low ≡ step.me.0.found % 4294967296) },
+    ghost within: { place < 33 },
+    ghost as_found: { (step.me.0.word ≡ place) × (low ≡ step.me.0.found % 4294967296) },
 }
 
 /// A waiter that has announced its sleep after it read its wake word, and is counted where a release finds it.
@@ -85,7 +86,7 @@ pub(crate) struct Seen {
 pub(crate) struct Counted {
     place: usize,
     low: u32,
-    ghost within: { place < 5 },
+    ghost within: { place < 33 },
 }
 
 /// What an announcement of a sleep found.
@@ -105,22 +106,22 @@ impl WakeWords {
         Ok(WakeWords { table })
     }
 
-    /// Reads the wake word of the ticket's cell.
-    pub(crate) fn see_cell(&self, ticket: u64) -> Seen
-        ensures { result.place ≡ ticket % 4 }
+    /// Reads the wake word of the ticket.
+    pub(crate) fn see_ticket(&self, ticket: u64) -> Seen
+        ensures { result.place ≡ ticket % 32 }
     {
-        self.see((ticket % 4) as usize)
+        self.see((ticket % TICKETS as u64) as usize)
     }
 
     /// Reads the wake word of the queue head.
     pub(crate) fn see_head(&self) -> Seen
-        ensures { result.place ≡ 4 }
+        ensures { result.place ≡ 32 }
     {
         self.see(HEAD)
     }
 
     fn see(&self, place: usize) -> Seen
-        requires { place < 5 }
+        requires { place < 33 }
         ensures { result.place ≡ place }
     {
         let (found, step) = self.look(place);
@@ -129,11 +130,11 @@ impl WakeWords {
     }
 
     fn look(&self, place: usize) -> (u64, WordSeat)
-        requires { place < 5 }
+        requires { place < 33 }
         ensures table { result.1.table_id ≡ self.now.table.shared.table_id }
         ensures found { Finds place result.0 result.1 }
     {
-        self.table.shared.load_new_seat::<Read>(place * STRIDE)
+        self.table.shared.load_new_seat::<Read>(place)
     }
 
     /// Sleeps while the wake word is what the waiter read before it announced its sleep; may return early. Blocks.
@@ -152,7 +153,7 @@ impl WakeWords {
         requires low { low ≡ counted.now.low }
     {
         let _ = counted;
-        self.table.shared.park(rt, place * STRIDE, low);
+        self.table.shared.park(rt, place, low);
     }
 
     /// The same, for at most `at_most`.
@@ -171,15 +172,13 @@ impl WakeWords {
     {
         let _ = counted;
         let _ = rest;
-        self.table
-            .shared
-            .park_timeout(rt, place * STRIDE, low, at_most);
+        self.table.shared.park_timeout(rt, place, low, at_most);
     }
 
     /// Wakes all that sleep at the place: first its word changes, so that nobody goes to sleep there any more.
     #[cold]
     pub(crate) fn wake_all(&self, place: usize) -> WordSeat
-        requires { place < 5 }
+        requires { place < 33 }
         ensures { AddsOne place result }
     {
         let step = self.change(place);
@@ -189,30 +188,28 @@ impl WakeWords {
 
     /// Adds one to the word of the place.
     fn change(&self, place: usize) -> WordSeat
-        requires { place < 5 }
+        requires { place < 33 }
         ensures { AddsOne place result }
     {
         let (_, mut step) = self.look(place);
-        self.table
-            .shared
-            .fetch_add::<Add>(&mut step, place * STRIDE, 1);
+        self.table.shared.fetch_add::<Add>(&mut step, place, 1);
         step
     }
 
     /// Has the kernel wake all that sleep at the place, whose word has changed.
     fn wake_sleepers(&self, place: usize, changed: &WordSeat)
-        requires place { place < 5 }
+        requires place { place < 33 }
         requires changed { AddsOne place changed.now }
     {
         let _ = changed;
-        self.table.shared.wake_all(place * STRIDE);
+        self.table.shared.wake_all(place);
     }
 }
 
 impl Seen {
     ghost use Rattle.fair_lock.specs.Wakes.{IfAnnouncedAtTurn, IfAnnounced, IfNotAnnounced, IfCounted, IsAtWordOf};
 
-    /// Announces the sleep of a waiter that has read the wake word of its cell.
+    /// Announces the sleep of a waiter that has read the wake word of its ticket.
     pub(crate) fn announce<T>(
         self,
         table: &SharedValue<T>,
@@ -220,7 +217,7 @@ impl Seen {
         ticket: u64,
     ) -> Announced
         requires table { HasLockWords table.now.table_id }
-        requires place { self.place ≡ ticket % 4 }
+        requires place { self.place ≡ ticket % 32 }
         requires seat { IsSeatOf table.now.table_id table.now.key seat.old }
         requires queued { InTime seat.old (IsQueued ticket) }
         ensures seat { IsSeatOf table.now.table_id table.now.key seat.new }
@@ -230,7 +227,7 @@ impl Seen {
         ensures overtaken { IfAnnouncedAtTurn result (InTime seat.new IsOvertakenInBounds) }
         ensures counted { IfAnnounced result (InTime seat.new (IsAsleep ticket)) }
         ensures word { IfCounted result (IsAtWordOf self) }
-        ensures place { IfCounted result (λ counted. counted.place ≡ ticket % 4) }
+        ensures place { IfCounted result (λ counted. counted.place ≡ ticket % 32) }
         ensures queued { IfNotAnnounced result (InTime seat.new (IsQueued ticket)) }
         ensures not_yet { IfNotAnnounced result (FoundWaiting ticket seat.new) }
         ensures no_place { IfNotAnnounced result (FoundNoPlace ticket seat.new) }
@@ -257,7 +254,7 @@ impl Seen {
         seat: &mut ValueSeat<T>,
     ) -> Option<Counted>
         requires table { HasLockWords table.now.table_id }
-        requires place { self.place ≡ 4 }
+        requires place { self.place ≡ 32 }
         requires seat { IsSeatOf table.now.table_id table.now.key seat.old }
         requires requested { Leaves outer_at (λ n. handoff_of n ≡ 1) seat.old }
         ensures seat { IsSeatOf table.now.table_id table.now.key seat.new }
@@ -268,7 +265,7 @@ impl Seen {
         ensures steps { IfSome result (λ _. StepsLater 2 seat.old seat.new) }
         ensures noted { IfSome result (λ _. Changes outer_at IsNotedAsleep seat.new) }
         ensures word { IfSome result (IsAtWordOf self) }
-        ensures place { IfSome result (λ counted. counted.place ≡ 4) }
+        ensures place { IfSome result (λ counted. counted.place ≡ 32) }
         ensures not_held { IfNone result (FoundNotHeld seat.new) }
     {
         let Seen {

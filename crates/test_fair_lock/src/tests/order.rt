@@ -1,6 +1,6 @@
 //! Who is served when: in the order of requests, also of those that slept.
-use super::lock_of;
 use super::threads::{append, sum, wait_for};
+use super::{add, add_within, lock_of};
 use fair_lock::{FairLock, TryEnterError};
 use std::rt::Clock;
 use std::sync::Wait;
@@ -150,7 +150,10 @@ impl<R> Clock for Gated<'_, R> {
     }
 }
 
-/// Holds the lock until the first waiter has its ticket and reads its clock, four more have theirs, and the first sleeps behind them.
+/// The waiters of a lock up to the one that has the wake word of the first.
+const WAITERS: u64 = 33;
+
+/// Holds the lock until the first waiter has its ticket and reads its clock, the others have theirs, and the first sleeps behind them.
 fn hold_past_the_gate<R: Wait + Clock>(
     rt: &R,
     lock: &FairLock<u64>,
@@ -162,7 +165,7 @@ fn hold_past_the_gate<R: Wait + Clock>(
         stage.fetch_add(1, SeqCst);
         wait_for(rt, readings, 2);
         stage.fetch_add(1, SeqCst);
-        for waiter in 2..=5u64 {
+        for waiter in 2..=WAITERS {
             stage.fetch_add(1, SeqCst);
             wait_for(rt, stage, waiter.wrapping_mul(2));
             thread::sleep(rt, Duration::from_millis(3));
@@ -173,7 +176,7 @@ fn hold_past_the_gate<R: Wait + Clock>(
     }
 }
 
-/// The first and the fifth waiter have one wake word, and the fifth slept first.
+/// The first and the last waiter have one wake word, and the last slept first.
 #[test]
 fn both_that_sleep_at_one_word_are_woken(rt: HostRuntime) {
     let lock = lock_of(rt.alloc(), 1, 0).expect(&rt, "memory");
@@ -182,7 +185,7 @@ fn both_that_sleep_at_one_word_are_woken(rt: HostRuntime) {
     thread::map_indices(
         &rt,
         rt.alloc(),
-        6,
+        WAITERS as usize + 1,
         &|i| {
             if i == 0 {
                 hold_past_the_gate(&rt, &lock, &stage, &readings, &gate);
@@ -193,9 +196,11 @@ fn both_that_sleep_at_one_word_are_woken(rt: HostRuntime) {
                     gate: &gate,
                 };
                 wait_for(&rt, &stage, 1);
-                append(&clock, &lock, 1, true);
+                add_within(&clock, &lock, 1, Duration::from_secs(50));
             } else {
-                come_as(&rt, &lock, &stage, i as u64, false);
+                wait_for(&rt, &stage, (i as u64).wrapping_mul(2).wrapping_sub(1));
+                stage.fetch_add(1, SeqCst);
+                add(&rt, &lock, 1);
             }
         },
     )
@@ -203,7 +208,7 @@ fn both_that_sleep_at_one_word_are_woken(rt: HostRuntime) {
     .expect(&rt, "memory");
     let took = begun.elapsed(&rt).ok().expect(&rt, "clock");
     assert!(&rt; took < Duration::from_secs(25), "woken by no one");
-    assert_eq!(&rt; lock.into_inner() / 0x10000, 1);
+    assert_eq!(&rt; lock.into_inner(), WAITERS);
 }
 
 /// Has a turn, and once another waits one more after another, until that has had its own. Returns how many more.
