@@ -1,6 +1,7 @@
 //! The tests, by what they try.
 
 mod board;
+mod edges;
 mod lanes;
 mod links;
 mod near;
