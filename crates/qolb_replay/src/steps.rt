@@ -3,6 +3,7 @@ ghost use Rattle.std.specs.Prelude.{◌≡◌, ◌≢◌, ◌≤◌, ◌↔◌, 
 ghost use Rattle.std.specs.Io.KnownBytes.{Appends};
 ghost use Rattle.qolb_script.specs.Watched.{inner_of, has_failed};
 ghost use Rattle.qolb_script.specs.StepReply.{step_said};
+ghost use Rattle.qolb_script.specs.StepScript.{StepScript, steps_of};
 ghost use Rattle.link_core.specs.Progress.{rank};
 ghost use Rattle.qolb_replay.specs.Outcome.{StepsMayFail, HasNoStepReply};
 ghost use Rattle.qolb_replay.specs.declared.input.TheConstants.{MAX_BYTES};
@@ -89,6 +90,9 @@ pub fn answer_steps<A: Allocator + Copy>(
 ) -> Result<Vec<u8, A>, ReplayError>
     ensures ok { IfOk result (λ text. length input.now ≤ MAX_BYTES
         → IsStepReplyTo detail input.now text.items) }
+    // Also of more bytes than `read_all` gives.
+    ensures any_length { IfOk result (λ text. (script : StepScript)
+        × (steps_of input.now ≡ Ok script) × IsStepReply detail script text.items) }
     ensures refused { IfErr result (HasNoStepReply input.now) }
 {
     let steps = read_steps(alloc, input)?;
