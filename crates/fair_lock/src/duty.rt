@@ -15,7 +15,7 @@ use std::sync::{Wait, WaitMethods};
 pub(crate) struct ToWake {
     place: usize,
     asleep: bool,
-    /// The next one is to be woken ahead, too, if it sleeps.
+    /// Whoever sleeps for the ticket behind is to be woken, too, ahead of its turn.
     ahead: bool,
     ghost within: { place < 33 },
 }

@@ -4,7 +4,7 @@
 //! cell. So waiters sleep at words of their own, 32 by their tickets and one for the queue head. A waiter reads that word,
 //! announces its sleep by the proved call, and sleeps while the word is what it read. Who is told of sleepers adds one to
 //! the word of the ticket that it granted, and then wakes all there. So between the announcement and the sleep no wake is
-//! lost, and at most one of 32 waiters is woken before its turn.
+//! lost, and 32 waiters in a row have a word each. Who slept wakes the waiter behind that ticket, too.
 ghost use Rattle.std.specs.Prelude.{◌≡◌, ◌<◌, ◌≤◌, ◌%◌, IfSome, IfNone};
 ghost use Rattle.lock_core.specs.Layout.{HasLockWords, cell_at, outer_at, handoff_of, to_go};
 ghost use Rattle.lock_core.specs.Views.{view_of, InTime, InTimeFrom, LoadGrows, IsSeatOf, IsQueued, IsQueuedWithin, IsAsleep, IsAtTurn, IsOvertakenInBounds, SameInside, SleepsAtOuter, SleepsInTake, Kept};
