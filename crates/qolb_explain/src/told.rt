@@ -126,7 +126,7 @@ fn write_range<W: fmt::Write>(
         write!(f, "word {place} is no number from {low} to {high}")?;
     }
     if has_many_digits(word_at(line, place)) {
-        write!(f, " of at most {MAX_DIGITS} digits")?;
+        write!(f, "; a number has at most {MAX_DIGITS} digits")?;
     }
     if place == 1 {
         f.write_str("; a job begins with the number of its worker")?;

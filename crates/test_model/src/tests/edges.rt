@@ -92,7 +92,7 @@ static EDGES: [(ScriptKind, &str, (u64, &str)); 13] = [
         "nodes 1 lines 1 lease 000000000000000000001\n",
         (
             1,
-            "    nodes 1 lines 1 lease 000000000000000000001\nword 6 is no number from 1 to 18446744073709551615 of at most 20 digits",
+            "    nodes 1 lines 1 lease 000000000000000000001\nword 6 is no number from 1 to 18446744073709551615; a number has at most 20 digits",
         ),
     ),
 ];
@@ -188,4 +188,25 @@ fn node_200_is_the_last(rt: HostRuntime) -> Result<(), Fail> {
     let wanted = "    nodes 201 lines 8\nword 2 is no number from 1 to 200";
     let script = "nodes 201 lines 8\n";
     expect_said(&rt, alloc, ScriptKind::Schedule, script, (1, wanted))
+}
+
+/// The first 200 bytes of a line are shown, and all are looked at.
+#[test]
+fn a_byte_that_is_not_shown_is_told(rt: HostRuntime) -> Result<(), Fail> {
+    let alloc = rt.alloc();
+    let mut shown = String::new(alloc);
+    for _ in 0..200u64 {
+        shown.push_str("x")?;
+    }
+    let script = format!(in alloc; "nodes 2 lines 1\n{shown}\t\n")?;
+    let wanted = format!(in alloc;
+        "    {shown} ..\nbyte 201, \\x09, is neither a space nor a visible ASCII character; spaces separate words"
+    )?;
+    expect_said(
+        &rt,
+        alloc,
+        ScriptKind::Schedule,
+        script.as_str(),
+        (2, wanted.as_str()),
+    )
 }

@@ -108,3 +108,36 @@ fn says_which_word_to_write(rt: HostRuntime) -> Result<(), Fail> {
     }
     Ok(())
 }
+
+/// The kinds of words that a line has.
+const PLACES: [Allowed; 7] = [
+    Allowed::Commands,
+    Allowed::Events,
+    Allowed::BoardJobs,
+    Allowed::BankJobs,
+    Allowed::Lines,
+    Allowed::Lease,
+    Allowed::Workers,
+];
+
+/// Words that are near none.
+const FAR: [&str; 4] = ["x", "withdraws", "loads", "take_out_of_the_bank_today"];
+
+#[test]
+fn says_no_word_for_one_that_is_far(rt: HostRuntime) -> Result<(), Fail> {
+    for allowed in &PLACES {
+        for word in &FAR {
+            let complaint = Complaint {
+                number: 2,
+                line: word.as_bytes(),
+                reason: Reason::Word {
+                    place: 1,
+                    allowed: *allowed,
+                },
+            };
+            let text = format!(in rt.alloc(); "{complaint}")?;
+            expect(&rt, *word, text.as_str().contains("; for `"), false);
+        }
+    }
+    Ok(())
+}

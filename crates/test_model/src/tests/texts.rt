@@ -4,7 +4,7 @@ use qolb_explain::{Allowed, Complaint, Form, Reason, ScriptKind};
 use std::test::Fail;
 
 /// Lines, their faults, and what is said of them.
-static TEXTS: [(&str, Reason, &str); 51] = [
+static TEXTS: [(&str, Reason, &str); 56] = [
     (
         "",
         Reason::Empty(ScriptKind::Schedule),
@@ -98,6 +98,11 @@ static TEXTS: [(&str, Reason, &str); 51] = [
         "    nodes\\xef\\xbb\\xbf 2\nbyte 6, \\xef, is neither a space nor a visible ASCII character",
     ),
     (
+        "\u{fb01} 1 0",
+        Reason::Byte,
+        "    \\xef\\xac\\x81 1 0\nbyte 1, \\xef, is neither a space nor a visible ASCII character",
+    ),
+    (
         "~\u{7f}\r",
         Reason::Byte,
         "    ~\\x7f\\x0d\nbyte 2, \\x7f, is neither a space nor a visible ASCII character",
@@ -145,7 +150,25 @@ static TEXTS: [(&str, Reason, &str); 51] = [
             low: 1,
             high: 2,
         },
-        "    enq 000000000000000000001 0\nword 2 is no number from 1 to 2 of at most 20 digits",
+        "    enq 000000000000000000001 0\nword 2 is no number from 1 to 2; a number has at most 20 digits",
+    ),
+    (
+        "enq 1 000000000000000000000",
+        Reason::Number {
+            place: 3,
+            low: 0,
+            high: 0,
+        },
+        "    enq 1 000000000000000000000\nword 3 is not 0; a number has at most 20 digits",
+    ),
+    (
+        "000000000000000000001 take",
+        Reason::Number {
+            place: 1,
+            low: 1,
+            high: 2,
+        },
+        "    000000000000000000001 take\nword 1 is no number from 1 to 2; a number has at most 20 digits; a job begins with the number of its worker",
     ),
     (
         "enq 00000000000000000003 0",
@@ -222,6 +245,14 @@ static TEXTS: [(&str, Reason, &str); 51] = [
             allowed: Allowed::BoardJobs,
         },
         "    1 push 5\nword 2 is neither put nor take; for `push` write `put`",
+    ),
+    (
+        " 1   push 5",
+        Reason::Word {
+            place: 2,
+            allowed: Allowed::BoardJobs,
+        },
+        "     1   push 5\nword 2 is neither put nor take; for `push` write `put`",
     ),
     (
         "1 withdraw 0 5",
@@ -327,6 +358,11 @@ static TEXTS: [(&str, Reason, &str); 51] = [
         "1 out 5",
         Reason::Count(Form::Payment),
         "    1 out 5\nwrong number of words, the form is `WORKER out ACCOUNT AMOUNT`",
+    ),
+    (
+        "1  out 5",
+        Reason::Count(Form::Payment),
+        "    1  out 5\nwrong number of words, the form is `WORKER out ACCOUNT AMOUNT`",
     ),
     (
         "1 move 5",

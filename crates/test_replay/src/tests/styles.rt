@@ -138,9 +138,11 @@ static SEEN_IN_STEPS: [(&str, &str, u64); 5] = [
     (".home", "fill", 25),
 ];
 
-/// Returns `true` if `what` is hollow, and answers the pointer inside too.
+/// Returns `true` if `what` is hollow, by night too, and answers the pointer inside.
 fn is_hollow(sheet: Sheet, what: &str) -> bool {
-    sheet.said(what, "fill") == Some("none") && sheet.said(what, "pointer-events") == Some("all")
+    sheet.said(what, "fill") == Some("none")
+        && said(sheet.at_night, what, "fill").is_none()
+        && sheet.said(what, "pointer-events") == Some("all")
 }
 
 /// Expects the colours of a picture to be seen, on both pages.
@@ -189,6 +191,7 @@ pub fn are_seen<R: Abort>(rt: &R, sheet: Sheet) {
         sheet.said(".arrow", "marker-end"),
         Some("url(#tip)"),
     );
+    expect(rt, "a rule", sheet.said(".small", "font-size"), Some("9px"));
 }
 
 /// Expects the same of the second sheet of a step picture, on the same page.
@@ -215,9 +218,10 @@ pub fn steps_are_seen<R: Abort>(rt: &R, sheet: Sheet, of_steps: Sheet) {
     expect(
         rt,
         "a rule",
-        of_steps.said(".home", "fill-opacity").is_some(),
-        true,
+        of_steps.said(".home", "fill-opacity"),
+        Some(".4"),
     );
+    expect(rt, "a rule", of_steps.said(".at", "font-size"), Some("9px"));
     // A point's name is in its bar, which answers the pointer; on a dark page it has a rim as dark as the page.
     expect(
         rt,
@@ -243,13 +247,22 @@ fn shape_of<'a>(signs: &'a str, name: &str) -> Option<&'a str> {
     sign.split_once("/>").map(|parts| parts.1)
 }
 
-/// Expects signs that can be told apart. Each has a shape that reaches three pixels from its middle, no two have the same shape, and an
-/// arrow has its tip.
+/// Returns `true` if a shape is around its middle: it is not moved, and none of its numbers has two digits.
+fn is_in_the_middle(shape: &str) -> bool {
+    let is_moved = shape.contains("cx=") || shape.contains("cy=") || shape.contains("transform");
+    let is_far = shape.bytes().zip(shape.bytes().skip(1)).any(|(one, next)| one.is_ascii_digit()
+        && next.is_ascii_digit());
+    !is_moved && !is_far
+}
+
+/// Expects signs that can be told apart. Each has a shape that reaches three pixels from its middle and is around it, no two have the same
+/// shape, and an arrow has its tip.
 pub fn signs_differ<R: Abort>(rt: &R, signs: &str) {
     for (place, name) in SIGNS.iter().enumerate() {
         let shape = shape_of(signs, name);
         let is_large = shape.is_some_and(|it| it.bytes().any(|byte| matches!(byte, b'3'..=b'9')));
         expect(rt, name, is_large, true);
+        expect(rt, name, shape.is_some_and(is_in_the_middle), true);
         for other in SIGNS.iter().take(place) {
             expect_at(rt, &(*name, *other), shape != shape_of(signs, other), true);
         }

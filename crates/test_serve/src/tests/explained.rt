@@ -4,7 +4,7 @@ use std::test::Fail;
 
 /// Words with `--explain`, scripts that are refused, and their explanations: one for each fault of a line, except that of a line past the
 /// largest number, which takes long.
-static EXPLAINED: [(&[&str], &str, &str); 16] = [
+static EXPLAINED: [(&[&str], &str, &str); 17] = [
     (
         &["replay", "--kind", "plain"],
         "",
@@ -64,6 +64,11 @@ static EXPLAINED: [(&[&str], &str, &str); 16] = [
         &["board"],
         "board workers 3\n1 give 2\n",
         "bad line 2\n    1 give 2\nword 2 is neither put nor take; for `give` write `put`\n",
+    ),
+    (
+        &["board", "--progress"],
+        "board workers 3\n4 take\n",
+        "bad line 2\n    4 take\nword 1 is no number from 1 to 3; a job begins with the number of its worker\n",
     ),
     (
         &["board", "--sleep"],

@@ -129,3 +129,50 @@ fn a_replay_takes_lines_of_the_kind_that_is_named(rt: HostRuntime) -> Result<(),
     }
     Ok(())
 }
+
+/// What is said of the last of these lines, if there is memory to read them.
+const LAST_REFUSED: &str =
+    "bad line 302\n    ask 1\nword 1 is none of reset, prepend, link, load, home, done, grant, roll, freed, write, close; for `ask` write `reset`, `prepend` and `link`\n";
+
+#[test]
+fn want_of_memory_is_not_explained(rt: HostRuntime) -> Result<(), Fail> {
+    let alloc = rt.alloc();
+    let limit = MemoryLimit::begin(alloc, 1 << 28)?;
+    let mut words: Vec<String> = Vec::new(alloc);
+    for word in ["qolb", "steps", "--explain"] {
+        words.push(word.to_string(alloc)?)?;
+    }
+    let mut script = "nodes 1\n".to_string(alloc)?;
+    for _ in 0..300u64 {
+        script.push_str("reset 1\n")?;
+    }
+    script.push_str("ask 1\n")?;
+    let (mut scarce, mut refused) = (0u32, 0u32);
+    for bytes in (64..1usize << 16).step_by(64) {
+        let (status, out, err) = run_in(
+            &rt,
+            alloc,
+            &limit,
+            bytes,
+            words.as_slice(),
+            script.as_str(),
+        )?;
+        let wanted = if status == 3 {
+            scarce = scarce.saturating_add(1);
+            "out of memory\n"
+        } else {
+            refused = refused.saturating_add(1);
+            LAST_REFUSED
+        };
+        let is_said = out.is_empty() && err.as_slice() == wanted.as_bytes();
+        assert!(rt;
+            is_said && (status == 3 || status == 1),
+            "{status} in {bytes} bytes"
+        );
+    }
+    assert!(rt;
+        scarce > 100 && refused > 100,
+        "{scarce} and {refused} rooms"
+    );
+    Ok(())
+}
