@@ -73,7 +73,7 @@ struct port {
     _Alignas(128) CONTEXT;
 };
 
-static void open_line(void) { (void)take, (void)put, (void)add_one, (void)pause_or_yield; }
+static void open_line(void) { (void)take, (void)put, (void)add_one; }
 
 static void open_port(struct port *p, uint64_t node) {
     (void)node;

@@ -8,6 +8,10 @@
 
 enum { MAX_NODES = 200, SPINS = 256 };
 
+#ifndef PAUSES_A_POLL
+#define PAUSES_A_POLL 8
+#endif
+
 // The line. Without a lease turns_left and is_leased are 0.
 struct payload {
     uint8_t bytes[64];
@@ -62,8 +66,15 @@ static void add_one(struct payload *held) {
     write_masked(held, 0xff, line);
 }
 
-// Pauses between two polls: a single pause at first, and then a yield.
-static void pause_or_yield(unsigned *looks) {
+// Between two looks at a lock in place: a single pause at first, and then a yield.
+static inline void pause_or_yield(unsigned *looks) {
     if (++*looks <= SPINS) __builtin_ia32_pause();
     else sched_yield();
+}
+
+// Between two polls of a line, as in the proved ones: so many pauses at first, and then a yield.
+static inline void wait_to_poll(unsigned *polls) {
+    if (++*polls > SPINS / PAUSES_A_POLL) sched_yield();
+    else
+        for (int k = 0; k < PAUSES_A_POLL; k++) __builtin_ia32_pause();
 }

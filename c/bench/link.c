@@ -74,12 +74,12 @@ static void open_line(void) {}
 static void open_port(struct port *p, uint64_t node) { p->node = node; }
 
 static void one_round(struct port *p) {
-    unsigned looks = 0;
+    unsigned polls = 0;
     if (p->state == LEFT)
-        while (is_busy(p)) pause_or_yield(&looks);
-    looks = 0;
+        while (is_busy(p)) wait_to_poll(&polls);
+    polls = 0;
     if (!enqolb(p))
-        while (!look(p)) pause_or_yield(&looks);
+        while (!look(p)) wait_to_poll(&polls);
     add_one(&p->payload);
     deqolb(p);
 }

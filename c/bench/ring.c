@@ -40,9 +40,9 @@ static void open_line(void) { atomic_store(cell_word(0), 1); }
 static void open_port(struct port *p, uint64_t node) { (void)p, (void)node; }
 
 static void one_round(struct port *p) {
-    unsigned looks = 0;
+    unsigned polls = 0;
     if (!enqolb(p))
-        while (!look(p)) pause_or_yield(&looks);
+        while (!look(p)) wait_to_poll(&polls);
     add_one(&p->payload);
     deqolb(p);
 }

@@ -143,7 +143,7 @@ static void *work(void *thread) {
 }
 
 int main(int argc, char **argv) {
-    (void)take, (void)put, (void)add_one, (void)pause_or_yield;
+    (void)take, (void)put, (void)add_one;
     int threads = argc > 1 ? atoi(argv[1]) : 4;
     uint64_t micros = argc > 2 ? strtoull(argv[2], NULL, 10) : 0, seconds = argc > 3 ? strtoull(argv[3], NULL, 10) : 1;
     if (threads < 1 || threads > MAX_NODES) return 2;
