@@ -1,6 +1,10 @@
 //! Work scripts: from the bytes of the script to the text of the report.
-ghost use Rattle.std.specs.Prelude.{◌≡◌, ◌≤◌, ℕ, length, Err, IfOk, IfErr};
+ghost use Rattle.std.specs.Prelude.{◌≡◌, ◌≤◌, ℕ, length, Ok, Err, IfOk, IfErr};
 ghost use Rattle.qolb_replay.specs.declared.input.TheConstants.{MAX_BYTES};
+ghost use Rattle.qolb_script.specs.declared.report.Report.{Report};
+ghost use Rattle.qolb_script.specs.Reports.{report_text};
+ghost use Rattle.qolb_script.specs.WorkScript.{WorkScript, work_of};
+ghost use Rattle.qolb_work.specs.Reports.{IsReportOf};
 ghost use Rattle.qolb_run.specs.Outcome.{IsReplyOver, HasNoReport};
 
 use crate::each_lock::{KindSpec, Locks};
@@ -29,6 +33,11 @@ pub fn answer_work<T: Threads + Wait + Sync, G: Gate + Sync>(
 ) -> Result<Vec<u8>, TaskError>
     ensures ok { IfOk result (λ text. length script.now ≤ MAX_BYTES
         → IsReplyOver (⟦<Locks as KindSpec>⟧.done_over lock) kind script.now text.items) }
+    // Also of more bytes than `read_all` gives.
+    ensures any_length { IfOk result (λ text. (work : WorkScript) × (report : Report)
+        × (work_of kind script.now ≡ Ok work) × IsReportOf work report
+        × ⟦<Locks as KindSpec>⟧.done_over lock work report
+        × (text.items ≡ report_text report)) }
     ensures refused { IfErr result (HasNoReport kind script.now) }
     ensures by_gate { (worker : ℕ) → result ≡ Err (TaskError.Stalled worker)
         → G.may_refuse gate.now worker }

@@ -6,6 +6,7 @@ mod helps;
 mod hostile;
 mod long;
 mod notes;
+mod progress;
 mod runs;
 mod scarce;
 mod words;

@@ -156,11 +156,12 @@ fn no_byte_of_a_word_acts_on_a_terminal(rt: HostRuntime) -> Result<(), Fail> {
         let is_bad = !is_seen(byte) && byte != b'\n';
         let (line, what) = text.as_str().split_once('\n').ok_or("two lines")?;
         let is_safe = line.bytes().all(is_seen) && what.bytes().all(is_seen);
-        let found = (
-            complaint.number,
-            is_safe,
-            text.as_str().starts_with(said.as_str()),
-        );
+        let is_said = if matches!(byte, b'\t' | b'\r') {
+            text.as_str().starts_with(said.as_str())
+        } else {
+            text.as_str() == said.as_str()
+        };
+        let found = (complaint.number, is_safe, is_said);
         expect(&rt, said.as_str(), found, (2, true, is_bad));
     }
     Ok(())
@@ -198,15 +199,18 @@ fn a_byte_that_is_not_shown_is_told(rt: HostRuntime) -> Result<(), Fail> {
     for _ in 0..200u64 {
         shown.push_str("x")?;
     }
-    let script = format!(in alloc; "nodes 2 lines 1\n{shown}\t\n")?;
-    let wanted = format!(in alloc;
-        "    {shown} ..\nbyte 201, \\x09, is neither a space nor a visible ASCII character; spaces separate words"
-    )?;
-    expect_said(
-        &rt,
-        alloc,
-        ScriptKind::Schedule,
-        script.as_str(),
-        (2, wanted.as_str()),
-    )
+    for (more, place) in [("", 201), (shown.as_str(), 401)] {
+        let script = format!(in alloc; "nodes 2 lines 1\n{shown}{more}\t\n")?;
+        let wanted = format!(in alloc;
+            "    {shown} ..\nbyte {place}, \\x09, is neither a space nor a visible ASCII character; spaces separate words"
+        )?;
+        expect_said(
+            &rt,
+            alloc,
+            ScriptKind::Schedule,
+            script.as_str(),
+            (2, wanted.as_str()),
+        )?;
+    }
+    Ok(())
 }

@@ -2,7 +2,9 @@
 use crate::tests::rows::{expect, expect_at};
 use line_kinds::{Lock, TicketLine};
 use qolb_model::Free;
-use qolb_run::{AnyKind, KINDS, ReplayError, run_schedule_over, run_schedule_with};
+use qolb_run::{
+    AnyKind, KINDS, Kind, ReplayError, run_schedule, run_schedule_over, run_schedule_with,
+};
 use qolb_script::Watched;
 use std::alloc::Global;
 use std::process::Abort;
@@ -61,6 +63,43 @@ fn a_replay_takes_lines_of_its_kind(rt: HostRuntime) -> Result<(), Fail> {
                 Some(ReplayError::Memory)
             };
             expect_at(&rt, &(*kind, *room), found, wanted);
+        }
+    }
+    Ok(())
+}
+
+/// The kinds that `run_schedule` takes, by the memory that their lines take.
+static NAMED: [Kind; 3] = [Kind::Plain, Kind::Link, Kind::Ring];
+
+/// Replays `MANY_NODES` by `run_schedule` in a room of `room` KB. Returns the error.
+fn replayed_by_name(
+    alloc: Global,
+    limit: &MemoryLimit,
+    room: usize,
+    kind: Kind,
+) -> Result<Option<ReplayError>, Fail> {
+    let mut reader = Watched::new(MANY_NODES.as_bytes());
+    let mut text: Vec<u8> = Vec::with_capacity(alloc, 1 << 10)?;
+    let mut writer = Watched::new(&mut text);
+    let rest = limit.leave(alloc, room << 10)?;
+    let done = run_schedule(alloc, &mut reader, &mut writer, kind);
+    drop(rest);
+    Ok(done.err())
+}
+
+#[test]
+fn run_schedule_takes_lines_of_its_kind(rt: HostRuntime) -> Result<(), Fail> {
+    let limit = MemoryLimit::begin(rt.alloc(), 1 << 23)?;
+    for (larger, room) in ROOMS.iter().enumerate() {
+        for (place, kind) in NAMED.iter().enumerate() {
+            let found = replayed_by_name(rt.alloc(), &limit, *room, *kind)?;
+            let is_short = matches!(found, Some(ReplayError::Memory));
+            expect_at(
+                &rt,
+                &(*kind, *room),
+                (found.is_some(), is_short),
+                (place > larger, place > larger),
+            );
         }
     }
     Ok(())

@@ -192,6 +192,9 @@ pub fn are_seen<R: Abort>(rt: &R, sheet: Sheet) {
         Some("url(#tip)"),
     );
     expect(rt, "a rule", sheet.said(".small", "font-size"), Some("9px"));
+    for drawn in [".arrow", "#out path,#misuse path"] {
+        expect(rt, drawn, sheet.said(drawn, "stroke-width"), Some("2"));
+    }
 }
 
 /// Expects the same of the second sheet of a step picture, on the same page.
@@ -213,6 +216,9 @@ pub fn steps_are_seen<R: Abort>(rt: &R, sheet: Sheet, of_steps: Sheet) {
             expect_at(rt, &(*bar, is_dark), far >= Some(100), true);
         }
     }
+    let is_hidden = |word: &str| of_steps.by_day.contains(word) || of_steps.at_night.contains(word);
+    let hides = is_hidden("display") || is_hidden("visibility");
+    expect(rt, "hides something", hides, false);
     expect(rt, "hollow", is_hollow(of_steps, ".rests"), true);
     expect(rt, "hollow", is_hollow(of_steps, ".mailbox"), true);
     expect(
@@ -232,6 +238,9 @@ pub fn steps_are_seen<R: Abort>(rt: &R, sheet: Sheet, of_steps: Sheet) {
     let rim = said(of_steps.at_night, ".at", "stroke").and_then(colour);
     expect(rt, "rim", rim, sheet.colour(true, "svg", "background"));
 }
+
+/// The sign of who is told that the line is closed: a diamond of twelve pixels.
+const DIAMOND: &str = "<path d='M0 -6L6 0L0 6L-6 0z'/>";
 
 /// The signs of commands.
 const SIGNS: [&str; 4] = ["call", "out", "told", "misuse"];
@@ -267,5 +276,6 @@ pub fn signs_differ<R: Abort>(rt: &R, signs: &str) {
             expect_at(rt, &(*name, *other), shape != shape_of(signs, other), true);
         }
     }
+    expect(rt, "told", shape_of(signs, "told"), Some(DIAMOND));
     expect(rt, "the tip", signs.contains("<marker id='tip' "), true);
 }

@@ -26,15 +26,29 @@ const SHOWN: Long = [
     "line 0 served 0 withdrawn 0 told 0 left 1\n",
 ];
 
-/// The number of the first event that is refused, and the note on each of those that are repeated.
-type Note = (u32, &'static str);
+/// What is repeated, a command or an event, the number of the first, and the note on each.
+type Note = (&'static str, u32, &'static str);
 
 /// Words, a long script, its answer, and the notes on refusals. The answers of replays have 1.5 MB.
-static ANSWERED: [(&[&str], Long, Long, Option<Note>); 9] = [
+static ANSWERED: [(&[&str], Long, Long, Option<Note>); 10] = [
     (&["replay", "--kind", "plain"], HELD, SHOWN, None),
     (&["replay", "--kind", "ring"], HELD, SHOWN, None),
     (&["replay", "--kind", "link"], HELD, SHOWN, None),
     (&["replay", "--kind", "ticket"], HELD, SHOWN, None),
+    (
+        &["replay", "--kind", "link"],
+        ["nodes 1 lines 1\n", "poll 1 0\n", ""],
+        [
+            "",
+            "misuse\n",
+            "line 0 served 0 withdrawn 0 told 0 left 0\n",
+        ],
+        Some((
+            "command",
+            1,
+            "poll 1 0: node 1 neither waits nor holds, which allows enq",
+        )),
+    ),
     (
         &["steps"],
         ["nodes 1\n", "link 1\n", ""],
@@ -43,7 +57,7 @@ static ANSWERED: [(&[&str], Long, Long, Option<Note>); 9] = [
             "refused\n",
             "line 0 served 0 withdrawn 0 told 0 left 0\n",
         ],
-        Some((1, "link 1: node 1 is at Idle, which allows reset")),
+        Some(("event", 1, "link 1: node 1 is at Idle, which allows reset")),
     ),
     (
         &["steps", "--rank"],
@@ -54,6 +68,7 @@ static ANSWERED: [(&[&str], Long, Long, Option<Note>); 9] = [
             "released 0\nline 0 served 1 withdrawn 0 told 0 left 0\n",
         ],
         Some((
+            "event",
             3,
             "link 1: node 1 is at Holding, which allows home, write, close",
         )),
@@ -94,13 +109,13 @@ fn repeated(alloc: Global, long: &Long, times: u32) -> Result<String, Fail> {
     Ok(text)
 }
 
-/// Returns an answer, and behind it a note on each of the repeated events, if there are any.
+/// Returns an answer, and behind it a note on each of the repeated commands or events, if there are any.
 fn with_notes(alloc: Global, answer: &str, note: Option<Note>) -> Result<String, Fail> {
     let mut text = answer.to_string(alloc)?;
-    if let Some((first, note)) = note {
+    if let Some((what, first, note)) = note {
         for before in 0..TIMES {
             let number = before.saturating_add(first);
-            text.push_str(format!(in alloc; "event {number}, {note}\n")?.as_str())?;
+            text.push_str(format!(in alloc; "{what} {number}, {note}\n")?.as_str())?;
         }
     }
     Ok(text)
@@ -183,6 +198,31 @@ fn the_most_commands_are_answered(rt: HostRuntime) -> Result<(), Fail> {
     let words = ["replay", "--kind", "plain"];
     let want = (0, answer.as_bytes(), "");
     expect(&rt, alloc, words.as_slice(), script.as_str(), want)
+}
+
+/// The name of work, a script of as many jobs as there may be, and the report.
+static MOST_WORK: [(&str, Long, &str); 2] = [
+    (
+        "board",
+        ["board workers 1\n", "1 take\n", ""],
+        "stored 0\nfull 0\ntaken 0\nempty 100000\nleft 0\n",
+    ),
+    (
+        "bank",
+        ["bank workers 1 lines 1\n", "1 in 0 1\n", ""],
+        "in 100000\nout 0\ntotal 100000\n",
+    ),
+];
+
+#[test]
+fn the_most_jobs_are_done(rt: HostRuntime) -> Result<(), Fail> {
+    let alloc = rt.alloc();
+    for (name, script, report) in &MOST_WORK {
+        let script = repeated(alloc, script, 100_000)?;
+        let want = (0, report.as_bytes(), "");
+        expect(&rt, alloc, &[*name], script.as_str(), want)?;
+    }
+    Ok(())
 }
 
 /// The number of bytes of a script that has most of its lines empty.

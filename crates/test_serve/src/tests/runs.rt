@@ -1,4 +1,5 @@
 //! Runs of the program: words and script, with the status and the output.
+use crate::tests::long::with_explain;
 use line_kinds::{LOCKS, lock_names};
 use qolb_serve::serve;
 use std::alloc::Global;
@@ -137,11 +138,13 @@ fn expect_refused<T: Threads + Wait + Clock + Eprint + Abort + Sync>(
 fn refuses_a_script_of_more_than_16_mebibytes(rt: HostRuntime) -> Result<(), Fail> {
     let alloc = rt.alloc();
     let script = vec![in alloc; b'\n'; 16_777_217]?;
+    let explained = "script too long\na script has at most 16777216 bytes\n";
     for words in &TASKS {
         expect_refused(&rt, alloc, *words, &script, "script too long\n")?;
+        let all = with_explain(alloc, *words)?;
+        expect_refused(&rt, alloc, all.as_slice(), &script, explained)?;
     }
-    let explained = "script too long\na script has at most 16777216 bytes\n";
-    expect_refused(&rt, alloc, &["bank", "--explain"], &script, explained)
+    Ok(())
 }
 
 #[test]
@@ -152,7 +155,16 @@ fn refuses_a_script_of_more_than_100_000_commands(rt: HostRuntime) -> Result<(),
     }
     let refused = (1, "", "bad line 100003\n");
     let words = ["replay", "--kind", "plain"];
-    expect(&rt, rt.alloc(), words.as_slice(), script.as_str(), refused)
+    expect(&rt, rt.alloc(), words.as_slice(), script.as_str(), refused)?;
+    let all = with_explain(rt.alloc(), words.as_slice())?;
+    let explained = "bad line 100003\n    show 1 0\nmore than 100,000 commands, events or jobs\n";
+    expect(
+        &rt,
+        rt.alloc(),
+        all.as_slice(),
+        script.as_str(),
+        (1, "", explained),
+    )
 }
 
 /// A reader and writer that always fail.

@@ -89,6 +89,30 @@ fn refuses_command_lines(rt: HostRuntime) -> Result<(), Fail> {
     Ok(())
 }
 
+/// What is said of a word that is no subcommand.
+const NO_SUBCOMMAND: &str =
+    "error: unrecognized subcommand 'work'\n\nUsage: qolb <COMMAND>\n\nFor more information, try '--help'.\n";
+
+#[test]
+fn says_only_what_is_wrong(rt: HostRuntime) -> Result<(), Fail> {
+    let (status, out, err) = told(&rt, rt.alloc(), &["work"], "")?;
+    assert_eq!(rt;
+        (status, out.as_str(), err.as_str()),
+        (2, "", NO_SUBCOMMAND)
+    );
+    let (_, _, help) = told(&rt, rt.alloc(), &["--help"], "")?;
+    assert!(rt; help.starts_with("Queued line locks: "), "{help}");
+    for (name, _) in &HELPS {
+        let (_, _, help) = told(&rt, rt.alloc(), &[*name, "--help"], "")?;
+        let begins = FIRST_WORDS.iter().any(|first| help.starts_with(*first));
+        assert!(rt; begins, "{help}");
+    }
+    Ok(())
+}
+
+/// How the help of a subcommand begins.
+const FIRST_WORDS: [&str; 4] = ["Replays the ", "Runs the ", "Does the ", "Draws the "];
+
 /// The output of `--version`.
 const VERSION: &str = "qolb 2.0.0\nkinds of lines: plain, ring, link, ticket\n";
 
