@@ -1,5 +1,5 @@
 /* The C library's mutexes and condition variables, as a program may use them. `make check` runs it as it is, and with
- * every mutex a line (preload.c): both must answer the same. Prints only errors. */
+ * every mutex a lock (preload.c): both must answer the same. Prints only errors. */
 #define _GNU_SOURCE
 #include "mutexes.h"
 #include <limits.h>

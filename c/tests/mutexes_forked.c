@@ -1,5 +1,5 @@
 /* Mutexes and conditions in the child of a fork, whose other threads are not there. `make check` runs it as it is, and
- * with every mutex a line (preload.c): both must answer the same. Prints only errors. */
+ * with every mutex a lock (preload.c): both must answer the same. Prints only errors. */
 #define _GNU_SOURCE
 #include "mutexes.h"
 #include <sched.h>

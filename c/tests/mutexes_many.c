@@ -1,5 +1,6 @@
 /* Many mutexes and conditions, and a malloc that locks one: what they take of memory and of the kernel's maps. `make
- * check` runs it as it is, and with every mutex a line (preload.c), which takes 3 KB for each. Prints only errors. */
+ * check` runs it as it is, and with every mutex a lock (preload.c), which takes half a KB for each. Prints only
+ * errors. */
 #define _GNU_SOURCE
 #include "mutexes.h"
 #include <limits.h>

@@ -138,6 +138,15 @@ static SEEN_IN_STEPS: [(&str, &str, u64); 5] = [
     (".home", "fill", 25),
 ];
 
+/// How words of signs stand and how large they are, that an arrow has its tip, and that what is drawn by lines has some.
+static RULES: [(&str, &str, &str); 5] = [
+    (".small", "text-anchor", "middle"),
+    (".small", "font-size", "9px"),
+    (".arrow", "marker-end", "url(#tip)"),
+    (".arrow", "stroke-width", "2"),
+    ("#out path,#misuse path", "stroke-width", "2"),
+];
+
 /// Returns `true` if `what` is hollow, by night too, and answers the pointer inside.
 fn is_hollow(sheet: Sheet, what: &str) -> bool {
     sheet.said(what, "fill") == Some("none")
@@ -179,21 +188,13 @@ pub fn are_seen<R: Abort>(rt: &R, sheet: Sheet) {
     }
     expect(rt, "hollow", is_hollow(sheet, ".withdrawn"), true);
     expect(rt, "hides points alone", sheet.hides_points_alone(), true);
-    expect(
-        rt,
-        "a rule",
-        sheet.said(".small", "text-anchor"),
-        Some("middle"),
-    );
-    expect(
-        rt,
-        "a rule",
-        sheet.said(".arrow", "marker-end"),
-        Some("url(#tip)"),
-    );
-    expect(rt, "a rule", sheet.said(".small", "font-size"), Some("9px"));
-    for drawn in [".arrow", "#out path,#misuse path"] {
-        expect(rt, drawn, sheet.said(drawn, "stroke-width"), Some("2"));
+    for (what, property, value) in &RULES {
+        expect_at(
+            rt,
+            &(*what, *property),
+            sheet.said(what, property),
+            Some(*value),
+        );
     }
 }
 
