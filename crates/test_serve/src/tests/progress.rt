@@ -78,14 +78,12 @@ impl<R> Eprint for Slow<'_, R> {
         let done = self.said.load(Ordering::SeqCst).saturating_add(1);
         let line = format!(in self.alloc; "{value}");
         let next = format!(in self.alloc; "{done} of 3 jobs done");
-        match (line, next) {
-            (Ok(line), Ok(next)) if line.as_str() == next.as_str() => {
-                self.said.fetch_add(1, Ordering::SeqCst);
-            }
-            _ => {
-                self.others.fetch_add(1, Ordering::SeqCst);
-            }
-        }
+        let is_next = match (line, next) {
+            (Ok(line), Ok(next)) => line.as_str() == next.as_str(),
+            _ => false,
+        };
+        let count = if is_next { &self.said } else { &self.others };
+        count.fetch_add(1, Ordering::SeqCst);
         Ok(())
     }
 }
