@@ -6,11 +6,7 @@
 #include <stdlib.h>
 #include <string.h>
 
-enum { MAX_NODES = 200, SPINS = 256 };
-
-#ifndef PAUSES_A_POLL
-#define PAUSES_A_POLL 8
-#endif
+enum { MAX_NODES = 200, SPINS = 256, PAUSES_A_POLL = 8 };
 
 // The line. Without a lease turns_left and is_leased are 0.
 struct payload {
@@ -72,7 +68,7 @@ static inline void pause_or_yield(unsigned *looks) {
     else sched_yield();
 }
 
-// Between two polls of a line, as in the proved ones: so many pauses at first, and then a yield.
+// Between two polls of a line, as in the proved ones: eight pauses at first, and then a yield.
 static inline void wait_to_poll(unsigned *polls) {
     if (++*polls > SPINS / PAUSES_A_POLL) sched_yield();
     else
