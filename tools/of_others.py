@@ -9,7 +9,7 @@ suite it runs each test of pthread_mutex_* and pthread_cond_*, alone and with c/
 end differently is run again, so that one that ends now so, now so, is not held against the library. A test is ended after N seconds, 120.
 
 It prints a table, and ends with 1 if a test of ck failed with our locks, or one of the suite ended differently. --part runs one of the two. --write puts
-the table into tools/of_others.tsv, where a part that was not run stays as it was. It wants `make -C c check` and dpkg-dev; a quarter of an hour.
+the table into c/bench/figures/of_others.tsv, where a part that was not run stays as it was. It wants `make -C c check` and dpkg-dev; a quarter of an hour.
 """
 
 import argparse
@@ -26,7 +26,7 @@ import tempfile
 from crates import ROOT, run_main
 
 BUILD = ROOT / "c/build"
-RECORD = ROOT / "tools/of_others.tsv"
+RECORD = ROOT / "c/bench/figures/of_others.tsv"
 SOURCES = """Types: deb-src
 URIs: http://deb.debian.org/debian
 Suites: {suite}

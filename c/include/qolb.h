@@ -16,7 +16,7 @@
  * switches. Argued: the bound for a waiter, and that a holder sees what earlier holders wrote. No proof speaks of
  * the guarded data.
  *
- * Of a line, order and bytes are proved. Waits, notifications and memory are C: explored and tested.
+ * Of a line, order and bytes are proved. The rest is C: explored and tested.
  *
  * SANITIZERS AND DEBUGGERS
  *
@@ -28,7 +28,7 @@
  *
  * bpftrace, perf and gdb find probes where a thread waits (provider qolb: wait, sleep, wake, granted, withdrawn,
  * closed), if the library was built with <sys/sdt.h>. Their arguments are a line's label, the node's number, and a
- * number by which lines of one label differ. A lock has no label: there they are its address, the thread's ticket,
+ * number by which lines of one label differ. A lock has no label: there they are its address, a ticket of the thread,
  * from 1 on or 0 for none, and the address again.
  *
  * PROCESSOR
@@ -40,8 +40,8 @@
  * ==== qolb_lock(3): locks for any number of threads, with conditions ====
  *
  * A lock and the data that it guards lie where the program has them, as in a struct, the lock at a multiple of 16
- * bytes. It need not be freed. A task, and a call that gives up with more than 60 requests before it, take heap. No
- * call of a thread on a lock answers NO_MEMORY.
+ * bytes. It need not be freed. A task, a call with a limit that sleeps with more than 60 requests before it, and a
+ * thread that ends as a holder take heap. No call of a thread on a lock answers NO_MEMORY.
  *
  * INITIALISERS
  *
@@ -99,7 +99,7 @@
  * sleeps, a leave wakes it first. More than 65,535 count as 65,535; with 0 or 1 a lock is strict.
  *
  * Take strict order if each wait counts, bursts of 1,024 turns in place of a mutex: for many short turns, and if too
- * few processors are free (WAITING). Take fewer if those may last too long for a waiter.
+ * few processors are free (WAITING).
  *
  * LIMITS
  *
@@ -120,12 +120,12 @@
  * use one processor only. After polls without success a thread polls for less the next time. A thread that is woken
  * before its turn yields once.
  *
- * Leaving wakes the next holder. If the leaver had slept, it wakes the waiter behind that one, too. In a burst it wakes
- * the first waiter alone. It calls the system only if it may have to wake a sleeper.
+ * Leaving wakes the next holder. If the leaver had slept, it may wake the waiter behind that one, too. In a burst it
+ * wakes the first waiter alone. It calls the system only if it may have to wake a sleeper.
  *
  * A strict lock is the next thread's, even before that runs: all behind wait until it has had its turn. So if more
  * threads, of any program, want processors than there are, short turns may take many times as long. A lock with
- * bursts stays free meanwhile. No turn is promised: a thread waits until each earlier one has ended.
+ * bursts stays free meanwhile.
  *
  * No wait is a cancellation point. A thread that is cancelled while it waits is granted the lock or is late, and ends
  * at its next cancellation point. A thread that may be cancelled at any instruction (PTHREAD_CANCEL_ASYNCHRONOUS) must
@@ -161,7 +161,8 @@
  *   may go when no thread is in a call on it.
  * - Call nothing from a signal handler, nor in the forked child of a process with threads.
  * - Use one copy of the library for a lock: not the static one in the program and another one in what it opens at run
- *   time.
+ *   time. What is opened with the static one in it stays open.
+ * - If destructors of a thread's keys use locks, one does before their last round.
  *
  * Every other call that a lock does not allow is MISUSE, and changes nothing.
  *
@@ -245,8 +246,8 @@
  * 50 us on a line of five nodes or fewer and 20 us on others, then sleep by a futex until the line is released, and
  * poll anew. What qolb_lock(3) says of waiting holds here, too.
  *
- * A call that releases the line (qolb_deqolb, qolb_shut, and any that answers CLOSED) wakes at most two sleepers: the
- * next holder, and the waiter behind it ahead of its turn.
+ * A call that releases the line (qolb_deqolb, qolb_shut, and any that answers CLOSED) wakes the next holder, the
+ * waiter behind it ahead of its turn, and now and then one of another line.
  *
  * No call wakes, and no notification tells, the thread of a busy node: it asks again for 20 us, then every 200 us.
  *
@@ -315,8 +316,8 @@
  *   until then; for a task until qolb_task_poll answers GRANTED or CLOSED, or qolb_task_cancel returns: then no call
  *   is made.
  * - Open an eventfd with EFD_NONBLOCK: else a full count makes the release wait. Before you close it, call
- *   qolb_notify_off or qolb_task_cancel, or have had the turn; it may be readable even then. After a fork a release in
- *   the child writes to the parent's eventfd, too.
+ *   qolb_notify_off; for a task qolb_task_cancel, or have had its turn. It may be readable even then. After a fork a
+ *   release in the child writes to the parent's eventfd, too.
  *
  * TASKS
  *
@@ -435,7 +436,7 @@ uint32_t qolb_open(uint32_t kind, uint64_t label, uint64_t nodes, uint64_t lease
                    qolb_node *out, size_t handles) QOLB_LOOK;
 
 /* Returns the bytes of heap that an open line of this kind and number of nodes keeps (KINDS). 0 if opening answers
- * BAD_KIND or BAD_NODES. Opening takes more for a moment. */
+ * BAD_KIND or BAD_NODES. */
 uint64_t qolb_memory(uint32_t kind, uint64_t nodes);
 
 /* Requests the line, and does not wait. If the node may ask: GRANTED, QUEUED, CLOSED, BUSY. Else MISUSE. */
@@ -575,8 +576,8 @@ uint32_t qolb_lock_close(qolb_lock *lock);
 /* 1 if the calling thread holds the lock, else 0. */
 int qolb_lock_is_mine(const qolb_lock *lock);
 
-/* A number of the thread that holds the lock; UINT64_MAX if a task does; 0 if none does, and for the moment of a
- * handoff. On Linux it is what gettid said at the thread's first entry to a lock. */
+/* A number of the thread that holds the lock; UINT64_MAX if a task does; 0 if none does, and during a handoff: to a
+ * task until that polls. On Linux it is what gettid said at the thread's first entry to a lock. */
 uint64_t qolb_lock_holder(const qolb_lock *lock);
 
 /* Leaves the lock, waits at the condition until a signal or a broadcast, and enters the lock again; no signal after the
@@ -589,7 +590,7 @@ uint32_t qolb_cond_wait(qolb_cond *cond, qolb_lock *lock) QOLB_LOOK;
 uint32_t qolb_cond_wait_within(qolb_cond *cond, qolb_lock *lock, uint64_t nanoseconds) QOLB_LOOK;
 
 /* A signal wakes the thread that has waited longest at the condition, a broadcast all. The caller may hold the lock or
- * not. DONE, also if no thread waits. */
+ * not. DONE. */
 uint32_t qolb_cond_signal(qolb_cond *cond);
 uint32_t qolb_cond_broadcast(qolb_cond *cond);
 
@@ -609,8 +610,7 @@ typedef struct qolb_task {
  * the task waits or holds, or `call` is null. NO_MEMORY. */
 uint32_t qolb_task_enter(qolb_task *task, qolb_lock *lock, void (*call)(void *arg), void *arg) QOLB_LOOK;
 
-/* Asks as qolb_task_enter, and has 1 added to the eventfd `fd` in place of a call; MISUSE if `fd` is negative. Close
- * `fd` only after the task's turn or qolb_task_cancel. */
+/* Asks as qolb_task_enter, and has 1 added to the eventfd `fd` in place of a call; MISUSE if `fd` is negative. */
 uint32_t qolb_task_enter_fd(qolb_task *task, qolb_lock *lock, int fd) QOLB_LOOK;
 
 /* Polls for a task that waits: GRANTED, and it holds the lock; CLOSED; WAITING, and the call will be made; again, if it
@@ -741,11 +741,13 @@ QOLB_LOOK static inline uint32_t qolb_task_enter_fd_(qolb_task *task, qolb_lock 
     return qolb_tasked_(task, qolb_task_enter_fd(task, lock, fd));
 }
 QOLB_LOOK static inline uint32_t qolb_task_poll_(qolb_task *task) { return qolb_tasked_(task, qolb_task_poll(task)); }
+static inline uint32_t qolb_task_cancel_(qolb_task *task) { return qolb_tasked_(task, qolb_task_cancel(task)); }
 static inline uint32_t qolb_task_leave_(qolb_task *task) { return qolb_task_leaves_(task), qolb_task_leave(task); }
 static inline uint32_t qolb_task_shut_(qolb_task *task) { return qolb_task_leaves_(task), qolb_task_shut(task); }
 #define qolb_task_enter qolb_task_enter_
 #define qolb_task_enter_fd qolb_task_enter_fd_
 #define qolb_task_poll qolb_task_poll_
+#define qolb_task_cancel qolb_task_cancel_
 #define qolb_task_leave qolb_task_leave_
 #define qolb_task_shut qolb_task_shut_
 #define qolb_lock_enter qolb_lock_enter_

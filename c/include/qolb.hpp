@@ -326,18 +326,17 @@ template <class Change> Got Node::with(Change change) {
     return got;
 }
 
-// The most turns of a burst: qolb::burst{1024}. With 0 or 1 a lock is strict. More than 65,535 do not
-// compile.
+// The most turns of a burst: qolb::burst{1024}. With 0 or 1 a lock is strict. More than 65,535 count as 65,535.
 struct burst {
-    std::uint16_t turns;
+    std::uint64_t turns;
 };
 
 // A lock that any thread may enter (qolb_lock(3)). It is made at compile time, in its own 320 bytes, and opens at its
 // first use: so a static one needs no constructor at run time.
 //
 // It is a timed lock as the standard library means it: std::lock_guard, std::unique_lock, std::scoped_lock and
-// std::condition_variable_any take it. The thread that entered must leave. It may be destroyed if no thread holds it or
-// waits for it.
+// std::condition_variable_any take it. The thread that entered must leave. It may be destroyed if no thread holds it,
+// waits for it or is about to call it; its destructor does nothing, so threads may use a static one until the end.
 class Lock {
   public:
     // Strict: first come, first served.
@@ -346,8 +345,6 @@ class Lock {
     explicit constexpr Lock(burst most) noexcept : lock_ QOLB_LOCK_INIT_BURSTS(most.turns) {}
     Lock(const Lock &) = delete;
     Lock &operator=(const Lock &) = delete;
-    ~Lock() { qolb_lock_close(&lock_); }
-
     // As in qolb.h: granted; closed; late or busy; misuse if the thread holds it.
     QOLB_NODISCARD qolb_answer enter() { return answer(qolb_lock_enter(&lock_)); }
     QOLB_NODISCARD qolb_answer try_enter() { return answer(qolb_lock_try(&lock_)); }

@@ -17,8 +17,8 @@
 //! }
 //! ```
 //!
-//! A program takes the crate that is installed, `qolb = { path = "PREFIX/share/qolb/rust" }`, whose build script finds the library; or this file as a
-//! module, `#[path = ".../qolb.rs"] mod qolb;`, and links with `-lqolb`. With the crate's feature `lock_api`, `lock_api::Mutex<RawQolb, T>` is a mutex as
+//! A program takes the crate that is installed, `qolb = { path = "PREFIX/share/qolb/rust" }`, whose build script finds the library; or, from edition
+//! 2021 on, this file as a module, `#[path = ".../qolb.rs"] mod qolb;`, and links with `-lqolb`. With the crate's feature `lock_api`, `lock_api::Mutex<RawQolb, T>` is a mutex as
 //! those of `parking_lot`.
 //!
 //! # Beside `std::sync::Mutex`
@@ -833,7 +833,7 @@ fn no_memory() -> ! {
     std::alloc::handle_alloc_error(std::alloc::Layout::new::<[Handle; 200]>())
 }
 
-/// A mutex for a value of any size, which threads get in the order in which they asked. The lock is in a box of its own.
+/// A mutex for a value of any size. Threads get a strict one in the order in which they asked. The lock is in a box of its own.
 ///
 /// Nothing is poisoned: a panic while it is held releases it, with the writes until then. A thread that locks a mutex that it holds is told
 /// [`Stopped::Misuse`], and holds it as before; but if a task of that thread holds it, it waits, and for ever if that thread would have to drop the task's
@@ -912,8 +912,17 @@ impl<T: ?Sized> Mutex<T> {
         self.value.get_mut()
     }
 
-    /// Returns the lock, for its holder's number.
-    pub fn raw(&self) -> &RawQolb {
+    /// Returns the number of its holder ([`RawQolb::holder`]).
+    pub fn holder(&self) -> Option<u64> {
+        self.raw.holder()
+    }
+
+    /// Returns the lock.
+    ///
+    /// # Safety
+    ///
+    /// It is not left, nor shut, while a guard of this mutex is there.
+    pub unsafe fn raw(&self) -> &RawQolb {
         &self.raw
     }
 
@@ -1221,9 +1230,13 @@ impl Node {
         TurnFuture { node: Some(self), waits: false, slot: Slot::default() }
     }
 
-    /// Has 1 added to an eventfd when the request of this node is at its turn: `Waiting`; else as `poll`. Call `notify_off` before the descriptor is closed.
+    /// Has 1 added to an eventfd when the request of this node is at its turn: `Waiting`; else as `poll`.
+    ///
+    /// # Safety
+    ///
+    /// The descriptor is not closed before `notify_off` has returned, or the node is closed.
     #[must_use]
-    pub fn notify_fd(&mut self, fd: BorrowedFd<'_>) -> Answer {
+    pub unsafe fn notify_fd(&mut self, fd: BorrowedFd<'_>) -> Answer {
         told(unsafe { qolb_notify_fd(self.0.get_mut(), fd.as_raw_fd()) })
     }
 
@@ -1319,9 +1332,18 @@ impl<'a> Entering<'a> {
         self.waits = answer == Answer::Waiting;
         match answer {
             Answer::Waiting => Poll::Pending,
+            Answer::NoMemory if is_memory_left() => {
+                context.waker().wake_by_ref();
+                Poll::Pending
+            }
             answer => Poll::Ready(entered(answer).map(|_| std::mem::replace(&mut self.task, RawTask::new()))),
         }
     }
+}
+
+/// Then a task that is told otherwise found more than 16,380 open requests.
+fn is_memory_left() -> bool {
+    Vec::<Handle>::new().try_reserve(1).is_ok()
 }
 
 impl Drop for Entering<'_> {
@@ -1348,7 +1370,8 @@ fn leave_by(raw: &RawQolb, task: &mut RawTask, shuts: bool) {
 impl<T: ?Sized> Mutex<T> {
     /// Asks when it is first polled, and is ready when the mutex is granted or shut. Dropped before, it gives up.
     ///
-    /// Any number of tasks and threads have their turns in the order in which they asked. The guard may be dropped by another thread.
+    /// Tasks and threads have their turns in the order in which they asked, of a strict mutex. While more than 16,380 requests are open a task is in no
+    /// queue: it asks again whenever it is polled, and wakes itself for that. The guard may be dropped by another thread.
     pub fn lock_async(&self) -> MutexFuture<'_, T> {
         MutexFuture { mutex: self, entering: Some(Entering::new(&self.raw)) }
     }
@@ -1450,7 +1473,7 @@ mod api {
         }
     }
 
-    // SAFETY: it is always fair.
+    // SAFETY: every release is as fair as the lock: strict, or with bursts.
     unsafe impl RawMutexFair for RawQolb {
         unsafe fn unlock_fair(&self) {
             self.leave();

@@ -105,12 +105,13 @@ uint32_t qolb_prepend(qolb_node *node) { return told(node, qolb_prepend_proved_(
 
 uint32_t qolb_link(qolb_node *node) { return told(node, qolb_link_proved_(node)); }
 
-/* The node with hints with which the thread waited for a turn last, by its address, until it releases. */
+/* The node with hints with which the thread waited for a turn last, by its address, until it releases by qolb_deqolb.
+ * Another node may lie there by then. */
 static BY_THREAD const void *waited_with;
 
 __attribute__((noinline)) static void hint(const qolb_node *node) {
     waited_with = NULL;
-    hint_release(hints_of(node));
+    if (hints_of(node)->home) hint_release(hints_of(node));
 }
 
 uint32_t qolb_deqolb(qolb_node *node) {

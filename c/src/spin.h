@@ -16,7 +16,8 @@
  *
  * A waiter that was woken, and is not at its turn, yields its processor once: it may have taken that from the holder,
  * in one of eight turns of 10 us where 32 threads wait. Else no waiter yields: that makes handoffs slower, and a
- * real-time thread gives way to none of a lower priority. A process that may use one processor only does not spin. */
+ * real-time thread gives way to none of a lower priority. A process that could use one processor only at its
+ * first wait does not spin. */
 #ifndef QOLB_SPIN_H
 #define QOLB_SPIN_H
 

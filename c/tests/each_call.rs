@@ -97,10 +97,16 @@ fn polled<T>(future: impl Future<Output = Result<T, Stopped>>) -> String {
     }
 }
 
+/// A wish for what outlives it.
+fn wants(node: &mut Node, end: &UnixStream) -> Answer {
+    // SAFETY: each test takes the wish back, or closes the node, before it drops the end.
+    unsafe { node.notify_fd(end.as_fd()) }
+}
+
 /// A wish, and what takes it back, twice.
 fn wants_and_wants_no_more(node: &mut Node) -> String {
     let (end, _other) = UnixStream::pair().unwrap();
-    format!("{:?} {:?} {:?}", node.notify_fd(end.as_fd()), node.notify_off(), node.notify_off())
+    format!("{:?} {:?} {:?}", wants(node, &end), node.notify_off(), node.notify_off())
 }
 
 /// A call, its answer in each state, as `Debug` writes it, and the state after it.
@@ -216,8 +222,8 @@ fn is_told(mut end: &UnixStream) -> bool {
 fn wishes_end(kind: Kind) {
     let [(first, told_first), (second, told_second), (third, told_third)] = [(); 3].map(|()| UnixStream::pair().unwrap());
     let Line { mut node, first: mut holder, third: mut last } = Line::new(kind, Queued);
-    assert_eq!((node.notify_fd(first.as_fd()), node.notify_fd(second.as_fd())), (Answer::Waiting, Answer::Waiting));
-    assert_eq!((last.enqolb(), last.notify_fd(third.as_fd()), last.withdraw()), (Answer::Queued, Answer::Waiting, Answer::Withdrawn));
+    assert_eq!((wants(&mut node, &first), wants(&mut node, &second)), (Answer::Waiting, Answer::Waiting));
+    assert_eq!((last.enqolb(), wants(&mut last, &third), last.withdraw()), (Answer::Queued, Answer::Waiting, Answer::Withdrawn));
     assert!(last.close().is_ok());
     assert_eq!(holder.deqolb(), Answer::Done);
     assert_eq!((is_told(&told_first), is_told(&told_second)), (false, true));

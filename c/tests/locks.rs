@@ -35,10 +35,11 @@ fn mutex_guards() {
 
 fn mutex_answers() {
     let mutex = Mutex::new(5);
-    assert_eq!(mutex.raw().holder(), None);
-    assert_eq!(mutex.raw().leave(), Answer::Misuse);
+    assert_eq!(mutex.holder(), None);
+    // SAFETY: it is left by nobody who holds it, here and below.
+    assert_eq!(unsafe { mutex.raw() }.leave(), Answer::Misuse);
     let held = mutex.lock().unwrap();
-    assert!(mutex.raw().holder().is_some());
+    assert!(mutex.holder().is_some());
     assert_eq!(mutex.lock().err(), Some(Stopped::Misuse));
     assert_eq!(mutex.try_lock_for(MS).err(), Some(Stopped::Misuse));
     assert!(mutex.try_lock().unwrap().is_none());
@@ -51,7 +52,7 @@ fn mutex_answers() {
             let end = Instant::now() + 20 * MS;
             assert!(mutex.try_lock_until(end).unwrap().is_none() && Instant::now() >= end);
             assert!(mutex.try_lock_until(since).unwrap().is_none());
-            assert_eq!(mutex.raw().leave(), Answer::Misuse);
+            assert_eq!(unsafe { mutex.raw() }.leave(), Answer::Misuse);
         });
         other.join().unwrap(); // the thread sanitizer sees this, and not the end of a scope
     });

@@ -2,8 +2,8 @@
  *
  * A waiter is in two lists, by an entry on its stack: that of the condition, under a guard, from whose front a signal
  * takes one; and that of the lock, under the lock itself, by which a shut tells all. It sleeps on a word of its entry,
- * which is set once. It is a guest of the lock from before it leaves until it has a ticket again, or is told of a shut:
- * so the lock is not closed meanwhile. */
+ * which is set once. It is a guest of the lock from before it leaves until it has a ticket again: so the lock is not
+ * closed meanwhile. Who is told of a shut asks, too, and is answered CLOSED at its turn: the shut is over by then. */
 #include "lock.h"
 
 enum { NOTHING, SIGNALLED, SHUT };
@@ -58,25 +58,20 @@ static int tell(struct waiter *waiter, unsigned what) {
     return 1;
 }
 
-static unsigned await_word(struct waiter *me, uint64_t nanoseconds) {
-    struct limit limit = from_now(nanoseconds);
+static unsigned await_word(struct waiter *me, const struct limit *limit) {
     uint64_t time = 1;
     unsigned told;
-    while (!(told = atomic_load(&me->told)) && (time = left(&limit))) qolb_sleep_at_(&me->told, NOTHING, time);
+    while (!(told = atomic_load(&me->told)) && (time = left(limit))) qolb_sleep_at_(&me->told, NOTHING, time);
     return told;
 }
 
 uint32_t qolb_cond_wait_at_(qolb_cond *cond, struct lock *lock, struct turn *at, uint64_t nanoseconds) {
+    struct limit limit = from_now(nanoseconds); /* leaving may make calls of tasks */
     struct waiter me;
     stand(cond, lock, &me);
     atomic_fetch_add(&lock->guests, 1);
     qolb_leave_at_(lock, at);
-    unsigned told = await_word(&me, nanoseconds);
-    int stood = told != SIGNALLED && stand_no_more(cond, &me);
-    if (told == SHUT) {
-        atomic_fetch_sub(&lock->guests, 1); /* its last access to the lock */
-        return QOLB_CLOSED;
-    }
+    int stood = await_word(&me, &limit) != SIGNALLED && stand_no_more(cond, &me);
     uint32_t got = qolb_enter_at_(lock, at, FOR_EVER, 1);
     if (got != QOLB_GRANTED) return got;
     stand_no_more_in(&me);

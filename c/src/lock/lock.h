@@ -26,8 +26,8 @@
 enum { MAX_BURST = 65535, LOCK_BYTES = 320, LINE = 64, CORE_WORDS = CORE_WORDS_BYTES / 8, SPARE_WORDS = 3 };
 
 /* How a qolb_lock's bytes are used. The first part is written once, when it is opened; what the holder writes lies
- * behind it; and the core's words begin where the outer word shares no cache line with the first part, and the tail and
- * the cells, words 16 to 20, are in one line. */
+ * behind it; and the core's words begin where the outer word shares no cache line with `block`, which each call reads,
+ * and the tail and the cells, words 16 to 20, are in one line. */
 struct __attribute__((may_alias)) lock {
     /* By who opens it: NULL, OPENING, AWAITED, and then the address of `block`. */
     struct qolb_core core;
@@ -277,10 +277,11 @@ HIDDEN uint32_t qolb_stand_for_(struct entry *e, struct qolb_ticket *ticket);
 /* In place of a ticket's number: the queue head's, which sleeps at the outer word. */
 #define HEAD UINT64_MAX
 
-/* Whom a granted ticket, or the queue head that sleeps, is of: of a thread; abandoned, and here it is at its turn; of a
- * task. The key is that of a call to make, or 0. The lock may be gone. */
+/* Whom a granted ticket, or the queue head that sleeps, is of, in the lock with this label: of a thread; abandoned, and
+ * here it is at its turn; of a task. The key is that of a call to make, or 0. The lock may be gone. */
 enum found { NOBODY, ABANDONED, A_TASK };
-HIDDEN enum found qolb_find_entry_(struct lock *lock, uint64_t number, struct qolb_ticket *ticket, uint64_t *key);
+HIDDEN enum found qolb_find_entry_(struct lock *lock, uint64_t number, uint64_t label, struct qolb_ticket *ticket,
+                                   uint64_t *key);
 
 /* The state of a task. With a ticket, a task that WAITS gives up, and is IDLE: the ticket is FREE, or AT_TURN. */
 HIDDEN unsigned qolb_state_of_(struct task *task, struct qolb_ticket *withdrawn);

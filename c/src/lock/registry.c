@@ -5,8 +5,8 @@
  *
  * - An entry is put into its list, and then announces its ticket's sleep by the proved call. So who grants the ticket
  *   is told of a sleeper, looks, and finds the entry. If the ticket is at its turn already, the entry is taken out.
- * - Who grants has the lock's address alone: the lock may be gone. While an entry is in, its lock lives. Who finds one
- *   looks at its ticket's cell first, as it may be of a younger lock at that address, and wait.
+ * - Who grants has the lock's address and label: the lock may be gone. While an entry is in, its lock lives. One of a
+ *   younger lock at that address has another label: it is left to who grants there.
  * - Who takes an entry out retracts its sleep, and only then passes its turn on, withdraws or tells: with any of these
  *   the lock may go. An abandoned turn is passed on. A task's is the task's, which is *due*: its call is made, and its
  *   poll, or whoever cancels, goes on from there.
@@ -14,9 +14,10 @@
  *   held, its entry goes to the list of heads, and then requests the handoff, so that no newcomer follows who is in,
  *   and announces the head's sleep. Who leaves is told of that, looks there, and takes the word for the task.
  *
- * The lists of a lock's tasks have one guard, which sleeps; abandoned tickets have others, so that calls which give up
- * at the same time don't sleep at one. No call of a task is made under a guard. */
+ * The lists of a lock's tasks have one guard, which sleeps; tickets that calls abandon have others, so that calls which
+ * give up at the same time don't sleep at one. No call of a task is made under a guard. */
 #include "lock.h"
+#include <errno.h>
 #include <stdlib.h>
 
 enum { ROWS = 32, COLUMNS = 256 };
@@ -101,7 +102,9 @@ static void free_entry(struct entry *e) {
 /* ---- Entering the registry ---- */
 
 struct entry *qolb_new_entry_(struct lock *lock, struct task *task) {
+    int kept = errno;
     struct entry *e = malloc(sizeof *e);
+    errno = kept;
     if (e) *e = (struct entry){.lock = lock, .task = task, .at = lock};
     return e;
 }
@@ -176,14 +179,14 @@ uint32_t qolb_stand_for_(struct entry *e, struct qolb_ticket *ticket) {
 
 /* ---- Who is granted, and who is told ---- */
 
-static enum found find_at(const void *at, struct lock *lock, uint64_t number, struct qolb_ticket *ticket,
-                          uint64_t *key) {
+static enum found find_at(const void *at, struct lock *lock, uint64_t number, uint64_t label,
+                          struct qolb_ticket *ticket, uint64_t *key) {
     enum found found = NOBODY;
     struct entry *gone = NULL;
     if (!last_of(list_of(at, number))) return NOBODY;
     atomic_uint *guard = qolb_guard_(at);
     struct entry *e = find(at, lock, number);
-    if (e && (number == HEAD || rounds_to_go(lock, number) == 0)) {
+    if (e && lock->label == label) {
         found = e->task ? A_TASK : ABANDONED;
         *ticket = out_of(e);
         if (found == ABANDONED) gone = e;
@@ -194,10 +197,11 @@ static enum found find_at(const void *at, struct lock *lock, uint64_t number, st
     return found;
 }
 
-enum found qolb_find_entry_(struct lock *lock, uint64_t number, struct qolb_ticket *ticket, uint64_t *key) {
+enum found qolb_find_entry_(struct lock *lock, uint64_t number, uint64_t label, struct qolb_ticket *ticket,
+                            uint64_t *key) {
     *key = 0;
-    enum found found = number == HEAD ? NOBODY : find_at(place_of(lock, number), lock, number, ticket, key);
-    return found == NOBODY ? find_at(lock, lock, number, ticket, key) : found;
+    enum found found = number == HEAD ? NOBODY : find_at(place_of(lock, number), lock, number, label, ticket, key);
+    return found == NOBODY ? find_at(lock, lock, number, label, ticket, key) : found;
 }
 
 /* ---- A task gives up ---- */

@@ -19,6 +19,32 @@
 
 _Alignas(LINE) BY_THREAD struct own qolb_own_;
 
+/* ---- The list of tables ---- */
+
+static struct {
+    atomic_uint guard;
+    struct own *first;
+} tables;
+
+static int holds_some(const struct own *it) {
+    for (int k = 0; k < MOST_HELD; k++)
+        if (has(&it->table[k], HELD)) return 1;
+    return 0;
+}
+
+/* Both under the guard. */
+static void put_into_list(struct own *it) {
+    it->next = tables.first;
+    it->before = &tables.first;
+    if (it->next) it->next->before = &it->next;
+    tables.first = it;
+}
+
+static void take_from_list(struct own *it) {
+    *it->before = it->next;
+    if (it->next) it->next->before = it->before;
+}
+
 /* ---- A thread's turns ---- */
 
 /* Whether a place says that its thread holds this lock. It says so of one that lay at this address before, too: their
@@ -49,9 +75,25 @@ static void move_into(struct lock *lock, const struct turn *at) {
     this_thread()->beyond++;
 }
 
+/* Of an ended table's copy, which is freed with its last turn. */
+static struct turn *take_from_rest(const struct turn *at, struct turn *beyond) {
+    struct own *rest = this_thread()->rest;
+    *beyond = *at;
+    if (holds_some(rest)) return beyond;
+    take_guard(&tables.guard);
+    take_from_list(rest);
+    return_guard(&tables.guard);
+    this_thread()->rest = NULL;
+    free(rest);
+    return beyond;
+}
+
 struct turn *qolb_take_turn_(struct lock *lock, struct turn *beyond) {
     struct turn *at = find(lock);
-    if (at) return set_core(at, core_at(at) - HELD + LAST), at;
+    if (at) {
+        set_core(at, core_at(at) - HELD + LAST);
+        return this_thread()->rest ? take_from_rest(at, beyond) : at;
+    }
     if (!holds_beyond(lock)) return NULL;
     uint32_t state = has_bursts(lock) ? QOLB_TICKET_INSIDE_ : QOLB_TICKET_SERVED_;
     *beyond = (struct turn){.ticket = kept_ticket(lock, *spare_of(lock, KEPT_NUMBER), state)};
@@ -60,28 +102,21 @@ struct turn *qolb_take_turn_(struct lock *lock, struct turn *beyond) {
     return beyond;
 }
 
-/* ---- The list of tables ---- */
-
-static struct {
-    atomic_uint guard;
-    struct own *first;
-} tables;
+/* ---- A table's time ---- */
 
 static pthread_key_t at_end;
+static int has_key;
 
 /* At the thread's end. Where no place names a lock, entering it takes the slow way. Without memory for a copy the
  * holder is not known. */
 static void forget_table(void *table) {
     struct own *it = table;
-    int kept = errno, holds = 0;
-    for (int k = 0; k < MOST_HELD; k++) holds |= has(&it->table[k], HELD);
-    struct own *rest = holds ? malloc(sizeof *rest) : NULL;
+    int kept = errno;
+    struct own *rest = holds_some(it) ? malloc(sizeof *rest) : NULL;
     errno = kept;
     take_guard(&tables.guard);
-    struct own *next = it->next;
-    if (rest) *rest = *it, rest->known = ENDED, *it->before = rest;
-    else *it->before = next;
-    if (next) next->before = rest ? &rest->next : it->before;
+    take_from_list(it);
+    if (rest) *rest = *it, rest->known = ENDED, put_into_list(rest);
     return_guard(&tables.guard);
     for (int k = 0; k < MOST_HELD; k++)
         if (rest || !has(&it->table[k], HELD)) set_core(&it->table[k], 0);
@@ -91,15 +126,15 @@ static void forget_table(void *table) {
 
 /* The child of a fork has no other thread. */
 static void know_this_table_alone(void) {
-    struct own *it = this_thread();
+    struct own *me = this_thread();
     atomic_store(&tables.guard, 0);
-    tables.first = it->known == KNOWN ? it : NULL;
-    it->next = NULL;
-    it->before = &tables.first;
+    tables.first = NULL;
+    if (me->rest) put_into_list(me->rest);
+    else if (me->known == KNOWN) put_into_list(me);
 }
 
 /* glibc and musl run destructors in the order of their keys' numbers. Behind 31 others a table is forgotten in the same
- * round as theirs: also in the last one, if a lock is first used there. */
+ * round as theirs: also in the last one, if one of theirs uses a lock first there. */
 static int make_key(void) {
     enum { KEYS_BEFORE = 31 };
     pthread_key_t lower[KEYS_BEFORE];
@@ -110,23 +145,18 @@ static int make_key(void) {
     return got;
 }
 
-static void begin(void) {
-    if (make_key() != 0 || pthread_atfork(NULL, NULL, know_this_table_alone) != 0) abort();
-}
+static void begin(void) { has_key = pthread_atfork(NULL, NULL, know_this_table_alone) == 0 && make_key() == 0; }
 
-/* Without memory its end would not be noticed: so it counts as one that has ended. */
+/* Without memory, or a key, its end would not be noticed: so it counts as one that has ended. */
 static void know_table(struct own *it) {
     static pthread_once_t begun = PTHREAD_ONCE_INIT;
     int kept = errno;
     pthread_once(&begun, begin);
-    it->known = pthread_setspecific(at_end, it) == 0 ? KNOWN : ENDED;
+    it->known = has_key && pthread_setspecific(at_end, it) == 0 ? KNOWN : ENDED;
     errno = kept;
     if (it->known == ENDED) return;
     take_guard(&tables.guard);
-    it->next = tables.first;
-    it->before = &tables.first;
-    if (it->next) it->next->before = &it->next;
-    tables.first = it;
+    put_into_list(it);
     return_guard(&tables.guard);
 }
 
@@ -141,8 +171,11 @@ uint64_t qolb_draw_number_(void) {
 
 /* ---- A place for a turn ---- */
 
-/* A place that says that the thread holds a lock which lay at this address before is free. */
-static int is_free(const struct turn *at, const struct lock *lock) { return !has(at, HELD) || says_held(at, lock); }
+/* A place that says that the thread holds a lock which lay at this address before is free. One whose ticket is in use
+ * is not: the program's malloc, which a waiting call may make, enters locks. */
+static int is_free(const struct turn *at, const struct lock *lock) {
+    return has(at, HELD) ? says_held(at, lock) : at->ticket.state == QOLB_TICKET_FREE_;
+}
 
 struct turn *qolb_place_for_(const struct lock *lock, struct turn *beyond) {
     struct own *me = this_thread();

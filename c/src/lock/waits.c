@@ -7,8 +7,8 @@
  * Who gives up withdraws, or abandons its ticket to the registry if its turn is too far for that.
  *
  * The queue head waits at the outer word in the same way: it announces its sleep there, and who leaves is told. It
- * takes the word when that is reserved for it, or when it finds it free twice with no turn in between: so newcomers
- * have their burst. It requests the handoff after a sixteenth of the bound, or a millisecond.
+ * takes the word when that is reserved for it, or when that is free, and no newcomer came since its last look: so
+ * newcomers have their burst. It requests the handoff after a sixteenth of the bound, or a millisecond.
  *
  * Who slept for its turn wakes the waiter behind the one that it grants as well, while others sleep there: that one's
  * thread gets up during the turn before its own. */
@@ -87,11 +87,11 @@ static void release(struct lock *lock, struct qolb_ticket *ticket, uint32_t got)
 
 /* A ticket was granted at whose cell somebody sleeps: passes it on while it is an abandoned one, and wakes its thread.
  * The key of a call to make, or 0. */
-__attribute__((noinline)) static uint64_t tell(struct lock *lock, uint64_t number) {
+__attribute__((noinline)) static uint64_t tell(struct lock *lock, uint64_t number, uint64_t label) {
     struct qolb_ticket ticket;
     uint64_t key;
     for (;; number = ticket.number + 1) {
-        enum found found = qolb_find_entry_(lock, number, &ticket, &key);
+        enum found found = qolb_find_entry_(lock, number, label, &ticket, &key);
         if (found == NOBODY) qolb_unpark_(cell_half(words_of(lock), number), class_of(number));
         if (found != ABANDONED) return key;
         release(lock, &ticket, QOLB_UNFINISHED_);
@@ -114,7 +114,7 @@ void qolb_end_turn_(struct lock *lock, struct turn *at, uint32_t got) {
     int wakes = wakes_ahead(lock, at);
     set_core(at, core_at(at) & ~(uintptr_t)SLEPT);
     release(lock, &at->ticket, got);
-    if (at->ticket.sleepers) key = tell(lock, at->ticket.number + 1);
+    if (at->ticket.sleepers) key = tell(lock, at->ticket.number + 1, at->ticket.label);
     if (wakes) qolb_unpark_(cell_half(words, ahead), class_of(ahead));
     make_call(key);
 }
@@ -178,7 +178,7 @@ void qolb_end_inside_(struct lock *lock, struct turn *at, uint32_t got) {
     struct qolb_ticket unused;
     uint64_t key = 0;
     while (got == QOLB_BUSY) got = qolb_core_leave_proved_(&lock->core, &at->ticket);
-    if (at->ticket.head_sleeps && qolb_find_entry_(lock, HEAD, &unused, &key) == NOBODY)
+    if (at->ticket.head_sleeps && qolb_find_entry_(lock, HEAD, at->ticket.label, &unused, &key) == NOBODY)
         qolb_unpark_(outer_half(words_of(lock)), UINT32_MAX);
     make_call(key);
 }

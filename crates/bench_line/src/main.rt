@@ -99,52 +99,51 @@ fn main(rt: HostRuntime) -> anyhow::Result<()> {
     Ok(())
 }
 
-/// The command line.
-fn command<'a>(alloc: Global) -> Result<Command<'a>, AllocError> {
-    let command = Command::new(alloc, "bench_line").about(
-        "Times rounds of ask, add 1 to a lane, release, by 1, 2, 3, 4 and 8 threads",
-    );
-    let command = with_number(
-        alloc,
-        command,
+/// The options that take a number, with its name and what they do.
+static NUMBERS: [(&str, &str, &str); 3] = [
+    (
         "rounds",
         "ROUNDS",
         "Rounds of each thread; with it times are printed",
-    )?;
-    let command = with_number(
-        alloc,
-        command,
+    ),
+    (
         "stress",
         "SECONDS",
         "Ask, withdraw and release at random for this time, and then close the line",
-    )?;
-    let command = with_kind(alloc, command)?;
-    let command = with_apart(alloc, command)?;
-    let command = with_way(
-        alloc,
-        command,
+    ),
+    ("threads", "THREADS", "So many threads, and no others"),
+];
+
+/// The options that say what is timed in place of a line.
+static WAYS: [(&str, &str); 3] = [
+    (
         "fair",
         "Rounds of a fair lock in the order of requests, in place of a line",
-    )?;
-    let command = with_way(
-        alloc,
-        command,
+    ),
+    (
         "burst",
         "Rounds of a fair lock with bursts of 1024 turns, in place of a line",
-    )?;
-    let command = with_way(
-        alloc,
-        command,
+    ),
+    (
         "mutex",
         "Rounds of the toolchain's mutex, in place of a line",
-    )?;
-    with_number(
-        alloc,
-        command,
-        "threads",
-        "THREADS",
-        "So many threads, and no others",
-    )
+    ),
+];
+
+/// The command line.
+fn command<'a>(alloc: Global) -> Result<Command<'a>, AllocError> {
+    let mut command = Command::new(alloc, "bench_line").about(
+        "Times rounds of ask, add 1 to a lane, release, by 1, 2, 3, 4 and 8 threads",
+    );
+    for (name, value, help) in &NUMBERS {
+        command = with_number(alloc, command, *name, *value, *help)?;
+    }
+    command = with_kind(alloc, command)?;
+    command = with_apart(alloc, command)?;
+    for (name, help) in &WAYS {
+        command = with_way(alloc, command, *name, *help)?;
+    }
+    Ok(command)
 }
 
 /// Adds an option that takes a number of at least 1.

@@ -1,6 +1,7 @@
 //! Words that are near those that may stand at a place.
 use crate::tests::rows::expect;
 use qolb_explain::{Allowed, Complaint, Reason};
+use std::alloc::Global;
 use std::test::Fail;
 
 /// Words that may not stand at a place, and the words to write there: those that may, and that do what those say.
@@ -88,20 +89,22 @@ static NEAR: [(Allowed, &[&str], &str); 25] = [
     (Allowed::BankJobs, &["MOVE", "transfer", "send"], "move"),
 ];
 
+/// What is said of a line with this word alone.
+fn said_of(alloc: Global, allowed: Allowed, word: &str) -> Result<String, Fail> {
+    let complaint = Complaint {
+        number: 2,
+        line: word.as_bytes(),
+        reason: Reason::Word { place: 1, allowed },
+    };
+    Ok(format!(in alloc; "{complaint}")?)
+}
+
 #[test]
 fn says_which_word_to_write(rt: HostRuntime) -> Result<(), Fail> {
     let alloc = rt.alloc();
     for (allowed, words, meant) in &NEAR {
         for word in *words {
-            let complaint = Complaint {
-                number: 2,
-                line: word.as_bytes(),
-                reason: Reason::Word {
-                    place: 1,
-                    allowed: *allowed,
-                },
-            };
-            let text = format!(in alloc; "{complaint}")?;
+            let text = said_of(alloc, *allowed, *word)?;
             let end = format!(in alloc; "; for `{word}` write `{meant}`")?;
             expect(&rt, *word, text.as_str().ends_with(end.as_str()), true);
         }
@@ -127,15 +130,7 @@ const FAR: [&str; 4] = ["x", "withdraws", "loads", "take_out_of_the_bank_today"]
 fn says_no_word_for_one_that_is_far(rt: HostRuntime) -> Result<(), Fail> {
     for allowed in &PLACES {
         for word in &FAR {
-            let complaint = Complaint {
-                number: 2,
-                line: word.as_bytes(),
-                reason: Reason::Word {
-                    place: 1,
-                    allowed: *allowed,
-                },
-            };
-            let text = format!(in rt.alloc(); "{complaint}")?;
+            let text = said_of(rt.alloc(), *allowed, *word)?;
             expect(&rt, *word, text.as_str().contains("; for `"), false);
         }
     }

@@ -35,20 +35,47 @@ fn each_kind_has_its_size(rt: HostRuntime) -> Result<(), Fail> {
     Ok(())
 }
 
-/// Replays the script by lines of this kind in a room of `room` KB. Returns the error.
+/// A call that replays a schedule.
+#[derive(Clone, Copy)]
+enum Call {
+    /// `run_schedule_with`.
+    With(AnyKind),
+    /// `run_schedule`.
+    Named(Kind),
+    /// `run_schedule_over` ticket lines, named by their type.
+    OverTickets,
+}
+
+/// Replays the script in a room of `bytes` bytes. Returns the error, and what was written.
 fn replayed(
     alloc: Global,
     limit: &MemoryLimit,
     script: &str,
-    room: usize,
-    kind: AnyKind,
-) -> Result<Option<ReplayError>, Fail> {
+    bytes: usize,
+    call: Call,
+) -> Result<(Option<ReplayError>, Vec<u8>), Fail> {
     let mut reader = Watched::new(script.as_bytes());
     let mut text: Vec<u8> = Vec::with_capacity(alloc, 1 << 10)?;
-    let rest = limit.leave(alloc, room << 10)?;
-    let done = run_schedule_with(alloc, &mut reader, &mut Watched::new(&mut text), kind);
+    let mut writer = Watched::new(&mut text);
+    let rest = limit.leave(alloc, bytes)?;
+    let done = match call {
+        Call::With(kind) => run_schedule_with(alloc, &mut reader, &mut writer, kind),
+        Call::Named(kind) => run_schedule(alloc, &mut reader, &mut writer, kind),
+        Call::OverTickets => {
+            run_schedule_over::<TicketLine<Free>, _, _>(alloc, &mut reader, &mut writer)
+        }
+    };
     drop(rest);
-    Ok(done.err())
+    Ok((done.err(), text))
+}
+
+/// The error of a room that may be too small.
+fn error_if(is_small: bool) -> Option<ReplayError> {
+    if is_small {
+        Some(ReplayError::Memory)
+    } else {
+        None
+    }
 }
 
 #[test]
@@ -56,13 +83,9 @@ fn a_replay_takes_lines_of_its_kind(rt: HostRuntime) -> Result<(), Fail> {
     let limit = MemoryLimit::begin(rt.alloc(), 1 << 23)?;
     for (larger, room) in ROOMS.iter().enumerate() {
         for (place, kind) in BY_SIZE.iter().enumerate() {
-            let found = replayed(rt.alloc(), &limit, MANY_NODES, *room, *kind)?;
-            let wanted = if place <= larger {
-                None
-            } else {
-                Some(ReplayError::Memory)
-            };
-            expect_at(&rt, &(*kind, *room), found, wanted);
+            let call = Call::With(*kind);
+            let (found, _) = replayed(rt.alloc(), &limit, MANY_NODES, *room << 10, call)?;
+            expect_at(&rt, &(*kind, *room), found, error_if(place > larger));
         }
     }
     Ok(())
@@ -71,44 +94,27 @@ fn a_replay_takes_lines_of_its_kind(rt: HostRuntime) -> Result<(), Fail> {
 /// The kinds that `run_schedule` takes, by the memory that their lines take.
 static NAMED: [Kind; 3] = [Kind::Plain, Kind::Link, Kind::Ring];
 
-/// Replays `MANY_NODES` by `run_schedule` in a room of `room` KB. Returns the error.
-fn replayed_by_name(
-    alloc: Global,
-    limit: &MemoryLimit,
-    room: usize,
-    kind: Kind,
-) -> Result<Option<ReplayError>, Fail> {
-    let mut reader = Watched::new(MANY_NODES.as_bytes());
-    let mut text: Vec<u8> = Vec::with_capacity(alloc, 1 << 10)?;
-    let mut writer = Watched::new(&mut text);
-    let rest = limit.leave(alloc, room << 10)?;
-    let done = run_schedule(alloc, &mut reader, &mut writer, kind);
-    drop(rest);
-    Ok(done.err())
-}
-
 #[test]
 fn run_schedule_takes_lines_of_its_kind(rt: HostRuntime) -> Result<(), Fail> {
     let limit = MemoryLimit::begin(rt.alloc(), 1 << 23)?;
     for (larger, room) in ROOMS.iter().enumerate() {
         for (place, kind) in NAMED.iter().enumerate() {
-            let found = replayed_by_name(rt.alloc(), &limit, *room, *kind)?;
-            let is_short = matches!(found, Some(ReplayError::Memory));
-            expect_at(
-                &rt,
-                &(*kind, *room),
-                (found.is_some(), is_short),
-                (place > larger, place > larger),
-            );
+            let call = Call::Named(*kind);
+            let (found, _) = replayed(rt.alloc(), &limit, MANY_NODES, *room << 10, call)?;
+            expect_at(&rt, &(*kind, *room), found, error_if(place > larger));
         }
     }
     Ok(())
 }
 
+/// One line for 200 nodes, and no command.
+const ONE_LINE: &str = "nodes 200 lines 1\n";
+
 /// The least room, in KB, in which a replay of one line of this kind for 200 nodes ends.
 fn least_room(alloc: Global, limit: &MemoryLimit, kind: AnyKind) -> Result<usize, Fail> {
     for room in 1..1_000usize {
-        if replayed(alloc, limit, "nodes 200 lines 1\n", room, kind)?.is_none() {
+        let (error, _) = replayed(alloc, limit, ONE_LINE, room << 10, Call::With(kind))?;
+        if error.is_none() {
             return Ok(room);
         }
     }
@@ -134,22 +140,7 @@ const SHORT: &str =
 const SHORT_REPLY: &str =
     "granted\nok\nqueued\nwithdrawn\nbusy\nreleased\ngranted\nline 0 served 1 withdrawn 1 told 0 left 1\n";
 
-/// Replays `SHORT` in a room of `bytes` bytes. Returns the error, and what was written.
-fn short_in(
-    alloc: Global,
-    limit: &MemoryLimit,
-    bytes: usize,
-    kind: AnyKind,
-) -> Result<(Option<ReplayError>, Vec<u8>), Fail> {
-    let mut reader = Watched::new(SHORT.as_bytes());
-    let mut text: Vec<u8> = Vec::with_capacity(alloc, 1 << 10)?;
-    let rest = limit.leave(alloc, bytes)?;
-    let done = run_schedule_with(alloc, &mut reader, &mut Watched::new(&mut text), kind);
-    drop(rest);
-    Ok((done.err(), text))
-}
-
-/// Replays in rooms that grow by the heap's grain, so each allocation is refused once, until one has place for all. Returns the number of
+/// Replays `SHORT` in rooms that grow by the heap's grain, so each allocation is refused once, until one has place for all. Returns the number of
 /// rooms that were too small.
 fn refusals_of<R: Abort>(
     rt: &R,
@@ -158,7 +149,7 @@ fn refusals_of<R: Abort>(
     kind: AnyKind,
 ) -> Result<usize, Fail> {
     for grains in 2..8_000usize {
-        let (error, text) = short_in(alloc, limit, GRAIN * grains, kind)?;
+        let (error, text) = replayed(alloc, limit, SHORT, GRAIN * grains, Call::With(kind))?;
         if error.is_none() {
             expect_at(rt, &kind, text.as_slice(), SHORT_REPLY.as_bytes());
             return Ok(grains - 2);
@@ -183,27 +174,18 @@ fn each_allocation_of_a_replay_is_refused(rt: HostRuntime) -> Result<(), Fail> {
     Ok(())
 }
 
-/// Does so over ticket lines, named by their type.
-fn replayed_over_tickets(
-    alloc: Global,
-    limit: &MemoryLimit,
-    room: usize,
-) -> Result<Option<ReplayError>, Fail> {
-    let mut reader = Watched::new(MANY_NODES.as_bytes());
-    let mut text: Vec<u8> = Vec::with_capacity(alloc, 1 << 10)?;
-    let mut writer = Watched::new(&mut text);
-    let rest = limit.leave(alloc, room << 10)?;
-    let done = run_schedule_over::<TicketLine<Free>, _, _>(alloc, &mut reader, &mut writer);
-    drop(rest);
-    Ok(done.err())
-}
-
 #[test]
 fn a_replay_takes_lines_of_its_type(rt: HostRuntime) -> Result<(), Fail> {
     let limit = MemoryLimit::begin(rt.alloc(), 1 << 22)?;
-    for (room, wanted) in [(650, Some(ReplayError::Memory)), (1_200, None)] {
-        let found = replayed_over_tickets(rt.alloc(), &limit, room)?;
-        expect_at(&rt, &room, found, wanted);
+    for (room, is_small) in [(650usize, true), (1_200, false)] {
+        let (found, _) = replayed(
+            rt.alloc(),
+            &limit,
+            MANY_NODES,
+            room << 10,
+            Call::OverTickets,
+        )?;
+        expect_at(&rt, &room, found, error_if(is_small));
     }
     Ok(())
 }

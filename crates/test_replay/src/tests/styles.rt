@@ -95,12 +95,15 @@ impl<'a> Sheet<'a> {
         colour(night.or(self.said(what, property))?)
     }
 
+    /// Returns `true` if the sheet says that something is not displayed or not visible.
+    fn hides(self) -> bool {
+        ["display", "visibility"].iter().any(|word| self.by_day.contains(*word)
+            || self.at_night.contains(*word))
+    }
+
     /// Returns `true` if the sheet hides nothing, and makes only the pointer's targets transparent.
     fn hides_points_alone(self) -> bool {
-        let is_said = |word: &str| self.by_day.contains(word) || self.at_night.contains(word);
-        let hides = is_said("display")
-            || is_said("visibility")
-            || self.at_night.contains("opacity");
+        let hides = self.hides() || self.at_night.contains("opacity");
         let others = self.by_day.lines().any(|line| line.contains("opacity")
             && !line.starts_with(".point{"));
         let point = (
@@ -217,9 +220,7 @@ pub fn steps_are_seen<R: Abort>(rt: &R, sheet: Sheet, of_steps: Sheet) {
             expect_at(rt, &(*bar, is_dark), far >= Some(100), true);
         }
     }
-    let is_hidden = |word: &str| of_steps.by_day.contains(word) || of_steps.at_night.contains(word);
-    let hides = is_hidden("display") || is_hidden("visibility");
-    expect(rt, "hides something", hides, false);
+    expect(rt, "hides something", of_steps.hides(), false);
     expect(rt, "hollow", is_hollow(of_steps, ".rests"), true);
     expect(rt, "hollow", is_hollow(of_steps, ".mailbox"), true);
     expect(

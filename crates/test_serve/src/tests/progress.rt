@@ -20,7 +20,7 @@ const REPORT: &str = "stored 1\nfull 0\ntaken 1\nempty 1\nleft 0\n";
 /// that say how many of three jobs are done, in this order, and what else is written there.
 #[derive(Drop)]
 struct Slow<'a, R> {
-    /// Allows to wait and to start threads.
+    /// Allows waits and threads.
     _rt: &'a R,
     alloc: Global,
     has_clock: bool,

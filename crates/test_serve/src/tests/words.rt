@@ -102,16 +102,27 @@ fn says_only_what_is_wrong(rt: HostRuntime) -> Result<(), Fail> {
     );
     let (_, _, help) = told(&rt, rt.alloc(), &["--help"], "")?;
     assert!(rt; help.starts_with("Queued line locks: "), "{help}");
-    for (name, _) in &HELPS {
+    for (name, first) in &FIRST_WORDS {
         let (_, _, help) = told(&rt, rt.alloc(), &[*name, "--help"], "")?;
-        let begins = FIRST_WORDS.iter().any(|first| help.starts_with(*first));
-        assert!(rt; begins, "{help}");
+        assert!(rt; help.starts_with(*first), "{help}");
     }
     Ok(())
 }
 
-/// How the help of a subcommand begins.
-const FIRST_WORDS: [&str; 4] = ["Replays the ", "Runs the ", "Does the ", "Draws the "];
+/// How the help of each subcommand begins.
+const FIRST_WORDS: [(&str, &str); 5] = [
+    ("replay", "Replays the schedule script on standard input, "),
+    ("steps", "Runs the step script on standard input "),
+    (
+        "board",
+        "Does the jobs of the work script on standard input, ",
+    ),
+    (
+        "bank",
+        "Does the jobs of the work script on standard input, ",
+    ),
+    ("draw", "Draws the schedule script on standard input: "),
+];
 
 /// The output of `--version`.
 const VERSION: &str = "qolb 2.0.0\nkinds of lines: plain, ring, link, ticket\n";
