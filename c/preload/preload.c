@@ -8,16 +8,20 @@
  * decided once, at its first use, until it is destroyed or initialised again.
  *
  * As with the C library, any thread may unlock such a mutex, unlocking a free one changes nothing, and a thread that
- * locks one that it holds waits until another unlocks it. A mutex that a thread held when it forked is held in the
- * child, and those that waited are not there. A program that never destroys its mutexes keeps half a KB for each
- * address at which it locked one. A wait until a time of the clock CLOCK_REALTIME does not notice that this is set
- * meanwhile. A wait at a condition may return for no reason when another thread that waits is cancelled.
+ * locks one that it holds waits until another unlocks it. A thread may wait at a condition with a mutex that another
+ * holds, or that is free. A mutex that a thread held when it forked is held in the child, and those that waited are not
+ * there. A program that never destroys its mutexes keeps half a KB for each address at which it locked one. The child
+ * of a fork keeps what its parent had, and takes as much again for each that it uses. A wait until a time of the clock
+ * CLOCK_REALTIME does not notice that this is set meanwhile. A wait at a condition may return for no reason when a
+ * thread is cancelled.
  *
- * QOLB_BURST=TURNS is the hard limit of a burst (man 3 qolb_lock): 1024, if it is not set, and 0 for strict order.
+ * QOLB_BURST=TURNS is the hard limit of a burst (man 3 qolb_lock): 1024, if it is not set, and 0 for strict order. A
+ * lock that is opened in .preinit_array, where there is no environment yet, has 1024.
  *
- * With QOLB_REPORT=FILE the program appends a line there at its end: the burst, how many mutexes were ours in all, and
- * at most at a time, how often one was granted, was late or was not free at once, and how often two threads were in one
- * at the same time, which must be 0. Counting costs time, and is left out without it.
+ * With QOLB_REPORT=FILE each process of the program appends a line there at its end: the burst, how many mutexes were
+ * ours in all, and at most at a time, how often one was granted, was late or was not free at once, and how often two
+ * threads were in one at the same time, which must be 0. A child of a fork counts from 0 on. Counting costs time, and
+ * is left out without it.
  *
  * What does not call the C library's mutexes by their names is not taken in: C11's mtx_t, Rust's std::sync::Mutex, and
  * libraries that are opened with RTLD_DEEPBIND, which must not share a mutex with others then. */
@@ -63,7 +67,7 @@ enum { USUAL_BURST = 1024, BURSTS = 65536 };
 static struct {
     uint32_t burst;
     char report[4096]; /* empty: nothing is counted */
-} settings;
+} settings = {.burst = USUAL_BURST};
 
 static inline int counts(void) { return settings.report[0] != 0; }
 
@@ -81,7 +85,8 @@ static uint32_t number_in(const char *digits) {
 }
 
 static void choose_burst(const char *digits) {
-    settings.burst = digits ? number_in(digits) : USUAL_BURST;
+    if (!digits) return;
+    settings.burst = number_in(digits);
     if (settings.burst == BURSTS) refuse("QOLB_BURST", digits, "a number from 0, for strict order, to 65535");
 }
 
@@ -97,8 +102,12 @@ void qolb_begin_(void) {
     choose_report(getenv("QOLB_REPORT"));
 }
 
-/* At the program's start, so that wrong settings end no program in its midst. */
-__attribute__((constructor)) static void begin(void) { qolb_process_(); }
+/* At the program's start, so that wrong settings end no program in its midst. If a mutex was used in .preinit_array,
+ * there was no environment then: so they are read again. */
+__attribute__((constructor)) static void begin(void) {
+    qolb_process_();
+    qolb_begin_();
+}
 
 /* ---- Counters ---- */
 
@@ -113,14 +122,20 @@ static void count(struct line *line, uint32_t got) {
     if (atomic_fetch_add(&line->inside, 1) != 0) violations++;
 }
 
+/* One that nobody holds was not counted, nor one that was entered before the settings were read. */
 static void count_leaving(struct line *line) {
-    if (counts()) atomic_fetch_sub(&line->inside, 1);
+    if (counts() && atomic_load(&line->inside) > 0) atomic_fetch_sub(&line->inside, 1);
 }
 
 static void count_mutex(void) {
     long long now = ++at_once, most = most_at_once;
     mutexes++;
     while (now > most && !atomic_compare_exchange_weak(&most_at_once, &most, now)) continue;
+}
+
+void qolb_count_anew_(void) {
+    mutexes = grants = late = not_free = violations = 0;
+    at_once = most_at_once = 0;
 }
 
 /* It may run in the midst of the program's own end: so it allocates nothing. */
@@ -203,8 +218,10 @@ static struct line *line_for(const struct entry *entry, const pthread_mutex_t *m
 }
 
 static void remove_entry(struct entry *entry) {
-    if (entry->line && is_of_this_process(entry) && is_free(entry->line)) qolb_give_spare_(entry->line);
-    if (entry->line) at_once--;
+    if (is_of_this_process(entry)) {
+        if (is_free(entry->line)) qolb_give_spare_(entry->line);
+        at_once--;
+    }
     entry->line = NULL;
     __atomic_store_n(&entry->address, NULL, __ATOMIC_RELEASE);
 }
@@ -226,7 +243,7 @@ static struct line *decide_for(pthread_mutex_t *mutex) {
         leave(mutex, entry, held);
         return NULL;
     }
-    if (!entry->line) count_mutex();
+    if (!is_of_this_process(entry)) count_mutex();
     if (line != entry->line) atomic_store(&line->inside, held);
     if (held && enter_line(line, FOR_EVER) != QOLB_GRANTED) return NULL;
     entry->line = line;
@@ -275,7 +292,7 @@ static inline int told(struct line *line, uint32_t got) {
 
 /* After the leave another thread may destroy the mutex. */
 static inline int unlock(struct line *line) {
-    if (counts() && is_held_line(line)) count_leaving(line);
+    count_leaving(line);
     leave_line(line);
     return 0;
 }
@@ -375,7 +392,6 @@ static int wait_a_moment(struct line *line, uint64_t nanoseconds) {
 /* Waits with a line at most this long, and has it again. A thread may be cancelled here, as where the C library waits,
  * with the mutex locked. */
 static int wait_at(struct line *line, pthread_cond_t *condition, uint64_t nanoseconds) {
-    if (!is_own_line(line)) return EPERM;
     own_wait.cancels = atomic_load(&cancels);
     pthread_testcancel();
     own_wait.at = cond_of(condition);
@@ -383,6 +399,7 @@ static int wait_at(struct line *line, pthread_cond_t *condition, uint64_t nanose
     count_leaving(line);
     atomic_fetch_add(&line->waiting, 1);
     uint32_t got = wait_with_line(own_wait.at, line, nanoseconds);
+    if (own_wait.cancels != atomic_load(&cancels)) qolb_cond_broadcast(own_wait.at);
     own_wait.at = NULL;
     atomic_fetch_sub(&line->waiting, 1);
     told(line, QOLB_GRANTED);
@@ -448,7 +465,13 @@ int pthread_cond_destroy(pthread_cond_t *condition) {
  * A thread that is cancelled while it waits with a line has to return. So whoever cancels one wakes all that wait with
  * lines, which may return for no reason. A waiter stands in its list before it sleeps, and then loads the number of
  * those that were cancelled; who cancels adds to that number before it looks at the lists. So one of the two sees the
- * other. */
+ * other.
+ *
+ * A thread that is cancelled before it stands in its list may be signalled there before it sleeps. It ends all the
+ * same, and another waiter has to get that signal. So a waiter loads the number again after its wait, and if it has
+ * changed wakes all that wait at the condition. If the waiter is cancelled after that load, who cancels looks at the
+ * lists later still. The condition may have been destroyed meanwhile: its entry stays, perhaps for another condition,
+ * and its waiters return for no reason. */
 
 static void wake_all(struct entry *entry) {
     if (is_waited_at(entry)) qolb_cond_broadcast(&entry->cond);

@@ -31,8 +31,11 @@ extern HIDDEN struct cleared qolb_cleared_;
 /* The number of this process, not 0. No other that maps memory of this one has it. */
 HIDDEN uint64_t qolb_process_(void);
 
-/* Reads the environment; called once, before any lock is opened. */
+/* Reads the environment; called before any lock is opened. */
 HIDDEN void qolb_begin_(void);
+
+/* Sets what was counted to 0; called in the child of a fork, before it uses a lock. */
+HIDDEN void qolb_count_anew_(void);
 
 /* ---- Tables ---- */
 

@@ -26,6 +26,7 @@ uint64_t qolb_process_(void) {
     if (!atomic_load(&own->process)) {
         if (has_begun) {
             qolb_free_guards_();
+            qolb_count_anew_();
         } else {
             int kept = errno;
             madvise(own, sizeof *own, MADV_WIPEONFORK); /* Linux 4.14 */

@@ -44,11 +44,11 @@ static inline void leave_line(struct line *line) {
 }
 
 static inline int is_held_line(const struct line *line) { return atomic_load(&line->owner) != 0; }
-static inline int is_own_line(struct line *line) { return atomic_load(&line->owner) == own_number(); }
 
+/* As in the C library, the turn may be another thread's; and if none has one, this thread enters first. */
 static inline uint32_t wait_with_line(qolb_cond *cond, struct line *line, uint64_t nanoseconds) {
     struct turn at;
-    if (!take_turn_of(line, &at)) return QOLB_MISUSE;
+    while (!take_turn_of(line, &at)) (void)!enter_line(line, FOR_EVER);
     return owned(line, &at, qolb_cond_wait_at_(cond, lock_of(&line->lock), &at, nanoseconds));
 }
 

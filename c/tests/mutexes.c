@@ -115,6 +115,38 @@ static void of_conditions(pthread_mutex_t *mutex) {
     WANT(pthread_join(id, NULL), 0);
 }
 
+/* ---- Waiting with a mutex that another thread holds, or none ---- */
+
+static void *waits_with_it(void *mutex) {
+    struct timespec end = in_10_ms(CLOCK_REALTIME);
+    WANT(pthread_cond_timedwait(&news, mutex, &end), ETIMEDOUT);
+    return NULL;
+}
+
+static void *may_not_wait_with_it(void *mutex) {
+    WANT(pthread_cond_wait(&news, mutex), EPERM);
+    return NULL;
+}
+
+/* An ordinary one may be anyone's, and is locked afterwards. */
+static void of_waiting_with_an_ordinary_one(void) {
+    for (int holds = 0; holds < 2; holds++) {
+        if (holds) WANT(pthread_mutex_lock(&ordinary), 0);
+        in_another_thread(waits_with_it, &ordinary);
+        in_another_thread(finds_it_locked, &ordinary);
+        WANT(pthread_mutex_unlock(&ordinary), 0);
+        in_another_thread(takes, &ordinary);
+    }
+}
+
+static void of_waiting_with(pthread_mutex_t *mutex) {
+    in_another_thread(may_not_wait_with_it, mutex);
+    WANT(pthread_mutex_lock(mutex), 0);
+    in_another_thread(may_not_wait_with_it, mutex);
+    WANT(pthread_mutex_unlock(mutex), 0);
+    in_another_thread(takes, mutex);
+}
+
 /* ---- Times ---- */
 
 static const struct timespec never = {LONG_MAX, 999999999}, long_ago = {-5, 0},
@@ -238,6 +270,7 @@ static void of_a_robust_one(void) {
     WANT(pthread_mutexattr_init(&kind), 0);
     WANT(pthread_mutexattr_setrobust(&kind, PTHREAD_MUTEX_ROBUST), 0);
     WANT(pthread_mutex_init(&mutex, &kind), 0);
+    of_waiting_with(&mutex);
     in_another_thread(ends_with_it, &mutex);
     WANT(pthread_mutex_lock(&mutex), EOWNERDEAD);
     WANT(pthread_mutex_consistent(&mutex), 0);
@@ -261,13 +294,31 @@ static void of_one_that_processes_share(void) {
     WANT(pthread_mutex_trylock(mutex), 0);
 }
 
+/* ---- A mutex that is locked before the program has an environment ---- */
+
+static pthread_mutex_t early = PTHREAD_MUTEX_INITIALIZER;
+
+static void lock_early(void) { WANT(pthread_mutex_lock(&early), 0); }
+
+__attribute__((section(".preinit_array"), used)) static void (*before_all)(void) = lock_early;
+
+static void of_an_early_one(void) {
+    in_another_thread(finds_it_locked, &early);
+    WANT(pthread_mutex_unlock(&early), 0);
+    in_another_thread(takes, &early);
+}
+
 int main(void) {
     alarm(60);
+    of_an_early_one();
     of_an_ordinary_one();
     of_others();
     as_a_semaphore();
     of_conditions(&ordinary);
     of_conditions(&checking);
+    of_waiting_with_an_ordinary_one();
+    of_waiting_with(&checking);
+    of_waiting_with(&recursive);
     of_times();
     of_cancelling(20);
     for (int k = 0; k < 200; k++) of_cancelling(0);

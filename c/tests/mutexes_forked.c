@@ -53,21 +53,10 @@ static void unlocks_and_goes_on(void) {
     takes_by_two_threads(&unused);
 }
 
-static void of_one_that_it_holds(void) {
-    pthread_t id[WAITERS];
-    WANT(pthread_mutex_lock(&mutex), 0);
-    for (int k = 0; k < WAITERS; k++) WANT(pthread_create(&id[k], NULL, waits_for_it, &mutex), 0);
-    while (read_of(&arrived) < WAITERS) sched_yield();
-    for (int rests = 0; rests < 20; rests += 10) {
-        in_a_child(unlocks_and_goes_on);
-        rest(rests);
-    }
-    WANT(pthread_mutex_unlock(&mutex), 0);
-    for (int k = 0; k < WAITERS; k++) WANT(pthread_join(id[k], NULL), 0);
-    takes_by_two_threads(&mutex);
+static void *finds_it_locked(void *it) {
+    WANT(pthread_mutex_trylock(it), EBUSY);
+    return NULL;
 }
-
-/* ---- A mutex that another thread holds, and conditions at which others wait ---- */
 
 static void *tells(void *none) {
     WANT(pthread_mutex_lock(&mutex), 0);
@@ -77,15 +66,43 @@ static void *tells(void *none) {
     return none;
 }
 
-static void uses_the_condition(void) {
+/* With the mutex. */
+static void hears_news(void) {
     pthread_t id;
-    WANT(pthread_cond_signal(&condition), 0);
-    WANT(pthread_mutex_lock(&mutex), 0);
-    WANT(pthread_cond_broadcast(&condition), 0);
     WANT(pthread_create(&id, NULL, tells, NULL), 0);
     while (!has_news) WANT(pthread_cond_wait(&condition, &mutex), 0);
     WANT(pthread_mutex_unlock(&mutex), 0);
     WANT(pthread_join(id, NULL), 0);
+}
+
+/* Another thread is the first of the child that uses the mutex. */
+static void waits_with_it(void) {
+    in_another_thread(finds_it_locked, &mutex);
+    hears_news();
+}
+
+static void of_one_that_it_holds(void) {
+    pthread_t id[WAITERS];
+    WANT(pthread_mutex_lock(&mutex), 0);
+    for (int k = 0; k < WAITERS; k++) WANT(pthread_create(&id[k], NULL, waits_for_it, &mutex), 0);
+    while (read_of(&arrived) < WAITERS) sched_yield();
+    for (int rests = 0; rests < 20; rests += 10) {
+        in_a_child(unlocks_and_goes_on);
+        in_a_child(waits_with_it);
+        rest(rests);
+    }
+    WANT(pthread_mutex_unlock(&mutex), 0);
+    for (int k = 0; k < WAITERS; k++) WANT(pthread_join(id[k], NULL), 0);
+    takes_by_two_threads(&mutex);
+}
+
+/* ---- A mutex that another thread holds, and conditions at which others wait ---- */
+
+static void uses_the_condition(void) {
+    WANT(pthread_cond_signal(&condition), 0);
+    WANT(pthread_mutex_lock(&mutex), 0);
+    WANT(pthread_cond_broadcast(&condition), 0);
+    hears_news();
 }
 
 static void initialises_again(void) {
@@ -166,11 +183,27 @@ static void of_any_moment(void) {
     for (int k = 0; k < WAITERS; k++) WANT(pthread_join(id[k], NULL), 0);
 }
 
+/* ---- A child that ends by exit ---- */
+
+/* It has its own line in a report (QOLB_REPORT): of one mutex, which was granted once. */
+static void destroys_and_takes_one(void) {
+    WANT(pthread_mutex_destroy(&others), 0);
+    takes(&mutex);
+    exit(0);
+}
+
+static void of_one_that_exits(void) {
+    takes(&mutex);
+    takes(&others);
+    in_a_child(destroys_and_takes_one);
+}
+
 int main(int argc, char **argv) {
     int which = argc > 1 ? atoi(argv[1]) : 0;
     alarm(120);
     if (!which || which == 1) of_one_that_it_holds();
     if (!which || which == 2) of_those_of_others();
     if (!which || which == 3) of_any_moment();
+    if (!which || which == 4) of_one_that_exits();
     return 0;
 }

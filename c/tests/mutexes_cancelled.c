@@ -1,0 +1,87 @@
+/* A thread that is cancelled where it begins to wait at a condition, and is signalled before it sleeps: another waiter
+ * must get the signal. `make check` runs it as it is, and with every mutex a lock (preload.c). Prints only errors.
+ *
+ * Two calls that preload.c makes in that wait are held up here. The C library makes neither by its name: so there the
+ * thread is cancelled while it sleeps. */
+#define _GNU_SOURCE
+#include "mutexes.h"
+#include <dlfcn.h>
+#include <sched.h>
+#include <sys/syscall.h>
+
+enum { BEGUN, HELD_UP, CANCELLED, SIGNALLED };
+
+static pthread_mutex_t mutex = PTHREAD_MUTEX_INITIALIZER;
+static pthread_cond_t condition = PTHREAD_COND_INITIALIZER;
+static int jobs, waiters, stage;
+static __thread int is_first, was_held_up;
+
+static int is_at(int least) { return __atomic_load_n(&stage, __ATOMIC_SEQ_CST) >= least; }
+
+static void go_to(int next) { __atomic_store_n(&stage, next, __ATOMIC_SEQ_CST); }
+
+static void await(int least) {
+    while (!is_at(least)) sched_yield();
+}
+
+/* The first thread has looked whether it is cancelled, and does not stand at the condition yet. */
+void pthread_testcancel(void) {
+    void (*real)(void) = (void (*)(void))dlsym(RTLD_NEXT, "pthread_testcancel");
+    real();
+    if (!is_first || was_held_up) return;
+    was_held_up = 1;
+    go_to(HELD_UP);
+    await(CANCELLED);
+}
+
+/* It stands there, has left the mutex, and does not sleep yet. */
+int clock_gettime(clockid_t clock, struct timespec *time) {
+    if (was_held_up) await(SIGNALLED);
+    return (int)syscall(SYS_clock_gettime, clock, time);
+}
+
+static void unlock(void *it) { WANT(pthread_mutex_unlock(it), 0); }
+
+static void *takes_a_job(void *first) {
+    struct timespec end;
+    is_first = first != NULL;
+    clock_gettime(CLOCK_REALTIME, &end);
+    end.tv_sec += 1000;
+    WANT(pthread_mutex_lock(&mutex), 0);
+    waiters++;
+    pthread_cleanup_push(unlock, &mutex);
+    while (!jobs) WANT(pthread_cond_timedwait(&condition, &mutex, &end), 0);
+    jobs--;
+    pthread_cleanup_pop(1);
+    return NULL;
+}
+
+/* A waiter leaves the mutex when it stands at the condition. */
+static int waiters_by_now(void) {
+    WANT(pthread_mutex_lock(&mutex), 0);
+    int now = waiters;
+    WANT(pthread_mutex_unlock(&mutex), 0);
+    return now;
+}
+
+int main(void) {
+    pthread_t first, second;
+    void *ended;
+    alarm(60);
+    WANT(pthread_create(&first, NULL, takes_a_job, &mutex), 0);
+    for (int k = 0; k < 200 && !is_at(HELD_UP); k++) rest(1);
+    WANT(pthread_cancel(first), 0);
+    go_to(CANCELLED);
+    WANT(pthread_create(&second, NULL, takes_a_job, NULL), 0);
+    while (waiters_by_now() < 2) rest(1);
+    WANT(pthread_mutex_lock(&mutex), 0);
+    jobs = 1;
+    WANT(pthread_cond_signal(&condition), 0);
+    WANT(pthread_mutex_unlock(&mutex), 0);
+    go_to(SIGNALLED);
+    WANT(pthread_join(first, &ended), 0);
+    WANT(ended == PTHREAD_CANCELED, 1);
+    WANT(pthread_join(second, &ended), 0);
+    WANT(ended == NULL, 1);
+    return 0;
+}
