@@ -13,7 +13,8 @@ struct clock {
 #ifdef OF_LOCKS
 /* What these threads do at the same time, each by its number, over a lock with these bursts, which is opened before or
  * at its first use. A request can be withdrawn with at most so many rounds to go, so many threads may announce a sleep
- * at one cell, and with fewer rounds to go than so many a call with a limit draws a ticket. There may be no memory. */
+ * at one cell, and with fewer rounds to go than so many a call with a limit draws a ticket. There may be no memory for
+ * the registry, nor a key of threads. */
 struct scene {
     const char *name;
     void (*does)(int self);

@@ -1,6 +1,7 @@
 /* Scenes of qolb_lock_holder, and what a thread keeps: its table of the locks that it holds, which other threads look
  * through, and a key whose destructor is called at its end (lock_scenes.c). */
 #include "lock_scenes.h"
+#include <errno.h>
 #include <pthread.h>
 
 /* ---- A thread's own data, and its end ---- */
@@ -15,7 +16,7 @@ UNSEEN struct own *model_own(void) { return owns[self_number()]; }
 static struct {
     void (*destructor)(void *);
     void *value[THREADS + 1];
-    int has_begun;
+    int is_there, has_begun;
     struct clock begun;
 } key;
 
@@ -27,7 +28,9 @@ UNSEEN int model_once(pthread_once_t *once, void (*call)(void)) {
     return (void)once, key.has_begun = 1, 0;
 }
 UNSEEN int model_key(pthread_key_t *out, void (*destructor)(void *)) {
-    return *out = 31, key.destructor = destructor, 0; /* behind 31 others, as the library wants its key */
+    *out = 31; /* behind 31 others, as the library wants its key */
+    if (key.is_there) key.destructor = destructor;
+    return key.is_there ? 0 : EAGAIN;
 }
 UNSEEN int model_set(pthread_key_t at, const void *value) {
     return (void)at, key.value[self_number()] = (void *)(uintptr_t)value, 0;
@@ -39,7 +42,7 @@ int model_atfork(void (*prepare)(void), void (*parent)(void), void (*child)(void
 UNSEEN static void run_destructor(void) {
     void *value = key.value[self_number()];
     key.value[self_number()] = NULL;
-    if (value) key.destructor(value);
+    if (value && key.is_there) key.destructor(value);
 }
 
 void end_thread(void) {
@@ -47,8 +50,9 @@ void end_thread(void) {
     if (are_looked_at) model_free(owns[self_number()]);
 }
 
-void new_data_of_threads(int looked_at) {
+void new_data_of_threads(int looked_at, int has_key) {
     memset(&key, 0, sizeof key);
+    key.is_there = has_key;
     are_looked_at = 0;
     model_clear_tables();
     for (int k = 0; k <= THREADS; k++) {
@@ -94,7 +98,10 @@ void ends_as_holder(int self) {
     for (int k = 0; k < 2; k++) is_held_by(0);
 }
 
-/* In a destructor behind the library's one leaves, or enters, while another asks. */
+UNSEEN static const struct own *rest_of(int self) { return owns[self]->rest; }
+
+/* In a destructor behind the library's one leaves, or enters, while another asks. Who leaves frees the copy of its
+ * table. */
 static void in_a_destructor(int self, int holds) {
     if (self) {
         uint64_t number = qolb_lock_holder(it.lock);
@@ -107,8 +114,10 @@ static void in_a_destructor(int self, int holds) {
     if (!holds) MUST(qolb_lock_enter(it.lock) == QOLB_GRANTED);
     MUST(qolb_lock_enter(it.lock) == QOLB_MISUSE);
     is_held_by(0);
+    const struct own *copy = rest_of(self);
+    MUST(holds == (copy != NULL));
     leave();
-    MUST(qolb_lock_holder(it.lock) == 0);
+    MUST(qolb_lock_holder(it.lock) == 0 && !rest_of(self) && (!copy || was_freed(copy)));
 }
 
 void leaves_in_a_destructor(int self) { in_a_destructor(self, 1); }

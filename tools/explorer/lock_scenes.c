@@ -394,6 +394,10 @@ static void closes_and_comes_again(void) {
     while (!had_turns(2) || qolb_lock_close(it.lock) != QOLB_DONE) sched_yield();
     MUST(qolb_lock_enter(it.lock) == QOLB_GRANTED);
     atomic_store(&it.over, 1);
+}
+
+static void comes_again_beside_one_that_is_late(void) {
+    closes_and_comes_again();
     while (atomic_fetch_add(&it.over, 0) < 2 && !is_known(2)) sched_yield();
     sched_yield();
     leave();
@@ -401,24 +405,42 @@ static void closes_and_comes_again(void) {
 
 static void late_at_a_younger_lock(int self) {
     if (self == 0) return enters_with(1);
-    if (self == 1) return enters(self), closes_and_comes_again();
+    if (self == 1) return enters(self), comes_again_beside_one_that_is_late();
     while (!atomic_fetch_add(&it.over, 0)) sched_yield();
     is_late_at_the_younger();
+}
+
+static void enters_within_long(void) {
+    begins_call();
+    MUST(qolb_lock_enter_within(it.lock, 100 * MS) == QOLB_GRANTED);
+    turn();
+    leave();
 }
 
 /* The same, where one is woken by time now and then, and the other's time is over once it has drawn its ticket. */
 static void late_soon_at_a_younger_lock(int self) {
     if (self == 0) return enters_with(2);
-    if (self == 1) {
-        begins_call();
-        MUST(qolb_lock_enter_within(it.lock, 100 * MS) == QOLB_GRANTED);
-        turn();
-        leave();
-        return closes_and_comes_again();
-    }
+    if (self == 1) return enters_within_long(), comes_again_beside_one_that_is_late();
     while (!atomic_fetch_add(&it.over, 0)) sched_yield(), times_out();
     time_goes_on(MS / 2);
     is_late_at_the_younger();
+}
+
+/* The same, where the time of the other is over in the turn of who has the younger lock, which frees that behind its
+ * turn: the one to which its leave passed the turn on was late. */
+static void frees_a_younger_lock(int self) {
+    if (self == 0) return enters_with(2);
+    if (self == 1) {
+        enters_within_long();
+        closes_and_comes_again();
+        while (atomic_fetch_add(&it.over, 0) < 2) sched_yield(), times_out();
+        leave();
+        return free_lock();
+    }
+    while (!atomic_fetch_add(&it.over, 0)) sched_yield(), times_out();
+    time_goes_on(MS / 2);
+    MUST(qolb_lock_enter_within(it.lock, MS) == QOLB_LATE);
+    atomic_store(&it.over, 2);
 }
 
 /* ---- Conditions ---- */
@@ -510,21 +532,44 @@ static void shuts_and_frees(int self) {
     free_lock();
 }
 
-/* Who is told of the shut frees the lock as soon as it may, while the other is still in its last call. */
-static void told_of_a_shut_frees(int self) {
-    if (self) {
-        MUST(qolb_lock_enter(it.lock) == QOLB_GRANTED);
-        it.has = 1;
-        MUST(qolb_cond_wait(&it.cond, it.lock) == QOLB_CLOSED);
-        while (qolb_lock_close(it.lock) != QOLB_DONE) sched_yield();
-        return free_lock();
-    }
+/* Who waits at the condition is told of the shut, while the other is still in its last call. */
+static void is_told_of_a_shut(void) {
+    MUST(qolb_lock_enter(it.lock) == QOLB_GRANTED);
+    it.has = 1;
+    MUST(qolb_cond_wait(&it.cond, it.lock) == QOLB_CLOSED);
+}
+
+static void shuts_beside_one_that_waits(void) {
     for (int waits = 0; !waits;) {
         MUST(qolb_lock_enter(it.lock) == QOLB_GRANTED);
         waits = it.has;
         MUST((waits ? qolb_lock_shut : qolb_lock_leave)(it.lock) == QOLB_DONE);
         if (!waits) sched_yield();
     }
+}
+
+/* It frees the lock as soon as it is closed. */
+static void told_of_a_shut_frees(int self) {
+    if (self == 0) return shuts_beside_one_that_waits();
+    is_told_of_a_shut();
+    while (qolb_lock_close(it.lock) != QOLB_DONE) sched_yield();
+    free_lock();
+}
+
+/* It frees the lock without a further call. */
+static void told_of_a_shut_frees_at_once(int self) {
+    if (self == 0) return shuts_beside_one_that_waits();
+    is_told_of_a_shut();
+    free_lock();
+}
+
+/* The shut is over for it: each call says so, and it may close the lock. */
+static void told_of_a_shut_asks(int self) {
+    if (self == 0) return shuts_beside_one_that_waits();
+    is_told_of_a_shut();
+    MUST(qolb_lock_try(it.lock) == QOLB_CLOSED);
+    MUST(qolb_lock_close(it.lock) == QOLB_DONE);
+    free_lock();
 }
 
 /* As shuts_and_frees, of a lock that stays open. */
@@ -631,6 +676,7 @@ const struct scene scenes[] = {
     {"far: no memory", two_late_beside_one_that_yields, 3, 0, 0, 0, MANY, MANY, NO_MEMORY},
     {"far: a younger lock", late_at_a_younger_lock, 3, 0, 0, FAR},
     {"far: late soon at a younger lock", late_soon_at_a_younger_lock, 3, 0, 0, FAR},
+    {"far: one frees a younger lock", frees_a_younger_lock, 3, 0, 0, FAR},
     {"crowded: two are late", is_late, 3, 0, 0, CROWDED},
     {"crowded: two are late beside one that yields", two_late_beside_one_that_yields, 3, 0, 0, CROWDED},
     {"crowded: one shuts", shuts, 3, 0, 0, CROWDED},
@@ -661,6 +707,7 @@ const struct scene scenes[] = {
     {"one closes beside a waiter", one_closes_beside_a_waiter, 2, 0, 0, ROOMY},
     {"enters again", enters_again, 2, 0, 0, ROOMY},
     {"holder: one comes and ends", holder_comes_and_ends, 2, 0, 0, ROOMY},
+    {"holder: one comes and ends, without a key", holder_comes_and_ends, 2, 0, 0, 15, MANY, MANY, NO_MEMORY},
     {"holder: two come and end", holder_comes_and_ends, 3, 0, 0, ROOMY},
     {"holder: one ends with it", ends_as_holder, 2, 0, 0, ROOMY},
     {"holder: one leaves in a destructor", leaves_in_a_destructor, 2, 0, 0, ROOMY},
@@ -826,6 +873,10 @@ const struct scene scenes[] = {
     {"bursts: one enters until one shuts", enters_until_shut, 2, 2, 0, ROOMY},
     {"who is told of a shut frees", told_of_a_shut_frees, 2, 0, 0, ROOMY},
     {"bursts: who is told of a shut frees", told_of_a_shut_frees, 2, 2, 0, ROOMY},
+    {"who is told of a shut frees at once", told_of_a_shut_frees_at_once, 2, 0, 0, ROOMY},
+    {"bursts: who is told of a shut frees at once", told_of_a_shut_frees_at_once, 2, 2, 0, ROOMY},
+    {"who is told of a shut asks", told_of_a_shut_asks, 2, 0, 0, ROOMY},
+    {"bursts: who is told of a shut asks", told_of_a_shut_asks, 2, 2, 0, ROOMY},
     {"late while one stays in", is_late_while_one_stays_in, 2, 0, 0, ROOMY},
     {"far: late while one stays in", is_late_while_one_stays_in, 2, 0, 0, FAR},
     {"far: crowded: late while one stays in", is_late_while_one_stays_in, 2, 0, 0, 0, MANY, 0, 0},
@@ -861,7 +912,7 @@ static qolb_lock *unopened(const struct scene *scene, int k) {
 
 void set_up(const struct scene *scene) {
     memset(&it, 0, sizeof it), memset(order, 0, sizeof order);
-    new_data_of_threads(asks_for_holder(scene->does));
+    new_data_of_threads(asks_for_holder(scene->does), !scene->no_memory);
     memset(head_of, 0, sizeof head_of), memset(handed_over, 0, sizeof handed_over), entries.many = 0;
     time_of_order = 0, it.users = scene->threads, model_near = scene->near, model_sleepers = scene->sleepers,
     model_open = scene->open;

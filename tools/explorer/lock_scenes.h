@@ -50,8 +50,9 @@ void free_lock(void);
 
 /* ---- holder_scenes.c ---- */
 
-/* New tables of all threads. Unless other threads look at them they are in no list, and no access to them is shared. */
-void new_data_of_threads(int looked_at);
+/* New tables of all threads, and a key for them or none. Unless other threads look at them they are in no list, and no
+ * access to them is shared. */
+void new_data_of_threads(int looked_at, int has_key);
 int is_in_table(uintptr_t at);
 void is_held_by(int self);
 
