@@ -107,6 +107,7 @@ FAULTS = {
     "two openings have one label": (1, "holds three", (OPENS, "open_core", "atomic_fetch_add(&labels, 1) + 1", "atomic_load(&labels) + 1"), (TURNS, "is_free", "has(at, HELD) ? says_held(at, lock) : at->ticket.state == QOLB_TICKET_FREE_", "1")),
     # The thread's table.
     "a turn goes to a place that is taken": (1, "", (TURNS, "is_free", "has(at, HELD) ? says_held(at, lock) : at->ticket.state == QOLB_TICKET_FREE_", "1")),
+    "a turn goes to a place whose ticket waits": (1, "far: memory by a lock", (TURNS, "is_free", "has(at, HELD) ? says_held(at, lock) : at->ticket.state == QOLB_TICKET_FREE_", "!has(at, HELD) || says_held(at, lock)")),
     "a turn beyond the table is not counted": (1, "holds three", (TURNS, "move_into", "    this_thread()->beyond++;\n", "")),
     "a turn beyond the table has no holder": (1, "holds three", (TURNS, "move_into", "    atomic_store_explicit(&lock->beyond_by, own_number(), memory_order_relaxed);\n", "")),
     "a turn beyond the table keeps its holder": (1, "holds three", (TURNS, "qolb_take_turn_", "    atomic_store_explicit(&lock->beyond_by, 0, memory_order_relaxed);\n", "")),

@@ -24,16 +24,20 @@ UNSEEN void *qolb_malloc_(size_t size) {
 }
 void qolb_free_(void *block) { (void)block; }
 
-/* For an entry of the registry, where the scene has memory for it. */
+/* For an entry of the registry, where the scene has memory for it. It may take a lock, as a program's malloc does. */
 static struct {
     void *at[16];
     int many;
+    qolb_lock *lock;
 } entries;
 void *model_entry(size_t size);
 UNSEEN void *model_entry(size_t size) {
     if (!model_memory) return NULL;
+    if (entries.lock) MUST(qolb_lock_enter(entries.lock) == QOLB_GRANTED && qolb_lock_is_mine(entries.lock));
     MUST(entries.many < 16);
-    return entries.at[entries.many++] = model_malloc(size);
+    void *entry = entries.at[entries.many++] = model_malloc(size);
+    if (entries.lock) MUST(qolb_lock_leave(entries.lock) == QOLB_DONE);
+    return entry;
 }
 
 /* ---- Who may be served before whom ----
@@ -185,6 +189,9 @@ static void one_is_late(int self) { within(self == 1, MS); }
 static void one_late_beside_one_that_yields(int self) { self == 0 ? enters_with(3) : one_is_late(self); }
 
 static void two_late_beside_one_that_yields(int self) { self == 0 ? enters_with(3) : is_late(self); }
+
+/* Memory takes a lock for which the table has no place of its own. */
+static void late_with_memory_by_a_lock(int self) { two_late_beside_one_that_yields(self); }
 
 static void is_late_and_comes_again(int self) { is_late(self), enters(self); }
 
@@ -673,6 +680,7 @@ const struct scene scenes[] = {
     {"far: two are late and come again", is_late_and_comes_again, 3, 0, 0, FAR},
     {"far: no room for a sleeper", two_late_beside_one_that_yields, 3, 0, 0, 0, 0, MANY, 0},
     {"far: room for one sleeper", two_late_beside_one_that_yields, 3, 0, 0, 0, 1, MANY, 0},
+    {"far: memory by a lock", late_with_memory_by_a_lock, 3, 0, 0, FAR},
     {"far: no memory", two_late_beside_one_that_yields, 3, 0, 0, 0, MANY, MANY, NO_MEMORY},
     {"far: a younger lock", late_at_a_younger_lock, 3, 0, 0, FAR},
     {"far: late soon at a younger lock", late_soon_at_a_younger_lock, 3, 0, 0, FAR},
@@ -922,6 +930,7 @@ void set_up(const struct scene *scene) {
         if (!scene->at_first_use) MUST(qolb_lock_open(it.locks[k], scene->burst) == QOLB_DONE);
     }
     it.lock = it.locks[0];
+    entries.lock = scene->does == late_with_memory_by_a_lock ? it.locks[2] : NULL;
 }
 
 /* Nobody is counted or withdrawn at any cell, waits, is a guest, or holds. */
