@@ -1,5 +1,6 @@
-/* No call on a lock, a condition or a node changes errno, also where it sleeps, wakes or is late. With the argument
- * `mutex` those of the C library's mutexes, for the library that is preloaded. Prints only errors. */
+/* No call on a lock, a condition or a node changes errno, also where it sleeps, wakes or is late, and where memory is
+ * out. With the argument `mutex` those of the C library's mutexes, for the library that is preloaded. Linked with
+ * --wrap for malloc. Prints only errors. */
 #define _GNU_SOURCE
 #include <errno.h>
 #include <qolb.h>
@@ -47,6 +48,46 @@ static void *uses_lock(void *argument) {
         MUST(KEEPS(qolb_lock_leave(&lock)), QOLB_MISUSE);
     }
     return argument;
+}
+
+/* ---- Without memory ---- */
+
+static __thread int has_no_memory;
+static atomic_int number, refused;
+
+void *__real_malloc(size_t size);
+void *__wrap_malloc(size_t size) {
+    if (!has_no_memory) return __real_malloc(size);
+    atomic_fetch_add(&refused, 1);
+    errno = ENOMEM;
+    return NULL;
+}
+
+static void does_nothing(void *unused) { (void)unused; }
+
+static void *finds_no_memory(void *unused) {
+    about_to_wait(&number);
+    has_no_memory = 1;
+    uint32_t got = (uint32_t)KEEPS(qolb_lock_enter_within(&lock, 50 * US));
+    has_no_memory = 0;
+    MUST(got == QOLB_GRANTED || got == QOLB_LATE, 1);
+    if (got == QOLB_GRANTED) MUST(qolb_lock_leave(&lock), QOLB_DONE);
+    return unused;
+}
+
+/* A call with a limit behind more than sixty tasks wants memory, and does without. */
+static void without_memory(void) {
+    enum { TASKS = 80 };
+    static qolb_task tasks[TASKS];
+    pthread_t id;
+    number = refused = 0;
+    MUST(qolb_lock_enter(&lock), QOLB_GRANTED);
+    for (int k = 0; k < TASKS; k++) MUST(qolb_task_enter(&tasks[k], &lock, does_nothing, NULL), QOLB_WAITING);
+    MUST(pthread_create(&id, NULL, finds_no_memory, NULL), 0);
+    while (!atomic_load(&refused)) usleep(200);
+    for (int k = 0; k < TASKS; k++) MUST(qolb_task_cancel(&tasks[k]), QOLB_WITHDRAWN);
+    MUST(qolb_lock_leave(&lock), QOLB_DONE);
+    pthread_join(id, NULL);
 }
 
 static struct timespec soon(long nanoseconds) {
@@ -116,6 +157,7 @@ int main(int argc, char **argv) {
     for (int k = 0; k < 3; k++) {
         lock = (qolb_lock)QOLB_LOCK_INIT_BURSTS(k == 0 ? 0 : k == 1 ? 2 : 1024);
         in_threads(uses_lock, NULL);
+        without_memory();
         MUST(KEEPS(qolb_lock_enter(&lock)), QOLB_GRANTED);
         MUST(KEEPS(qolb_lock_shut(&lock)), QOLB_DONE);
         MUST(KEEPS(qolb_lock_enter(&lock)), QOLB_CLOSED);

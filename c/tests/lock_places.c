@@ -1,11 +1,12 @@
 /* Where locks lie, and how many of them: a lock lies in its own bytes, at any multiple of 16, and takes no heap; a
  * thread holds any number of them; many threads open one at its first use; a call with a limit waits behind any number
- * of others, and a lock is not closed meanwhile. Prints only errors. */
+ * of others, and a lock is not closed meanwhile. Locks work where no key of threads is left. Prints only errors. */
 #define _GNU_SOURCE
 #include <limits.h>
 #include <malloc.h>
 #include <qolb.h>
 #include <string.h>
+#include <sys/wait.h>
 
 #include "waiters.h"
 
@@ -309,6 +310,49 @@ static int after_the_librarys_destructor(int rounds, int does) {
     return pthread_key_delete(end.key);
 }
 
+/* The copy of a table, by which a holder that has ended is known, goes with the last lock of it that is left. */
+static int keeps_no_heap(void) {
+    enum { ENDS = 40, LESS_THAN_A_COPY = 64 };
+    size_t before = 0;
+    for (int k = 0; k <= ENDS; k++) {
+        if (k == 1) before = mallinfo2().uordblks;
+        if (after_the_librarys_destructor(2, LEAVES)) return 1;
+    }
+    WANT(mallinfo2().uordblks < before + ENDS * LESS_THAN_A_COPY, 1);
+    return 0;
+}
+
+/* ---- Without a key ---- */
+
+static int uses_without_a_key(void) {
+    pthread_key_t key;
+    while (pthread_key_create(&key, NULL) == 0) continue;
+    for (int k = 0; k < MANY; k++) held[k] = of_bursts(k % 3 ? 0 : 16);
+    for (int k = 0; k < MANY; k++) WANT(qolb_lock_enter(&held[k]), QOLB_GRANTED);
+    for (int k = 0; k < MANY; k++) {
+        WANT(qolb_lock_holder(&held[k]), gettid());
+        WANT(qolb_lock_is_mine(&held[k]), 1);
+        WANT(qolb_lock_enter(&held[k]), QOLB_MISUSE);
+        WANT(qolb_cond_wait_within(&told, &held[k], 1000), QOLB_LATE);
+        WANT(qolb_lock_leave(&held[k]), QOLB_DONE);
+        WANT(qolb_lock_holder(&held[k]), 0);
+        WANT(qolb_lock_leave(&held[k]), QOLB_MISUSE);
+        if (counted(&held[k], 30)) return 1;
+        WANT(qolb_lock_close(&held[k]), QOLB_DONE);
+    }
+    return 0;
+}
+
+/* In a child, which has not used a lock before. */
+static int without_a_key(void) {
+    int status;
+    pid_t child = fork();
+    if (child == 0) exit(uses_without_a_key());
+    WANT(waitpid(child, &status, 0), child);
+    WANT(status, 0);
+    return 0;
+}
+
 /* ---- A first use in a destructor ---- */
 
 static void *ends_without_locks(void *unused) {
@@ -401,7 +445,7 @@ static int limits_behind_many(uint32_t burst, int shut) {
 
 int main(int argc, char **argv) {
     alarm(argc > 1 ? (unsigned)atoi(argv[1]) : 1200);
-    if (takes_no_heap() || lies_anywhere(0) || lies_anywhere(16) || on_the_stack()) return 1;
+    if (without_a_key() || takes_no_heap() || lies_anywhere(0) || lies_anywhere(16) || on_the_stack()) return 1;
     if (many_at_a_time(0) || many_at_a_time(64) || waits_with_many(0) || waits_with_many(1)) return 1;
     if (opened_once(0) || opened_once(2) || holder_that_ended() || another_in_the_same_bytes()) return 1;
     for (int round = 1; round <= ROUNDS; round++)
@@ -409,6 +453,7 @@ int main(int argc, char **argv) {
             if (after_the_librarys_destructor(round, does) ||
                 (does >= ENTERS && first_use_in_a_destructor(round, does)))
                 return 1;
+    if (keeps_no_heap()) return 1;
     for (int shut = 0; shut < 2; shut++)
         if (limits_behind_many(0, shut) || limits_behind_many(64, shut)) return 1;
     return 0;

@@ -289,6 +289,28 @@ static int at_condition(void) {
     return is_left();
 }
 
+static uint64_t lasts;
+
+static void has_a_turn(void *task) {
+    if (qolb_task_poll(task) != QOLB_GRANTED || qolb_task_leave(task) != QOLB_DONE) wrong++;
+    now += lasts;
+}
+
+/* The limit counts from the call on: a task's call that is made meanwhile, as the lock is left, is in it. */
+static int at_condition_beside_a_call(uint64_t burst, uint64_t nanoseconds) {
+    qolb_cond cond = QOLB_COND_INIT;
+    qolb_task task = {0};
+    if (is_held(burst)) return 1;
+    WANT(qolb_task_enter(&task, &lock, has_a_turn, &task), QOLB_WAITING);
+    uint64_t since = now;
+    lasts = nanoseconds;
+    begins(NULL);
+    WANT(qolb_cond_wait_within(&cond, &lock, 20 * MS), QOLB_LATE);
+    WANT(now - since, lasts < 20 * MS ? 20 * MS : lasts);
+    WANT(sleeps, lasts < 20 * MS ? 1 : 0);
+    return is_left();
+}
+
 /* A process that may use one processor only, here a child, sleeps at once. */
 static int sleeps_at_once(void) {
     cpu_set_t set;
@@ -359,6 +381,8 @@ int main(void) {
     atomic_store(&qolb_pauses_, 80); /* also where there is one processor */
     if (late(0) || late(64) || sleeps_on() || head_sleeps_on() || granted_awake() || far_from_its_turn()) return 1;
     if (at_the_end(0) || at_the_end(1) || woken_for_nothing(0) || woken_for_nothing(64) || at_condition()) return 1;
+    for (uint64_t burst = 0; burst <= 64; burst += 64)
+        if (at_condition_beside_a_call(burst, 15 * MS) || at_condition_beside_a_call(burst, 60 * MS)) return 1;
     if (wakes_in_order(0) || wakes_in_order(1)) return 1;
     WANT(wrong, 0);
     return 0;

@@ -755,12 +755,48 @@ static int freed_by_the_last(uint32_t burst) {
     return 0;
 }
 
+/* Who is told of a shut at a condition may free the lock at once, even if who shuts it is still in that call. */
+struct waited_at {
+    qolb_lock lock;
+    qolb_cond cond;
+    int waits;
+};
+
+static void *is_told_of_a_shut(void *argument) {
+    struct waited_at *it = argument;
+    MUST(qolb_lock_enter(&it->lock), QOLB_GRANTED);
+    it->waits = 1;
+    MUST(qolb_cond_wait(&it->cond, &it->lock), QOLB_CLOSED);
+    MUST(qolb_lock_is_mine(&it->lock), 0);
+    MUST(qolb_lock_try(&it->lock), QOLB_CLOSED);
+    free(it);
+    return NULL;
+}
+
+static int freed_by_who_is_told(uint32_t burst) {
+    for (int round = 0; round < 200; round++) {
+        struct waited_at *it = malloc(sizeof *it);
+        pthread_t id;
+        if (!it) return 1;
+        *it = (struct waited_at){QOLB_LOCK_INIT_BURSTS(burst), QOLB_COND_INIT, 0};
+        MUST(pthread_create(&id, NULL, is_told_of_a_shut, it), 0);
+        for (int waits = 0; !waits; sched_yield()) {
+            WANT(qolb_lock_enter(&it->lock), QOLB_GRANTED);
+            waits = it->waits;
+            WANT(waits ? qolb_lock_shut(&it->lock) : qolb_lock_leave(&it->lock), QOLB_DONE);
+        }
+        pthread_join(id, NULL);
+    }
+    return 0;
+}
+
 static int with_bursts(uint32_t burst) {
     static const unsigned threads[] = {2, 8, 32, 200};
     for (int is_used = 0; is_used < 2; is_used++)
         if (many_in_order(is_used, burst)) return 1;
     if (of_the_holder(burst) || in_order(burst) || others_sleep_on(burst) || behind_those_that_gave_up(burst)) return 1;
-    if (shut_tells_all(burst) || shuts_seen_at_once(burst) || told_in_order(burst) || freed_by_the_last(burst))
+    if (shut_tells_all(burst) || shuts_seen_at_once(burst) || told_in_order(burst) || freed_by_the_last(burst) ||
+        freed_by_who_is_told(burst))
         return 1;
     for (size_t k = 0; k < sizeof threads / sizeof threads[0]; k++)
         for (int shut = 0; shut < 2; shut++)

@@ -16,6 +16,7 @@
 #include <mutex>
 #include <string>
 #include <thread>
+#include <type_traits>
 #include <unistd.h>
 #include <utility>
 #include <vector>
@@ -108,6 +109,34 @@ bool is_overtaken_within(std::uint16_t burst) {
     return true;
 }
 
+// More turns than a burst has count as the most: the lock has bursts. While one waits, this thread enters again before
+// it, soon or late.
+bool is_overtaken_by_some(qolb::burst most) {
+    for (int round = 0; round < 1000; round++) {
+        qolb::lock lock(most);
+        bool served = false, again = false;
+        std::atomic<int> number{0};
+        lock.lock();
+        std::thread waits([&] {
+            number = gettid();
+            std::lock_guard<qolb::lock> turn(lock);
+            served = true;
+        });
+        until_asleep(number);
+        lock.unlock();
+        {
+            std::lock_guard<qolb::lock> turn(lock);
+            again = !served;
+        }
+        waits.join();
+        if (again) return true;
+    }
+    return false;
+}
+
+// A static one is there until the end: threads may use it while the program ends.
+static_assert(std::is_trivially_destructible<qolb::lock>::value, "its destructor does nothing");
+
 qolb::lock in_bursts(qolb::burst{64});
 
 bool bursts() {
@@ -120,6 +149,7 @@ bool bursts() {
         }
     });
     WANT(had == threads * rounds);
+    WANT(is_overtaken_by_some({70000}) && is_overtaken_by_some({UINT64_MAX}));
     qolb::guarded<int> value(3, qolb::burst{2});
     value.with([](int &it) { it++; });
     WANT(value.load() == 4);

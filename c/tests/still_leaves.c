@@ -1,6 +1,7 @@
 /* A thread leaves a lock, and is stopped in that call while it wakes the next holder. All others can enter, whichever
- * call the thread left by; the lock can be closed, and its memory may go. Linked with --wrap for syscall. Prints only
- * errors. */
+ * call the thread left by; the lock can be closed, and its memory may go. One that shuts a lock is stopped as it wakes
+ * who waits at a condition: that one is told CLOSED once the lock is shut for all. Linked with --wrap for syscall.
+ * Prints only errors. */
 #define _GNU_SOURCE
 #include <qolb.h>
 #include <stdarg.h>
@@ -11,9 +12,13 @@
 
 long __real_syscall(long number, ...);
 
-static __thread int first;
+/* How the system is called to wake: who sleeps at a word, and who sleeps at a lock. */
+enum { FUTEX_WAKE_PRIVATE = 129, FUTEX_WAKE_BITSET_PRIVATE = 138 };
+
+static __thread int first; /* the call in which this thread stops, or 0 */
 static atomic_int holds, asks, is_stopped, may_go_on;
 static qolb_lock lock;
+static qolb_cond cond;
 
 /* The first thread stops behind the first sleeper that it wakes. */
 long __wrap_syscall(long number, ...) {
@@ -23,7 +28,7 @@ long __wrap_syscall(long number, ...) {
     for (int k = 0; k < 6; k++) word[k] = va_arg(rest, long);
     va_end(rest);
     long got = __real_syscall(number, word[0], word[1], word[2], word[3], word[4], word[5]);
-    if (first && number == SYS_futex && word[1] == 138 /* FUTEX_WAKE_BITSET_PRIVATE */) {
+    if (first && number == SYS_futex && word[1] == first) {
         atomic_store(&is_stopped, 1);
         while (!atomic_load(&may_go_on)) usleep(1000);
     }
@@ -31,7 +36,7 @@ long __wrap_syscall(long number, ...) {
 }
 
 static void *leaves_to_another(void *unused) {
-    first = 1;
+    first = FUTEX_WAKE_BITSET_PRIVATE;
     MUST(qolb_lock_enter(&lock), QOLB_GRANTED);
     atomic_store(&holds, 1);
     until_asleep(&asks);
@@ -40,6 +45,7 @@ static void *leaves_to_another(void *unused) {
 }
 
 static void *goes_on(void *unused) {
+    while (!atomic_load(&is_stopped)) sched_yield();
     usleep(20000);
     atomic_store(&may_go_on, 1);
     return unused;
@@ -70,8 +76,36 @@ static void is_free_meanwhile(uint64_t burst) {
     pthread_join(other, NULL);
 }
 
+static void *shuts(void *unused) {
+    first = FUTEX_WAKE_PRIVATE;
+    until_asleep(&asks);
+    MUST(qolb_lock_enter(&lock), QOLB_GRANTED);
+    MUST(qolb_lock_shut(&lock), QOLB_DONE);
+    return unused;
+}
+
+static void is_shut_for_who_is_told(uint64_t burst) {
+    pthread_t one, other;
+    lock = (qolb_lock)QOLB_LOCK_INIT_BURSTS(burst);
+    cond = (qolb_cond)QOLB_COND_INIT;
+    asks = is_stopped = may_go_on = 0;
+    MUST(qolb_lock_enter(&lock), QOLB_GRANTED);
+    MUST(pthread_create(&one, NULL, shuts, NULL), 0);
+    MUST(pthread_create(&other, NULL, goes_on, NULL), 0);
+    about_to_wait(&asks);
+    MUST(qolb_cond_wait(&cond, &lock), QOLB_CLOSED);
+    MUST(qolb_lock_try(&lock), QOLB_CLOSED);
+    MUST(qolb_lock_enter_within(&lock, 0), QOLB_CLOSED);
+    MUST(qolb_lock_holder(&lock), 0);
+    MUST(qolb_lock_close(&lock), QOLB_DONE);
+    memset(&lock, 0x5a, sizeof lock);
+    pthread_join(one, NULL);
+    pthread_join(other, NULL);
+}
+
 int main(void) {
     alarm(600);
     for (uint64_t burst = 0; burst <= 64; burst++) is_free_meanwhile(burst);
+    for (uint64_t burst = 0; burst <= 64; burst += 16) is_shut_for_who_is_told(burst);
     return 0;
 }

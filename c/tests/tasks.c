@@ -145,6 +145,37 @@ static int shut_is_seen_at_once(uint64_t burst, int by_task) {
     return 0;
 }
 
+/* A task that is told CLOSED as it gives up sees what who shut the lock wrote. */
+static int written; /* the thread sanitizer knows of no other order than that by the lock */
+static int held_by_other, others_wait;
+
+static void *writes_and_shuts(void *unused) {
+    MUST(qolb_lock_enter(&lock), QOLB_GRANTED);
+    __atomic_store_n(&held_by_other, 1, __ATOMIC_RELAXED);
+    while (!__atomic_load_n(&others_wait, __ATOMIC_RELAXED)) usleep(200);
+    written++;
+    MUST(qolb_lock_shut(&lock), QOLB_DONE);
+    __atomic_store_n(&held_by_other, 0, __ATOMIC_RELAXED);
+    return unused;
+}
+
+static int told_as_it_gives_up(uint64_t burst) {
+    pthread_t id;
+    begin(burst);
+    written = held_by_other = others_wait = 0;
+    WANT(pthread_create(&id, NULL, writes_and_shuts, NULL), 0);
+    while (!__atomic_load_n(&held_by_other, __ATOMIC_RELAXED)) usleep(200);
+    for (int k = 0; k < 2; k++) WANT(enters(k), QOLB_WAITING);
+    __atomic_store_n(&others_wait, 1, __ATOMIC_RELAXED);
+    while (__atomic_load_n(&held_by_other, __ATOMIC_RELAXED)) usleep(200);
+    WANT(qolb_task_cancel(&task[1]), QOLB_CLOSED);
+    WANT(written, 1);
+    WANT(qolb_task_cancel(&task[0]), QOLB_CLOSED);
+    WANT(pthread_join(id, NULL), 0);
+    WANT(qolb_lock_close(&lock), QOLB_DONE);
+    return 0;
+}
+
 static int tells_a_descriptor(uint64_t burst) {
     int fd = eventfd(0, EFD_NONBLOCK);
     uint64_t got = 0;
@@ -301,7 +332,8 @@ int main(void) {
         uint64_t burst = bursts[k];
         if (refuses(burst) || in_order(burst) || in_turn(burst) || shuts(burst, 0) || shuts(burst, 1)) return 1;
         if (shut_is_seen_at_once(burst, 0) || shut_is_seen_at_once(burst, 1)) return 1;
-        if (tells_a_descriptor(burst) || nests_no_call(burst) || closes_in_a_call(burst)) return 1;
+        if (told_as_it_gives_up(burst) || tells_a_descriptor(burst) || nests_no_call(burst) || closes_in_a_call(burst))
+            return 1;
         if (beside_threads(burst) || keeps_the_order(burst)) return 1;
     }
     return 0;

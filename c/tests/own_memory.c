@@ -1,0 +1,123 @@
+/* A program whose malloc and free enter a lock of its own. A call with a limit on another lock takes memory while it
+ * waits, a thread that ends as a holder does, too, and both locks have one place in a thread's table. Linked with
+ * --wrap for malloc and free. Prints only errors. */
+#define _GNU_SOURCE
+#include <qolb.h>
+#include <string.h>
+
+#include "waiters.h"
+
+enum { TASKS = 80, APART = 512 };
+
+/* The one for memory, and the other. */
+static struct {
+    _Alignas(APART) qolb_lock of_memory;
+    _Alignas(APART) qolb_lock lock;
+} it;
+
+static qolb_task tasks[TASKS];
+static atomic_int number;
+static __thread int counts; /* this thread's uses of memory are counted */
+static __thread int taken, freed;
+
+void *__real_malloc(size_t size);
+void __real_free(void *block);
+
+static void holds_it(void) {
+    MUST(qolb_lock_enter(&it.of_memory), QOLB_GRANTED);
+    MUST(qolb_lock_is_mine(&it.of_memory), 1);
+    MUST(qolb_lock_holder(&it.of_memory), gettid());
+}
+
+void *__wrap_malloc(size_t size) {
+    holds_it();
+    taken += counts;
+    void *block = __real_malloc(size);
+    MUST(qolb_lock_leave(&it.of_memory), QOLB_DONE);
+    return block;
+}
+
+void __wrap_free(void *block) {
+    holds_it();
+    freed += counts;
+    __real_free(block);
+    MUST(qolb_lock_leave(&it.of_memory), QOLB_DONE);
+}
+
+static void does_nothing(void *unused) { (void)unused; }
+
+/* The limit is so long that it is granted the lock, or so short that it is late. */
+static void *enters_within(void *limit) {
+    uint64_t nanoseconds = *(uint64_t *)limit;
+    about_to_wait(&number);
+    counts = 1;
+    uint32_t got = qolb_lock_enter_within(&it.lock, nanoseconds);
+    counts = 0;
+    MUST(got, nanoseconds > MS ? QOLB_GRANTED : QOLB_LATE);
+    MUST(qolb_lock_is_mine(&it.lock), got == QOLB_GRANTED);
+    MUST(taken, 1);
+    MUST(freed, got == QOLB_GRANTED);
+    if (got == QOLB_GRANTED) MUST(qolb_lock_leave(&it.lock), QOLB_DONE);
+    return NULL;
+}
+
+/* Behind so many tasks that its ticket can't be withdrawn. */
+static int waits_behind_many(uint64_t burst, uint64_t nanoseconds) {
+    pthread_t id;
+    it.of_memory = (qolb_lock)QOLB_LOCK_INIT_BURSTS(burst), it.lock = (qolb_lock)QOLB_LOCK_INIT_BURSTS(burst);
+    memset(tasks, 0, sizeof tasks);
+    atomic_store(&number, 0);
+    WANT(qolb_lock_enter(&it.lock), QOLB_GRANTED);
+    for (int k = 0; k < TASKS; k++) WANT(qolb_task_enter(&tasks[k], &it.lock, does_nothing, NULL), QOLB_WAITING);
+    WANT(pthread_create(&id, NULL, enters_within, &nanoseconds), 0);
+    until_asleep(&number);
+    if (nanoseconds <= MS) pthread_join(id, NULL);
+    for (int k = 0; k < TASKS; k++) WANT(qolb_task_cancel(&tasks[k]), QOLB_WITHDRAWN);
+    WANT(qolb_lock_leave(&it.lock), QOLB_DONE);
+    if (nanoseconds > MS) pthread_join(id, NULL);
+    WANT(qolb_lock_close(&it.lock), QOLB_DONE);
+    return 0;
+}
+
+/* ---- A thread's end ---- */
+
+static pthread_key_t key;
+
+static void leaves_in_second_round(void *value) {
+    if (value == &key) {
+        MUST(pthread_setspecific(key, &it), 0);
+        return;
+    }
+    MUST(qolb_lock_is_mine(&it.lock), 1);
+    MUST(qolb_lock_leave(&it.lock), QOLB_DONE);
+    MUST(taken, 1);
+    MUST(freed, 1);
+    counts = 0;
+}
+
+static void *ends_as_holder(void *unused) {
+    MUST(qolb_lock_enter(&it.lock), QOLB_GRANTED);
+    MUST(pthread_setspecific(key, &key), 0);
+    counts = 1;
+    return unused;
+}
+
+static int leaves_after_its_end(uint64_t burst) {
+    pthread_t id;
+    it.of_memory = (qolb_lock)QOLB_LOCK_INIT_BURSTS(burst), it.lock = (qolb_lock)QOLB_LOCK_INIT_BURSTS(burst);
+    WANT(pthread_create(&id, NULL, ends_as_holder, NULL), 0);
+    pthread_join(id, NULL);
+    WANT(qolb_lock_holder(&it.lock), 0);
+    WANT(qolb_lock_close(&it.lock), QOLB_DONE);
+    return 0;
+}
+
+int main(void) {
+    alarm(600);
+    WANT(pthread_key_create(&key, leaves_in_second_round), 0);
+    for (uint64_t burst = 0; burst <= 64; burst += 32) {
+        if (waits_behind_many(burst, (uint64_t)1000000 * MS) || waits_behind_many(burst, MS)) return 1;
+        if (leaves_after_its_end(burst)) return 1;
+    }
+    return 0;
+}
