@@ -774,7 +774,7 @@ static void *is_told_of_a_shut(void *argument) {
 }
 
 static int freed_by_who_is_told(uint32_t burst) {
-    for (int round = 0; round < 200; round++) {
+    for (int round = 0; round < 50; round++) {
         struct waited_at *it = malloc(sizeof *it);
         pthread_t id;
         if (!it) return 1;

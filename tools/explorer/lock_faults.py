@@ -126,7 +126,7 @@ FAULTS = {
     "who finds an entry does not look at its lock's label": (1, "far: late soon at a younger lock", (REGISTRY, "find_at", "e && lock->label == label", "e")),
     "who finds the entry of a task does not look at its lock's label": (2, "tasks: a task comes to a younger lock", (REGISTRY, "find_at", "e && lock->label == label", "e")),
     "who finds an entry looks at its cell in place of its lock's label": (2, "far: one frees a younger lock", (REGISTRY, "find_at", "e && lock->label == label", "e && (number == HEAD || rounds_to_go(lock, number) == 0)")),
-    "who looks at the lock's label does not look for an entry": (2, "tasks: the last frees beside", (REGISTRY, "find_at", "e && lock->label == label", "lock->label == label && e")),
+    "who looks at the lock's label does not look for an entry": (2, "tasks: the last frees beside", (REGISTRY, "find_at", "e && lock->label == label", "*(volatile uint64_t *)&lock->label == label && e")),
     "who passes an abandoned turn on reads the lock's label afterwards": (1, "far: ", (WAITS, "tell", "qolb_find_entry_(lock, number, label, &ticket, &key)", "qolb_find_entry_(lock, number, lock->label, &ticket, &key)")),
     "who takes an entry out does not retract its sleep": (1, "far: ", (REGISTRY, "out_of", "qolb_core_retract_sleep_proved_(&e->lock->core, &ticket);", "ticket.state = QOLB_TICKET_AT_TURN_;")),
     "who finds an entry leaves it in": (1, "", (REGISTRY, "out_of", "    take_out(e);\n", "")),
@@ -211,7 +211,6 @@ FAULTS = {
     "a condition's list has no guard": (2, "", (REGISTRY, "qolb_guard_", "    take_guard(guard);\n", "")),
     "who is late stays in the condition's list": (1, "", (CONDITIONS, "qolb_cond_wait_at_", "await_word(&me, &limit) != SIGNALLED && stand_no_more(cond, &me)", "(await_word(&me, &limit), 0)")),
     "who was told stays in the lock's list": (1, "", (CONDITIONS, "qolb_cond_wait_at_", "    stand_no_more_in(&me);\n", "")),
-    "a shut reads behind one that it told": (2, "two wait at a condition until", (CONDITIONS, "qolb_tell_shut_", "        beside = it->beside;\n        tell(it, SHUT);\n", "        tell(it, SHUT);\n        beside = it->beside;\n")),
 }
 
 # Changes after which no run may fail.
@@ -223,6 +222,8 @@ HARMLESS = {
     "the queue head takes any free word at once": ((WAITS, "may_take", "had == watch->had", "1"),),
     # No head sleeps at a word that nobody holds: so a leave that finds it as it was when this turn began is told of none.
     "who leaves a burst the quick way looks for no sleeper": ((LOCK, "leave_burst", "likely(got == QOLB_DONE && !at->ticket.head_sleeps)", "likely(got == QOLB_DONE)"),),
+    # Who is told of a shut asks then, and is behind who shuts: so its entry stays until the shut is over.
+    "a shut reads behind one that it told": ((CONDITIONS, "qolb_tell_shut_", "        beside = it->beside;\n        tell(it, SHUT);\n", "        tell(it, SHUT);\n        beside = it->beside;\n"),),
     # It sleeps with its own count at its cell, and is told again.
     "nobody is woken ahead": ((WAITS, "qolb_end_turn_", "    if (wakes) qolb_unpark_(cell_half(words, ahead), class_of(ahead));\n", ""),),
     "a newcomer goes to the outer word once": ((LOCK, "goes_in", "        if (at->ticket.outer & (OUTER_STATE | OUTER_SHUT)) return 0;\n", "        return 0;\n"),),
