@@ -1,9 +1,12 @@
-/* Whether a node's hints (../src/hints.h) are the words and the slots that a handoff reads and writes. Prints only
- * errors. */
+/* Whether a node's hints (../src/hints.h) are the words and the slots that a handoff reads and writes, and are not taken
+ * for those of a node that lay there before. Prints only errors. */
+#define _GNU_SOURCE
 #include <hints.h>
+#include <pthread.h>
 #include <stdio.h>
 #include <stdlib.h>
 #include <string.h>
+#include <unistd.h>
 
 enum { MOST = 200 };
 
@@ -79,6 +82,28 @@ static void check_hints(uint32_t kind, uint64_t nodes) {
     }
 }
 
+static void *releases_soon(void *unused) {
+    usleep(2000);
+    CHECK(qolb_deqolb(&node[1]) == QOLB_DONE);
+    return unused;
+}
+
+/* A node waits, and ends its turn by shutting the line. Those of a line that is opened then lie where it lay, or not: of
+ * another kind, whose nodes have other hints. */
+static void come_behind_one_that_waited(uint32_t kind, const qolb_bytes *opening) {
+    pthread_t id;
+    open_line(QOLB_LINK, 2, opening);
+    CHECK(qolb_acquire(&node[1]) == QOLB_GRANTED);
+    CHECK(pthread_create(&id, NULL, releases_soon, NULL) == 0);
+    CHECK(qolb_acquire(&node[0]) == QOLB_GRANTED);
+    CHECK(pthread_join(id, NULL) == 0);
+    CHECK(qolb_shut(&node[0]) == QOLB_DONE);
+    CHECK(qolb_close(&node[1]) == QOLB_DONE && qolb_close(&node[0]) == QOLB_DONE);
+    open_line(kind, 2, opening);
+    for (int k = 0; k < 2; k++) CHECK(qolb_acquire(&node[k]) == QOLB_GRANTED && qolb_deqolb(&node[k]) == QOLB_DONE);
+    close_line(2);
+}
+
 int main(void) {
     static const uint64_t counts[] = {1, 2, 3, 8, 16, 64, MOST};
     qolb_bytes opening;
@@ -91,5 +116,7 @@ int main(void) {
             if (kind != QOLB_LINK && counts[n] >= 2) hand_over(kind, &opening);
             close_line(counts[n]);
         }
+    for (int round = 0; round < 20; round++)
+        for (uint32_t kind = 0; kind < QOLB_KINDS; kind++) come_behind_one_that_waited(kind, &opening);
     return 0;
 }

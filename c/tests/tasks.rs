@@ -142,6 +142,32 @@ struct Counts {
     given_up: AtomicU64,
 }
 
+/// More futures than may have open requests: each has its turn, and none ends the program. Some are dropped.
+fn more_than_may_be_open() {
+    const MANY: usize = 16_384 + 1_000;
+    let mutex = Mutex::new(0u64);
+    let guard = block_on(mutex.lock_async()).unwrap();
+    let mut context = Context::from_waker(std::task::Waker::noop());
+    let mut waits: Vec<_> = (0..MANY).map(|_| Box::pin(mutex.lock_async())).collect();
+    for it in &mut waits {
+        assert!(it.as_mut().poll(&mut context).is_pending());
+    }
+    let mut kept: Vec<_> = waits.into_iter().enumerate().filter(|(k, _)| k % 50 != 7).map(|(_, it)| it).collect();
+    drop(guard);
+    let (all, mut had) = (kept.len() as u64, 0);
+    while !kept.is_empty() {
+        kept.retain_mut(|it| match it.as_mut().poll(&mut context) {
+            Poll::Ready(turn) => {
+                *turn.unwrap() += 1;
+                had += 1;
+                false
+            }
+            Poll::Pending => true,
+        });
+    }
+    assert_eq!((had, *mutex.lock().unwrap()), (all, all));
+}
+
 async fn by_mutex(mutex: Arc<Mutex<u64>>, lock: Arc<Mutex<u64>>, counts: Arc<Counts>, rounds: u32, mut random: Random) {
     for round in 0..rounds {
         let polls = if random.below(4) == 0 { random.below(3) as u32 } else { u32::MAX };
@@ -267,6 +293,7 @@ fn main() {
     guards_go(0);
     guards_go(64);
     wakers_own_turns();
+    more_than_may_be_open();
     for kind in Kind::ALL {
         a_node_waits(kind);
     }
