@@ -1,5 +1,5 @@
-/* Whether a node's hints (../src/hints.h) are the words and the slots that a handoff reads and writes, and are not taken
- * for those of a node that lay there before. Prints only errors. */
+/* Whether a node's hints (../src/hints.h) are the words and the slots that a handoff reads and writes, and are not
+ * taken for those of a node that lay there before. Prints only errors. */
 #define _GNU_SOURCE
 #include <hints.h>
 #include <pthread.h>
@@ -88,8 +88,8 @@ static void *releases_soon(void *unused) {
     return unused;
 }
 
-/* A node waits, and ends its turn by shutting the line. Those of a line that is opened then lie where it lay, or not: of
- * another kind, whose nodes have other hints. */
+/* A node waits, and ends its turn by shutting the line. Those of a line that is opened then may lie where it lay, and
+ * have other hints. */
 static void come_behind_one_that_waited(uint32_t kind, const qolb_bytes *opening) {
     pthread_t id;
     open_line(QOLB_LINK, 2, opening);
