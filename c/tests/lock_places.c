@@ -337,7 +337,7 @@ static int uses_without_a_key(void) {
         WANT(qolb_lock_leave(&held[k]), QOLB_DONE);
         WANT(qolb_lock_holder(&held[k]), 0);
         WANT(qolb_lock_leave(&held[k]), QOLB_MISUSE);
-        if (counted(&held[k], 30)) return 1;
+        if (k % 8 == 0 && counted(&held[k], 30)) return 1;
         WANT(qolb_lock_close(&held[k]), QOLB_DONE);
     }
     return 0;
