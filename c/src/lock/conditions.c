@@ -113,12 +113,9 @@ uint32_t qolb_cond_signal(qolb_cond *cond) { return signal_some(cond, 0); }
 
 uint32_t qolb_cond_broadcast(qolb_cond *cond) { return signal_some(cond, 1); }
 
-/* From here on the holder does nothing but shut the lock. A waiter that is told may end at once: its successor in the
- * list is read before. */
+/* From here on the holder does nothing but shut the lock. Who is told asks behind it, and stays in the list until it is
+ * answered. */
 void qolb_tell_shut_(struct lock *lock) {
-    for (struct waiter *it = lock->waits, *beside; it; it = beside) {
-        beside = it->beside;
-        tell(it, SHUT);
-    }
+    for (struct waiter *it = lock->waits; it; it = it->beside) tell(it, SHUT);
     lock->waits = NULL;
 }
