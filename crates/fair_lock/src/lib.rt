@@ -7,6 +7,7 @@ mod found;
 mod guard;
 mod head;
 mod lock;
+mod nap;
 mod queue;
 mod reading;
 mod span;

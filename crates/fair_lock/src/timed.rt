@@ -9,6 +9,7 @@ ghost use Rattle.fair_lock.specs.Found.{FoundWaiting, NotedOrNotHeld};
 use crate::closed::{EnterError, Late};
 use crate::guard::Guard;
 use crate::lock::FairLock;
+use crate::nap::snooze_or_nap;
 use crate::queue::Turn;
 use crate::span::{Over, Rest, Span};
 use crate::wake::Announced;
@@ -30,7 +31,7 @@ impl<T> FairLock<T> {
     /// Enters, or is late once `at_most` is over and its turn has not come. Blocks for no longer than about that.
     ///
     /// It draws a ticket only while its request could be taken back: with more than some 60 requests before it, it waits
-    /// without a ticket, looks again now and then, and may be late. Who came later and waits without a limit is then
+    /// without a ticket, looks again every 200 us, and may be late. Who came later and waits without a limit is then
     /// served before it.
     ///
     /// # Errors
@@ -54,7 +55,7 @@ impl<T> FairLock<T> {
             if self.burst >= 2 && go_in(&self.table.shared, &mut seat) {
                 return Ok(self.guard(seat, Turn::of_newcomer()));
             }
-            match ask_within(&self.table.shared, &mut seat, NEAR) {
+            let is_far = match ask_within(&self.table.shared, &mut seat, NEAR) {
                 AskWithinResult::AtTurn { ticket } => {
                     return self.begin_within(rt, seat, Turn::at_once(ticket), &span);
                 }
@@ -64,14 +65,13 @@ impl<T> FairLock<T> {
                         Err(over) => Err(EnterError::Late(Late { seat, over })),
                     };
                 }
-                AskWithinResult::Far { rounds: _ }
-                | AskWithinResult::Changed
-                | AskWithinResult::Spent => {}
+                AskWithinResult::Far { rounds: _ } => true,
+                AskWithinResult::Changed | AskWithinResult::Spent => false,
+            };
+            match span.left(rt) {
+                Ok(rest) => snooze_or_nap(rt, &backoff, is_far, &rest),
+                Err(over) => return Err(self.late(seat, over)),
             }
-            if let Err(over) = span.left(rt) {
-                return Err(self.late(seat, over));
-            }
-            backoff.snooze();
         }
         unreachable!()
     }

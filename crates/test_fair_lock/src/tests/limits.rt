@@ -44,10 +44,14 @@ impl<R> Clock for Ticking<'_, R> {
     }
 }
 
-/// Whether a call is late, with this limit in nanoseconds, and how often it read the clock.
-fn late_call<R: Wait>(rt: &R, lock: &FairLock<u64>, can_be_read: bool, nanos: u64) -> (bool, u64) {
-    let clock = Ticking::new(rt, can_be_read);
-    let is_late = match lock.enter_within(&clock, Duration::from_nanos(nanos)) {
+/// Whether a call is late, with this limit by this clock.
+fn is_late<R: Wait, C: Wait + Clock>(
+    rt: &R,
+    lock: &FairLock<u64>,
+    clock: &C,
+    at_most: Duration,
+) -> bool {
+    match lock.enter_within(clock, at_most) {
         Ok(guard) => {
             guard.leave(rt);
             false
@@ -56,7 +60,13 @@ fn late_call<R: Wait>(rt: &R, lock: &FairLock<u64>, can_be_read: bool, nanos: u6
             EnterError::Late(_late) => true,
             EnterError::Closed(_closed) => false,
         },
-    };
+    }
+}
+
+/// Whether a call is late, with this limit in nanoseconds, and how often it read the clock.
+fn late_call<R: Wait>(rt: &R, lock: &FairLock<u64>, can_be_read: bool, nanos: u64) -> (bool, u64) {
+    let clock = Ticking::new(rt, can_be_read);
+    let is_late = is_late(rt, lock, &clock, Duration::from_nanos(nanos));
     (is_late, clock.readings.load(SeqCst))
 }
 
@@ -78,4 +88,45 @@ fn a_late_call_reads_the_clock_up_to_its_limit(rt: HostRuntime) {
         guard.leave(&rt);
         assert_eq!(&rt; lock.into_inner(), 0);
     }
+}
+
+/// The system's clock, whose readings are counted.
+#[derive(Drop)]
+struct Counted<'r, R> {
+    rt: &'r R,
+    readings: AtomicU64,
+}
+
+impl<R: Wait> Wait for Counted<'_, R> {}
+
+impl<R: Clock> Clock for Counted<'_, R> {
+    fn monotonic(&self) -> io::Result<Duration> {
+        self.readings.fetch_add(1, SeqCst);
+        self.rt.monotonic()
+    }
+
+    fn since_1970(&self) -> io::Result<Duration> {
+        self.rt.since_1970()
+    }
+}
+
+/// A call behind so many requests that it draws no ticket naps between two looks, each of which reads the clock: in 50 ms it looks no more
+/// than 250 times after a few tries.
+#[test]
+fn a_call_far_from_its_turn_naps(rt: HostRuntime) {
+    let lock = lock_of(rt.alloc(), 1, 0).expect(&rt, "memory");
+    let guard = lock.enter(&rt).ok().expect(&rt, "open");
+    for _ in 0..64u32 {
+        let (is_late, _) = late_call(&rt, &lock, true, 2);
+        assert!(&rt; is_late);
+    }
+    let clock = Counted {
+        rt: &rt,
+        readings: AtomicU64::new(0),
+    };
+    let is_late = is_late(&rt, &lock, &clock, Duration::from_millis(50));
+    let readings = clock.readings.load(SeqCst);
+    assert!(&rt; is_late && readings < 300, "{readings}");
+    guard.leave(&rt);
+    assert_eq!(&rt; lock.into_inner(), 0);
 }
