@@ -110,8 +110,8 @@ impl<R: Clock> Clock for Counted<'_, R> {
     }
 }
 
-/// A call behind so many requests that it draws no ticket naps between two looks, each of which reads the clock: in 50 ms it looks no more
-/// than 250 times after a few tries.
+/// A call that is too far from its turn to draw a ticket naps between two looks, each of which reads the clock: in 50 ms it looks at most 250
+/// times, and a few times before.
 #[test]
 fn a_call_far_from_its_turn_naps(rt: HostRuntime) {
     let lock = lock_of(rt.alloc(), 1, 0).expect(&rt, "memory");
