@@ -6,7 +6,9 @@
 #define _GNU_SOURCE
 #include "mutexes.h"
 #include <dlfcn.h>
+#include <linux/futex.h>
 #include <sched.h>
+#include <stdarg.h>
 #include <sys/syscall.h>
 
 enum { BEGUN, HELD_UP, CANCELLED, SIGNALLED };
@@ -14,6 +16,7 @@ enum { BEGUN, HELD_UP, CANCELLED, SIGNALLED };
 static pthread_mutex_t mutex = PTHREAD_MUTEX_INITIALIZER;
 static pthread_cond_t condition = PTHREAD_COND_INITIALIZER;
 static int jobs, waiters, stage;
+static _Atomic int second_thread;
 static __thread int is_first, was_held_up;
 
 static int is_at(int least) { return __atomic_load_n(&stage, __ATOMIC_SEQ_CST) >= least; }
@@ -34,10 +37,18 @@ void pthread_testcancel(void) {
     await(CANCELLED);
 }
 
-/* It stands there, has left the mutex, and does not sleep yet. */
-int clock_gettime(clockid_t clock, struct timespec *time) {
-    if (was_held_up) await(SIGNALLED);
-    return (int)syscall(SYS_clock_gettime, clock, time);
+/* It stands there, has left the mutex to the other, and has not looked yet whether it was signalled. */
+long syscall(long number, ...) {
+    long (*real)(long, ...) = (long (*)(long, ...))dlsym(RTLD_NEXT, "syscall");
+    long given[6];
+    va_list more;
+    va_start(more, number);
+    for (int k = 0; k < 6; k++) given[k] = va_arg(more, long);
+    va_end(more);
+    long got = real(number, given[0], given[1], given[2], given[3], given[4], given[5]);
+    int does = number == SYS_futex ? given[1] & FUTEX_CMD_MASK : FUTEX_WAIT;
+    if (was_held_up && (does == FUTEX_WAKE || does == FUTEX_WAKE_BITSET)) await(SIGNALLED);
+    return got;
 }
 
 static void unlock(void *it) { WANT(pthread_mutex_unlock(it), 0); }
@@ -45,6 +56,7 @@ static void unlock(void *it) { WANT(pthread_mutex_unlock(it), 0); }
 static void *takes_a_job(void *first) {
     struct timespec end;
     is_first = first != NULL;
+    if (!is_first) second_thread = gettid();
     clock_gettime(CLOCK_REALTIME, &end);
     end.tv_sec += 1000;
     WANT(pthread_mutex_lock(&mutex), 0);
@@ -64,15 +76,28 @@ static int waiters_by_now(void) {
     return now;
 }
 
+/* It waits for the mutex, which the first has. */
+static void await_sleep_of_second(void) {
+    char name[64], state = 0;
+    while (state != 'S') {
+        rest(1);
+        snprintf(name, sizeof name, "/proc/self/task/%d/stat", second_thread);
+        FILE *file = fopen(name, "r");
+        if (file && fscanf(file, "%*d (%*[^)]) %c", &state) != 1) state = 0;
+        if (file) fclose(file);
+    }
+}
+
 int main(void) {
     pthread_t first, second;
     void *ended;
     alarm(60);
     WANT(pthread_create(&first, NULL, takes_a_job, &mutex), 0);
     for (int k = 0; k < 200 && !is_at(HELD_UP); k++) rest(1);
+    WANT(pthread_create(&second, NULL, takes_a_job, NULL), 0);
+    if (is_at(HELD_UP)) await_sleep_of_second();
     WANT(pthread_cancel(first), 0);
     go_to(CANCELLED);
-    WANT(pthread_create(&second, NULL, takes_a_job, NULL), 0);
     while (waiters_by_now() < 2) rest(1);
     WANT(pthread_mutex_lock(&mutex), 0);
     jobs = 1;
