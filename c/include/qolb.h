@@ -99,7 +99,7 @@
  * sleeps, a leave wakes it first. More than 65,535 count as 65,535; with 0 or 1 a lock is strict.
  *
  * Take strict order if each wait counts, bursts of 1,024 turns in place of a mutex: for many short turns, and if too
- * few processors are free (WAITING).
+ * few processors are free.
  *
  * LIMITS
  *
@@ -161,8 +161,8 @@
  *   may go when no thread is in a call on it.
  * - Call nothing from a signal handler, nor in the forked child of a process with threads.
  * - Use one copy of the library for a lock: not the static one in the program and another one in what it opens at run
- *   time. What is opened with the static one in it stays open.
- * - If destructors of a thread's keys use locks, one does before their last round.
+ *   time. A plugin that has the static one must stay open.
+ * - A thread uses its first lock before the last round of its keys' destructors.
  *
  * Every other call that a lock does not allow is MISUSE, and changes nothing.
  *
@@ -590,7 +590,7 @@ uint32_t qolb_cond_wait(qolb_cond *cond, qolb_lock *lock) QOLB_LOOK;
 uint32_t qolb_cond_wait_within(qolb_cond *cond, qolb_lock *lock, uint64_t nanoseconds) QOLB_LOOK;
 
 /* A signal wakes the thread that has waited longest at the condition, a broadcast all. The caller may hold the lock or
- * not. DONE. */
+ * not. DONE, also without waiters. */
 uint32_t qolb_cond_signal(qolb_cond *cond);
 uint32_t qolb_cond_broadcast(qolb_cond *cond);
 

@@ -345,6 +345,7 @@ class Lock {
     explicit constexpr Lock(burst most) noexcept : lock_ QOLB_LOCK_INIT_BURSTS(most.turns) {}
     Lock(const Lock &) = delete;
     Lock &operator=(const Lock &) = delete;
+
     // As in qolb.h: granted; closed; late or busy; misuse if the thread holds it.
     QOLB_NODISCARD qolb_answer enter() { return answer(qolb_lock_enter(&lock_)); }
     QOLB_NODISCARD qolb_answer try_enter() { return answer(qolb_lock_try(&lock_)); }
