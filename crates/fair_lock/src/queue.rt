@@ -21,7 +21,7 @@ const POLLS: u32 = 200;
 /// The same with more: its turn is far.
 const POLLS_FAR: u32 = 20;
 
-/// The pauses between two polls: some 90 ns.
+/// The pauses between two polls: some 120 ns, as most processors pause.
 const PAUSES: u32 = 16;
 
 /// A ticket at its turn.

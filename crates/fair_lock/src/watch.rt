@@ -5,13 +5,13 @@ ghost use Rattle.lock_core.specs.Answers.{IfSeenHeld, IfSeenFree, IfSeenForHead}
 use crate::queue::pause;
 use lock_core::OuterState;
 
-/// So often the queue head looks at the outer word before it sleeps.
+/// So often the queue head looks at the outer word before it requests a handoff and sleeps.
 const LOOKS: u32 = 100;
 
-/// The pauses between two of its looks, of some 90 ns each: a look takes the word's cache line from who is inside.
+/// The pauses between two of its looks, of some 120 ns each: a look takes the word's cache line from who is inside.
 const PAUSES: u32 = 3;
 
-/// It requests a handoff after this part of a burst.
+/// It requests a handoff after this part of a burst, if it does not sleep before.
 const PART: u64 = 16;
 
 /// What the queue head does after a look.

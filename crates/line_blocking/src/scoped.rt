@@ -1,5 +1,6 @@
 //! Scoped threads that share a value, each with an owned part.
-ghost use Rattle.std.specs.Prelude.{◌≡◌, ◌+◌, ◌^◌, ◌<◌, ℕ, IfSome, vec_len};
+ghost use Rattle.std.specs.Prelude.{◌≡◌, ◌+◌, ◌^◌, ◌<◌, ◌≤◌, ℕ, IfSome, vec_len, vec_capacity};
+ghost use Rattle.std.specs.PromisedHandle.{KeepsEach};
 ghost use Rattle.std.specs.Thread.{IsSync, IsSend};
 ghost use Rattle.line_blocking.specs.Places.{AllAt};
 
@@ -8,7 +9,7 @@ use std::marker::PhantomData;
 use std::snapshot::Snapshot;
 use std::sync::Wait;
 use std::thread;
-use std::thread::{Promise, PromisedHandle, Threads, join_promised};
+use std::thread::{Promise, PromisedHandle, Threads};
 
 /// The work of each thread of `run_scoped`: what it takes, does and returns.
 pub trait ScopedTask<R: Wait, S, P> {
@@ -52,10 +53,37 @@ impl<R: Wait, S, P, W: ScopedTask<R, S, P>> Promise<W::Output> for Done<R, S, P,
         W.post promise.work.value promise.shared.value promise.place back };
 }
 
-/// Runs a thread for each part, joins them all, and returns their outputs. The outputs are in the order of the parts. Allocates a list of
-/// handles, and blocks until all threads have ended.
+/// Joins each thread, and returns their outputs in order, in `room`. It allocates nothing.
+fn join_into<R: Threads, T: Drop, P: Promise<T>>(
+    rt: &R,
+    handles: Vec<PromisedHandle<T, P>>,
+    room: Vec<T>,
+) -> Vec<T>
+    requires empty { vec_len room ≡ 0 }
+    requires room { vec_len handles ≤ vec_capacity room }
+    ensures len { vec_len result ≡ vec_len handles }
+    ensures each { KeepsEach P.Promise (vec_len handles) handles.items result.items }
+{
+    let mut outputs = room;
+    for handle in handles {
+        if outputs.push(handle.join(rt)).is_err() {
+            unreachable!();
+        }
+    }
+    outputs
+}
+
+/// Joins each thread, and drops its output.
+fn join_and_drop<R: Threads, T: Drop, P: Promise<T>>(rt: &R, handles: Vec<PromisedHandle<T, P>>) {
+    for handle in handles {
+        drop(handle.join(rt));
+    }
+}
+
+/// Runs a thread for each part, joins them all, and returns their outputs. The outputs are in the order of the parts. Before the first
+/// thread starts, it allocates a list of handles and one of outputs. Blocks until all threads have ended.
 ///
-/// Returns `None` if memory or a thread was refused; all threads that were started have ended then.
+/// Returns `None` if memory or a thread was refused. Then all threads that were started have ended, and their outputs are dropped.
 pub fn run_scoped<R: Threads + Wait + Sync, S: Sync, P: Send + Drop, W: ScopedTask<R, S, P> + Sync>(
     rt: &R,
     alloc: Global,
@@ -82,10 +110,8 @@ where
             ensures post { IfSome result (λ all.
                 AllAt (W.post work.entry.now shared.entry.now) all.items) }
         {
-            let mut handles: Vec<PromisedHandle<W::Output, Done<R, S, P, W>>> = Vec::with_capacity(
-                alloc,
-                parts.len(),
-            ).ok()?;
+            let room = Vec::with_capacity(alloc, parts.len()).ok()?;
+            let mut handles = Vec::with_capacity(alloc, parts.len()).ok()?;
             for part in parts {
                 let place = handles.len();
                 let promise = Done {
@@ -102,13 +128,14 @@ where
                         ensures { W.post work.entry.now shared.entry.now place result }
                     { work.work(rt, shared, place, part) },
                 ) else {
+                    join_and_drop(rt, handles);
                     return None;
                 };
                 if handles.push(handle).is_err() {
-                    return None;
+                    unreachable!();
                 }
             }
-            join_promised(rt, handles).ok()
+            Some(join_into(rt, handles, room))
         },
     )
 }

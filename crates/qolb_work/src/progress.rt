@@ -2,7 +2,7 @@
 use crate::gate::Gate;
 use std::io;
 use std::rt::Clock;
-use std::sync::atomic::{AtomicU64, Ordering};
+use std::sync::atomic::{AtomicBool, AtomicU64, Ordering};
 use std::time::Instant;
 
 /// The gate that refuses no worker, and reports once a second how many jobs are done. It writes to standard error.
@@ -16,6 +16,8 @@ pub struct Progress<'a, R> {
     done: AtomicU64,
     /// The last second, counted from `start`, in which a worker wrote.
     said: AtomicU64,
+    /// A worker writes. Another writes nothing meanwhile, so no message says less than the one before.
+    writing: AtomicBool,
 }
 
 impl<'a, R: Clock + Eprint> Progress<'a, R> {
@@ -31,25 +33,32 @@ impl<'a, R: Clock + Eprint> Progress<'a, R> {
             jobs: AtomicU64::new(0),
             done: AtomicU64::new(0),
             said: AtomicU64::new(0),
+            writing: AtomicBool::new(false),
         })
     }
 
-    /// Writes how many jobs are done, unless a worker has in this second. A failed write is ignored.
-    fn say(&self, done: u64) {
+    /// Writes how many jobs are done, unless a worker does now or has in this second. A failed write is ignored.
+    fn say(&self) {
         let Ok(time) = self.start.elapsed(self.rt) else {
             return;
         };
         let second = time.as_secs();
-        let said = self.said.load(Ordering::SeqCst);
-        if second > said
-            && self
-                .said
-                .compare_exchange(said, second, Ordering::SeqCst, Ordering::SeqCst)
-                .is_ok()
-        {
+        if !self.is_due(second) || self.writing.swap(true, Ordering::SeqCst) {
+            return;
+        }
+        // Another worker may have written meanwhile.
+        if self.is_due(second) {
+            self.said.store(second, Ordering::SeqCst);
+            let done = self.done.load(Ordering::SeqCst);
             let jobs = self.jobs.load(Ordering::SeqCst);
             let _ = eprintln!(self.rt; "{done} of {jobs} jobs done");
         }
+        self.writing.store(false, Ordering::SeqCst);
+    }
+
+    /// Whether no worker has written in this second.
+    fn is_due(&self, second: u64) -> bool {
+        second > self.said.load(Ordering::SeqCst)
     }
 }
 
@@ -63,7 +72,8 @@ impl<R: Clock + Eprint> Gate for Progress<'_, R> {
     fn may(&self, _worker: u64, at: u64) -> bool {
         // A worker that asks for its next job has done the one before.
         if at > 0 {
-            self.say(self.done.fetch_add(1, Ordering::SeqCst).saturating_add(1));
+            self.done.fetch_add(1, Ordering::SeqCst);
+            self.say();
         }
         true
     }

@@ -12,6 +12,7 @@ mod kept;
 mod noted;
 mod parked;
 mod passing;
+mod refused;
 mod strategies;
 mod together;
 

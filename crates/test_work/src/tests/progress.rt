@@ -198,6 +198,66 @@ fn two_workers_say_each_second_once(rt: HostRuntime) -> Result<(), Fail> {
     Ok(())
 }
 
+/// A clock at which the first worker that reads it is held up until another has printed a line. That line is printed in the first second,
+/// and the worker goes on in the second one.
+#[derive(Drop)]
+struct HoldingUp<'a> {
+    console: Console<'a>,
+    /// The readings since the start.
+    readings: AtomicU64,
+    has_begun: AtomicBool,
+}
+
+impl Clock for HoldingUp<'_> {
+    fn monotonic(&self) -> io::Result<Duration> {
+        if !self.has_begun.swap(true, Ordering::SeqCst) {
+            return Ok(Duration::ZERO);
+        }
+        if self.readings.fetch_add(1, Ordering::SeqCst) > 0 {
+            return Ok(Duration::from_secs(1));
+        }
+        for _ in 0..u64::MAX {
+            if self.console.lines() != (0, 0) {
+                break;
+            }
+            yield_now();
+        }
+        Ok(Duration::from_secs(2))
+    }
+
+    fn since_1970(&self) -> io::Result<Duration> {
+        self.monotonic()
+    }
+}
+
+impl Eprint for HoldingUp<'_> {
+    fn eprint<D: Display + Drop>(&self, value: D) -> io::Result<()> {
+        self.console.eprint(value)
+    }
+
+    fn eprintln<D: Display + Drop>(&self, value: D) -> io::Result<()> {
+        self.console.eprintln(value)
+    }
+}
+
+#[test]
+fn a_worker_that_was_held_up_says_no_less(rt: HostRuntime) -> Result<(), Fail> {
+    let expected = ["2 of 5 jobs done", "2 of 5 jobs done"];
+    let clock = HoldingUp {
+        console: expecting(rt.alloc(), expected.as_slice()),
+        readings: AtomicU64::new(0),
+        has_begun: AtomicBool::new(false),
+    };
+    let gate = Progress::new(&clock)?;
+    gate.begins(5);
+    let workers = vec![in rt.alloc(); 1, 2]?;
+    let asked = run_scoped(&rt, rt.alloc(), &Asking { times: 1 }, &gate, workers);
+    let all = asked.map(|asked| asked.iter().all(|may| *may));
+    let found = (all, clock.console.lines());
+    expect(&rt, "held up", found, (Some(true), (2, 0)));
+    Ok(())
+}
+
 /// The jobs of each of four workers.
 const JOBS: u64 = 20_000;
 

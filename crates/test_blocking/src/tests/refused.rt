@@ -1,0 +1,122 @@
+//! `run_scoped` in a room of memory: where a thread or a list is refused, no output is left behind.
+use crate::tests::held::{expect, expect_at};
+use line_blocking::scoped::{ScopedTask, run_scoped};
+use std::alloc::Global;
+use std::sync::Wait;
+use std::sync::atomic::{AtomicU64, Ordering};
+use std::test::Fail;
+use std::thread::{Threads, yield_now};
+use test_support::{GRAIN, MemoryLimit};
+
+/// So many threads that their stacks take more than what the heap may keep, 64 megabytes.
+const MANY: u64 = 8;
+
+/// So few threads that the stacks of all are kept for others once they have ended: the C library keeps 40 megabytes.
+const FEW: u64 = 4;
+
+/// How many bytes an output has: a list of them takes more than a list of handles.
+const LARGE: usize = 1 << 12;
+
+/// The output of a thread. It is counted when it is dropped.
+struct Output<'a> {
+    dropped: &'a AtomicU64,
+    bytes: [u8; LARGE],
+}
+
+impl Drop for Output<'_> {
+    fn drop(self) {
+        let Self { dropped, bytes: _ } = self;
+        dropped.fetch_add(1, Ordering::SeqCst);
+    }
+}
+
+/// How often a thread yields for the others to come. So its stack is in use while they start.
+const YIELDS: u32 = 10_000;
+
+/// Each thread counts that it works, waits for the others, though not for ever, and returns an output.
+#[derive(Drop)]
+struct Working<'a> {
+    all: u64,
+    worked: &'a AtomicU64,
+    dropped: &'a AtomicU64,
+}
+
+impl<'a, R: Wait> ScopedTask<R, u64, u64> for Working<'a> {
+    type Output = Output<'a>;
+
+    ghost pre = { λ _ _ _ _. Unit {0} };
+
+    ghost post = { λ _ _ _ _. Unit {0} };
+
+    fn work(&self, _rt: &R, _shared: &u64, _place: usize, _part: u64) -> Output<'a> {
+        self.worked.fetch_add(1, Ordering::SeqCst);
+        for _ in 0..YIELDS {
+            if self.worked.load(Ordering::SeqCst) == self.all {
+                break;
+            }
+            yield_now();
+        }
+        Output {
+            dropped: self.dropped,
+            bytes: [0; LARGE],
+        }
+    }
+}
+
+/// Runs `all` threads in a room of `bytes` bytes. Returns how many outputs came back, how many threads worked, and how many outputs were
+/// dropped by then.
+fn run_in<R: Threads + Wait + Sync>(
+    rt: &R,
+    alloc: Global,
+    limit: &MemoryLimit,
+    bytes: usize,
+    all: u64,
+) -> Result<(Option<u64>, u64, u64), Fail> {
+    let (worked, dropped) = (AtomicU64::new(0), AtomicU64::new(0));
+    let task = Working {
+        all,
+        worked: &worked,
+        dropped: &dropped,
+    };
+    let parts = vec![in alloc; 0u64; all as usize]?;
+    let rest = limit.leave(alloc, bytes)?;
+    let back = run_scoped(rt, alloc, &task, &0, parts);
+    let by_then = dropped.load(Ordering::SeqCst);
+    drop(rest);
+    let came_back = back.as_ref().map(|outputs| outputs.len() as u64);
+    Ok((came_back, worked.load(Ordering::SeqCst), by_then))
+}
+
+/// Whether what came back is what all threads returned, or all outputs are dropped.
+fn is_right(found: (Option<u64>, u64, u64), all: u64) -> bool {
+    let (came_back, worked, dropped) = found;
+    match came_back {
+        Some(outputs) => outputs == all && worked == all && dropped == 0,
+        None => worked == dropped,
+    }
+}
+
+#[test]
+fn no_output_is_left_behind(rt: HostRuntime) -> Result<(), Fail> {
+    let alloc = rt.alloc();
+    let limit = MemoryLimit::begin(alloc, 1 << 28)?;
+    let mut half_done = false;
+    for room in 1..100usize {
+        let found = run_in(&rt, alloc, &limit, room << 20, MANY)?;
+        expect_at(&rt, room as u64, is_right(found, MANY), true);
+        if found.0.is_some() {
+            break;
+        }
+        half_done = half_done || found.1 > 0;
+    }
+    expect(&rt, "a later thread was refused", half_done, true);
+    // Now there are stacks for all, so only a list or an output can be refused.
+    for grains in 2..4_096usize {
+        let found = run_in(&rt, alloc, &limit, GRAIN * grains, FEW)?;
+        expect_at(&rt, grains as u64, is_right(found, FEW), true);
+        if found.0.is_some() {
+            return Ok(());
+        }
+    }
+    Err(Fail::from("no room was large enough"))
+}
