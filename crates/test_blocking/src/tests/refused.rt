@@ -2,10 +2,11 @@
 use crate::tests::held::{expect, expect_at};
 use line_blocking::scoped::{ScopedTask, run_scoped};
 use std::alloc::Global;
-use std::sync::Wait;
 use std::sync::atomic::{AtomicU64, Ordering};
+use std::sync::{Wait, WaitMethods};
 use std::test::Fail;
-use std::thread::{Threads, yield_now};
+use std::thread::Threads;
+use std::time::Duration;
 use test_support::{GRAIN, MemoryLimit};
 
 /// So many threads that their stacks take more than what the heap may keep, 64 megabytes.
@@ -30,13 +31,14 @@ impl Drop for Output<'_> {
     }
 }
 
-/// How often a thread yields for the others to come. So its stack is in use while they start.
-const YIELDS: u32 = 10_000;
+/// How many naps of a millisecond a thread waits for the others, so that its stack is in use while they start.
+const NAPS: u32 = 1_000;
 
 /// Each thread counts that it works, waits for the others, though not for ever, and returns an output.
 #[derive(Drop)]
 struct Working<'a> {
     all: u64,
+    naps: u32,
     worked: &'a AtomicU64,
     dropped: &'a AtomicU64,
 }
@@ -48,13 +50,13 @@ impl<'a, R: Wait> ScopedTask<R, u64, u64> for Working<'a> {
 
     ghost post = { λ _ _ _ _. Unit {0} };
 
-    fn work(&self, _rt: &R, _shared: &u64, _place: usize, _part: u64) -> Output<'a> {
+    fn work(&self, rt: &R, _shared: &u64, _place: usize, _part: u64) -> Output<'a> {
         self.worked.fetch_add(1, Ordering::SeqCst);
-        for _ in 0..YIELDS {
+        for _ in 0..self.naps {
             if self.worked.load(Ordering::SeqCst) == self.all {
                 break;
             }
-            yield_now();
+            AtomicU64::new(0).park_timeout(rt, 0, Duration::from_millis(1));
         }
         Output {
             dropped: self.dropped,
@@ -63,18 +65,20 @@ impl<'a, R: Wait> ScopedTask<R, u64, u64> for Working<'a> {
     }
 }
 
-/// Runs `all` threads in a room of `bytes` bytes. Returns how many outputs came back, how many threads worked, and how many outputs were
-/// dropped by then.
+/// Runs `all` threads, which wait so many naps, in a room of `bytes` bytes. Returns how many outputs came back, how many threads worked, and
+/// how many outputs were dropped by then.
 fn run_in<R: Threads + Wait + Sync>(
     rt: &R,
     alloc: Global,
     limit: &MemoryLimit,
     bytes: usize,
     all: u64,
+    naps: u32,
 ) -> Result<(Option<u64>, u64, u64), Fail> {
     let (worked, dropped) = (AtomicU64::new(0), AtomicU64::new(0));
     let task = Working {
         all,
+        naps,
         worked: &worked,
         dropped: &dropped,
     };
@@ -102,7 +106,7 @@ fn no_output_is_left_behind(rt: HostRuntime) -> Result<(), Fail> {
     let limit = MemoryLimit::begin(alloc, 1 << 28)?;
     let mut half_done = false;
     for room in 1..100usize {
-        let found = run_in(&rt, alloc, &limit, room << 20, MANY)?;
+        let found = run_in(&rt, alloc, &limit, room << 20, MANY, NAPS)?;
         expect_at(&rt, room as u64, is_right(found, MANY), true);
         if found.0.is_some() {
             break;
@@ -112,7 +116,7 @@ fn no_output_is_left_behind(rt: HostRuntime) -> Result<(), Fail> {
     expect(&rt, "a later thread was refused", half_done, true);
     // Now there are stacks for all, so only a list or an output can be refused.
     for grains in 2..4_096usize {
-        let found = run_in(&rt, alloc, &limit, GRAIN * grains, FEW)?;
+        let found = run_in(&rt, alloc, &limit, GRAIN * grains, FEW, 0)?;
         expect_at(&rt, grains as u64, is_right(found, FEW), true);
         if found.0.is_some() {
             return Ok(());
