@@ -23,8 +23,8 @@
  * The thread sanitizer (-fsanitize=thread) is told of each grant and release. Each lock is separate; lines of one
  * label are one to it, and so are a few of different labels: between these it may miss a race. Helgrind and drd of
  * valgrind are told the same in files that are compiled with -DQOLB_HELGRIND or -DQOLB_DRD, and must suppress the
- * library's own words: valgrind --tool=helgrind --suppressions=PREFIX/share/qolb/valgrind.supp. The library has no
- * unwind tables, so a backtrace from inside its calls may end there.
+ * library's own words: valgrind --tool=helgrind --suppressions=PREFIX/share/qolb/valgrind.supp. The library's proved
+ * part has no unwind tables, so a backtrace from there may end.
  *
  * bpftrace, perf and gdb find probes where a thread waits (provider qolb: wait, sleep, wake, granted, withdrawn,
  * closed), if the library was built with <sys/sdt.h>. Their arguments are a line's label, the node's number, and a
@@ -40,8 +40,9 @@
  * ==== qolb_lock(3): locks for any number of threads, with conditions ====
  *
  * A lock and the data that it guards lie where the program has them, as in a struct, the lock at a multiple of 16
- * bytes. It need not be freed. A task, a call with a limit that sleeps with more than 60 requests before it, and a
- * thread that ends as a holder take heap. No call of a thread on a lock answers NO_MEMORY.
+ * bytes. It need not be freed. Heap is taken by a task, a call with a limit and more than 60 requests before it, a
+ * thread that ends as a holder, and, with many thread keys or fork handlers, a thread's first call. No call of a thread
+ * on a lock answers NO_MEMORY.
  *
  * INITIALISERS
  *
@@ -111,14 +112,15 @@
  * FORK
  *
  * A lock or a line is of one process. A fork copies it as it is; the copies guard nothing that both processes
- * share. The child of a process with one thread may go on with its copy.
+ * share. The child of a process with one thread may go on with its copy. Its qolb_lock_holder is 0 where the holder
+ * had ended.
  *
  * WAITING
  *
  * A waiter polls: each 90 ns if it is next, else more seldom; for at most 50 us, with more than four threads before it
- * for 2 us. Then it sleeps by a futex until its turn. At a condition it sleeps at once, and so does a process that may
- * use one processor only. After polls without success a thread polls for less the next time. A thread that is woken
- * before its turn yields once.
+ * for 2 us. Then it sleeps by a futex until its turn. At a condition it sleeps at once, and so does a process that
+ * could use one processor only at its first wait. After polls without success a thread polls for less the next time.
+ * A thread that is woken before its turn yields once.
  *
  * Leaving wakes the next holder. If the leaver had slept, it may wake the waiter behind that one, too. In a burst it
  * wakes the first waiter alone. It calls the system only if it may have to wake a sleeper.
@@ -161,8 +163,9 @@
  *   may go when no thread is in a call on it.
  * - Call nothing from a signal handler, nor in the forked child of a process with threads.
  * - Use one copy of the library for a lock: not the static one in the program and another one in what it opens at run
- *   time. A plugin that has the static one must stay open.
- * - A thread uses its first lock before the last round of its keys' destructors.
+ *   time. A plugin that has the static one must stay open; glibc has room for two.
+ * - A thread uses its first lock before the last round of its keys' destructors. Behind that glibc calls free(NULL):
+ *   a free of yours enters no lock for NULL.
  *
  * Every other call that a lock does not allow is MISUSE, and changes nothing.
  *
@@ -242,7 +245,7 @@
  *
  * WAITING
  *
- * Two of these calls wait for other threads: qolb_acquire and qolb_acquire_within. They poll each 60 ns, for at most
+ * Two of these calls wait for a turn: qolb_acquire and qolb_acquire_within. They poll each 60 ns, for at most
  * 50 us on a line of five nodes or fewer and 20 us on others, then sleep by a futex until the line is released, and
  * poll anew. What qolb_lock(3) says of waiting holds here, too.
  *
@@ -272,7 +275,7 @@
  * thread writes beside another's handle slows its calls. So keep what it writes on its stack, or QOLB_NODE_ALIGN bytes
  * apart.
  *
- * Only qolb_open, qolb_close and a limit use the heap.
+ * Only qolb_open and qolb_close use the heap.
  *
  * ==== qolb_task(3): event loops, which are notified and never wait ====
  *
@@ -291,6 +294,7 @@
  *     if (got == QOLB_QUEUED) got = qolb_notify_fd(&node, fd);
  *     if (got == QOLB_GRANTED) turn(&node); // and qolb_deqolb
  *     // WAITING: once fd is readable, read it, call qolb_notify_fd again
+ *     // BUSY: ask again later
  *
  * To give up, make qolb_notify_off first, as a wish that stays may be called for a later request; then qolb_withdraw,
  * and if that answers GRANTED, qolb_deqolb.
@@ -303,7 +307,7 @@
  * - The call passes the news on: it sets a flag, makes a task ready, writes to a descriptor. It does not wait for
  *   another thread, throw, jump out or end the thread, which is not cancelled in it.
  * - The call may use any node that its thread may use, by calls that do not wait. A release in it makes its own calls
- *   after this one has returned, or, if 32 are already put off, at once.
+ *   after this one has returned, or when a node is told BUSY in it, or, if 32 are already put off, at once.
  * - qolb_notify, qolb_notify_fd, qolb_notify_off, qolb_close, qolb_task_poll and qolb_task_cancel wait for a call of
  *   the same node or task in another thread, until it has returned or said qolb_notify_done. A call says that before
  *   it takes a lock under which one of these six is made, before it resumes a coroutine, and before it makes one.
@@ -312,9 +316,9 @@
  *   step.
  * - Poll after the call: all behind wait for it, also after a shut: each is told CLOSED once the one before has
  *   polled.
- * - A call may be late: after a turn that qolb_poll granted it is still made, until qolb_notify_off. `arg` must last
- *   until then; for a task until qolb_task_poll answers GRANTED or CLOSED, or qolb_task_cancel returns: then no call
- *   is made.
+ * - A call may be late: after a turn that qolb_poll granted it may still be made, until qolb_notify_off. `arg` must
+ *   last until then; for a task until qolb_task_poll answers GRANTED or CLOSED, or qolb_task_cancel returns: then no
+ *   call is made.
  * - Open an eventfd with EFD_NONBLOCK: else a full count makes the release wait. Before you close it, call
  *   qolb_notify_off; for a task qolb_task_cancel, or have had its turn. It may be readable even then. After a fork a
  *   release in the child writes to the parent's eventfd, too.
@@ -413,7 +417,7 @@ enum qolb_answer {
     QOLB_BAD_LEASE = 11, /* a lease of 0 turns */
     QOLB_BAD_KIND = 12,  /* no such kind */
     QOLB_TOO_FEW = 13,   /* fewer handles than nodes */
-    QOLB_OCCUPIED = 14,  /* one of the handles has a node; the lock is open */
+    QOLB_OCCUPIED = 14,  /* a handle to be filled has a node; the lock is open */
     QOLB_LATE = 15       /* the time is over, and the request withdrawn; at a condition the lock is held again */
 };
 
@@ -498,8 +502,8 @@ uint32_t qolb_deqolb(qolb_node *node);
 uint32_t qolb_shut(qolb_node *node);
 
 /* Has `call(arg)` called once, when the request is at its turn or the line is closed (NOTIFICATIONS). In the state
- * QUEUED: WAITING, and the call will be made; GRANTED or CLOSED, as of qolb_poll, and it will not. Else MISUSE, also if
- * `call` is null. A second wish of a node replaces the first. */
+ * QUEUED: WAITING, and the call will be made, if the node does not poll before; GRANTED or CLOSED, as of qolb_poll, and
+ * it will not. Else MISUSE, also if `call` is null. A second wish of a node replaces the first. */
 uint32_t qolb_notify(qolb_node *node, void (*call)(void *arg), void *arg) QOLB_LOOK;
 
 /* Has 1 added once to the eventfd `fd`, when qolb_notify would make its call, with the same answers; MISUSE if `fd` is
@@ -663,8 +667,8 @@ void __tsan_release(void *address);
 
 #ifdef QOLB_TOOK_
 
-/* An address for each label, the same in all files of the program. */
-__attribute__((weak)) char qolb_lines_[1021];
+/* An address for each label, the library's: the same in all that use it. */
+extern char qolb_lines_[1021];
 
 static inline uint32_t qolb_took_(qolb_node *node, uint32_t got) {
     if (got == QOLB_GRANTED || got == QOLB_CLOSED) QOLB_TOOK_(&qolb_lines_[qolb_label(node) % sizeof qolb_lines_]);

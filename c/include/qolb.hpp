@@ -59,7 +59,7 @@ namespace qolb {
 enum class Got {
     granted, // the node holds the line
     closed,  // the line is closed
-    busy,    // of try_acquire: others have the line
+    busy,    // of try_acquire: others have the line; else come again later (BUSY in qolb_node(3))
     late,    // of acquire_for: the time is over
     misuse   // the node is none, or waits or holds already; nothing changed
 };
@@ -529,7 +529,7 @@ template <class T> using guarded = Guarded<T>;
 //
 // A loop runs what was posted to it: `void post(Ready &)` from any thread, and `void unpost(Ready &)`, behind which it
 // will not run, by its own thread. The example loop.cpp has one. A coroutine that waits may be destroyed by the loop's
-// thread: its request is withdrawn.
+// thread: its request is withdrawn. Put the result in a variable first: GCC 12 breaks `if (co_await ..)` and `switch`.
 class Ready {
   public:
     virtual void run() = 0;
@@ -541,8 +541,8 @@ class Ready {
 };
 
 // Runs at once what is posted, in the thread that releases the line, behind its release. A release in what runs there
-// makes its own calls after that has returned, or, if 32 are put off, at once. Coroutines that wait must not be
-// destroyed while another thread may release the line.
+// makes its own calls after that has returned, or when a node is told busy there, or, if 32 are put off, at once.
+// Coroutines that wait must not be destroyed while another thread may release the line.
 struct Inline {
     void post(Ready &it) {
         qolb_notify_done();
@@ -597,7 +597,7 @@ template <class Loop> class Turn final : public detail::Waits<Loop> {
         switch (this->got_) {
         case QOLB_GRANTED: return Got::granted;
         case QOLB_CLOSED: return Got::closed;
-        case QOLB_BUSY: return Got::busy; // from a withdrawn request: come again later
+        case QOLB_BUSY: return Got::busy;
         default: return Got::misuse;
         }
     }

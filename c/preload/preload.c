@@ -102,11 +102,20 @@ void qolb_begin_(void) {
     choose_report(getenv("QOLB_REPORT"));
 }
 
+/* At once: dlvsym waits for who is in dlopen, which may wait in a constructor for a mutex that the caller has. And it
+ * forgets what dlerror would say. */
+static void find_all(void) {
+    real_mutex_init(), real_mutex_destroy(), real_mutex_lock(), real_mutex_trylock(), real_mutex_timedlock();
+    real_mutex_clocklock(), real_mutex_unlock(), real_cond_destroy(), real_cond_wait(), real_cond_timedwait();
+    real_cond_clockwait(), real_cond_signal(), real_cond_broadcast(), real_cancel();
+}
+
 /* At the program's start, so that wrong settings end no program in its midst. If a mutex was used in .preinit_array,
  * there was no environment then: so they are read again. */
 __attribute__((constructor)) static void begin(void) {
     qolb_process_();
     qolb_begin_();
+    find_all();
 }
 
 /* ---- Counters ---- */

@@ -59,7 +59,7 @@
 //!
 //! A task of an executor waits without a thread: `node.turn().await` gives a node's turn ([`Node::turn`]), `mutex.lock_async().await` one of a [`Mutex`].
 //! These futures need no particular executor. They ask when they are first polled; tasks and threads are in one queue. A future that is dropped withdraws
-//! its request. The guards of `lock_async` may go from thread to thread, if the value may.
+//! its request. The guards of `lock_async` may go from thread to thread, if the value may. A waker that panics in `wake` ends the process.
 //!
 //! # A panic while a line or a mutex is held
 //!
@@ -1225,7 +1225,8 @@ unsafe extern "C" fn wake(slot: *mut c_void) {
 impl Node {
     /// Requests the line when it is first polled, and is ready when the line is granted or closed. Dropped before, it withdraws the request.
     ///
-    /// While the node is busy from a request that was withdrawn, it wakes its task again and again. So let tasks that give up often use a [`Mutex`].
+    /// While the node is busy, from a request that was withdrawn or, in a link line, for a moment after its turn, it wakes its task again and again. So let
+    /// tasks that give up often use a [`Mutex`].
     pub fn turn(&mut self) -> TurnFuture<'_> {
         TurnFuture { node: Some(self), waits: false, slot: Slot::default() }
     }

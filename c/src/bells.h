@@ -159,6 +159,9 @@ HIDDEN uint32_t qolb_unlist_(struct notice *notice);
  * that. */
 HIDDEN void qolb_make_call_(struct bell *bell, uint64_t key);
 
+/* If the calling thread is in such a call, makes those that are to be made after it. */
+HIDDEN void qolb_make_put_off_(void);
+
 /* The call of a notification by an eventfd (calls.c). */
 HIDDEN void qolb_add_to_descriptor_(void *fd);
 

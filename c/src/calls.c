@@ -15,6 +15,10 @@ enum { NAP = 200000 };
 /* The nodes of a line, at most. */
 enum { MOST_NODES = 200 };
 
+/* An address for each label, for the tools that qolb.h tells of turns. */
+extern char qolb_lines_[1021];
+char qolb_lines_[1021];
+
 /* ---- Opening ---- */
 
 /* The number of nodes that sleep at bells or have a notice in a list, of any line. A release loads it, and nothing more
@@ -95,13 +99,20 @@ static inline uint32_t let_go(qolb_node *node, uint32_t got) {
 /* The answer of any other call. A node that is told that the line is closed has forwarded it. */
 static inline uint32_t told(qolb_node *node, uint32_t got) { return got == QOLB_CLOSED ? let_go(node, got) : got; }
 
-uint32_t qolb_enqolb(qolb_node *node) { return told(node, qolb_enqolb_proved_(node)); }
+/* The answer of a call that asks. In a notification's call, a node that is busy may be so until another such call has
+ * released. */
+static inline uint32_t asked(qolb_node *node, uint32_t got) {
+    if (__builtin_expect(got == QOLB_BUSY, 0)) qolb_make_put_off_();
+    return told(node, got);
+}
+
+uint32_t qolb_enqolb(qolb_node *node) { return asked(node, qolb_enqolb_proved_(node)); }
 
 uint32_t qolb_poll(qolb_node *node) { return told(node, qolb_poll_proved_(node)); }
 
 uint32_t qolb_withdraw(qolb_node *node) { return told(node, qolb_withdraw_proved_(node)); }
 
-uint32_t qolb_prepend(qolb_node *node) { return told(node, qolb_prepend_proved_(node)); }
+uint32_t qolb_prepend(qolb_node *node) { return asked(node, qolb_prepend_proved_(node)); }
 
 uint32_t qolb_link(qolb_node *node) { return told(node, qolb_link_proved_(node)); }
 
@@ -123,7 +134,7 @@ uint32_t qolb_shut(qolb_node *node) { return let_go(node, qolb_shut_proved_(node
 
 uint32_t qolb_wait(qolb_node *node, uint64_t polls) { return told(node, qolb_wait_proved_(node, polls)); }
 
-uint32_t qolb_clear(qolb_node *node) { return qolb_clear_proved_(node); }
+uint32_t qolb_clear(qolb_node *node) { return asked(node, qolb_clear_proved_(node)); }
 
 static int may_close(qolb_node *node) {
     uint32_t state = qolb_state_proved_(node);

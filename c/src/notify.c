@@ -41,7 +41,8 @@ struct running {
 enum { PUT_OFF = 32 };
 
 /* A thread that makes calls. A call that releases a line makes no call inside itself: else calls that go on with turn
- * after turn would use up the stack. */
+ * after turn would use up the stack. But a node that is told BUSY there may wait for one of those: then they are
+ * made. */
 struct caller_of_notices {
     struct running *running; /* the call that it is in; NULL if nobody waits for it any more */
     struct bell *bell;       /* at which that call is noted */
@@ -197,6 +198,13 @@ static int is_put_off(struct bell *bell, uint64_t key) {
     return 1;
 }
 
+static void make_put_off(struct caller_of_notices *from) {
+    while (from->made != from->wanted) {
+        unsigned at = from->made++ % PUT_OFF;
+        make_noted_call(from->put_off[at].bell, from->put_off[at].key);
+    }
+}
+
 /* A thread is not cancelled in a call: what it notes is on its stack. */
 void qolb_make_call_(struct bell *bell, uint64_t key) {
     struct caller_of_notices *outer = in_call, me;
@@ -207,8 +215,19 @@ void qolb_make_call_(struct bell *bell, uint64_t key) {
     pthread_setcancelstate(PTHREAD_CANCEL_DISABLE, &cancels);
     in_call = &me;
     make_noted_call(bell, key);
-    for (; me.made != me.wanted; me.made++)
-        make_noted_call(me.put_off[me.made % PUT_OFF].bell, me.put_off[me.made % PUT_OFF].key);
+    make_put_off(&me);
     in_call = outer;
     pthread_setcancelstate(cancels, &cancels);
+}
+
+/* In a call of its own: what these calls put off is made behind them. */
+void qolb_make_put_off_(void) {
+    struct caller_of_notices *outer = in_call, me;
+    if (!outer || outer->made == outer->wanted) return;
+    me.running = NULL;
+    me.made = me.wanted = 0;
+    in_call = &me;
+    make_put_off(outer);
+    make_put_off(&me);
+    in_call = outer;
 }

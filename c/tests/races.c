@@ -1,6 +1,6 @@
-/* Data that a lock guards, for threads and for a task, or a line whose waiter is told by an eventfd; and data that is
- * used in some wrong way, for the thread sanitizer, and for valgrind's helgrind and drd: they must be quiet about the
- * first and report each other.
+/* Data that a lock guards, for threads and for a task, or a line whose waiter is told by an eventfd, or whose nodes
+ * give up; and data that is used in some wrong way, for the thread sanitizer, and for valgrind's helgrind and drd: they
+ * must be quiet about the first and report each other.
  *
  *   build/races WAY     its number below
  *
@@ -12,11 +12,23 @@
 
 #include "waiters.h"
 
-enum { GUARDED, BY_A_TASK, BY_A_NODE, BY_TWO_LOCKS, AFTER_LEAVING, AFTER_BUSY, AFTER_LATE, AFTER_A_SIGNAL, WAYS };
+enum {
+    GUARDED,
+    BY_A_TASK,
+    BY_A_NODE,
+    BY_LATE_NODES,
+    BY_TWO_LOCKS,
+    AFTER_LEAVING,
+    AFTER_BUSY,
+    AFTER_LATE,
+    AFTER_A_SIGNAL,
+    WAYS
+};
 
 static qolb_lock lock = QOLB_LOCK_INIT, other = QOLB_LOCK_INIT;
 static qolb_cond cond = QOLB_COND_INIT;
-static qolb_node nodes[2];
+enum { NODES = 4 };
+static qolb_node nodes[NODES];
 static int way, is_ready, data;
 /* Set once the first thread has done its part. Relaxed, so that it orders nothing. */
 static atomic_int done;
@@ -142,23 +154,46 @@ static void end_together(void) {
     for (int k = 0; k < MANY; k++) pthread_join(ids[k], NULL);
 }
 
+/* Releases pass withdrawn requests, one after another. */
+static void *is_late_often(void *node) {
+    for (int k = 0; k < 100; k++) {
+        if (qolb_acquire_within(node, k % 2 ? UINT64_MAX : 20000) != QOLB_GRANTED) continue;
+        data++;
+        usleep(100);
+        MUST(qolb_deqolb(node), QOLB_DONE);
+    }
+    return NULL;
+}
+
+static void are_late_often(void) {
+    pthread_t ids[NODES];
+    for (int k = 0; k < NODES; k++) MUST(pthread_create(&ids[k], NULL, is_late_often, &nodes[k]), 0);
+    for (int k = 0; k < NODES; k++) pthread_join(ids[k], NULL);
+    data = 2;
+}
+
+static void use_in_turn(void) {
+    pthread_t ids[2];
+    MUST(pthread_create(&ids[0], NULL, second, NULL), 0);
+    MUST(pthread_create(&ids[1], NULL, first, NULL), 0);
+    for (int k = 0; k < 2; k++) pthread_join(ids[k], NULL);
+}
+
 int main(int argc, char **argv) {
     static const qolb_bytes zeros;
-    pthread_t ids[2];
     way = argc > 1 ? atoi(argv[1]) : GUARDED;
     if (way < GUARDED || way >= WAYS) return 2;
 #ifdef ANNOTATE_BENIGN_RACE_SIZED
     ANNOTATE_BENIGN_RACE_SIZED(&done, sizeof done, "no atomic to valgrind");
 #endif
     alarm(600);
-    MUST(qolb_open(QOLB_DEFAULT, 1, 2, QOLB_NO_LEASE, &zeros, nodes, 2), QOLB_DONE);
-    MUST(pthread_create(&ids[0], NULL, second, NULL), 0);
-    MUST(pthread_create(&ids[1], NULL, first, NULL), 0);
-    for (int k = 0; k < 2; k++) pthread_join(ids[k], NULL);
+    MUST(qolb_open(QOLB_DEFAULT, 1, NODES, QOLB_NO_LEASE, &zeros, nodes, NODES), QOLB_DONE);
+    if (way == BY_LATE_NODES) are_late_often();
+    else use_in_turn();
     end_together();
     WANT(data, 2);
     WANT(qolb_lock_close(&lock), QOLB_DONE);
     WANT(qolb_lock_close(&other), QOLB_DONE);
-    for (int k = 0; k < 2; k++) WANT(qolb_close(&nodes[k]), QOLB_DONE);
+    for (int k = 0; k < NODES; k++) WANT(qolb_close(&nodes[k]), QOLB_DONE);
     return 0;
 }

@@ -145,10 +145,10 @@ static inline void put_last(struct link **list, struct link *it) {
     __atomic_store_n(list, it, __ATOMIC_SEQ_CST);
 }
 
-/* Takes out the one behind this. */
+/* Takes out the one behind this. Who looks at the list without its guard may find it there a moment longer. */
 static inline struct link *take_behind(struct link **list, struct link *before) {
     struct link *it = before->next;
-    if (last_of(list) == it) __atomic_store_n(list, it == before ? NULL : before, __ATOMIC_SEQ_CST);
+    if (last_of(list) == it) __atomic_store_n(list, it == before ? NULL : before, __ATOMIC_RELEASE);
     before->next = it->next;
     return it;
 }

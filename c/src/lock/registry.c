@@ -74,19 +74,16 @@ static struct link *find_before(const void *at, const struct lock *lock, uint64_
     return NULL;
 }
 
-static struct entry *find(const void *at, const struct lock *lock, uint64_t number) {
-    struct link *before = find_before(at, lock, number);
-    return before ? (struct entry *)before->next : NULL;
-}
+static struct link *before(const struct entry *e) { return find_before(e->at, e->lock, e->number); }
 
-static void take_out(struct entry *e) {
-    take_behind(list_of(e->at, e->number), find_before(e->at, e->lock, e->number));
-}
+static void take_out(struct entry *e) { take_behind(list_of(e->at, e->number), before(e)); }
 
-/* Takes out an entry that has announced its sleep, and takes that back: the ticket, which WAITS or is AT_TURN. */
-static struct qolb_ticket out_of(struct entry *e) {
+/* Takes out the entry behind this link, which has announced its sleep, and takes that back: the ticket, which WAITS or
+ * is AT_TURN. */
+static struct qolb_ticket out_from(struct link *behind) {
+    struct entry *e = (struct entry *)behind->next;
     struct qolb_ticket ticket = kept_ticket(e->lock, e->number, QOLB_TICKET_ASLEEP_);
-    take_out(e);
+    take_behind(list_of(e->at, e->number), behind);
     if (e->number == HEAD) ticket.number = e->task->number, ticket.state = QOLB_TICKET_AT_TURN_;
     else qolb_core_retract_sleep_proved_(&e->lock->core, &ticket);
     return ticket;
@@ -185,10 +182,11 @@ static enum found find_at(const void *at, struct lock *lock, uint64_t number, ui
     struct entry *gone = NULL;
     if (!last_of(list_of(at, number))) return NOBODY;
     atomic_uint *guard = qolb_guard_(at);
-    struct entry *e = find(at, lock, number);
-    if (e && lock->label == label) {
+    struct link *behind = find_before(at, lock, number);
+    if (behind && lock->label == label) {
+        struct entry *e = (struct entry *)behind->next;
         found = e->task ? A_TASK : ABANDONED;
-        *ticket = out_of(e);
+        *ticket = out_from(behind);
         if (found == ABANDONED) gone = e;
         else if (!waits_on(e, ticket)) *key = make_due(gone = e, ticket);
     }
@@ -215,7 +213,7 @@ static struct qolb_ticket withdraw(struct task *task, struct entry **gone) {
         e->task = NULL;
         return (struct qolb_ticket){.state = QOLB_TICKET_FREE_};
     }
-    struct qolb_ticket ticket = out_of(*gone = e);
+    struct qolb_ticket ticket = out_from(before(*gone = e));
     if (ticket.state == QOLB_TICKET_WAITING_) qolb_core_withdraw_proved_(&e->lock->core, &ticket);
     return ticket;
 }

@@ -147,14 +147,17 @@ static int make_key(void) {
 
 static void begin(void) { has_key = pthread_atfork(NULL, NULL, know_this_table_alone) == 0 && make_key() == 0; }
 
-/* Without memory, or a key, its end would not be noticed: so it counts as one that has ended. */
+/* Without memory, or a key, its end would not be noticed: so it counts as one that has ended. So it does meanwhile, as
+ * these calls may take memory, and the program's malloc locks. */
 static void know_table(struct own *it) {
     static pthread_once_t begun = PTHREAD_ONCE_INIT;
     int kept = errno;
+    it->known = ENDED;
     pthread_once(&begun, begin);
-    it->known = has_key && pthread_setspecific(at_end, it) == 0 ? KNOWN : ENDED;
+    int is_noticed = has_key && pthread_setspecific(at_end, it) == 0;
     errno = kept;
-    if (it->known == ENDED) return;
+    if (!is_noticed) return;
+    it->known = KNOWN;
     take_guard(&tables.guard);
     put_into_list(it);
     return_guard(&tables.guard);
