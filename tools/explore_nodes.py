@@ -109,7 +109,7 @@ FAULTS |= {
     "notices: closing leaves the notice": ("    if (may_close(node)) qolb_notify_off(node);\n", ""),
     "notices: a second wish leaves the first": ("    qolb_notify_off(node);\n    notice->call", "    if (!notice->before) qolb_notify_off(node);\n    notice->call"),
     "notices: a call is made inside another": ("    if (is_put_off(bell, key)) return;\n", ""),
-    "notices: calls that were put off are not made": ("    for (; me.made != me.wanted; me.made++)", "    for (; 0; me.made++)"),
+    "notices: calls that were put off are not made": ("    make_put_off(&me);\n    in_call = outer;\n    pthread", "    in_call = outer;\n    pthread"),
     "notices: who is told that it is closed makes no call": ("    return told(node, got);\n}\n\nuint32_t qolb_notify_off", "    return got;\n}\n\nuint32_t qolb_notify_off"),
 }
 

@@ -96,8 +96,8 @@
  *     (p + 1) * (turns - 1)
  *
  * turns of newcomers: to enter, to try, or the end of a wait at a condition. Usually fewer: the first waiter
- * watches, and after a sixteenth of `turns` or 1 ms requests the lock: then the next leave ends the burst. If it
- * sleeps, a leave wakes it first. More than 65,535 count as 65,535; with 0 or 1 a lock is strict.
+ * watches, and after a sixteenth of `turns` or 1 ms requests the lock: then the next leave ends the burst. More than
+ * 65,535 count as 65,535; with 0 or 1 a lock is strict.
  *
  * Take strict order if each wait counts, bursts of 1,024 turns in place of a mutex: for many short turns, and if too
  * few processors are free.
@@ -111,9 +111,8 @@
  *
  * FORK
  *
- * A lock or a line is of one process. A fork copies it as it is; the copies guard nothing that both processes
- * share. The child of a process with one thread may go on with its copy. Its qolb_lock_holder is 0 where the holder
- * had ended.
+ * A lock or a line is of one process: after a fork the copies guard nothing that both processes share. The child of
+ * a process with one thread may go on with its copy. Its qolb_lock_holder is 0 where the holder had ended.
  *
  * WAITING
  *
@@ -141,7 +140,7 @@
  *   be used (warn_unused_result).
  * - There is no priority inheritance.
  * - A thread that enters a lock which it holds is told MISUSE; none is recursive, robust or shared by processes.
- * - A lock can be shut. A wait at a condition is not a cancellation point, and does not end without a cause.
+ * - A lock can be shut. A wait at a condition does not end without a cause.
  *
  * From std::mutex and std::condition_variable, in qolb.hpp:
  *
@@ -164,8 +163,8 @@
  * - Call nothing from a signal handler, nor in the forked child of a process with threads.
  * - Use one copy of the library for a lock: not the static one in the program and another one in what it opens at run
  *   time. A plugin that has the static one must stay open; glibc has room for two.
- * - A thread uses its first lock before the last round of its keys' destructors. Behind that glibc calls free(NULL):
- *   a free of yours enters no lock for NULL.
+ * - A thread uses its first lock before the last round of its keys' destructors. Behind that glibc calls free(NULL),
+ *   which must enter none.
  *
  * Every other call that a lock does not allow is MISUSE, and changes nothing.
  *
@@ -205,7 +204,7 @@
  * lane: one of the line's eight numbers of 64 bits. Lane k is bytes 8k to 8k + 7, the lowest first.
  * lease: the number of turns of a line. At the end of the last one it closes.
  * closed: no later request is served, and each is answered CLOSED. qolb_shut closes a line, or the end of its lease.
- * label: a number that the caller chooses, and that qolb_label returns.
+ * label: a number that the caller chooses.
  *
  * KINDS
  *
@@ -215,7 +214,7 @@
  *   ring's two. Take this one, by the name QOLB_DEFAULT, unless memory is short or you want requests in two calls.
  * - QOLB_LINK: a link line: a node links itself to the one before it. Only this kind has requests in two calls,
  *   qolb_prepend and qolb_link.
- * - QOLB_RING: a node takes a ticket and waits on a cell of its own. It takes 34 kilobytes or more.
+ * - QOLB_RING: a node takes a ticket and waits on a cell of its own.
  *
  * Bytes of heap that an open line keeps, as the library asks malloc for them (qolb_memory). malloc takes some 16 more
  * for each of its blocks, which are the number of nodes and 3:
@@ -249,8 +248,8 @@
  * 50 us on a line of five nodes or fewer and 20 us on others, then sleep by a futex until the line is released, and
  * poll anew. What qolb_lock(3) says of waiting holds here, too.
  *
- * A call that releases the line (qolb_deqolb, qolb_shut, and any that answers CLOSED) wakes the next holder, the
- * waiter behind it ahead of its turn, and now and then one of another line.
+ * A call that releases the line (qolb_deqolb, qolb_shut, and any that answers CLOSED) wakes the next holder, and the
+ * waiter behind it ahead of its turn.
  *
  * No call wakes, and no notification tells, the thread of a busy node: it asks again for 20 us, then every 200 us.
  *
@@ -258,22 +257,20 @@
  *
  * A withdrawn request stays in the queue until another node's release passes it, and until then its node is busy. A
  * node of a link line may also be busy after its own release, until its successor has linked. So ask again later; if a
- * node before the withdrawn request never releases, for ever. qolb_acquire and qolb_acquire_within ask again by
- * themselves.
+ * node before the withdrawn request never releases, for ever.
  *
  * A thread with a busy node is in no queue, and may be overtaken. Of a pool, take a node for which qolb_clear answers
  * DONE.
  *
  * THREADS THAT END
  *
- * If a thread ends while its node holds the line, or waits for it, the line stays with that node, and all behind it
- * wait. Any thread that got the handle in one of the ways above may go on with it: qolb_state tells its state.
+ * If a thread ends while its node holds the line, or waits, all behind it wait. Any thread that got the handle in one
+ * of the ways above may go on with it: qolb_state tells its state.
  *
  * SPEED
  *
- * Handles of different threads may be side by side: only qolb_open, qolb_close and qolb_move write to them. But what a
- * thread writes beside another's handle slows its calls. So keep what it writes on its stack, or QOLB_NODE_ALIGN bytes
- * apart.
+ * Handles of different threads may be side by side: only qolb_open, qolb_close and qolb_move write to them. What a
+ * thread writes beside another's handle slows its calls: keep that QOLB_NODE_ALIGN bytes apart.
  *
  * Only qolb_open and qolb_close use the heap.
  *
