@@ -24,7 +24,6 @@ int turns_of_first, turns_of_second;
 
 Job asks_again(qolb::Node &node) {
     qolb::Got got = co_await qolb::turn(node, now);
-    for (int asked = 0; got != qolb::Got::granted && asked < MOST_ASKED; asked++) got = co_await qolb::turn(node, now);
     if (got != qolb::Got::granted) co_return;
     turns_of_first++;
     node.deqolb();

@@ -222,7 +222,6 @@ HARMLESS = {
     "the queue head takes any free word at once": ((WAITS, "may_take", "had == watch->had", "1"),),
     # No head sleeps at a word that nobody holds: so a leave that finds it as it was when this turn began is told of none.
     "who leaves a burst the quick way looks for no sleeper": ((LOCK, "leave_burst", "likely(got == QOLB_DONE && !at->ticket.head_sleeps)", "likely(got == QOLB_DONE)"),),
-    # Who is told of a shut asks then, and is behind who shuts: so its entry stays until the shut is over.
     # It sleeps with its own count at its cell, and is told again.
     "nobody is woken ahead": ((WAITS, "qolb_end_turn_", "    if (wakes) qolb_unpark_(cell_half(words, ahead), class_of(ahead));\n", ""),),
     "a newcomer goes to the outer word once": ((LOCK, "goes_in", "        if (at->ticket.outer & (OUTER_STATE | OUTER_SHUT)) return 0;\n", "        return 0;\n"),),

@@ -252,8 +252,8 @@ fn gather<P: Drop>(alloc: Global, handed: Vec<Handed<P>>) -> Option<(Vec<P>, u64
 
 /// Hands the values 1 to `values` from node 1 to node 2.
 ///
-/// Returns the sum of the values taken, which is that of 1 to `values` modulo 2^64; or `None` if the line, memory or the first thread is
-/// refused. Nothing bounds the number of tries: if the second thread is refused, the first waits for ever for its values to be taken.
+/// Returns the sum of the values taken, which is that of 1 to `values` modulo 2^64; or `None` if the line, memory or a thread is refused.
+/// Nothing bounds the number of tries: if the second thread is refused, the first waits for ever to put a second value.
 pub fn hand_over<R: Threads + Wait + Sync, L: OpenLine<Free> + Sync + Drop>(
     rt: &R,
     alloc: Global,
