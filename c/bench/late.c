@@ -27,7 +27,7 @@ static const struct {
                 {"strict", 0, 0},
                 {"bursts", 1024, 0},
                 {"strict, 5000 gave up", 0, 5000},
-                {"strict, 16384 gave up", 0, 16384}};
+                {"strict, 12288 gave up", 0, 12288}};
 
 static enum way way = WAYS;
 static qolb_lock lock;

@@ -106,7 +106,7 @@
  *
  * A limit is a length in nanoseconds from the call on, and UINT64_MAX is none. For a limit of a whole loop pass each
  * wait what is left. A thread whose time runs out gives up its ticket, which counts until a holder passes
- * it; without memory it waits on while more than 60 are before it. While more than 16,380 requests of a lock are
+ * it; without memory it waits on while more than 60 are before it. While more than 12,280 requests of a lock are
  * open, a call with a limit draws none, and may be overtaken.
  *
  * FORK
@@ -325,8 +325,8 @@
  * - Every call by which a thread or a task enters, leaves, gives up or closes a lock may make calls of tasks. A task
  *   that is the first of those that wait ends a burst with the turn of who is in.
  * - No call of a task waits for a turn. One that would have to wait is told NO_MEMORY without memory, or while more
- *   than 16,380 requests of the lock are open. One that was given up is open until the turn before it ends: so beside
- *   one holder of a strict lock 16,380 enters and cancels are the most.
+ *   than 12,280 requests of the lock are open. One that was given up is open until the turn before it ends: so beside
+ *   one holder of a strict lock 12,280 enters and cancels are the most.
  * - A lock that a task holds is not held by its thread: qolb_lock_enter there waits, for ever if that thread would
  *   have to leave for the task; qolb_lock_enter_within is LATE, qolb_lock_try BUSY; leave, shut and waits at a
  *   condition are MISUSE. In an event loop let only tasks enter.

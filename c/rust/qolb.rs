@@ -1342,7 +1342,7 @@ impl<'a> Entering<'a> {
     }
 }
 
-/// Then a task that is told otherwise found more than 16,380 open requests.
+/// Then a task that is told otherwise found more than 12,280 open requests.
 fn is_memory_left() -> bool {
     Vec::<Handle>::new().try_reserve(1).is_ok()
 }
@@ -1371,7 +1371,7 @@ fn leave_by(raw: &RawQolb, task: &mut RawTask, shuts: bool) {
 impl<T: ?Sized> Mutex<T> {
     /// Asks when it is first polled, and is ready when the mutex is granted or shut. Dropped before, it gives up.
     ///
-    /// Tasks and threads have their turns in the order in which they asked, of a strict mutex. While more than 16,380 requests are open a task is in no
+    /// Tasks and threads have their turns in the order in which they asked, of a strict mutex. While more than 12,280 requests are open a task is in no
     /// queue: it asks again whenever it is polled, and wakes itself for that. The guard may be dropped by another thread.
     pub fn lock_async(&self) -> MutexFuture<'_, T> {
         MutexFuture { mutex: self, entering: Some(Entering::new(&self.raw)) }

@@ -11,7 +11,7 @@
 
 #include "waiters.h"
 
-enum { GIVEN_UP = 10000, MOST_OPEN = 16384, PASSED_IN_MS = 2, MOST_BYTES = 1 << 20 };
+enum { GIVEN_UP = 10000, MOST_OPEN = 12288, PASSED_IN_MS = 2, MOST_BYTES = 1 << 20 };
 
 /* A sanitizer has a heap of its own, and takes more time. */
 #if defined(__SANITIZE_THREAD__) || defined(__SANITIZE_ADDRESS__)

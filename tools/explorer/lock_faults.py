@@ -20,7 +20,7 @@ HOOKED = [
     ("spin.h", "", "SPIN_WOKEN = 10000", "SPIN_WOKEN = 90"),
     ("spin.h", "pauses_in_1024", "    unsigned counted = atomic_load_explicit(&qolb_pauses_, memory_order_relaxed);\n    return counted ? counted : qolb_count_pauses_();\n", "    return 1;\n"),
     (HEADER, "", "enum { NAP = 1000000 };", "enum { NAP = 1000 };"),
-    (HEADER, "", "enum { MOST_ROUNDS_NEAR = 15, MOST_OPEN = 16384 };", "extern unsigned model_near, model_open;\nenum { MOST_OPEN = 1 };\n#define MOST_ROUNDS_NEAR (int)model_near"),
+    (HEADER, "", "enum { MOST_ROUNDS_NEAR = 15, MOST_OPEN = 12288 };", "extern unsigned model_near, model_open;\nenum { MOST_OPEN = 1 };\n#define MOST_ROUNDS_NEAR (int)model_near"),
     (HEADER, "has_room", "MOST_OPEN / TICKETS_IN_ROUND", "(int)model_open"),
     (REGISTRY, "qolb_new_entry_", "struct entry *e = malloc(sizeof *e);", "void *model_entry(size_t size);\n    struct entry *e = model_entry(sizeof *e);"),
     (REGISTRY, "qolb_abandon_", "    return_guard(guard);\n", "    { void hook_withdraws(void); if (got == QOLB_ASLEEP_) hook_withdraws(); }\n    return_guard(guard);\n"),

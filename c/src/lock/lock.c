@@ -7,7 +7,7 @@
  * wait for its turn, take the outer word as the queue head, and release the turn of the queue. Leaving: leave the outer
  * word, which is the last access.
  *
- * A call that may not wait draws a ticket only if that can be withdrawn. While 16,384 requests are open no call with a
+ * A call that may not wait draws a ticket only if that can be withdrawn. While 12,288 requests are open no call with a
  * limit draws one: it waits without, as a guest, and looks every millisecond.
  *
  * Who is told that the lock is shut passes its turn on. Closing is a try that finds nobody: no holder, no waiter, no

@@ -105,7 +105,7 @@ static inline int32_t rounds_to_go(const struct lock *lock, uint64_t number) {
 
 /* The most rounds from which a request can be withdrawn; and the most requests that are open when a call with a limit,
  * or a task, draws a ticket: so that one release passes the abandoned ones in 2 ms. */
-enum { MOST_ROUNDS_NEAR = 15, MOST_OPEN = 16384 };
+enum { MOST_ROUNDS_NEAR = 15, MOST_OPEN = 12288 };
 
 static inline int has_room(const struct lock *lock) {
     return rounds_to_go(lock, tail_word(lock)) < MOST_OPEN / TICKETS_IN_ROUND;
