@@ -1,8 +1,8 @@
 /* The heap bytes of a line: those that stay taken after qolb_open, by kind and number of nodes, as malloc_usable_size
- * counts them. qolb_memory must return what opening has
- * allocated and keeps, and opening may ask for at most three times that at a time. The data of two nodes must be in no
- * two cache lines that are fetched together, and have the size that gaps.h says; each block of a line must begin at a
- * multiple of 128 bytes. 100,000 ticket lines of two nodes must take less than 260 MB. */
+ * counts them. qolb_memory must return what opening has allocated and keeps, and opening may ask for at most three
+ * times that at a time. The data of two nodes must be in no two cache lines that are fetched together, and have the
+ * size that gaps.h says; each block of a line must begin at a multiple of 128 bytes. 100,000 ticket lines of two nodes
+ * must take less than 260 MB. */
 #include "../src/gaps.h"
 #include <malloc.h>
 #include <qolb.h>
