@@ -214,6 +214,7 @@ def clients(client, *arguments):
         it.join(max(0, since + LIMIT[0] - time.monotonic()))
         if it.is_alive():
             it.kill()
+            it.join()
     spent = time.monotonic() - since
     if any(it.exitcode for it in running):
         raise Wrong(f"{client.__name__} {arguments}: clients ended with {[it.exitcode for it in running]} after {spent:.0f} seconds")
