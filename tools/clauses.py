@@ -24,35 +24,11 @@ WIDE = 100
 INTERFACE = ["crates/qolb_model/src/sync.rt"]
 BODY = "crates/line_generic/src/"
 
-# The functions from the C call to the atomic step, by file. A name that a commit does not have counts as nothing.
-RELEASE = {
-    "crates/qolb_c/src/lib.rt": ["qolb_deqolb_proved_", "qolb_deqolb", "number"],
-    "crates/qolb_c/src/handle.rt": ["get_mut"],
-    "crates/qolb_c/src/any_node.rt": ["release"],
-    "crates/qolb_c/src/answer.rt": ["of_done", "number"],
-    "crates/qolb_c/src/node.rt": ["release", "deqolb", "state"],
-    "crates/qolb_nodes/src/handle.rt": ["get_mut"],
-    "crates/qolb_nodes/src/any_node.rt": ["release"],
-    "crates/qolb_nodes/src/node.rt": ["release", "state"],
-    "crates/qolb_model/src/sync.rt": ["deqolb", "state"],
-    "crates/line_generic/src/sync.rt": ["deqolb", "state"],
-    "crates/line_generic/src/calls.rt": ["deqolb", "release_with", "state"],
-    "crates/line_generic/src/line.rt": ["state"],
-    "crates/line_generic/src/table.rt": ["closes"],
-    "crates/line_generic/src/wake.rt": ["at", "wake", "wake_at"],
-    "crates/line_generic/src/discipline.rt": ["put", "release"],
-    "crates/ticket_line/src/discipline.rt": ["put", "release", "state_after"],
-    "crates/ticket_line/src/slots.rt": ["put", "copy_to_next_slot"],
-    "crates/ticket_line/src/release.rt": ["release", "walk", "copy_to_next_slot", "free_passed"],
-    "crates/ticket_line/src/steps.rt": ["grant", "free"],
-    "crates/ticket_line/src/layout.rt": ["slot_of", "cell_word", "ticket_after", "number", "granted", "withdrawn_by"],
-    "crates/line_cells/src/layout.rt": ["cell_word", "node_word"],
-}
-
 # What a reader walks through: the function that takes the step, and the functions down to it in the order in which they are entered, each with its
 # depth. The kit's are not counted. A turn back enters a file that the walk has left.
+RELEASE = "a node's release from C, to the swap of a ticket line"
 WALKS = {
-    "a node's release from C, to the swap of a ticket line": ("grant", [
+    RELEASE: ("grant", [
         (1, "c/src/calls.c", "qolb_deqolb"),
         (2, "crates/qolb_c/src/lib.rt", "qolb_deqolb_proved_"),
         (3, "crates/qolb_nodes/src/handle.rt", "get_mut"),
@@ -217,7 +193,8 @@ def main(commit):
     said = [line for name in INTERFACE + tree.under(BODY, ".rt") for line in joined(tree.text(name).splitlines()) if CLAUSE.match(line)]
     print(f"interface and body: {sum(len(line.split()) for line in said):,} words in {len(said)} clauses and ghost members")
 
-    contracts = {name: [own for each in functions for own in contract_of(tree.text(name), each)] for name, functions in RELEASE.items()}
+    release = dict.fromkeys((file, name) for _, file, name in WALKS[RELEASE][1] if file.endswith(".rt"))
+    contracts = {file: [own for at, name in release if at == file for own in contract_of(tree.text(file), name)] for file, _ in release}
     passed = {name: found for name, found in contracts.items() if found}
     clauses = [line for found in passed.values() for own in found for line in own]
     words = sum(len(line.split()) for line in clauses)

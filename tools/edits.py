@@ -35,7 +35,8 @@ The lines are kept in out/mutants.tsv, each with a sum of what it was tried on, 
 tried again, unless it was BROKEN, or with --anew: `kept from` that day is printed behind its line. The program ends with 1 if a mutant is `new`,
 `shape`, `names`, ALIVE or BROKEN.
 
-With --anchors it tries nothing: it says of each mutant whose old text does not stand once in its file where that text is now. `tools/gate` calls it.
+With --anchors it tries nothing: it says of each mutant whose old text does not stand once in its file where that text is now, and which files and lines
+of mutants are not read. `tools/gate` calls it.
 
   tools/edits.py [--jobs N] [--only WORD] [--anew] [--proved] [--keep FOLDER] [CRATE ..]
   tools/edits.py --anchors
@@ -110,6 +111,24 @@ def packed(file):
     """The mutants of a file, each with its name, which the line `== NAME` above it has."""
     _, *parts = re.split(r"^== (\S+)\n", file.read_text() if file.is_file() else "", flags=re.M)
     return zip(parts[::2], parts[1::2])
+
+
+def unread(folder):
+    """The lines of a crate's mutants that say nothing, and its files of mutants that are not read."""
+    for file in sorted([*(folder / "must-fail").glob("*"), *folder.glob("*.edits")]):
+        if file.suffix != ".edit" and file.name != "mutants.edits":
+            yield f"{file.relative_to(folder)} is no file of mutants"
+            continue
+        may = r"$|(?:file|old|new|harmless|shows|test):(?: .*)?$" + (r"|== \S+$" if file.suffix == ".edits" else "")
+        yield from (f"{file.relative_to(folder)}:{number}: {line}" for number, line in enumerate(file.read_text().splitlines(), 1) if not re.match(may, line))
+
+
+def changes_nothing(mutant):
+    """Why it can't be refused for what it shows, if so: a change of it, or all of them, is none."""
+    if not mutant.changes or any(it.old == it.new for it in mutant.changes):
+        return "it changes nothing"
+    olds = re.findall(r"(?m)^old:.*\n(?!old:)", mutant.text + "\n")
+    return f"{len(olds)} texts to change, and {len(mutant.changes)} in their place" if len(olds) != len(mutant.changes) else None
 
 
 def mutants_of(crates, names=(), only=""):
@@ -404,7 +423,9 @@ def try_all(mutants, args):
 def compare_anchors(crates):
     """Prints each mutant that can't be made as the crates are now, and why; returns the status."""
     mutants = mutants_of(crates)
-    lost = [f"{it.name}: {why}" for it in mutants for _, why in [changed(it.crate.folder, it.changes)] if why]
+    lost = [f"{it.name}: {why}" for it in mutants for why in [changes_nothing(it) or changed(it.crate.folder, it.changes)[1]] if why]
+    lost += [f"{name}: {times} mutants of this name" for name, times in collections.Counter(it.name for it in mutants).items() if times > 1]
+    lost += [f"{it.name}/{line}" for it in crates.values() for line in unread(it.folder)]
     lost += [f"{it.name}: {it.tested.name} has no such test: {it.test}" for it in mutants if it.test and it.test.rpartition("::")[2] not in tests_of(it.tested)]
     print(*lost, f"{len(mutants)} mutants, {len(lost)} out of place", sep="\n")
     return 1 if lost else 0
@@ -428,6 +449,8 @@ def main():
     KEPT.parent.mkdir(exist_ok=True)
     kept = Kept(crates)
     mutants = [it for it in mutants_of(crates, args.names, args.only) if not args.batch or it.batch == args.batch]
+    if args.only and not mutants:
+        sys.exit(f"no mutant's name has {args.only!r}")
     is_known = lambda it: not args.anew and (kept.known(it) or ["BROKEN"])[0] != "BROKEN"
     left = [it for it in mutants if (args.proved or not it.takes_all_memory()) and not is_known(it)]
     if args.batch:

@@ -109,10 +109,13 @@ def last_of(told):
 
 
 def goes_well(most, scene, width, seconds):
-    """Prints how many runs there are of the library as it is; False if one fails, or a scene does not end."""
+    """Prints how many runs there are of the library as it is; False if one fails, if a scene does not end, or if there is none."""
     told, failed, left = run((), width, most, scene, seconds)
     if failed:
         print(f"as it is, {width} in a round: {last_of(told)}", flush=True)
+        return False
+    if not told:
+        print(f"no scene's name begins with {scene!r}", flush=True)
         return False
     runs = sum(int(re.search(r": (\d+) runs", line).group(1)) for line in told)
     ended = f"{len(told)} scenes" if not left else f"{len(told)} scenes, not all of: {'; '.join(left)};"
@@ -157,6 +160,8 @@ def main():
     since = time.monotonic()
     faults = [name for name in FAULTS if asked.fault in name and not asked.no_faults]
     changes = [name for name in HARMLESS if asked.fault in name and not asked.no_faults]
+    if asked.fault and not faults and not changes:
+        sys.exit(f"no fault's name has {asked.fault!r}")
     whole = [(asked.most, scene, width, asked.seconds) for scene in asked.scene or [""] for width in (4, 1)] if not asked.fault else []
     with concurrent.futures.ThreadPoolExecutor(asked.jobs) as pool:
         well = list(pool.map(lambda it: goes_well(*it), whole))

@@ -227,12 +227,15 @@ def last_of(told):
 
 
 def goes_well(most, scenes, base):
-    """Prints how many runs there are of the library as it is; False if one fails."""
+    """Prints how many runs there are of the library as it is; False if one fails, or if there is none."""
     runs = []
     for scene in scenes or [""]:
         told, well = run(base / "explorer", most, scene)
         if not well:
             print(f"as it is: {last_of(told)}", flush=True)
+            return False
+        if not told:
+            print(f"no scene's name begins with {scene!r}", flush=True)
             return False
         runs += told
     print(f"as it is: {sum(int(line.rsplit(' ', 2)[1]) for line in runs):,} runs of {len(runs)} scenes go well", flush=True)
@@ -277,6 +280,8 @@ def explores(asked, base):
         sys.exit(1)
     faults = [fault for fault in FAULTS if asked.fault in fault and not asked.no_faults]
     changes = [change for change in HARMLESS if asked.fault in change and not asked.no_faults]
+    if asked.fault and not faults and not changes:
+        sys.exit(f"no fault's name has {asked.fault!r}")
     with concurrent.futures.ThreadPoolExecutor(asked.jobs) as pool:
         found = list(pool.map(lambda fault: is_found(fault, base), faults))
         harmless = list(pool.map(lambda change: is_harmless(change, base), changes))

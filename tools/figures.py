@@ -3,6 +3,7 @@
 import csv
 import pathlib
 import re
+import statistics
 
 from crates import read_crates
 from tests import takers_of_all, tests_of
@@ -243,6 +244,56 @@ def bursts():
     return f"{by_one:.1f}", span(f"{min(empty):.1f}", f"{max(empty):.1f}"), f"{1 // max(waited):.0f}"
 
 
+def in_longer_runs():
+    """Microseconds of a strict turn by 8 and by 32 threads in runs longer than phases: an empty one, and the least and the most of one of 10 us."""
+    rows = [row for row in rows_of("bursts.tsv") if row["lock"] == "strict" and row["threads"] in ("8", "32")]
+    took = {turn: [1e6 / float(row["turns_a_second"]) for row in rows if row["turn_us"] == turn] for turn in ("0", "10")}
+    for threads in ("8", "32"):
+        counted = [float(row["ns"]) / 1e3 for row in rows_of("missed.tsv") if (row["library"], row["way"], row["threads"], row["turn_us"]) == ("now", "strict", threads, "10")]
+        took["10"].append(statistics.median(counted))
+    return *(span(f"{min(each):.0f}", f"{max(each):.0f}") for each in took.values()),
+
+
+def for_eight():
+    """Kilobytes for eight nodes in Rattle: a link line, a ticket line."""
+    found = {row["name"]: int(row["table"]) + int(row["ports"]) for row in rows_of("memory.tsv") if row["nodes"] == "8"}
+    return tuple(f"{found[line] / 1000:.1f}" for line in ("link line", "ticket line"))
+
+
+def of_knob(state, knob, value, threads, turn, phases=None):
+    """The ratios to MCS's time, by these numbers of threads, of a knob that was tried; if it was tried more than once, in the run of so many phases."""
+    found = {}
+    for row in rows_of("waiting.tsv"):
+        if (row["state"], row["knob"], row["value"], row["turn_us"]) == (state, knob, value, turn) and (phases is None or row["phases"] in phases):
+            found[row["threads"]] = row["of_mcs"].removeprefix("0")
+    return tuple(found[count] for count in threads.split())
+
+
+def of_spins(knob, value):
+    """Those with turns of 10 us: on a quiet machine by 4, 8 and 32 threads, on a loaded one by 4 and 8."""
+    return lambda: (*of_knob("quiet", knob, value, "4 8 32", "10"), *of_knob("loaded", knob, value, "4 8", "10"))
+
+
+def of_yields():
+    """Microseconds of a turn of 10 by 32 threads at a ring: where a woken waiter yields, and where it doesn't."""
+    found = {row["value"]: float(row["median"]) for row in rows_of("waiting.tsv") if (row["state"], row["threads"], row["knob"]) == ("yields", "32", "ring: yields of a woken waiter")}
+    return f"{found['one'] / 1e3:.1f}", f"{found['none'] / 1e3:.1f}"
+
+
+def of_hints():
+    """Ratios to MCS's time of empty turns by 2, 3 and 4 threads, with and without: hints and gaps of a ticket line, hints of a link line."""
+    with_gaps, hinted = "each poll asks for the slot; behind the slots, and the words; a pause, ns", "hints of a link line"
+    run = [row["phases"] for row in rows_of("waiting.tsv") if (row["state"], row["knob"], row["kept"]) == ("ticket", with_gaps, "yes")]
+    ticket = [of_knob("ticket", with_gaps, value, "2 3 4", "0", run) for value in ("what opening frees; 60", "does not; as malloc gives it; 90")]
+    link = [of_knob("hints", hinted, value, "2 3 4", "0") for value in ("bytes and entry at the turn; entry, home and successor at the release", "none")]
+    return tuple(number for of in (*ticket, *link) for number in of)
+
+
+def of_gate():
+    """Processor minutes and minutes by the clock of the gate, and the most GB at a time."""
+    return re.search(r"(?m)^# total (\d+) processor minutes, (\d+) by the clock, at most ([\d.]+) GB", (ROOT / "tools/gate_times.tsv").read_text()).groups()
+
+
 def tests_with_a_proof():
     """How many tests `./qolb --test` leaves out."""
     return (str(sum(len(takers_of_all(crate) & set(tests_of(crate))) for crate in read_crates().values())),)
@@ -255,7 +306,15 @@ RATIOS = [
     ("README.md", "for two nodes {} and {} as a link line, {} and {} as a ticket line, {} and {} as a ring", for_two),
     ("README.md", "With one thread it takes {} ns, from C {}, MCS's {}", alone),
     ("README.md", "runs, without a proof, all tests but {},", tests_with_a_proof),
+    ("docs/LOCKS.md", "for eight nodes {} KB, a ticket line {}", for_eight),
+    ("docs/LOCKS.md", "in longer runs strict empty turns take {} us, those of 10 us {}.", in_longer_runs),
     ("docs/LOCKS.md", "With 2, 3 and 4 threads a strict lock takes {}, {} and {} times as long as MCS, and alone {} times as long as a mutex", beside_mcs),
     ("docs/LOCKS.md", "a mutex makes {} times the turns of a strict `qolb_lock` with 2 threads, {} with 3, {} with 4, {} with 8 and {} with 32", times_of_mutex),
     ("docs/LOCKS.md", "makes {} times a mutex's empty turns alone, {} times with more threads; with turns of 10 us its longest wait is at most 1/{} of a mutex's", bursts),
+    ("docs/DECISIONS.md", "| 50 us near the turn, 2 us far from it | {}, {}, {} | {}, {} |", of_spins("spin near the turn, far from it, us", "50, 2")),
+    ("docs/DECISIONS.md", "| **learned, 10 us at least after a sleep** | {}, {}, {} | {}, {} |", of_spins("qolb_acquire", "as it is")),
+    ("docs/DECISIONS.md", "| Rattle's lines: 3 us and 32 yields | {}, {}, {} | {}, {} |", of_spins("spin, us; then yields", "3; 32")),
+    ("docs/DECISIONS.md", "a yield (32 threads: {} us a turn, without {})", of_yields),
+    ("docs/DECISIONS.md", "a ticket line {}, {}, {}, without {}, {}, {}; a link line (loaded) {}, {}, {}, without {}, {}, {}.", of_hints),
+    ("docs/CHANGING.md", "the gate took {} processor minutes from nothing on four processors beside other work, {} by the clock, {} GB at a time", of_gate),
 ]

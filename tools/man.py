@@ -291,6 +291,9 @@ def main():
         pages["qolb.1"] = page_of_program(program)
     else:
         print(f"man.py: no program at {program}: only the pages of qolb.h were {'compared' if is_check else 'written'}", file=sys.stderr)
+    others = sorted({it.name for it in PAGES.glob("*")} - {*pages, "qolb.1"})
+    if others:
+        sys.exit(f"man.py: docs/man has pages of no source: {', '.join(others)}")
     for name, page in pages.items():
         for fault in faults_of(name, page):
             sys.exit(f"man.py: {name}: {fault}")

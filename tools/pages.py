@@ -17,6 +17,9 @@ import sys
 import figures
 
 ROOT = pathlib.Path(__file__).resolve().parent.parent
+sys.path.insert(0, str(ROOT / "tools/explorer"))
+from lock_faults import FAULTS  # noqa: E402
+
 LIMITS = {
     "README.md": 900,
     "docs/ARCHITECTURE.md": 1550,
@@ -45,13 +48,16 @@ CLAIMING_SHORT = ["c/package/qolb.pc.in", "c/rust/Cargo.toml.in"]
 # Sentences that claim more.
 TOO_MUCH = re.compile(r"library is proved|proved (?:queue )?locks?\b(?!_)|(?:nobody|no thread) is overtaken|no wake-up is lost")
 # What an exploration runs: each row of PROVED's table begins with one of these, and ends with the commit whose code it ran.
-EXPLORED = {"lock": ["c/src/lock", "c/src/bells.c", "c/src/bells.h", "c/src/notify.c", "c/src/spin.h"], "nodes": ["c/src/calls.c", "c/src/bells.c", "c/src/bells.h", "c/src/notify.c", "c/src/spin.h"]}
+OF_BOTH = [f"c/src/{name}" for name in ("bells.c", "bells.h", "gaps.h", "notify.c", "spin.h")]
+EXPLORED = {"lock": ["c/src/lock", "c/src/core.h", *OF_BOTH], "nodes": ["c/src/calls.c", "c/src/hints.h", "c/src/proved.h", *OF_BOTH]}
+# The files with their scenes.
+SCENES = {"lock": ["lock_scenes.c", "holder_scenes.c", "limit_scenes.c", "task_scenes.c"], "nodes": ["node_scenes.c"]}
 # The README of the archive, which has a table of figures too.
 ARCHIVE = "c/package/README"
 # A first screen has a program in each language.
 FIRST_SCREEN, LANGUAGES = 45, ("c", "cpp", "rust")
 # A number in a sentence.
-FIGURE = r"(?:\d[\d.,]*)?\d"
+FIGURE = r"(?:(?:\d[\d.,]*)?\d|\.\d+)"
 faults = []
 
 
@@ -146,12 +152,16 @@ def check_names(pages, files):
 
 def check_figures(is_write):
     """Each table of figures in a page is what the measurements say, and each number in a sentence of `figures.RATIOS`."""
+    found = []
     for page in sorted({"docs/LOCKS.md", ARCHIVE} | {page for page, _, _ in figures.RATIOS}):
         before = text = (ROOT / page).read_text()
         if page == ARCHIVE:
-            text = re.sub(r"(?m)^(Which one, .*:\n\n)(?: {4}.*\n)+", lambda found: f"{found[1]}{figures.choice_of_archive()}\n", text)
+            text, count = re.subn(r"(?m)^(Which one, .*:\n\n)(?: {4}.*\n)+", lambda head: f"{head[1]}{figures.choice_of_archive()}\n", text)
+            if not count:
+                faults.append(f"{page} has no table of figures")
         for name, table in figures.TABLES.items():
-            text = re.sub(rf"(<!-- figures: {name} -->\n\n).*?\n\n", lambda found: found[1] + table() + "\n\n", text, flags=re.S)
+            text, count = re.subn(rf"(<!-- figures: {name} -->\n\n).*?\n\n", lambda head: head[1] + table() + "\n\n", text, flags=re.S)
+            found += [name] * count
         for of_page, sentence, numbers in figures.RATIOS:
             if of_page == page:
                 pattern = re.escape(sentence).replace(r"\{\}", rf"{FIGURE}(?: to {FIGURE})?")
@@ -163,6 +173,7 @@ def check_figures(is_write):
         elif text != before:
             changed = [line for line in text.split("\n") if line not in before]
             faults.append(f"{page} has other figures than c/bench/figures; tools/pages.py --write would write: {changed[0][:150]}")
+    faults.extend(f"no page has the table of figures {name}" for name in figures.TABLES if name not in found)
 
 
 def check_claims(pages):
@@ -177,14 +188,34 @@ def check_claims(pages):
             faults.append(f"{name} claims too much: {found[0]}")
 
 
+def knows(commit):
+    """Whether the commit's code is here: where the history is not whole, it may not be."""
+    return subprocess.run(["git", "cat-file", "-e", f"{commit}^{{commit}}"], cwd=ROOT, stderr=subprocess.DEVNULL, check=False).returncode == 0
+
+
+def has_whole_history():
+    told = subprocess.run(["git", "rev-parse", "--is-shallow-repository"], cwd=ROOT, capture_output=True, text=True, check=False).stdout
+    return told.strip() == "false"
+
+
 def check_explored(is_write):
-    """Each row of the table of explorations says whether the code has changed since, where its commit is known."""
+    """The table of explorations has the scenes and faults that there are, and says of each row whether the code has changed since."""
     path = ROOT / "docs/PROVED.md"
     before = text = path.read_text()
-    for row, what, commit in re.findall(r"(?m)^(\| (lock|nodes), .*\| ([0-9a-f]{8}))(?:: changed since)? \|$", text):
-        differs = subprocess.run(["git", "diff", "--quiet", commit, "--", *EXPLORED[what]], cwd=ROOT, stderr=subprocess.DEVNULL, check=False).returncode
-        if differs in (0, 1):
+    rows = re.findall(r"(?m)^(\| (\w+), (\d+) scenes \|.*\| ([0-9a-f]{8}))(?:: changed since)? \|$", text)
+    if {what for _, what, _, _ in rows} != set(EXPLORED):
+        faults.append(f"docs/PROVED.md has no row of an exploration for each of {', '.join(EXPLORED)}")
+    for row, what, scenes, commit in rows:
+        there = sum(len(re.findall(r'(?m)^ *\{"', (ROOT / "tools/explorer" / file).read_text())) for file in SCENES[what])
+        if int(scenes) != there:
+            faults.append(f"docs/PROVED.md has {scenes} scenes of {what}, and tools/explorer has {there}")
+        if knows(commit):
+            differs = subprocess.run(["git", "diff", "--quiet", commit, "--", *EXPLORED[what]], cwd=ROOT, check=False).returncode
             text = re.sub(rf"(?m)^{re.escape(row)}(?:: changed since)? \|$", f"{row}{': changed since' if differs else ''} |", text)
+        elif has_whole_history():
+            faults.append(f"docs/PROVED.md names a commit that is not here: {commit}")
+    if f"each of the {len(FAULTS)} in the lock" not in text:
+        faults.append(f"docs/PROVED.md does not say that each of the {len(FAULTS)} faults planted in the lock is found")
     if is_write:
         path.write_text(text)
     elif text != before:

@@ -214,6 +214,7 @@ def clients(client, *arguments):
         it.join(max(0, since + LIMIT[0] - time.monotonic()))
         if it.is_alive():
             it.kill()
+            it.join()
     spent = time.monotonic() - since
     if any(it.exitcode for it in running):
         raise Wrong(f"{client.__name__} {arguments}: clients ended with {[it.exitcode for it in running]} after {spent:.0f} seconds")
@@ -413,6 +414,8 @@ def main():
             all_of.append(line)
             if line:
                 print("\t".join(map(str, line)), flush=True)
+    if not all_of:
+        sys.exit("no program was run")
     head = ["Programs with their mutexes as locks, beside runs of their own: medians, and counts of one run.",
             f"date {datetime.date.today()}", f"machine {machine()}", f"command {' '.join(['tools/preloaded.py', *sys.argv[1:]])}",
             f"load of the machine before {load:.1f}, afterwards {os.getloadavg()[0]:.1f}, with these programs{OTHERS * (load > 1)}"]

@@ -92,6 +92,8 @@ def sweep(program, library, words, script, what, **settings):
         right = is_refusal(what, wanted, found) if was_refused else is_right(wanted, found)
         if not right:
             sys.exit(f"wrong: {' '.join(words)}, {what} {at + 1} {settings}: {found}")
+        if not was_refused and at == 0 and what != "thread":
+            sys.exit(f"wrong: {' '.join(words)}: no {what} was made to fail")
         if not was_refused:
             return at
         at += 1

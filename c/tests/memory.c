@@ -1,8 +1,9 @@
 /* The heap bytes of a line: those that stay taken after qolb_open, by kind and number of nodes, as malloc_usable_size
- * counts them. qolb_memory must return what opening has
- * allocated and keeps, and opening may ask for at most three times that at a time. The data of two nodes must be in no
- * two cache lines that are fetched together, and each block of a line must begin at a multiple of 128 bytes. 100,000
- * ticket lines of two nodes must take less than 260 MB. */
+ * counts them. qolb_memory must return what opening has allocated and keeps, and opening may ask for at most three
+ * times that at a time. The data of two nodes must be in no two cache lines that are fetched together, and have the
+ * size that gaps.h says; each block of a line must begin at a multiple of 128 bytes. 100,000 ticket lines of two nodes
+ * must take less than 260 MB. */
+#include "../src/gaps.h"
 #include <malloc.h>
 #include <qolb.h>
 #include <stdio.h>
@@ -90,6 +91,13 @@ static int apart(const qolb_node *node, uint64_t nodes) {
     return 1;
 }
 
+/* Returns whether the data of each node have as many bytes as gaps.h says. */
+static int are_told(const qolb_node *node, uint64_t nodes) {
+    for (uint64_t k = 0; k < nodes; k++)
+        if (((const struct before *)node[k].own)[-1].size != NODE_BYTES) return 0;
+    return 1;
+}
+
 /* Opens a line of this many nodes. Returns true if qolb_memory tells what it keeps and allocates nothing itself, and if
  * no allocation of the opening is more than three times as large. */
 static int is_told(uint32_t kind, uint64_t nodes) {
@@ -152,6 +160,7 @@ static struct heap of_line(uint32_t kind, uint64_t nodes) {
     if (qolb_open(kind, 1, nodes, QOLB_NO_LEASE, &zeros, node, 200) != QOLB_DONE) abort();
     struct heap keeps = since(before);
     if (!apart(node, nodes)) puts("nodes lie too close to each other"), exit(1);
+    if (!are_told(node, nodes)) puts("a node has other bytes than gaps.h says"), exit(1);
     for (uint64_t n = 0; n < nodes; n++)
         if (qolb_close(&node[n]) != QOLB_DONE) abort();
     if (since(before).usable != 0) puts("a line leaves something"), exit(1);
