@@ -280,6 +280,12 @@ def of_yields():
     return f"{found['one'] / 1e3:.1f}", f"{found['none'] / 1e3:.1f}"
 
 
+def of_holder():
+    """Ratios to MCS's time of empty turns of a strict lock by 2, 3 and 4 threads: with the holder's number in the lock, and in the tables of threads."""
+    ways = ("a number beside the cells, stored with each turn", "in the tables of threads")
+    return tuple(number for way in ways for number in of_knob("lock", "who holds it", way, "2 3 4", "0"))
+
+
 def of_hints():
     """Ratios to MCS's time of empty turns by 2, 3 and 4 threads, with and without: hints and gaps of a ticket line, hints of a link line."""
     with_gaps, hinted = "each poll asks for the slot; behind the slots, and the words; a pause, ns", "hints of a link line"
@@ -311,6 +317,7 @@ RATIOS = [
     ("docs/LOCKS.md", "With 2, 3 and 4 threads a strict lock takes {}, {} and {} times as long as MCS, and alone {} times as long as a mutex", beside_mcs),
     ("docs/LOCKS.md", "a mutex makes {} times the turns of a strict `qolb_lock` with 2 threads, {} with 3, {} with 4, {} with 8 and {} with 32", times_of_mutex),
     ("docs/LOCKS.md", "makes {} times a mutex's empty turns alone, {} times with more threads; with turns of 10 us its longest wait is at most 1/{} of a mutex's", bursts),
+    ("docs/DECISIONS.md", "handoffs by 2, 3 and 4 threads take {}, {} and {} of MCS's time in place of {}, {} and {}:", of_holder),
     ("docs/DECISIONS.md", "| 50 us near the turn, 2 us far from it | {}, {}, {} | {}, {} |", of_spins("spin near the turn, far from it, us", "50, 2")),
     ("docs/DECISIONS.md", "| **learned, 10 us at least after a sleep** | {}, {}, {} | {}, {} |", of_spins("qolb_acquire", "as it is")),
     ("docs/DECISIONS.md", "| Rattle's lines: 3 us and 32 yields | {}, {}, {} | {}, {} |", of_spins("spin, us; then yields", "3; 32")),
