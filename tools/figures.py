@@ -317,7 +317,7 @@ RATIOS = [
     ("docs/LOCKS.md", "With 2, 3 and 4 threads a strict lock takes {}, {} and {} times as long as MCS, and alone {} times as long as a mutex", beside_mcs),
     ("docs/LOCKS.md", "a mutex makes {} times the turns of a strict `qolb_lock` with 2 threads, {} with 3, {} with 4, {} with 8 and {} with 32", times_of_mutex),
     ("docs/LOCKS.md", "makes {} times a mutex's empty turns alone, {} times with more threads; with turns of 10 us its longest wait is at most 1/{} of a mutex's", bursts),
-    ("docs/DECISIONS.md", "by 2, 3 and 4 threads {}, {} and {} of MCS's time in place of {}, {} and {}.", of_holder),
+    ("docs/DECISIONS.md", "by 2, 3 and 4 threads {}, {} and {} of MCS's, for {}, {} and {}.", of_holder),
     ("docs/DECISIONS.md", "| 50 us near the turn, 2 us far from it | {}, {}, {} | {}, {} |", of_spins("spin near the turn, far from it, us", "50, 2")),
     ("docs/DECISIONS.md", "| **learned, 10 us at least after a sleep** | {}, {}, {} | {}, {} |", of_spins("qolb_acquire", "as it is")),
     ("docs/DECISIONS.md", "| Rattle's lines: 3 us and 32 yields | {}, {}, {} | {}, {} |", of_spins("spin, us; then yields", "3; 32")),
