@@ -19,7 +19,7 @@
 //!
 //! A program takes the crate that is installed, `qolb = { path = "PREFIX/share/qolb/rust" }`, whose build script finds the library; or, from edition
 //! 2021 on, this file as a module, `#[path = ".../qolb.rs"] mod qolb;`, and links with `-lqolb`. With the crate's feature `lock_api`, `lock_api::Mutex<RawQolb, T>` is a mutex as
-//! those of `parking_lot`.
+//! those of `parking_lot`, whose `lock` ends the process if this thread holds it or it was shut.
 //!
 //! # Beside `std::sync::Mutex`
 //!
@@ -1397,8 +1397,10 @@ impl<'a, T: ?Sized> Future for MutexFuture<'a, T> {
         let this = unsafe { self.get_unchecked_mut() };
         let entering = this.entering.as_mut().expect("a future that was ready is not polled again");
         let Poll::Ready(got) = (unsafe { entering.poll(context) }) else { return Poll::Pending };
+        // The guard first: with what entered a waker is dropped, which may panic.
+        let got = got.map(|task| MutexTaskGuard { mutex: this.mutex, task });
         this.entering = None;
-        Poll::Ready(got.map(|task| MutexTaskGuard { mutex: this.mutex, task }))
+        Poll::Ready(got)
     }
 }
 
@@ -1445,6 +1447,7 @@ impl<T: ?Sized> Drop for MutexTaskGuard<'_, T> {
 mod api {
     use super::{Answer, RawQolb};
     use lock_api::{GuardNoSend, RawMutex, RawMutexFair, RawMutexTimed};
+    use std::io::Write;
     use std::time::{Duration, Instant};
 
     fn had(answer: Answer) -> bool {
@@ -1455,13 +1458,21 @@ mod api {
         }
     }
 
+    /// A guard that `unlocked` or `bump` has let go is used again when `lock` ends, also by a panic: so a refusal ends the process.
+    fn surely_had(answer: Answer) {
+        if answer != Answer::Granted {
+            _ = writeln!(std::io::stderr(), "qolb: lock_api's lock is refused: {answer}");
+            std::process::abort();
+        }
+    }
+
     // SAFETY: one thread at a time holds it.
     unsafe impl RawMutex for RawQolb {
         const INIT: RawQolb = RawQolb::new();
         type GuardMarker = GuardNoSend;
 
         fn lock(&self) {
-            had(self.enter());
+            surely_had(self.enter());
         }
         fn try_lock(&self) -> bool {
             had(self.try_enter())

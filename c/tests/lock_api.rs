@@ -3,12 +3,30 @@
 mod qolb;
 use lock_api::{Mutex, MutexGuard};
 use qolb::RawQolb;
-use std::panic::catch_unwind;
+use std::os::unix::process::ExitStatusExt;
+use std::panic::{AssertUnwindSafe, catch_unwind};
+use std::process::Command;
 use std::time::{Duration, Instant};
 
 static COUNT: Mutex<RawQolb, u64> = Mutex::new(0);
 
+/// Locks what it holds, and goes on by unwinding, if it may: then there are two guards. The process ends before.
+fn holds_twice(way: &str) {
+    let mut held = COUNT.lock();
+    let mut other = None;
+    let ended = catch_unwind(AssertUnwindSafe(|| match way {
+        "lock" => other = Some(COUNT.lock()),
+        _ => MutexGuard::unlocked(&mut held, || other = Some(COUNT.lock())),
+    }));
+    let two = other.is_some();
+    drop((held, other));
+    panic!("{way}: {ended:?}, two guards: {two}");
+}
+
 fn main() {
+    if let Some(way) = std::env::args().nth(1) {
+        return holds_twice(&way);
+    }
     std::thread::scope(|scope| {
         for _ in 0..8 {
             scope.spawn(|| (0..1000).for_each(|_| *COUNT.lock() += 1));
@@ -19,8 +37,12 @@ fn main() {
     assert!(COUNT.try_lock().is_none() && COUNT.is_locked());
     std::thread::scope(|scope| _ = scope.spawn(is_late));
     // The holder waits for itself by no call.
+    for way in ["lock", "unlocked"] {
+        let ended = Command::new(std::env::current_exe().unwrap()).arg(way).output().unwrap();
+        assert_eq!(ended.status.signal(), Some(6), "{way}: {ended:?}");
+        assert!(String::from_utf8_lossy(&ended.stderr).starts_with("qolb: lock_api's lock is refused"));
+    }
     std::panic::set_hook(Box::new(|_| ()));
-    assert!(catch_unwind(|| drop(COUNT.lock())).is_err());
     assert!(catch_unwind(|| drop(COUNT.try_lock_for(Duration::from_secs(1)))).is_err());
     _ = std::panic::take_hook();
     assert_eq!(*held, 8000);

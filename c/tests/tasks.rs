@@ -14,10 +14,12 @@ mod executor;
 use executor::{Pool, Task, block_on};
 use qolb::{Bytes, Kind, Mutex, Node, Stopped};
 use std::future::Future;
+use std::panic::{AssertUnwindSafe, catch_unwind};
 use std::pin::Pin;
+use std::ptr::null;
 use std::sync::Arc;
 use std::sync::atomic::{AtomicU64, Ordering::*};
-use std::task::{Context, Poll};
+use std::task::{Context, Poll, RawWaker, RawWakerVTable, Waker};
 use std::thread;
 use std::time::{Duration, Instant};
 
@@ -134,6 +136,22 @@ fn guards_go(burst: u16) {
     drop(guard);
     let Poll::Ready(Ok(guard)) = last.as_mut().poll(&mut context) else { panic!("the last is granted it") };
     assert_eq!(*guard, 1);
+}
+
+/// Each clone of this waker panics when it is dropped.
+const CLONE: RawWaker = RawWaker::new(null(), &RawWakerVTable::new(|_| CLONE, |_| (), |_| (), |_| panic!("a waker's drop")));
+const PANICS: RawWaker = RawWaker::new(null(), &RawWakerVTable::new(|_| CLONE, |_| (), |_| (), |_| ()));
+
+/// A mutex that was granted in a poll which panics is free again.
+fn a_panic_leaves() {
+    // SAFETY: it has no data.
+    let waker = unsafe { Waker::from_raw(PANICS) };
+    let mutex = Mutex::new(());
+    let mut future = Box::pin(mutex.lock_async());
+    std::panic::set_hook(Box::new(|_| ()));
+    assert!(catch_unwind(AssertUnwindSafe(|| future.as_mut().poll(&mut Context::from_waker(&waker)).is_ready())).is_err());
+    _ = std::panic::take_hook();
+    assert!(mutex.try_lock().unwrap().is_some());
 }
 
 #[derive(Default)]
@@ -292,6 +310,7 @@ fn main() {
     one_waits();
     guards_go(0);
     guards_go(64);
+    a_panic_leaves();
     wakers_own_turns();
     more_than_may_be_open();
     for kind in Kind::ALL {
