@@ -48,6 +48,7 @@ FAULTS = {
     "a waiter announces no sleep": (1, "", (WAITS, "sleep_for_turn", "uint32_t got = qolb_core_announce_sleep_proved_(core_of(my), ticket);", "uint32_t got = qolb_core_poll_proved_(core_of(my), ticket);\n    if (got == QOLB_WAITING) ticket->word = __atomic_load_n(words_of(my->lock) + FIRST_CELL + ticket->number % TICKETS_IN_ROUND, __ATOMIC_SEQ_CST), got = QOLB_ASLEEP_, ticket->state = QOLB_TICKET_WAITING_;"), (WAITS, "sleep_for_turn", "qolb_core_retract_sleep_proved_", "qolb_core_poll_proved_")),
     "a waiter does not retract its sleep": (1, "", (WAITS, "sleep_for_turn", "qolb_core_retract_sleep_proved_(core_of(my), ticket)", "(ticket->state = QOLB_TICKET_WAITING_, qolb_core_poll_proved_(core_of(my), ticket))")),
     "where a cell is full a waiter sleeps until it is woken": (1, "no room", (WAITS, "sleep_for_turn", "nap(until)", "qolb_park_(cell_half(words_of(my->lock), ticket->number), __atomic_load_n(cell_half(words_of(my->lock), ticket->number), __ATOMIC_SEQ_CST), UINT32_MAX, FOR_EVER)")),
+    "without memory who is late waits until it is granted": (1, "no memory: late", (WAITS, "give_up", "end_of(NAP)", "FOR_EVER")),
     "who gives up does not withdraw": (1, "", (WAITS, "give_up", "got = qolb_core_withdraw_proved_(core_of(my), ticket_of(my))", "got = QOLB_WITHDRAWN")),
     "who gives up keeps a turn that came first": (2, "", (WAITS, "give_up", "got == QOLB_GRANTED ? got : told", "told")),
     "who gives up looks whether the lock is shut after it has withdrawn": (2, "one frees", (WAITS, "give_up", "uint32_t told = closed_or(QOLB_LATE, my->lock), got = qolb_core_withdraw_proved_(core_of(my), ticket_of(my));", "uint32_t got = qolb_core_withdraw_proved_(core_of(my), ticket_of(my)), told = closed_or(QOLB_LATE, my->lock);")),
@@ -137,6 +138,7 @@ FAULTS = {
     "who is far is late without an entry": (1, "far: ", (WAITS, "give_up", "    if (got == QOLB_FAR_) got = qolb_abandon_(my->lock, ticket_of(my), &my->spare);\n", "")),
     "who abandons its ticket keeps it": (1, "far: ", (REGISTRY, "qolb_abandon_", "    if (got == QOLB_ASLEEP_) *ticket = (struct qolb_ticket){.outer = ticket->outer};\n", "")),
     "where there is no memory a ticket is lost": (1, "far: no memory", (REGISTRY, "qolb_abandon_", "    if (!e) return QOLB_WAITING;\n", "    if (!e) return *ticket = (struct qolb_ticket){0}, QOLB_ASLEEP_;\n")),
+    "where a cell is full a task naps with the guard": (1, "tasks: two tasks, room", (REGISTRY, "qolb_stand_for_", "        return_guard(guard);\n        nap(FOR_EVER);\n        take_guard(guard);\n", "        nap(FOR_EVER);\n")),
     "where a cell is full a ticket is lost": (1, "far: ", (REGISTRY, "qolb_abandon_", "return got == QOLB_FULL_ ? (uint32_t)QOLB_WAITING : got;", "return got == QOLB_FULL_ ? *ticket = (struct qolb_ticket){0}, (uint32_t)QOLB_ASLEEP_ : got;")),
     "the last entry of a list stays its last": (1, "the later of two", (HEADER, "take_behind", "if (last_of(list) == it)", "if (it == before)")),
     "a list forgets all but its last entry": (2, "tasks: three tasks", (HEADER, "put_last", "    it->next = last ? last->next : it;\n    if (last) last->next = it;\n", "    it->next = it, (void)last;\n")),
@@ -196,6 +198,8 @@ FAULTS = {
     "a table comes into the list without a key": (1, "holder: ", (TURNS, "know_table", "has_key && ", "")),
     "who enters after its end has a place in its table": (1, "holder: ", (TURNS, "qolb_place_for_", "me->known == ENDED || ", "")),
     "who enters after its end may take the quick way": (1, "holder: ", (TURNS, "forget_table", "if (rest || !has(&it->table[k], HELD)) set_core", "if (rest) set_core")),
+    "who leaves is the holder until its call has left": (1, "holder: one holds behind", (LOCK, "qolb_lock_leave", "    set_core(at, core_at(at) + LAST - HELD);\n    if (!likely(!has_bursts(lock_of(of)))) return leave_burst(at);\n", "    if (!likely(!has_bursts(lock_of(of)))) return set_core(at, core_at(at) + LAST - HELD), leave_burst(at);\n"), (LOCK, "qolb_lock_leave", "    return likely(got", "    set_core(at, core_at(at) + LAST - HELD);\n    return likely(got")),
+    "who leaves a burst is the holder until its call has left": (1, "bursts: holder: one holds behind", (LOCK, "qolb_lock_leave", "    set_core(at, core_at(at) + LAST - HELD);\n    if (!likely(!has_bursts(lock_of(of)))) return leave_burst(at);\n", "    if (!likely(!has_bursts(lock_of(of)))) return leave_burst(at);\n    set_core(at, core_at(at) + LAST - HELD);\n"), (LOCK, "leave_burst", "    return likely(got", "    set_core(at, core_at(at) + LAST - HELD);\n    return likely(got")),
     # Conditions.
     "who waits stands in the list after it has left": (1, "", (CONDITIONS, "qolb_cond_wait_at_", "    stand(cond, lock, &me);\n", ""), (CONDITIONS, "qolb_cond_wait_at_", "    qolb_leave_at_(lock, at);\n", "    qolb_leave_at_(lock, at);\n    stand(cond, lock, &me);\n")),
     "who waits at a condition is no guest": (1, "one closes beside", (CONDITIONS, "qolb_cond_wait_at_", "    atomic_fetch_add(&lock->guests, 1);\n", ""), (CONDITIONS, "qolb_cond_wait_at_", "qolb_enter_at_(lock, at, FOR_EVER, 1)", "qolb_enter_at_(lock, at, FOR_EVER, 0)")),
@@ -210,6 +214,7 @@ FAULTS = {
     "who is told is not woken": (1, "", (CONDITIONS, "tell", "    qolb_wake_at_(word, 1);\n", "")),
     "a condition's list has no guard": (2, "", (REGISTRY, "qolb_guard_", "    take_guard(guard);\n", "")),
     "who is late stays in the condition's list": (1, "", (CONDITIONS, "qolb_cond_wait_at_", "await_word(&me, &limit) != SIGNALLED && stand_no_more(cond, &me)", "(await_word(&me, &limit), 0)")),
+    "a shut stops at the first that was told before": (1, "who waits behind", (CONDITIONS, "qolb_tell_shut_", "it; it = it->beside) tell(it, SHUT);", "it && tell(it, SHUT); it = it->beside) continue;")),
     "who was told stays in the lock's list": (1, "", (CONDITIONS, "qolb_cond_wait_at_", "    stand_no_more_in(&me);\n", "")),
 }
 
@@ -225,6 +230,4 @@ HARMLESS = {
     # It sleeps with its own count at its cell, and is told again.
     "nobody is woken ahead": ((WAITS, "qolb_end_turn_", "    if (wakes) qolb_unpark_(cell_half(words, ahead), class_of(ahead));\n", ""),),
     "a newcomer goes to the outer word once": ((LOCK, "goes_in", "        if (at->ticket.outer & (OUTER_STATE | OUTER_SHUT)) return 0;\n", "        return 0;\n"),),
-    # No other thread looks at this thread's place to decide anything.
-    "the place says that the lock is held until it is left": ((LOCK, "qolb_lock_leave", "    set_core(at, core_at(at) + LAST - HELD);\n", ""), (LOCK, "qolb_lock_leave", "    return likely(got", "    set_core(at, core_at(at) + LAST - HELD);\n    return likely(got"), (LOCK, "leave_burst", "    return likely(got", "    set_core(at, core_at(at) + LAST - HELD);\n    return likely(got")),
 }

@@ -720,6 +720,8 @@ const struct scene scenes[] = {
     {"holder: one ends with it", ends_as_holder, 2, 0, 0, ROOMY},
     {"holder: one leaves in a destructor", leaves_in_a_destructor, 2, 0, 0, ROOMY},
     {"holder: one enters in a destructor", enters_in_a_destructor, 2, 0, 0, ROOMY},
+    {"holder: one holds behind another", holds_behind_another, 2, 0, 0, ROOMY},
+    {"bursts: holder: one holds behind another", holds_behind_another, 2, 2, 0, ROOMY},
     {"holds three", holds_three, 2, 0, 1, ROOMY},
     {"waits beyond the table", waits_beyond, 2, 0, 0, ROOMY},
     {"bursts: each enters, at the first use", enters, 2, 2, 1, ROOMY},
@@ -901,6 +903,10 @@ const struct scene scenes[] = {
     {"far: tasks: one frees beside a task", one_frees_beside_a_task, 2, 0, 0, FAR},
     {"bursts: tasks: one frees beside a task", one_frees_beside_a_task, 2, 2, 0, ROOMY},
     {"bursts: far: tasks: one frees beside a task", one_frees_beside_a_task, 2, 2, 0, FAR},
+    {"who waits behind one that was signalled is told of a shut", shuts_behind_a_signal, 3, 0, 0, ROOMY},
+    {"bursts: who waits behind one that was signalled is told of a shut", shuts_behind_a_signal, 3, 2, 0, ROOMY},
+    {"no memory: late once it is near", is_late_once_it_is_near, 3, 0, 0, 1, MANY, MANY, NO_MEMORY},
+    {"tasks: two tasks, room for one sleeper", tasks_beside_one_that_yields, 3, 0, 0, 15, 1, MANY, 0},
     {"tasks: the task that left enters in the call", enters_by_the_task_that_left, 2, 0, 0, ROOMY},
     {"bursts: tasks: the task that left enters in the call", enters_by_the_task_that_left, 2, 2, 0, ROOMY},
     {"tasks: the task that is told of a shut asks in the call", asks_by_the_task_that_was_told, 2, 0, 0, ROOMY},
@@ -948,7 +954,7 @@ void check_end(const struct scene *scene) {
     for (size_t k = 0; k < sizeof each / sizeof each[0]; k++)
         MUST(scene->does != each[k].does || it.turns == each[k].turns * scene->threads);
     MUST(scene->does != one_stays || it.turns == 6);
-    MUST(it.inside == 0 && it.cond.own == NULL);
+    MUST(it.inside == 0 && it.cond.own == NULL && it.other.own == NULL);
     MUST(scene->does != looks_in || entries.many == 0);
     if (scene->does == ends_as_holder) {
         is_held_by(0);

@@ -14,7 +14,7 @@ struct it {
     qolb_lock *lock; /* the first is `locks[0]`, unless it is freed */
     qolb_lock *locks[LOCKS];
     void *block; /* of the first */
-    qolb_cond cond;
+    qolb_cond cond, other;
     int turns, inside, users, has, shut;
     atomic_int over;
     /* Of each task: whether its call was made, and how often since it wanted one. Thread 0 may have a second task. */
@@ -57,7 +57,8 @@ int is_in_table(uintptr_t at);
 void is_held_by(int self);
 
 #define HOLDER_SCENES(of) \
-    of(holder_comes_and_ends) of(ends_as_holder) of(leaves_in_a_destructor) of(enters_in_a_destructor)
+    of(holder_comes_and_ends) of(ends_as_holder) of(leaves_in_a_destructor) of(enters_in_a_destructor)                \
+    of(holds_behind_another)
 #define DECLARED(name) void name(int self);
 HOLDER_SCENES(DECLARED)
 
@@ -66,7 +67,7 @@ HOLDER_SCENES(DECLARED)
 /* clang-format off */
 #define LIMIT_SCENES(of)                                                                                              \
     of(is_late_while_one_stays_in) of(is_late_at_a_condition) of(signals_in_order) of(signals_whose_time_is_over)     \
-    of(signals_at_two_locks)
+    of(signals_at_two_locks) of(shuts_behind_a_signal) of(is_late_once_it_is_near)
 /* clang-format on */
 LIMIT_SCENES(DECLARED)
 
