@@ -121,3 +121,17 @@ void shuts_behind_a_signal(int self) {
     if (self < 2) MUST(qolb_cond_wait(self ? &it.other : &it.cond, it.lock) == QOLB_CLOSED);
     else MUST(qolb_cond_signal(&it.other) == QOLB_DONE && qolb_lock_shut(it.lock) == QOLB_DONE);
 }
+
+/* Who is signalled waits again at once, while the other, which signals without the lock, is still in that call. */
+void waits_again(int self) {
+    if (self) {
+        MUST(qolb_lock_enter(it.lock) == QOLB_GRANTED);
+        for (it.has = 1; it.has < 3; it.has++) MUST(qolb_cond_wait(&it.cond, it.lock) == QOLB_GRANTED);
+        return leave();
+    }
+    for (int k = 1; k < 3; k++) {
+        enters_after(it.lock, k);
+        leave();
+        MUST(qolb_cond_signal(&it.cond) == QOLB_DONE);
+    }
+}

@@ -40,6 +40,12 @@ UNSEEN void *model_entry(size_t size) {
     return entry;
 }
 
+/* A program's free may take locks, too: so who frees has no guard, and waits here until no other has it. */
+void hook_frees(const atomic_uint *guard);
+UNSEEN void hook_frees(const atomic_uint *guard) {
+    while (*(const volatile unsigned *)guard) sched_yield();
+}
+
 /* ---- Who may be served before whom ----
  *
  * Of each thread in a call: since when; from the step that drew its ticket on, how many turns of calls that began later
@@ -749,6 +755,7 @@ const struct scene scenes[] = {
     {"bursts: far: two are late beside one that yields", two_late_beside_one_that_yields, 3, 3, 0, FAR},
     {"bursts: far: two are late and come again", is_late_and_comes_again, 3, 2, 0, FAR},
     {"bursts: crowded: one frees", one_frees, 2, 2, 0, CROWDED},
+    {"bursts: crowded: two are late beside one that yields", two_late_beside_one_that_yields, 3, 3, 0, CROWDED},
     {"bursts: far: one frees", one_frees, 2, 2, 0, FAR},
     {"bursts: one closes beside a holder", one_closes_beside_a_holder, 2, 2, 0, ROOMY},
     {"bursts: two wait at a condition, one not for ever", waits, 3, 2, 0, ROOMY},
@@ -905,6 +912,16 @@ const struct scene scenes[] = {
     {"bursts: far: tasks: one frees beside a task", one_frees_beside_a_task, 2, 2, 0, FAR},
     {"who waits behind one that was signalled is told of a shut", shuts_behind_a_signal, 3, 0, 0, ROOMY},
     {"bursts: who waits behind one that was signalled is told of a shut", shuts_behind_a_signal, 3, 2, 0, ROOMY},
+    {"who is signalled waits again", waits_again, 2, 0, 0, ROOMY},
+    {"tasks: the task that is told of a shut asks elsewhere", asks_elsewhere_by_the_task_that_was_told, 2, 0, 0, ROOMY},
+    {"bursts: tasks: the task that is told of a shut asks elsewhere", asks_elsewhere_by_the_task_that_was_told, 2, 2, 0,
+     ROOMY},
+    {"tasks: one goes on with two at two locks", waits_for_two, 3, 0, 0, ROOMY},
+    {"tasks: one polls for two at two locks", polls_for_two, 3, 0, 0, ROOMY},
+    {"after many turns: far: two are late", is_late, 3, 0, 0, FAR},
+    {"after many turns: tasks: one task gives up", one_task_gives_up, 3, 0, 0, ROOMY},
+    {"after many turns: bursts: tasks: a task gives up beside one that yields", a_task_gives_up_beside_one_that_yields,
+     3, 2, 0, ROOMY},
     {"no memory: late once it is near", is_late_once_it_is_near, 3, 0, 0, 1, MANY, MANY, NO_MEMORY},
     {"tasks: two tasks, room for one sleeper", tasks_beside_one_that_yields, 3, 0, 0, 15, 1, MANY, 0},
     {"tasks: the task that left enters in the call", enters_by_the_task_that_left, 2, 0, 0, ROOMY},
@@ -924,6 +941,13 @@ static qolb_lock *unopened(const struct scene *scene, int k) {
     return lock;
 }
 
+/* As if so many turns had ended: the rounds in the cells began anew, and have their highest bits. */
+UNSEEN static void had_many_turns(struct lock *lock) {
+    uint64_t rounds = (uint64_t)7 << 28;
+    words_of(lock)[TAIL] += rounds * TICKETS_IN_ROUND;
+    for (int k = 0; k < TICKETS_IN_ROUND; k++) words_of(lock)[FIRST_CELL + k] += rounds << GRANTED_ROUNDS;
+}
+
 void set_up(const struct scene *scene) {
     memset(&it, 0, sizeof it), memset(order, 0, sizeof order);
     new_data_of_threads(asks_for_holder(scene->does), !scene->no_memory);
@@ -934,6 +958,7 @@ void set_up(const struct scene *scene) {
     for (int k = 0; k < LOCKS; k++) {
         it.locks[k] = unopened(scene, k);
         if (!scene->at_first_use) MUST(qolb_lock_open(it.locks[k], scene->burst) == QOLB_DONE);
+        if (!strncmp(scene->name, "after many turns", 16)) had_many_turns(lock_of(it.locks[k]));
     }
     it.lock = it.locks[0];
     entries.lock = scene->does == late_with_memory_by_a_lock ? it.locks[2] : NULL;
@@ -943,6 +968,12 @@ void set_up(const struct scene *scene) {
 UNSEEN static void check_lock(struct lock *lock) {
     for (int k = 0; k < TICKETS_IN_ROUND; k++) MUST((uint32_t)words_of(lock)[FIRST_CELL + k] == 0);
     MUST(!lock->waits && *(unsigned *)&lock->guests == 0 && *(uint64_t *)&lock->beyond_by == 0);
+}
+
+/* No notice is in a list, and no call is being made. */
+UNSEEN static void check_bells(void) {
+    for (struct bell *bell = qolb_bells_; bell < qolb_bells_ + BELLS; bell++)
+        MUST(!*(struct notice **)&bell->first && !bell->running && *(unsigned *)&bell->guard == 0);
 }
 
 /* All threads have ended. */
@@ -967,6 +998,7 @@ void check_end(const struct scene *scene) {
         if (lock->own) check_lock(lock_of(lock));
         MUST(qolb_lock_close(lock) == QOLB_DONE && lock->own == NULL);
     }
+    check_bells();
     for (int k = 0; k < entries.many; k++) must(was_freed(entries.at[k]), "an entry is not freed");
 }
 
