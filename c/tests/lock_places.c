@@ -381,11 +381,12 @@ static int first_use_in_a_destructor(int rounds, int does) {
     return pthread_key_delete(end.key);
 }
 
-/* A lock whose memory went while its thread held it: another in the same bytes is not held. */
-static int another_in_the_same_bytes(void) {
+/* A lock whose memory went while its thread held it: another in the same bytes is not held, open or not yet. */
+static int another_in_the_same_bytes(int opens) {
     for (int k = 0; k < MANY; k++) held[k] = of_bursts(0);
     for (int k = 0; k < MANY; k++) WANT(qolb_lock_enter(&held[k]), QOLB_GRANTED);
     for (int k = 0; k < MANY; k++) held[k] = of_bursts(k % 2 ? 64 : 0);
+    for (int k = 0; opens && k < MANY; k++) WANT(qolb_lock_open(&held[k], k % 2 ? 64 : 0), QOLB_DONE);
     for (int k = 0; k < MANY; k++) WANT(qolb_lock_leave(&held[k]), QOLB_MISUSE);
     for (int k = 0; k < MANY; k++) {
         WANT(qolb_lock_enter(&held[k]), QOLB_GRANTED);
@@ -447,7 +448,8 @@ int main(int argc, char **argv) {
     alarm(argc > 1 ? (unsigned)atoi(argv[1]) : 1200);
     if (without_a_key() || takes_no_heap() || lies_anywhere(0) || lies_anywhere(16) || on_the_stack()) return 1;
     if (many_at_a_time(0) || many_at_a_time(64) || waits_with_many(0) || waits_with_many(1)) return 1;
-    if (opened_once(0) || opened_once(2) || holder_that_ended() || another_in_the_same_bytes()) return 1;
+    if (opened_once(0) || opened_once(2) || holder_that_ended()) return 1;
+    if (another_in_the_same_bytes(0) || another_in_the_same_bytes(1)) return 1;
     for (int round = 1; round <= ROUNDS; round++)
         for (int does = LEAVES; does <= ENTERS_AND_STAYS; does++)
             if (after_the_librarys_destructor(round, does) ||

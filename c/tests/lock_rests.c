@@ -311,6 +311,40 @@ static int at_condition_beside_a_call(uint64_t burst, uint64_t nanoseconds) {
     return is_left();
 }
 
+/* A limit that would end behind the last time of the clock is none. */
+static int almost_without_a_limit(uint64_t burst) {
+    if (is_held(burst)) return 1;
+    begins(leaves);
+    event.at_sleep = 1;
+    WANT(enters(NEVER - 1), QOLB_GRANTED);
+    WANT(longest, NEVER);
+    return is_left_by_other();
+}
+
+/* While the head of a lock with bursts waits newcomers have turns, until the lock is reserved for it. */
+static uint64_t newcomers;
+
+static void newcomer_has_a_turn(void) {
+    leaves();
+    now += lasts;
+    if (qolb_lock_try(&lock) != QOLB_GRANTED) return;
+    newcomers++;
+    event.does = newcomer_has_a_turn;
+    event.at_sleep = sleeps + 1;
+}
+
+/* The head requests the lock after a sixteenth of the burst, or a millisecond: the newcomer that is in then is the
+ * last. */
+static int requests_the_lock(uint64_t burst, uint64_t each_lasts, uint64_t last) {
+    if (is_held(burst)) return 1;
+    begins(newcomer_has_a_turn);
+    event.at_sleep = 1;
+    lasts = each_lasts, newcomers = 0;
+    WANT(enters(NEVER), QOLB_GRANTED);
+    WANT(newcomers, last);
+    return is_left_by_other();
+}
+
 /* A process that may use one processor only, here a child, sleeps at once. */
 static int sleeps_at_once(void) {
     cpu_set_t set;
@@ -383,6 +417,8 @@ int main(void) {
     if (at_the_end(0) || at_the_end(1) || woken_for_nothing(0) || woken_for_nothing(64) || at_condition()) return 1;
     for (uint64_t burst = 0; burst <= 64; burst += 64)
         if (at_condition_beside_a_call(burst, 15 * MS) || at_condition_beside_a_call(burst, 60 * MS)) return 1;
+    if (almost_without_a_limit(0) || almost_without_a_limit(64)) return 1;
+    if (requests_the_lock(1024, 0, 1024 / 16 + 1) || requests_the_lock(65535, MS / 4, 4)) return 1;
     if (wakes_in_order(0) || wakes_in_order(1)) return 1;
     WANT(wrong, 0);
     return 0;

@@ -19,6 +19,7 @@ static qolb_task tasks[TASKS];
 static atomic_int number;
 static __thread int counts; /* this thread's uses of memory are counted */
 static __thread int taken, freed;
+static __thread int refuses; /* it has no memory */
 
 void *__real_malloc(size_t size);
 void __real_free(void *block);
@@ -32,7 +33,7 @@ static void holds_it(void) {
 void *__wrap_malloc(size_t size) {
     holds_it();
     taken += counts;
-    void *block = __real_malloc(size);
+    void *block = refuses ? NULL : __real_malloc(size);
     MUST(qolb_lock_leave(&it.of_memory), QOLB_DONE);
     return block;
 }
@@ -91,21 +92,23 @@ static void leaves_in_second_round(void *value) {
     MUST(qolb_lock_is_mine(&it.lock), 1);
     MUST(qolb_lock_leave(&it.lock), QOLB_DONE);
     MUST(taken, 1);
-    MUST(freed, 1);
+    MUST(freed, !refuses);
     counts = 0;
 }
 
-static void *ends_as_holder(void *unused) {
+static void *ends_as_holder(void *without_memory) {
     MUST(qolb_lock_enter(&it.lock), QOLB_GRANTED);
     MUST(pthread_setspecific(key, &key), 0);
     counts = 1;
-    return unused;
+    refuses = without_memory != NULL;
+    return NULL;
 }
 
-static int leaves_after_its_end(uint64_t burst) {
+/* Without memory it is not known to others as the holder then, and may leave. */
+static int leaves_after_its_end(uint64_t burst, int without_memory) {
     pthread_t id;
     it.of_memory = (qolb_lock)QOLB_LOCK_INIT_BURSTS(burst), it.lock = (qolb_lock)QOLB_LOCK_INIT_BURSTS(burst);
-    WANT(pthread_create(&id, NULL, ends_as_holder, NULL), 0);
+    WANT(pthread_create(&id, NULL, ends_as_holder, without_memory ? &it : NULL), 0);
     pthread_join(id, NULL);
     WANT(qolb_lock_holder(&it.lock), 0);
     WANT(qolb_lock_close(&it.lock), QOLB_DONE);
@@ -117,7 +120,7 @@ int main(void) {
     WANT(pthread_key_create(&key, leaves_in_second_round), 0);
     for (uint64_t burst = 0; burst <= 64; burst += 32) {
         if (waits_behind_many(burst, (uint64_t)1000000 * MS) || waits_behind_many(burst, MS)) return 1;
-        if (leaves_after_its_end(burst)) return 1;
+        if (leaves_after_its_end(burst, 0) || leaves_after_its_end(burst, 1)) return 1;
     }
     return 0;
 }
