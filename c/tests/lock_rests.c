@@ -409,6 +409,21 @@ static int wakes_in_order(unsigned has_slept) {
     return is_left_by_other();
 }
 
+/* ---- In the child of a fork ---- */
+
+/* Each guard that a thread of the parent had is free. */
+static int guards_are_freed(void) {
+    enum { PLACES = 1024, PLACE = 16 };
+    static char places[PLACES * PLACE];
+    for (int k = 0; k < PLACES; k++) {
+        atomic_uint *guard = qolb_guard_(&places[k * PLACE]);
+        WANT(atomic_load(guard), 1);
+        qolb_free_guards_();
+        WANT(atomic_load(guard), 0);
+    }
+    return 0;
+}
+
 int main(void) {
     alarm(60); /* who never looks at the clock, or never rests, does not end */
     if (with_one_processor()) return 1;
@@ -419,7 +434,7 @@ int main(void) {
         if (at_condition_beside_a_call(burst, 15 * MS) || at_condition_beside_a_call(burst, 60 * MS)) return 1;
     if (almost_without_a_limit(0) || almost_without_a_limit(64)) return 1;
     if (requests_the_lock(1024, 0, 1024 / 16 + 1) || requests_the_lock(65535, MS / 4, 4)) return 1;
-    if (wakes_in_order(0) || wakes_in_order(1)) return 1;
+    if (wakes_in_order(0) || wakes_in_order(1) || guards_are_freed()) return 1;
     WANT(wrong, 0);
     return 0;
 }

@@ -237,7 +237,7 @@ FAULTS = {
 HARMLESS = {
     # The lock is not closed while it is counted, and that is its last access.
     "a guest counts itself out once it is served": ((LOCK, "await", "    be_no_guest(my);\n    if (got == QOLB_WAITING)", "    if (got == QOLB_WAITING)"), (LOCK, "await", "    return got;\n", "    be_no_guest(my);\n    return got;\n")),
-    # The lock's bound is the core's count of newcomers.
+    # The lock's bound is the core's count of newcomers. When the head requests the lock is c/tests/lock_rests.c's.
     "the queue head requests no handoff": ((WAITS, "watch_held", "!requested && is_long(my, watch, outer)", "!requested && !my && is_long(my, watch, outer)"),),
     "the queue head takes any free word at once": ((WAITS, "may_take", "had == watch->had", "1"),),
     # No head sleeps at a word that nobody holds: so a leave that finds it as it was when this turn began is told of none.
