@@ -139,14 +139,23 @@ static void shuts(void) {
     if (qolb_lock_shut(&lock) != QOLB_DONE) wrong++;
 }
 
+/* Behind some turns. */
 static int is_held(uint64_t burst) {
+    enum { TURNS = 9 };
     lock = (qolb_lock)QOLB_LOCK_INIT_BURSTS(burst);
+    for (int k = 0; k < TURNS; k++) {
+        WANT(qolb_lock_enter(&lock), QOLB_GRANTED);
+        leaves();
+    }
     WANT(qolb_lock_enter(&lock), QOLB_GRANTED);
     return 0;
 }
 
+/* Nobody sleeps: no call of the system. */
 static int is_left_by_other(void) {
+    begins(NULL);
     qolb_leave_at_(lock_of(&lock), &other);
+    WANT(wakes, 0);
     WANT(qolb_lock_close(&lock), QOLB_DONE);
     return 0;
 }

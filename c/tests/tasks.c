@@ -203,6 +203,29 @@ static int tells_a_descriptor(uint64_t burst) {
     return 0;
 }
 
+/* A thread is not cancelled in a call, and may be afterwards as before. */
+static void is_not_cancelled(void *unused) {
+    int was;
+    count(unused);
+    MUST(pthread_setcancelstate(PTHREAD_CANCEL_DISABLE, &was), 0);
+    MUST(was, PTHREAD_CANCEL_DISABLE);
+}
+
+static int may_be_cancelled(uint64_t burst, int state) {
+    int was;
+    begin(burst);
+    WANT(pthread_setcancelstate(state, &was), 0);
+    WANT(qolb_lock_enter(&lock), QOLB_GRANTED);
+    WANT(qolb_task_enter(&task[0], &lock, is_not_cancelled, &task[0]), QOLB_WAITING);
+    WANT(qolb_lock_leave(&lock), QOLB_DONE);
+    WANT(pthread_setcancelstate(was, &was), 0);
+    WANT(was, state);
+    if (is_called(0, 1)) return 1;
+    WANT(qolb_task_leave(&task[0]), QOLB_DONE);
+    WANT(qolb_lock_close(&lock), QOLB_DONE);
+    return 0;
+}
+
 /* ---- Calls that have turns ---- */
 
 struct chain {
@@ -430,6 +453,7 @@ int main(void) {
         if (told_as_it_gives_up(burst) || tells_a_descriptor(burst) || nests_no_call(burst) || closes_in_a_call(burst))
             return 1;
         if (beside_threads(burst) || keeps_the_order(burst)) return 1;
+        if (may_be_cancelled(burst, PTHREAD_CANCEL_ENABLE) || may_be_cancelled(burst, PTHREAD_CANCEL_DISABLE)) return 1;
         if (waits_on_when_interrupted(burst) || each_waits_for_its_call(burst)) return 1;
     }
     return 0;
