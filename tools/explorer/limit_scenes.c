@@ -95,9 +95,9 @@ void signals_whose_time_is_over(int self) {
     leave();
 }
 
-/* Two wait at one condition, each with a lock of its own. One lock is shut, and then there is one signal: it is the
- * other's. */
-void signals_at_two_locks(int self) {
+/* Two wait at one condition, each with a lock of its own. One lock is shut, and then there is one signal, or a
+ * broadcast: it is the other's. */
+static void tells_at_two_locks(int self, uint32_t (*tells)(qolb_cond *)) {
     if (self < 2) {
         qolb_lock *lock = it.locks[self];
         while (self && !atomic_fetch_add(&it.over, 0)) sched_yield();
@@ -109,9 +109,12 @@ void signals_at_two_locks(int self) {
     }
     while (atomic_fetch_add(&it.over, 0) < 2) sched_yield();
     MUST(qolb_lock_enter(it.locks[1]) == QOLB_GRANTED && qolb_lock_enter(it.locks[0]) == QOLB_GRANTED);
-    MUST(qolb_lock_shut(it.locks[0]) == QOLB_DONE && qolb_cond_signal(&it.cond) == QOLB_DONE);
+    MUST(qolb_lock_shut(it.locks[0]) == QOLB_DONE && tells(&it.cond) == QOLB_DONE);
     MUST(qolb_lock_leave(it.locks[1]) == QOLB_DONE);
 }
+
+void signals_at_two_locks(int self) { tells_at_two_locks(self, qolb_cond_signal); }
+void broadcasts_at_two_locks(int self) { tells_at_two_locks(self, qolb_cond_broadcast); }
 
 /* Two wait at a condition each, the second behind the first. The second is signalled, and the lock is shut before it
  * has come back: the first is told, too. */
@@ -134,4 +137,15 @@ void waits_again(int self) {
         leave();
         MUST(qolb_cond_signal(&it.cond) == QOLB_DONE);
     }
+}
+
+/* Each signals to the other, and waits for it. */
+void signals_and_waits(int self) {
+    MUST(qolb_lock_enter(it.lock) == QOLB_GRANTED);
+    for (int k = 0; k < 2; k++) {
+        while (it.has % 2 != self) MUST(qolb_cond_wait(&it.cond, it.lock) == QOLB_GRANTED);
+        it.has++;
+        MUST(qolb_cond_signal(&it.cond) == QOLB_DONE);
+    }
+    leave();
 }

@@ -9,6 +9,7 @@ struct it it;
 BY_THREAD struct core_room qolb_core_room_;
 BY_THREAD unsigned qolb_learned_[SPINS];
 unsigned model_near, model_sleepers, model_open;
+int model_tries;
 static int model_memory;
 
 /* As gaps.c, which is not explored. */
@@ -680,6 +681,8 @@ const struct scene scenes[] = {
     {"one is late beside one that yields", one_late_beside_one_that_yields, 3, 0, 0, ROOMY},
     {"two are late beside one that yields", two_late_beside_one_that_yields, 3, 0, 0, ROOMY},
     {"two look in", looks_in, 3, 0, 0, ROOMY},
+    {"one try: two look in", looks_in, 3, 0, 0, ROOMY},
+    {"one try: far: two look in", looks_in, 3, 0, 0, FAR},
     {"far: two are late", is_late, 3, 0, 0, FAR},
     {"far: two are late beside one that yields", two_late_beside_one_that_yields, 3, 0, 0, FAR},
     {"far: two look in", looks_in, 3, 0, 0, FAR},
@@ -905,6 +908,8 @@ const struct scene scenes[] = {
     {"one signal, to one whose time is over", signals_whose_time_is_over, 3, 0, 0, ROOMY},
     {"one signal at two locks, one of which is shut", signals_at_two_locks, 3, 0, 0, ROOMY},
     {"bursts: one signal at two locks, one of which is shut", signals_at_two_locks, 3, 2, 0, ROOMY},
+    {"a broadcast at two locks, one of which is shut", broadcasts_at_two_locks, 3, 0, 0, ROOMY},
+    {"bursts: a broadcast at two locks, one of which is shut", broadcasts_at_two_locks, 3, 2, 0, ROOMY},
     {"far: tasks: one gives up far, before one near", gives_up_far_before_one_near, 2, 0, 0, 2, MANY, MANY, 0},
     {"tasks: one frees beside a task", one_frees_beside_a_task, 2, 0, 0, ROOMY},
     {"far: tasks: one frees beside a task", one_frees_beside_a_task, 2, 0, 0, FAR},
@@ -912,6 +917,8 @@ const struct scene scenes[] = {
     {"bursts: far: tasks: one frees beside a task", one_frees_beside_a_task, 2, 2, 0, FAR},
     {"who waits behind one that was signalled is told of a shut", shuts_behind_a_signal, 3, 0, 0, ROOMY},
     {"bursts: who waits behind one that was signalled is told of a shut", shuts_behind_a_signal, 3, 2, 0, ROOMY},
+    {"who signals waits", signals_and_waits, 2, 0, 0, ROOMY},
+    {"bursts: who signals waits", signals_and_waits, 2, 2, 0, ROOMY},
     {"who is signalled waits again", waits_again, 2, 0, 0, ROOMY},
     {"tasks: the task that is told of a shut asks elsewhere", asks_elsewhere_by_the_task_that_was_told, 2, 0, 0, ROOMY},
     {"bursts: tasks: the task that is told of a shut asks elsewhere", asks_elsewhere_by_the_task_that_was_told, 2, 2, 0,
@@ -954,7 +961,7 @@ void set_up(const struct scene *scene) {
     memset(head_of, 0, sizeof head_of), memset(handed_over, 0, sizeof handed_over), entries.many = 0;
     time_of_order = 0, it.users = scene->threads, model_near = scene->near, model_sleepers = scene->sleepers,
     model_open = scene->open;
-    model_memory = !scene->no_memory, for_second = 0;
+    model_memory = !scene->no_memory, for_second = 0, model_tries = strncmp(scene->name, "one try", 7) ? 2 : 1;
     for (int k = 0; k < LOCKS; k++) {
         it.locks[k] = unopened(scene, k);
         if (!scene->at_first_use) MUST(qolb_lock_open(it.locks[k], scene->burst) == QOLB_DONE);

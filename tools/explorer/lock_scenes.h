@@ -67,7 +67,8 @@ HOLDER_SCENES(DECLARED)
 /* clang-format off */
 #define LIMIT_SCENES(of)                                                                                              \
     of(is_late_while_one_stays_in) of(is_late_at_a_condition) of(signals_in_order) of(signals_whose_time_is_over)     \
-    of(signals_at_two_locks) of(shuts_behind_a_signal) of(is_late_once_it_is_near) of(waits_again)
+    of(signals_at_two_locks) of(shuts_behind_a_signal) of(is_late_once_it_is_near) of(waits_again)                    \
+    of(signals_and_waits) of(broadcasts_at_two_locks)
 /* clang-format on */
 LIMIT_SCENES(DECLARED)
 
@@ -87,7 +88,7 @@ LIMIT_SCENES(DECLARED)
     of(has_task_turn_in_call) of(task_asks_again_in_call) of(enters_another_in_call) of(waits_while_a_call_enters)    \
     of(a_task_comes_to_a_younger_lock) of(a_task_finds_no_memory) of(last_frees_beside_entries)                       \
     of(a_task_shuts_beside_a_waiter) of(a_task_beside_one_that_yields_once) of(gives_up_far_before_one_near)          \
-    of(enters_by_the_task_that_left) of(one_frees_beside_a_task) of(asks_by_the_task_that_was_told)\
+    of(enters_by_the_task_that_left) of(one_frees_beside_a_task) of(asks_by_the_task_that_was_told)                   \
     of(asks_elsewhere_by_the_task_that_was_told) of(polls_for_two) of(waits_for_two)
 /* clang-format on */
 TASK_SCENES(DECLARED)
