@@ -36,8 +36,8 @@ void is_late_at_a_condition(int self) {
     atomic_store(&it.over, 1);
 }
 
-/* Without memory one whose time is over waits on while it is too far from its turn, and no longer: the one before it has
- * the lock until then. */
+/* Without memory one whose time is over waits on while it is too far from its turn, and no longer: the one before it
+ * has the lock until then. */
 void is_late_once_it_is_near(int self) {
     if (self < 2) {
         while (atomic_fetch_add(&it.over, 0) < self) sched_yield();
