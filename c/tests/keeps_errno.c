@@ -4,6 +4,7 @@
 #define _GNU_SOURCE
 #include <errno.h>
 #include <qolb.h>
+#include <sys/eventfd.h>
 
 #include "waiters.h"
 
@@ -90,6 +91,20 @@ static void without_memory(void) {
     pthread_join(id, NULL);
 }
 
+/* Nothing can be added to a full descriptor. */
+static void tells_a_full_descriptor(void) {
+    static qolb_task task;
+    uint64_t most = UINT64_MAX - 1;
+    int fd = eventfd(0, EFD_NONBLOCK);
+    MUST(write(fd, &most, sizeof most), sizeof most);
+    MUST(KEEPS(qolb_lock_enter(&lock)), QOLB_GRANTED);
+    MUST(KEEPS(qolb_task_enter_fd(&task, &lock, fd)), QOLB_WAITING);
+    MUST(KEEPS(qolb_lock_leave(&lock)), QOLB_DONE);
+    MUST(KEEPS(qolb_task_poll(&task)), QOLB_GRANTED);
+    MUST(KEEPS(qolb_task_leave(&task)), QOLB_DONE);
+    close(fd);
+}
+
 static struct timespec soon(long nanoseconds) {
     struct timespec end;
     clock_gettime(CLOCK_REALTIME, &end);
@@ -158,6 +173,7 @@ int main(int argc, char **argv) {
         lock = (qolb_lock)QOLB_LOCK_INIT_BURSTS(k == 0 ? 0 : k == 1 ? 2 : 1024);
         in_threads(uses_lock, NULL);
         without_memory();
+        tells_a_full_descriptor();
         MUST(KEEPS(qolb_lock_enter(&lock)), QOLB_GRANTED);
         MUST(KEEPS(qolb_lock_shut(&lock)), QOLB_DONE);
         MUST(KEEPS(qolb_lock_enter(&lock)), QOLB_CLOSED);

@@ -238,6 +238,25 @@ static int holder_that_ended(void) {
     return 0;
 }
 
+/* Each of them alone, wherever its place in the table is. */
+static void *ends_with_one(void *argument) {
+    struct user *me = argument;
+    MUST(qolb_lock_enter(me->lock), QOLB_GRANTED);
+    me->turns = gettid();
+    return NULL;
+}
+
+static int holder_of_one_that_ended(void) {
+    for (int k = 0; k < MANY; k++) {
+        struct user ended = {.lock = &held[k]};
+        held[k] = of_bursts(k % 3 ? 0 : 16);
+        MUST(pthread_create(&ended.id, NULL, ends_with_one, &ended), 0);
+        pthread_join(ended.id, NULL);
+        WANT(qolb_lock_holder(&held[k]), ended.turns);
+    }
+    return 0;
+}
+
 /* ---- Destructors of a thread's keys ----
  *
  * They run in at most PTHREAD_DESTRUCTOR_ITERATIONS rounds. In the first the library's own runs behind them. */
@@ -361,13 +380,17 @@ static void *ends_without_locks(void *unused) {
     return unused;
 }
 
-/* The thread's memory is gone when the next one begins there, and when it is asked who holds a lock. */
+/* The thread's memory is gone when the next one begins there, and when it is asked who holds a lock. The key is behind
+ * others. */
 static int first_use_in_a_destructor(int rounds, int does) {
+    enum { OTHERS = 20 };
     static _Alignas(4096) char stack[1 << 20];
+    pthread_key_t others[OTHERS];
     pthread_attr_t at_stack;
     pthread_t id;
     struct user next = {.lock = &(qolb_lock)QOLB_LOCK_INIT, .count = &(long){0}, .turns = 1};
     end.rounds = rounds, end.does = does, end.other = of_bursts(does % 2 ? 0 : 16);
+    for (int k = 0; k < OTHERS; k++) WANT(pthread_key_create(&others[k], NULL), 0);
     WANT(pthread_attr_init(&at_stack) | pthread_attr_setstack(&at_stack, stack, sizeof stack), 0);
     WANT(pthread_key_create(&end.key, in_a_destructor), 0);
     MUST(pthread_create(&id, &at_stack, ends_without_locks, NULL), 0);
@@ -378,14 +401,16 @@ static int first_use_in_a_destructor(int rounds, int does) {
     pthread_join(id, NULL);
     WANT(qolb_lock_close(&end.other), does == ENTERS_AND_STAYS ? QOLB_MISUSE : QOLB_DONE);
     WANT(pthread_attr_destroy(&at_stack), 0);
+    for (int k = 0; k < OTHERS; k++) WANT(pthread_key_delete(others[k]), 0);
     return pthread_key_delete(end.key);
 }
 
-/* A lock whose memory went while its thread held it: another in the same bytes is not held. */
-static int another_in_the_same_bytes(void) {
+/* A lock whose memory went while its thread held it: another in the same bytes is not held, open or not yet. */
+static int another_in_the_same_bytes(int opens) {
     for (int k = 0; k < MANY; k++) held[k] = of_bursts(0);
     for (int k = 0; k < MANY; k++) WANT(qolb_lock_enter(&held[k]), QOLB_GRANTED);
     for (int k = 0; k < MANY; k++) held[k] = of_bursts(k % 2 ? 64 : 0);
+    for (int k = 0; opens && k < MANY; k++) WANT(qolb_lock_open(&held[k], k % 2 ? 64 : 0), QOLB_DONE);
     for (int k = 0; k < MANY; k++) WANT(qolb_lock_leave(&held[k]), QOLB_MISUSE);
     for (int k = 0; k < MANY; k++) {
         WANT(qolb_lock_enter(&held[k]), QOLB_GRANTED);
@@ -447,7 +472,9 @@ int main(int argc, char **argv) {
     alarm(argc > 1 ? (unsigned)atoi(argv[1]) : 1200);
     if (without_a_key() || takes_no_heap() || lies_anywhere(0) || lies_anywhere(16) || on_the_stack()) return 1;
     if (many_at_a_time(0) || many_at_a_time(64) || waits_with_many(0) || waits_with_many(1)) return 1;
-    if (opened_once(0) || opened_once(2) || holder_that_ended() || another_in_the_same_bytes()) return 1;
+    if (opened_once(0) || opened_once(2) || holder_that_ended()) return 1;
+    if (holder_of_one_that_ended()) return 1;
+    if (another_in_the_same_bytes(0) || another_in_the_same_bytes(1)) return 1;
     for (int round = 1; round <= ROUNDS; round++)
         for (int does = LEAVES; does <= ENTERS_AND_STAYS; does++)
             if (after_the_librarys_destructor(round, does) ||

@@ -139,14 +139,23 @@ static void shuts(void) {
     if (qolb_lock_shut(&lock) != QOLB_DONE) wrong++;
 }
 
+/* Behind some turns. */
 static int is_held(uint64_t burst) {
+    enum { TURNS = 9 };
     lock = (qolb_lock)QOLB_LOCK_INIT_BURSTS(burst);
+    for (int k = 0; k < TURNS; k++) {
+        WANT(qolb_lock_enter(&lock), QOLB_GRANTED);
+        leaves();
+    }
     WANT(qolb_lock_enter(&lock), QOLB_GRANTED);
     return 0;
 }
 
+/* Nobody sleeps: no call of the system. */
 static int is_left_by_other(void) {
+    begins(NULL);
     qolb_leave_at_(lock_of(&lock), &other);
+    WANT(wakes, 0);
     WANT(qolb_lock_close(&lock), QOLB_DONE);
     return 0;
 }
@@ -311,6 +320,40 @@ static int at_condition_beside_a_call(uint64_t burst, uint64_t nanoseconds) {
     return is_left();
 }
 
+/* A limit that would end behind the last time of the clock is none. */
+static int almost_without_a_limit(uint64_t burst) {
+    if (is_held(burst)) return 1;
+    begins(leaves);
+    event.at_sleep = 1;
+    WANT(enters(NEVER - 1), QOLB_GRANTED);
+    WANT(longest, NEVER);
+    return is_left_by_other();
+}
+
+/* While the head of a lock with bursts waits newcomers have turns, until the lock is reserved for it. */
+static uint64_t newcomers;
+
+static void newcomer_has_a_turn(void) {
+    leaves();
+    now += lasts;
+    if (qolb_lock_try(&lock) != QOLB_GRANTED) return;
+    newcomers++;
+    event.does = newcomer_has_a_turn;
+    event.at_sleep = sleeps + 1;
+}
+
+/* The head requests the lock after a sixteenth of the burst, or a millisecond: the newcomer that is in then is the
+ * last. */
+static int requests_the_lock(uint64_t burst, uint64_t each_lasts, uint64_t last) {
+    if (is_held(burst)) return 1;
+    begins(newcomer_has_a_turn);
+    event.at_sleep = 1;
+    lasts = each_lasts, newcomers = 0;
+    WANT(enters(NEVER), QOLB_GRANTED);
+    WANT(newcomers, last);
+    return is_left_by_other();
+}
+
 /* A process that may use one processor only, here a child, sleeps at once. */
 static int sleeps_at_once(void) {
     cpu_set_t set;
@@ -375,6 +418,21 @@ static int wakes_in_order(unsigned has_slept) {
     return is_left_by_other();
 }
 
+/* ---- In the child of a fork ---- */
+
+/* Each guard that a thread of the parent had is free. */
+static int guards_are_freed(void) {
+    enum { PLACES = 1024, PLACE = 16 };
+    static char places[PLACES * PLACE];
+    for (int k = 0; k < PLACES; k++) {
+        atomic_uint *guard = qolb_guard_(&places[k * PLACE]);
+        WANT(atomic_load(guard), 1);
+        qolb_free_guards_();
+        WANT(atomic_load(guard), 0);
+    }
+    return 0;
+}
+
 int main(void) {
     alarm(60); /* who never looks at the clock, or never rests, does not end */
     if (with_one_processor()) return 1;
@@ -383,7 +441,9 @@ int main(void) {
     if (at_the_end(0) || at_the_end(1) || woken_for_nothing(0) || woken_for_nothing(64) || at_condition()) return 1;
     for (uint64_t burst = 0; burst <= 64; burst += 64)
         if (at_condition_beside_a_call(burst, 15 * MS) || at_condition_beside_a_call(burst, 60 * MS)) return 1;
-    if (wakes_in_order(0) || wakes_in_order(1)) return 1;
+    if (almost_without_a_limit(0) || almost_without_a_limit(64)) return 1;
+    if (requests_the_lock(1024, 0, 1024 / 16 + 1) || requests_the_lock(65535, MS / 4, 4)) return 1;
+    if (wakes_in_order(0) || wakes_in_order(1) || guards_are_freed()) return 1;
     WANT(wrong, 0);
     return 0;
 }

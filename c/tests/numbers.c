@@ -30,8 +30,21 @@ long __wrap_syscall(long number, ...) {
 static qolb_lock lock;
 static qolb_cond cond = QOLB_COND_INIT;
 
+/* More than a thread's table has room for, by each of two threads: what comes behind them is held by number. */
+enum { MANY = 12 };
+static qolb_lock before[2][MANY];
+
+static void enters_many(int self) {
+    for (int k = 0; k < MANY; k++) MUST(qolb_lock_enter(&before[self][k]), QOLB_GRANTED);
+}
+
+static void leaves_many(int self) {
+    for (int k = 0; k < MANY; k++) MUST(qolb_lock_leave(&before[self][k]), QOLB_DONE);
+}
+
 /* Another thread holds the lock. */
 static void *holds_nothing(void *unused) {
+    enters_many(1);
     MUST(qolb_lock_holder(&lock), NUMBER);
     MUST(qolb_lock_is_mine(&lock), 0);
     MUST(qolb_lock_leave(&lock), QOLB_MISUSE);
@@ -39,6 +52,7 @@ static void *holds_nothing(void *unused) {
     MUST(qolb_cond_wait(&cond, &lock), QOLB_MISUSE);
     MUST(qolb_lock_try(&lock), QOLB_BUSY);
     MUST(qolb_lock_enter_within(&lock, MS), QOLB_LATE);
+    leaves_many(1);
     return unused;
 }
 
@@ -67,10 +81,11 @@ static void is_held(void) {
     MUST(qolb_lock_close(&lock), QOLB_DONE);
 }
 
-/* The lock is held at the fork, at its first use or after turns that nobody else wanted. */
-static void forks(qolb_lock as, int turns) {
+/* The lock is held at the fork, at its first use or after turns that nobody else wanted; in the table, or beyond it. */
+static void forks(qolb_lock as, int turns, int is_beyond) {
     int ended;
     lock = as;
+    if (is_beyond) enters_many(0);
     for (int k = 0; k < turns; k++) {
         MUST(qolb_lock_enter(&lock), QOLB_GRANTED);
         MUST(qolb_lock_leave(&lock), QOLB_DONE);
@@ -79,14 +94,16 @@ static void forks(qolb_lock as, int turns) {
     pid_t child = fork();
     MUST(child >= 0, 1);
     is_held();
+    if (is_beyond) leaves_many(0);
     if (child == 0) exit(0);
     MUST(waitpid(child, &ended, 0) == child && WIFEXITED(ended) && WEXITSTATUS(ended) == 0, 1);
 }
 
 int main(void) {
-    for (uint32_t burst = 0; burst <= 64; burst += 64) {
-        forks((qolb_lock)QOLB_LOCK_INIT_BURSTS(burst), 0);
-        forks((qolb_lock)QOLB_LOCK_INIT_BURSTS(burst), TURNS);
-    }
+    for (uint32_t burst = 0; burst <= 64; burst += 64)
+        for (int is_beyond = 0; is_beyond < 2; is_beyond++) {
+            forks((qolb_lock)QOLB_LOCK_INIT_BURSTS(burst), 0, is_beyond);
+            forks((qolb_lock)QOLB_LOCK_INIT_BURSTS(burst), TURNS, is_beyond);
+        }
     return 0;
 }

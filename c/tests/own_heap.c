@@ -1,5 +1,6 @@
 /* A program whose malloc, as the C library's own calls take it, enters a lock. Where it has many pthread keys or fork
- * handlers, a thread's first call of a lock takes memory. Prints only errors. */
+ * handlers, a thread's first call of a lock takes memory, or finds none. Prints only errors. */
+#include <errno.h>
 #include <qolb.h>
 #include <pthread.h>
 #include <stdio.h>
@@ -14,6 +15,7 @@ enum { MANY_KEYS = 40, MANY_HANDLERS = 48 };
 
 static qolb_lock heap = QOLB_LOCK_INIT;
 static int is_used; /* from then on the lock is entered */
+static __thread int refuses;
 
 void *__libc_malloc(size_t size);
 void *__libc_calloc(size_t many, size_t size);
@@ -37,7 +39,8 @@ void *malloc(size_t size) {
 
 void *calloc(size_t many, size_t size) {
     enters();
-    void *block = __libc_calloc(many, size);
+    void *block = refuses ? NULL : __libc_calloc(many, size);
+    if (!block) errno = ENOMEM;
     leaves();
     return block;
 }
@@ -62,6 +65,19 @@ static void *takes_memory(void *unused) {
     return unused;
 }
 
+/* A thread's first call finds no memory, and does without; errno stays. */
+static void *finds_no_memory(void *unused) {
+    static qolb_lock lock = QOLB_LOCK_INIT;
+    enum { KEPT = 4711 };
+    refuses = 1;
+    errno = KEPT;
+    MUST(qolb_lock_enter(&lock), QOLB_GRANTED);
+    MUST(qolb_lock_leave(&lock), QOLB_DONE);
+    MUST(errno, KEPT);
+    refuses = 0;
+    return unused;
+}
+
 /* In a process of its own, which has used no lock yet. */
 static int takes_memory_with(int keys, int handlers) {
     pthread_key_t key;
@@ -72,6 +88,8 @@ static int takes_memory_with(int keys, int handlers) {
     is_used = 1;
     takes_memory(NULL);
     WANT(pthread_create(&id, NULL, takes_memory, NULL), 0);
+    WANT(pthread_join(id, NULL), 0);
+    WANT(pthread_create(&id, NULL, finds_no_memory, NULL), 0);
     WANT(pthread_join(id, NULL), 0);
     return 0;
 }

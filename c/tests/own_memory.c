@@ -19,6 +19,7 @@ static qolb_task tasks[TASKS];
 static atomic_int number;
 static __thread int counts; /* this thread's uses of memory are counted */
 static __thread int taken, freed;
+static __thread int refuses; /* it has no memory */
 
 void *__real_malloc(size_t size);
 void __real_free(void *block);
@@ -32,7 +33,7 @@ static void holds_it(void) {
 void *__wrap_malloc(size_t size) {
     holds_it();
     taken += counts;
-    void *block = __real_malloc(size);
+    void *block = refuses ? NULL : __real_malloc(size);
     MUST(qolb_lock_leave(&it.of_memory), QOLB_DONE);
     return block;
 }
@@ -46,33 +47,39 @@ void __wrap_free(void *block) {
 
 static void does_nothing(void *unused) { (void)unused; }
 
-/* The limit is so long that it is granted the lock, or so short that it is late. */
+/* So many are before a call with a limit that takes memory, at least. */
+enum { FAR = 64 };
+static int waiting;
+
+/* The limit is so long that it is granted the lock, or so short that it is late; or there is none. */
 static void *enters_within(void *limit) {
     uint64_t nanoseconds = *(uint64_t *)limit;
+    int takes = nanoseconds != UINT64_MAX && waiting >= FAR;
     about_to_wait(&number);
     counts = 1;
     uint32_t got = qolb_lock_enter_within(&it.lock, nanoseconds);
     counts = 0;
     MUST(got, nanoseconds > MS ? QOLB_GRANTED : QOLB_LATE);
     MUST(qolb_lock_is_mine(&it.lock), got == QOLB_GRANTED);
-    MUST(taken, 1);
-    MUST(freed, got == QOLB_GRANTED);
+    MUST(taken, takes);
+    MUST(freed, takes && got == QOLB_GRANTED);
     if (got == QOLB_GRANTED) MUST(qolb_lock_leave(&it.lock), QOLB_DONE);
     return NULL;
 }
 
-/* Behind so many tasks that its ticket can't be withdrawn. */
-static int waits_behind_many(uint64_t burst, uint64_t nanoseconds) {
+/* Behind so many tasks that its ticket can't be withdrawn, or few. */
+static int waits_behind(int tasks_before, uint64_t burst, uint64_t nanoseconds) {
     pthread_t id;
+    waiting = tasks_before;
     it.of_memory = (qolb_lock)QOLB_LOCK_INIT_BURSTS(burst), it.lock = (qolb_lock)QOLB_LOCK_INIT_BURSTS(burst);
     memset(tasks, 0, sizeof tasks);
     atomic_store(&number, 0);
     WANT(qolb_lock_enter(&it.lock), QOLB_GRANTED);
-    for (int k = 0; k < TASKS; k++) WANT(qolb_task_enter(&tasks[k], &it.lock, does_nothing, NULL), QOLB_WAITING);
+    for (int k = 0; k < waiting; k++) WANT(qolb_task_enter(&tasks[k], &it.lock, does_nothing, NULL), QOLB_WAITING);
     WANT(pthread_create(&id, NULL, enters_within, &nanoseconds), 0);
     until_asleep(&number);
     if (nanoseconds <= MS) pthread_join(id, NULL);
-    for (int k = 0; k < TASKS; k++) WANT(qolb_task_cancel(&tasks[k]), QOLB_WITHDRAWN);
+    for (int k = 0; k < waiting; k++) WANT(qolb_task_cancel(&tasks[k]), QOLB_WITHDRAWN);
     WANT(qolb_lock_leave(&it.lock), QOLB_DONE);
     if (nanoseconds > MS) pthread_join(id, NULL);
     WANT(qolb_lock_close(&it.lock), QOLB_DONE);
@@ -91,21 +98,23 @@ static void leaves_in_second_round(void *value) {
     MUST(qolb_lock_is_mine(&it.lock), 1);
     MUST(qolb_lock_leave(&it.lock), QOLB_DONE);
     MUST(taken, 1);
-    MUST(freed, 1);
+    MUST(freed, !refuses);
     counts = 0;
 }
 
-static void *ends_as_holder(void *unused) {
+static void *ends_as_holder(void *without_memory) {
     MUST(qolb_lock_enter(&it.lock), QOLB_GRANTED);
     MUST(pthread_setspecific(key, &key), 0);
     counts = 1;
-    return unused;
+    refuses = without_memory != NULL;
+    return NULL;
 }
 
-static int leaves_after_its_end(uint64_t burst) {
+/* Without memory it is not known to others as the holder then, and may leave. */
+static int leaves_after_its_end(uint64_t burst, int without_memory) {
     pthread_t id;
     it.of_memory = (qolb_lock)QOLB_LOCK_INIT_BURSTS(burst), it.lock = (qolb_lock)QOLB_LOCK_INIT_BURSTS(burst);
-    WANT(pthread_create(&id, NULL, ends_as_holder, NULL), 0);
+    WANT(pthread_create(&id, NULL, ends_as_holder, without_memory ? &it : NULL), 0);
     pthread_join(id, NULL);
     WANT(qolb_lock_holder(&it.lock), 0);
     WANT(qolb_lock_close(&it.lock), QOLB_DONE);
@@ -116,8 +125,11 @@ int main(void) {
     alarm(600);
     WANT(pthread_key_create(&key, leaves_in_second_round), 0);
     for (uint64_t burst = 0; burst <= 64; burst += 32) {
-        if (waits_behind_many(burst, (uint64_t)1000000 * MS) || waits_behind_many(burst, MS)) return 1;
-        if (leaves_after_its_end(burst)) return 1;
+        for (int before = TASKS; before; before = before > 8 ? 8 : 0) {
+            if (waits_behind(before, burst, (uint64_t)1000000 * MS) || waits_behind(before, burst, MS)) return 1;
+            if (waits_behind(before, burst, UINT64_MAX)) return 1;
+        }
+        if (leaves_after_its_end(burst, 0) || leaves_after_its_end(burst, 1)) return 1;
     }
     return 0;
 }

@@ -1,6 +1,8 @@
 /* What each call of a task at a lock answers and does, by one thread, and beside threads. Prints only errors. */
 #define _GNU_SOURCE
+#include <lock/lock.h>
 #include <qolb.h>
+#include <signal.h>
 #include <string.h>
 #include <sys/eventfd.h>
 
@@ -176,8 +178,7 @@ static int told_as_it_gives_up(uint64_t burst) {
     return 0;
 }
 
-static int tells_a_descriptor(uint64_t burst) {
-    int fd = eventfd(0, EFD_NONBLOCK);
+static int tells_this_descriptor(uint64_t burst, int fd) {
     uint64_t got = 0;
     begin(burst);
     WANT(qolb_lock_enter(&lock), QOLB_GRANTED);
@@ -188,7 +189,40 @@ static int tells_a_descriptor(uint64_t burst) {
     WANT(qolb_task_poll(&task[0]), QOLB_GRANTED);
     WANT(qolb_task_leave(&task[0]), QOLB_DONE);
     WANT(qolb_lock_close(&lock), QOLB_DONE);
-    close(fd);
+    return 0;
+}
+
+/* Any that is not negative: 0, too. */
+static int tells_a_descriptor(uint64_t burst) {
+    int input = dup(0), fd = eventfd(0, EFD_NONBLOCK), at_zero = fd ? dup2(fd, 0) : 0;
+    WANT(at_zero, 0);
+    WANT((fd && tells_this_descriptor(burst, fd)) || tells_this_descriptor(burst, 0), 0);
+    close(0);
+    if (fd) close(fd);
+    if (input >= 0) dup2(input, 0), close(input);
+    return 0;
+}
+
+/* A thread is not cancelled in a call, and may be afterwards as before. */
+static void is_not_cancelled(void *unused) {
+    int was;
+    count(unused);
+    MUST(pthread_setcancelstate(PTHREAD_CANCEL_DISABLE, &was), 0);
+    MUST(was, PTHREAD_CANCEL_DISABLE);
+}
+
+static int may_be_cancelled(uint64_t burst, int state) {
+    int was;
+    begin(burst);
+    WANT(pthread_setcancelstate(state, &was), 0);
+    WANT(qolb_lock_enter(&lock), QOLB_GRANTED);
+    WANT(qolb_task_enter(&task[0], &lock, is_not_cancelled, &task[0]), QOLB_WAITING);
+    WANT(qolb_lock_leave(&lock), QOLB_DONE);
+    WANT(pthread_setcancelstate(was, &was), 0);
+    WANT(was, state);
+    if (is_called(0, 1)) return 1;
+    WANT(qolb_task_leave(&task[0]), QOLB_DONE);
+    WANT(qolb_lock_close(&lock), QOLB_DONE);
     return 0;
 }
 
@@ -325,6 +359,90 @@ static int keeps_the_order(uint64_t burst) {
     return 0;
 }
 
+/* ---- Who gives up while its call is being made ---- */
+
+/* A task that holds a lock, and one that waits there; a thread in which the call of the second is made, and another by
+ * which that gives up. */
+static struct pair {
+    pthread_t leaves, gives_up;
+    qolb_lock lock;
+    qolb_task holder, *waits;
+    atomic_int number, is_in_call, may_end, has_ended;
+} pairs[2];
+
+static void lasts(void *argument) {
+    struct pair *me = argument;
+    atomic_store(&me->is_in_call, 1);
+    while (!atomic_load(&me->may_end)) usleep(200);
+    atomic_store(&me->has_ended, 1);
+}
+
+static void *leaves_to_it(void *argument) {
+    MUST(qolb_task_leave(&((struct pair *)argument)->holder), QOLB_DONE);
+    return NULL;
+}
+
+static void *gives_up(void *argument) {
+    struct pair *me = argument;
+    about_to_wait(&me->number);
+    MUST(qolb_task_cancel(me->waits), QOLB_WITHDRAWN);
+    MUST(atomic_load(&me->has_ended), 1);
+    return NULL;
+}
+
+static int is_in_call(struct pair *it, qolb_task *waits, uint64_t burst) {
+    *it = (struct pair){.lock = QOLB_LOCK_INIT_BURSTS(burst), .waits = waits};
+    *waits = (qolb_task)QOLB_TASK_INIT;
+    WANT(qolb_task_enter(&it->holder, &it->lock, count, NULL), QOLB_GRANTED);
+    WANT(qolb_task_enter(waits, &it->lock, lasts, it), QOLB_WAITING);
+    WANT(pthread_create(&it->leaves, NULL, leaves_to_it, it), 0);
+    while (!atomic_load(&it->is_in_call)) usleep(200);
+    return 0;
+}
+
+static int waits_for_the_call(struct pair *it) {
+    WANT(pthread_create(&it->gives_up, NULL, gives_up, it), 0);
+    until_asleep(&it->number);
+    return 0;
+}
+
+static int ends(struct pair *it) {
+    atomic_store(&it->may_end, 1);
+    pthread_join(it->gives_up, NULL);
+    pthread_join(it->leaves, NULL);
+    WANT(qolb_lock_close(&it->lock), QOLB_DONE);
+    return 0;
+}
+
+/* A signal of the system ends the sleep, and not the wait. */
+static void does_nothing(int signal) { (void)signal; }
+
+static int waits_on_when_interrupted(uint64_t burst) {
+    struct sigaction interrupts = {.sa_handler = does_nothing}; /* without SA_RESTART */
+    WANT(sigaction(SIGUSR1, &interrupts, NULL), 0);
+    if (is_in_call(&pairs[0], &task[0], burst) || waits_for_the_call(&pairs[0])) return 1;
+    for (int k = 0; k < 2; k++) {
+        WANT(pthread_kill(pairs[0].gives_up, SIGUSR1), 0);
+        usleep(20000);
+    }
+    return ends(&pairs[0]);
+}
+
+/* Two at one bell: the second of those that wait there goes on when its own call has ended, though the first waits
+ * on. */
+static int each_waits_for_its_call(uint64_t burst) {
+    static _Alignas(qolb_task) char room[BELLS * sizeof(struct task) + sizeof(qolb_task)];
+    qolb_task *at_one_bell[] = {(qolb_task *)room, (qolb_task *)(room + BELLS * sizeof(struct task))};
+    for (int k = 0; k < 2; k++)
+        if (is_in_call(&pairs[k], at_one_bell[k], burst)) return 1;
+    WANT(bell_of_key(((struct task *)at_one_bell[0])->notice.key) ==
+             bell_of_key(((struct task *)at_one_bell[1])->notice.key),
+         1);
+    for (int k = 0; k < 2; k++)
+        if (waits_for_the_call(&pairs[k])) return 1;
+    return ends(&pairs[1]) || ends(&pairs[0]);
+}
+
 int main(void) {
     alarm(300);
     static const uint64_t bursts[] = {0, 2, 4, 1024};
@@ -335,6 +453,8 @@ int main(void) {
         if (told_as_it_gives_up(burst) || tells_a_descriptor(burst) || nests_no_call(burst) || closes_in_a_call(burst))
             return 1;
         if (beside_threads(burst) || keeps_the_order(burst)) return 1;
+        if (may_be_cancelled(burst, PTHREAD_CANCEL_ENABLE) || may_be_cancelled(burst, PTHREAD_CANCEL_DISABLE)) return 1;
+        if (waits_on_when_interrupted(burst) || each_waits_for_its_call(burst)) return 1;
     }
     return 0;
 }

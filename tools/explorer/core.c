@@ -47,7 +47,8 @@ struct lock {
     uint64_t burst, label;
 };
 
-static const struct lock *of(const struct qolb_core *core) { return core->at; }
+/* Each call reads this of the lock, whatever it answers: so none may be made once that may be gone. */
+static const struct lock *of(const struct qolb_core *core) { return *(const void *const volatile *)&core->at; }
 static _Atomic uint64_t *outer_of(const struct lock *lock) { return &lock->words[OUTER]; }
 static _Atomic uint64_t *cell_of(const struct lock *lock, uint64_t number) {
     return &lock->words[CELLS + number % IN_ROUND];

@@ -87,6 +87,21 @@ void holder_comes_and_ends(int self) {
     MUST(number == 0 || (number >= FIRST_NUMBER && number < (uint64_t)(FIRST_NUMBER + self)));
 }
 
+/* One comes behind another, whose table is looked through first: it is the holder as soon as it has the lock, while the
+ * other is still in its last call. */
+void holds_behind_another(int self) {
+    if (self == 0) {
+        MUST(qolb_lock_enter(it.lock) == QOLB_GRANTED);
+        leave();
+        atomic_store(&it.over, 1);
+    }
+    while (atomic_fetch_add(&it.over, 0) < 2 - self) sched_yield();
+    MUST(qolb_lock_enter(it.lock) == QOLB_GRANTED);
+    is_held_by(self);
+    if (self) atomic_store(&it.over, 2);
+    leave();
+}
+
 /* One ends as the holder, and another asks meanwhile. */
 void ends_as_holder(int self) {
     if (self == 0) {

@@ -36,6 +36,24 @@ void is_late_at_a_condition(int self) {
     atomic_store(&it.over, 1);
 }
 
+/* Without memory one whose time is over waits on while it is too far from its turn, and no longer: the one before it
+ * has the lock until then. */
+void is_late_once_it_is_near(int self) {
+    if (self < 2) {
+        while (atomic_fetch_add(&it.over, 0) < self) sched_yield();
+        MUST(qolb_lock_enter(it.lock) == QOLB_GRANTED);
+        if (self) stays_until(2);
+        else atomic_store(&it.over, 1);
+        while (!has_drawn(2)) sched_yield();
+        for (int k = 0; self == 0 && k < OFTEN; k++) sched_yield(), times_out();
+        return leave();
+    }
+    while (!has_drawn(1)) sched_yield();
+    time_goes_on(MS / 2);
+    MUST(qolb_lock_enter_within(it.lock, MS) == QOLB_LATE);
+    atomic_store(&it.over, 2);
+}
+
 /* ---- Signals ---- */
 
 /* Enters once so many have come before. */
@@ -77,9 +95,9 @@ void signals_whose_time_is_over(int self) {
     leave();
 }
 
-/* Two wait at one condition, each with a lock of its own. One lock is shut, and then there is one signal: it is the
- * other's. */
-void signals_at_two_locks(int self) {
+/* Two wait at one condition, each with a lock of its own. One lock is shut, and then there is one signal, or a
+ * broadcast: it is the other's. */
+static void tells_at_two_locks(int self, uint32_t (*tells)(qolb_cond *)) {
     if (self < 2) {
         qolb_lock *lock = it.locks[self];
         while (self && !atomic_fetch_add(&it.over, 0)) sched_yield();
@@ -91,6 +109,43 @@ void signals_at_two_locks(int self) {
     }
     while (atomic_fetch_add(&it.over, 0) < 2) sched_yield();
     MUST(qolb_lock_enter(it.locks[1]) == QOLB_GRANTED && qolb_lock_enter(it.locks[0]) == QOLB_GRANTED);
-    MUST(qolb_lock_shut(it.locks[0]) == QOLB_DONE && qolb_cond_signal(&it.cond) == QOLB_DONE);
+    MUST(qolb_lock_shut(it.locks[0]) == QOLB_DONE && tells(&it.cond) == QOLB_DONE);
     MUST(qolb_lock_leave(it.locks[1]) == QOLB_DONE);
+}
+
+void signals_at_two_locks(int self) { tells_at_two_locks(self, qolb_cond_signal); }
+void broadcasts_at_two_locks(int self) { tells_at_two_locks(self, qolb_cond_broadcast); }
+
+/* Two wait at a condition each, the second behind the first. The second is signalled, and the lock is shut before it
+ * has come back: the first is told, too. */
+void shuts_behind_a_signal(int self) {
+    enters_after(it.lock, self);
+    it.has++;
+    if (self < 2) MUST(qolb_cond_wait(self ? &it.other : &it.cond, it.lock) == QOLB_CLOSED);
+    else MUST(qolb_cond_signal(&it.other) == QOLB_DONE && qolb_lock_shut(it.lock) == QOLB_DONE);
+}
+
+/* Who is signalled waits again at once, while the other, which signals without the lock, is still in that call. */
+void waits_again(int self) {
+    if (self) {
+        MUST(qolb_lock_enter(it.lock) == QOLB_GRANTED);
+        for (it.has = 1; it.has < 3; it.has++) MUST(qolb_cond_wait(&it.cond, it.lock) == QOLB_GRANTED);
+        return leave();
+    }
+    for (int k = 1; k < 3; k++) {
+        enters_after(it.lock, k);
+        leave();
+        MUST(qolb_cond_signal(&it.cond) == QOLB_DONE);
+    }
+}
+
+/* Each signals to the other, and waits for it. */
+void signals_and_waits(int self) {
+    MUST(qolb_lock_enter(it.lock) == QOLB_GRANTED);
+    for (int k = 0; k < 2; k++) {
+        while (it.has % 2 != self) MUST(qolb_cond_wait(&it.cond, it.lock) == QOLB_GRANTED);
+        it.has++;
+        MUST(qolb_cond_signal(&it.cond) == QOLB_DONE);
+    }
+    leave();
 }

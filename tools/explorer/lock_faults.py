@@ -12,7 +12,8 @@ HOOKED = [
     (HEADER, "", "CLASSES_OF_SLEEPERS = 32", "CLASSES_OF_SLEEPERS = 2"),
     (HEADER, "", "static inline struct own *this_thread(void) { return &qolb_own_; }", "struct own *model_own(void);\nstatic inline struct own *this_thread(void) { return model_own(); }"),
     (TURNS, "", "} tables;\n", "} tables;\nvoid model_clear_tables(void) { tables.first = NULL; }\n"),
-    (LOCK, "", "TRIES = 4", "TRIES = 2"),
+    (LOCK, "", "enum { TRIES = 4 };", "enum { TRIES = 2 };\nextern int model_tries;"),
+    (LOCK, "ask_near", "k < TRIES", "k < model_tries"),
     ("spin.h", "", "WATCH_PAUSE = 300", "WATCH_PAUSE = 90"),
     ("spin.h", "", "REQUEST_PART = 16", "REQUEST_PART = 2"),
     ("spin.h", "", "SPIN_NEAR = 50000", "SPIN_NEAR = 90"),
@@ -23,6 +24,8 @@ HOOKED = [
     (HEADER, "", "enum { MOST_ROUNDS_NEAR = 15, MOST_OPEN = 12288 };", "extern unsigned model_near, model_open;\nenum { MOST_OPEN = 1 };\n#define MOST_ROUNDS_NEAR (int)model_near"),
     (HEADER, "has_room", "MOST_OPEN / TICKETS_IN_ROUND", "(int)model_open"),
     (REGISTRY, "qolb_new_entry_", "struct entry *e = malloc(sizeof *e);", "void *model_entry(size_t size);\n    struct entry *e = model_entry(sizeof *e);"),
+    (REGISTRY, "free_entry", "    free(e);\n", "    { void hook_frees(const atomic_uint *); hook_frees(&row_of(e->at)->guard); }\n    free(e);\n"),
+    (REGISTRY, "qolb_stand_for_", "    free(e);\n", "    { void hook_frees(const atomic_uint *); hook_frees(&row_of(e->at)->guard); }\n    free(e);\n"),
     (REGISTRY, "qolb_abandon_", "    return_guard(guard);\n", "    { void hook_withdraws(void); if (got == QOLB_ASLEEP_) hook_withdraws(); }\n    return_guard(guard);\n"),
     (REGISTRY, "withdraw", "        return (struct qolb_ticket){.state = QOLB_TICKET_FREE_};\n", "        { void hook_withdraws(void); hook_withdraws(); }\n        return (struct qolb_ticket){.state = QOLB_TICKET_FREE_};\n"),
     (REGISTRY, "", "ROWS = 32, COLUMNS = 256", "ROWS = 1, COLUMNS = 2"),
@@ -48,6 +51,7 @@ FAULTS = {
     "a waiter announces no sleep": (1, "", (WAITS, "sleep_for_turn", "uint32_t got = qolb_core_announce_sleep_proved_(core_of(my), ticket);", "uint32_t got = qolb_core_poll_proved_(core_of(my), ticket);\n    if (got == QOLB_WAITING) ticket->word = __atomic_load_n(words_of(my->lock) + FIRST_CELL + ticket->number % TICKETS_IN_ROUND, __ATOMIC_SEQ_CST), got = QOLB_ASLEEP_, ticket->state = QOLB_TICKET_WAITING_;"), (WAITS, "sleep_for_turn", "qolb_core_retract_sleep_proved_", "qolb_core_poll_proved_")),
     "a waiter does not retract its sleep": (1, "", (WAITS, "sleep_for_turn", "qolb_core_retract_sleep_proved_(core_of(my), ticket)", "(ticket->state = QOLB_TICKET_WAITING_, qolb_core_poll_proved_(core_of(my), ticket))")),
     "where a cell is full a waiter sleeps until it is woken": (1, "no room", (WAITS, "sleep_for_turn", "nap(until)", "qolb_park_(cell_half(words_of(my->lock), ticket->number), __atomic_load_n(cell_half(words_of(my->lock), ticket->number), __ATOMIC_SEQ_CST), UINT32_MAX, FOR_EVER)")),
+    "without memory who is late waits until it is granted": (1, "no memory: late", (WAITS, "give_up", "end_of(NAP)", "FOR_EVER")),
     "who gives up does not withdraw": (1, "", (WAITS, "give_up", "got = qolb_core_withdraw_proved_(core_of(my), ticket_of(my))", "got = QOLB_WITHDRAWN")),
     "who gives up keeps a turn that came first": (2, "", (WAITS, "give_up", "got == QOLB_GRANTED ? got : told", "told")),
     "who gives up looks whether the lock is shut after it has withdrawn": (2, "one frees", (WAITS, "give_up", "uint32_t told = closed_or(QOLB_LATE, my->lock), got = qolb_core_withdraw_proved_(core_of(my), ticket_of(my));", "uint32_t got = qolb_core_withdraw_proved_(core_of(my), ticket_of(my)), told = closed_or(QOLB_LATE, my->lock);")),
@@ -80,6 +84,9 @@ FAULTS = {
     "who has no ticket stays a guest": (1, "crowded", (LOCK, "await", "    be_no_guest(my);\n", "")),
     "who could not be withdrawn waits for ever": (1, "far: ", (LOCK, "ask_later", "got == QOLB_FAR_ && !is_over(my->until)", "got == QOLB_FAR_ && my->until")),
     "who has no ticket is no guest any more when it draws one": (2, "crowded: one", (LOCK, "ask_later", "        nap(my->until);\n", "        nap(my->until);\n        be_no_guest(my);\n")),
+    "a call whose time is over is told that others were faster": (1, "one try: ", (LOCK, "ask_near", "got == QOLB_BUSY ? (uint32_t)QOLB_FAR_ : got", "got")),
+    "a call whose time is over asks until it is too far": (1, "two look in", (LOCK, "ask_near", "got == QOLB_BUSY; k++", "got != QOLB_FAR_; k++")),
+    "who goes in after a nap waits for the outer word": (1, "bursts: crowded: two are late", (LOCK, "await", " && my->at->ticket.state == QOLB_TICKET_AT_TURN_", "")),
     "a call whose time is over draws a ticket that it can't withdraw": (1, "far: two look in", (LOCK, "ask", "    if (my->until != FOR_EVER && is_over(my->until)) return ask_near(my);\n", "")),
     "a call with a limit draws a ticket while too many are open": (1, "far: crowded", (LOCK, "ask", "    if (my->until != FOR_EVER && !has_room(my->lock)) return QOLB_FAR_;\n", "")),
     "who waited and is told of a shut holds the lock": (1, "one enters until", (LOCK, "enter_after_wait", "    if (got == QOLB_GRANTED) set_core", "    set_core")),
@@ -98,6 +105,7 @@ FAULTS = {
     "a lock is closed without a look at who asked after": (2, "one signals and frees", (LOCK, "is_alone", " || tail_word(lock) != at->ticket.number + 1", "")),
     "who does not close the lock keeps its turn": (1, "", (LOCK, "qolb_lock_close", "    qolb_pass_on_(lock, at);\n", "    if (alone) qolb_pass_on_(lock, at);\n")),
     "who closes a lock with bursts stays in": (2, "bursts", (LOCK, "qolb_lock_close", "    if (at->ticket.state != QOLB_TICKET_FREE_) qolb_leave_outer_(lock, at);\n", "    if (alone && at->ticket.state != QOLB_TICKET_FREE_) qolb_leave_outer_(lock, at);\n")),
+    "who has passed on passes on again": (1, "far: a younger lock", (LOCK, "leave_on", "qolb_end_turn_(lock, at, got)", "qolb_pass_on_(lock, at)")),
     # Opening.
     "two open the lock": (1, "each enters", (OPENS, "claims", "    return __atomic_compare_exchange_n", "    if (!from) return __atomic_store_n((uintptr_t *)&lock->core.at, to, __ATOMIC_SEQ_CST), 1;\n    return __atomic_compare_exchange_n")),
     "who has opened wakes nobody": (2, "each enters", (OPENS, "open_core", "    if (was == AWAITED) qolb_unpark_((uint32_t *)&lock->core.at, 1);\n", "    (void)was;\n")),
@@ -137,9 +145,15 @@ FAULTS = {
     "who is far is late without an entry": (1, "far: ", (WAITS, "give_up", "    if (got == QOLB_FAR_) got = qolb_abandon_(my->lock, ticket_of(my), &my->spare);\n", "")),
     "who abandons its ticket keeps it": (1, "far: ", (REGISTRY, "qolb_abandon_", "    if (got == QOLB_ASLEEP_) *ticket = (struct qolb_ticket){.outer = ticket->outer};\n", "")),
     "where there is no memory a ticket is lost": (1, "far: no memory", (REGISTRY, "qolb_abandon_", "    if (!e) return QOLB_WAITING;\n", "    if (!e) return *ticket = (struct qolb_ticket){0}, QOLB_ASLEEP_;\n")),
+    "where a cell is full a task naps with the guard": (1, "tasks: two tasks, room", (REGISTRY, "qolb_stand_for_", "        return_guard(guard);\n        nap(FOR_EVER);\n        take_guard(guard);\n", "        nap(FOR_EVER);\n")),
     "where a cell is full a ticket is lost": (1, "far: ", (REGISTRY, "qolb_abandon_", "return got == QOLB_FULL_ ? (uint32_t)QOLB_WAITING : got;", "return got == QOLB_FULL_ ? *ticket = (struct qolb_ticket){0}, (uint32_t)QOLB_ASLEEP_ : got;")),
     "the last entry of a list stays its last": (1, "the later of two", (HEADER, "take_behind", "if (last_of(list) == it)", "if (it == before)")),
     "a list forgets all but its last entry": (2, "tasks: three tasks", (HEADER, "put_last", "    it->next = last ? last->next : it;\n    if (last) last->next = it;\n", "    it->next = it, (void)last;\n")),
+    "who takes an entry out frees it under the guard": (1, "tasks: a task beside", (REGISTRY, "find_at", "    return_guard(guard);\n    free_entry(gone);\n", "    free_entry(gone);\n    return_guard(guard);\n")),
+    "a task that is granted as it stands frees its entry under the guard": (1, "tasks: a task each", (REGISTRY, "qolb_stand_for_", "    return_guard(guard);\n    if (got == QOLB_ASLEEP_) return QOLB_WAITING;\n    free(e);\n", "    if (got == QOLB_ASLEEP_) return return_guard(guard), QOLB_WAITING;\n    free(e);\n    return_guard(guard);\n")),
+    "a task that gives up frees its entry under the guard": (1, "tasks: the last frees beside", (REGISTRY, "qolb_state_of_", "    return_guard(guard);\n    free_entry(gone);\n", "    free_entry(gone);\n    return_guard(guard);\n")),
+    "rounds are counted without their width": (1, "after many turns", (HEADER, "rounds_to_go", "(int32_t)((uint32_t)rounds << (GRANTED_ROUNDS - 32)) >> (GRANTED_ROUNDS - 32)", "(int32_t)rounds")),
+    "a task that gives up as the queue head may be far": (1, "after many turns: bursts", (REGISTRY, "withdraw", "e->number != HEAD && rounds_to_go", "rounds_to_go")),
     # A task as the queue head.
     "a queue head is told of before it is in its list": (2, "bursts: tasks", (REGISTRY, "waits_on", "    put_in(e);\n", ""), (REGISTRY, "waits_on", "            return 1;\n", "            return put_in(e), 1;\n"), (REGISTRY, "waits_on", "    take_out(e);\n", "")),
     "a task as the queue head requests no handoff": (1, "bursts of four: tasks", (REGISTRY, "waits_on", "qolb_core_request_handoff_proved_(core, ticket) == QOLB_DONE &&\n            ", "")),
@@ -180,6 +194,9 @@ FAULTS = {
     "a task that leaves is idle once it has left": (1, "tasks: the task that left", (TASKS, "leave", "    atomic_store(&me->state, IDLE);\n", ""), (TASKS, "leave", "    return QOLB_DONE;\n", "    return atomic_store(&me->state, IDLE), QOLB_DONE;\n")),
     "a task that is told of a shut is idle once it has passed on": (1, "tasks: the task that is told", (TASKS, "settle", "    if (got != QOLB_GRANTED) atomic_store(&me->state, IDLE);\n", ""), (TASKS, "settle", "    if (got == QOLB_GRANTED) hold(me, &at);\n", "    if (got == QOLB_GRANTED) hold(me, &at);\n    else atomic_store(&me->state, IDLE);\n")),
     "a task that gives up looks afterwards whether the lock is shut": (1, "tasks: one frees", (TASKS, "qolb_task_cancel", "    uint32_t told = closed_or(QOLB_WITHDRAWN, lock);\n", ""), (TASKS, "qolb_task_cancel", "        return told;\n", "        return closed_or(QOLB_WITHDRAWN, lock);\n")),
+    "a notice that is taken out is listed yet": (1, "tasks: one goes on with two", ("notify.c", "take_out", "    notice->before = NULL;\n", "")),
+    "a notice behind one that is taken out keeps its address": (1, "tasks: one goes on with two", ("notify.c", "take_out", "    if (notice->next) notice->next->before = notice->before;\n", "")),
+    "a poll takes its call back once it has passed on": (1, "tasks: the task that is told of a shut asks elsewhere", (TASKS, "qolb_task_poll", "    qolb_unlist_(&me->notice);\n    return settle(me);\n", "    uint32_t got = settle(me);\n    qolb_unlist_(&me->notice);\n    return got;\n")),
     # Who holds a lock.
     "the tables are looked through without the guard": (2, "holder: ", (TURNS, "qolb_lock_holder", "    take_guard(&tables.guard);\n", "")),
     "a table comes into the list without the guard": (2, "holder: ", (TURNS, "know_table", "    take_guard(&tables.guard);\n", "")),
@@ -196,6 +213,8 @@ FAULTS = {
     "a table comes into the list without a key": (1, "holder: ", (TURNS, "know_table", "has_key && ", "")),
     "who enters after its end has a place in its table": (1, "holder: ", (TURNS, "qolb_place_for_", "me->known == ENDED || ", "")),
     "who enters after its end may take the quick way": (1, "holder: ", (TURNS, "forget_table", "if (rest || !has(&it->table[k], HELD)) set_core", "if (rest) set_core")),
+    "who leaves is the holder until its call has left": (1, "holder: one holds behind", (LOCK, "qolb_lock_leave", "    set_core(at, core_at(at) + LAST - HELD);\n    if (!likely(!has_bursts(lock_of(of)))) return leave_burst(at);\n", "    if (!likely(!has_bursts(lock_of(of)))) return set_core(at, core_at(at) + LAST - HELD), leave_burst(at);\n"), (LOCK, "qolb_lock_leave", "    return likely(got", "    set_core(at, core_at(at) + LAST - HELD);\n    return likely(got")),
+    "who leaves a burst is the holder until its call has left": (1, "bursts: holder: one holds behind", (LOCK, "qolb_lock_leave", "    set_core(at, core_at(at) + LAST - HELD);\n    if (!likely(!has_bursts(lock_of(of)))) return leave_burst(at);\n", "    if (!likely(!has_bursts(lock_of(of)))) return leave_burst(at);\n    set_core(at, core_at(at) + LAST - HELD);\n"), (LOCK, "leave_burst", "    return likely(got", "    set_core(at, core_at(at) + LAST - HELD);\n    return likely(got")),
     # Conditions.
     "who waits stands in the list after it has left": (1, "", (CONDITIONS, "qolb_cond_wait_at_", "    stand(cond, lock, &me);\n", ""), (CONDITIONS, "qolb_cond_wait_at_", "    qolb_leave_at_(lock, at);\n", "    qolb_leave_at_(lock, at);\n    stand(cond, lock, &me);\n")),
     "who waits at a condition is no guest": (1, "one closes beside", (CONDITIONS, "qolb_cond_wait_at_", "    atomic_fetch_add(&lock->guests, 1);\n", ""), (CONDITIONS, "qolb_cond_wait_at_", "qolb_enter_at_(lock, at, FOR_EVER, 1)", "qolb_enter_at_(lock, at, FOR_EVER, 0)")),
@@ -210,6 +229,10 @@ FAULTS = {
     "who is told is not woken": (1, "", (CONDITIONS, "tell", "    qolb_wake_at_(word, 1);\n", "")),
     "a condition's list has no guard": (2, "", (REGISTRY, "qolb_guard_", "    take_guard(guard);\n", "")),
     "who is late stays in the condition's list": (1, "", (CONDITIONS, "qolb_cond_wait_at_", "await_word(&me, &limit) != SIGNALLED && stand_no_more(cond, &me)", "(await_word(&me, &limit), 0)")),
+    "who signals writes to a waiter that it has told": (1, "who is signalled waits again", (CONDITIONS, "signal_some", "        first->link.next = NULL;\n        told = tell(first, SIGNALLED);\n", "        told = tell(first, SIGNALLED);\n        first->link.next = NULL;\n")),
+    "a guest counts itself by a load and a store": (1, "who signals waits", (CONDITIONS, "qolb_cond_wait_at_", "atomic_fetch_add(&lock->guests, 1);", "atomic_store(&lock->guests, atomic_load(&lock->guests) + 1);")),
+    "a broadcast stops at one that was told of a shut": (1, "a broadcast", (CONDITIONS, "signal_some", "        told = tell(first, SIGNALLED);\n", "        told = tell(first, SIGNALLED);\n        if (all && !told) break;\n")),
+    "a shut stops at the first that was told before": (1, "who waits behind", (CONDITIONS, "qolb_tell_shut_", "it; it = it->beside) tell(it, SHUT);", "it && tell(it, SHUT); it = it->beside) continue;")),
     "who was told stays in the lock's list": (1, "", (CONDITIONS, "qolb_cond_wait_at_", "    stand_no_more_in(&me);\n", "")),
 }
 
@@ -217,7 +240,7 @@ FAULTS = {
 HARMLESS = {
     # The lock is not closed while it is counted, and that is its last access.
     "a guest counts itself out once it is served": ((LOCK, "await", "    be_no_guest(my);\n    if (got == QOLB_WAITING)", "    if (got == QOLB_WAITING)"), (LOCK, "await", "    return got;\n", "    be_no_guest(my);\n    return got;\n")),
-    # The lock's bound is the core's count of newcomers.
+    # The lock's bound is the core's count of newcomers. When the head requests the lock is c/tests/lock_rests.c's.
     "the queue head requests no handoff": ((WAITS, "watch_held", "!requested && is_long(my, watch, outer)", "!requested && !my && is_long(my, watch, outer)"),),
     "the queue head takes any free word at once": ((WAITS, "may_take", "had == watch->had", "1"),),
     # No head sleeps at a word that nobody holds: so a leave that finds it as it was when this turn began is told of none.
@@ -225,6 +248,4 @@ HARMLESS = {
     # It sleeps with its own count at its cell, and is told again.
     "nobody is woken ahead": ((WAITS, "qolb_end_turn_", "    if (wakes) qolb_unpark_(cell_half(words, ahead), class_of(ahead));\n", ""),),
     "a newcomer goes to the outer word once": ((LOCK, "goes_in", "        if (at->ticket.outer & (OUTER_STATE | OUTER_SHUT)) return 0;\n", "        return 0;\n"),),
-    # No other thread looks at this thread's place to decide anything.
-    "the place says that the lock is held until it is left": ((LOCK, "qolb_lock_leave", "    set_core(at, core_at(at) + LAST - HELD);\n", ""), (LOCK, "qolb_lock_leave", "    return likely(got", "    set_core(at, core_at(at) + LAST - HELD);\n    return likely(got"), (LOCK, "leave_burst", "    return likely(got", "    set_core(at, core_at(at) + LAST - HELD);\n    return likely(got")),
 }

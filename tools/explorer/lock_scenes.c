@@ -9,6 +9,7 @@ struct it it;
 BY_THREAD struct core_room qolb_core_room_;
 BY_THREAD unsigned qolb_learned_[SPINS];
 unsigned model_near, model_sleepers, model_open;
+int model_tries;
 static int model_memory;
 
 /* As gaps.c, which is not explored. */
@@ -38,6 +39,12 @@ UNSEEN void *model_entry(size_t size) {
     void *entry = entries.at[entries.many++] = model_malloc(size);
     if (entries.lock) MUST(qolb_lock_leave(entries.lock) == QOLB_DONE);
     return entry;
+}
+
+/* A program's free may take locks, too: so who frees has no guard, and waits here until no other has it. */
+void hook_frees(const atomic_uint *guard);
+UNSEEN void hook_frees(const atomic_uint *guard) {
+    while (*(const volatile unsigned *)guard) sched_yield();
 }
 
 /* ---- Who may be served before whom ----
@@ -674,6 +681,8 @@ const struct scene scenes[] = {
     {"one is late beside one that yields", one_late_beside_one_that_yields, 3, 0, 0, ROOMY},
     {"two are late beside one that yields", two_late_beside_one_that_yields, 3, 0, 0, ROOMY},
     {"two look in", looks_in, 3, 0, 0, ROOMY},
+    {"one try: two look in", looks_in, 3, 0, 0, ROOMY},
+    {"one try: far: two look in", looks_in, 3, 0, 0, FAR},
     {"far: two are late", is_late, 3, 0, 0, FAR},
     {"far: two are late beside one that yields", two_late_beside_one_that_yields, 3, 0, 0, FAR},
     {"far: two look in", looks_in, 3, 0, 0, FAR},
@@ -720,6 +729,8 @@ const struct scene scenes[] = {
     {"holder: one ends with it", ends_as_holder, 2, 0, 0, ROOMY},
     {"holder: one leaves in a destructor", leaves_in_a_destructor, 2, 0, 0, ROOMY},
     {"holder: one enters in a destructor", enters_in_a_destructor, 2, 0, 0, ROOMY},
+    {"holder: one holds behind another", holds_behind_another, 2, 0, 0, ROOMY},
+    {"bursts: holder: one holds behind another", holds_behind_another, 2, 2, 0, ROOMY},
     {"holds three", holds_three, 2, 0, 1, ROOMY},
     {"waits beyond the table", waits_beyond, 2, 0, 0, ROOMY},
     {"bursts: each enters, at the first use", enters, 2, 2, 1, ROOMY},
@@ -747,6 +758,7 @@ const struct scene scenes[] = {
     {"bursts: far: two are late beside one that yields", two_late_beside_one_that_yields, 3, 3, 0, FAR},
     {"bursts: far: two are late and come again", is_late_and_comes_again, 3, 2, 0, FAR},
     {"bursts: crowded: one frees", one_frees, 2, 2, 0, CROWDED},
+    {"bursts: crowded: two are late beside one that yields", two_late_beside_one_that_yields, 3, 3, 0, CROWDED},
     {"bursts: far: one frees", one_frees, 2, 2, 0, FAR},
     {"bursts: one closes beside a holder", one_closes_beside_a_holder, 2, 2, 0, ROOMY},
     {"bursts: two wait at a condition, one not for ever", waits, 3, 2, 0, ROOMY},
@@ -896,11 +908,29 @@ const struct scene scenes[] = {
     {"one signal, to one whose time is over", signals_whose_time_is_over, 3, 0, 0, ROOMY},
     {"one signal at two locks, one of which is shut", signals_at_two_locks, 3, 0, 0, ROOMY},
     {"bursts: one signal at two locks, one of which is shut", signals_at_two_locks, 3, 2, 0, ROOMY},
+    {"a broadcast at two locks, one of which is shut", broadcasts_at_two_locks, 3, 0, 0, ROOMY},
+    {"bursts: a broadcast at two locks, one of which is shut", broadcasts_at_two_locks, 3, 2, 0, ROOMY},
     {"far: tasks: one gives up far, before one near", gives_up_far_before_one_near, 2, 0, 0, 2, MANY, MANY, 0},
     {"tasks: one frees beside a task", one_frees_beside_a_task, 2, 0, 0, ROOMY},
     {"far: tasks: one frees beside a task", one_frees_beside_a_task, 2, 0, 0, FAR},
     {"bursts: tasks: one frees beside a task", one_frees_beside_a_task, 2, 2, 0, ROOMY},
     {"bursts: far: tasks: one frees beside a task", one_frees_beside_a_task, 2, 2, 0, FAR},
+    {"who waits behind one that was signalled is told of a shut", shuts_behind_a_signal, 3, 0, 0, ROOMY},
+    {"bursts: who waits behind one that was signalled is told of a shut", shuts_behind_a_signal, 3, 2, 0, ROOMY},
+    {"who signals waits", signals_and_waits, 2, 0, 0, ROOMY},
+    {"bursts: who signals waits", signals_and_waits, 2, 2, 0, ROOMY},
+    {"who is signalled waits again", waits_again, 2, 0, 0, ROOMY},
+    {"tasks: the task that is told of a shut asks elsewhere", asks_elsewhere_by_the_task_that_was_told, 2, 0, 0, ROOMY},
+    {"bursts: tasks: the task that is told of a shut asks elsewhere", asks_elsewhere_by_the_task_that_was_told, 2, 2, 0,
+     ROOMY},
+    {"tasks: one goes on with two at two locks", waits_for_two, 3, 0, 0, ROOMY},
+    {"tasks: one polls for two at two locks", polls_for_two, 3, 0, 0, ROOMY},
+    {"after many turns: far: two are late", is_late, 3, 0, 0, FAR},
+    {"after many turns: tasks: one task gives up", one_task_gives_up, 3, 0, 0, ROOMY},
+    {"after many turns: bursts: tasks: a task gives up beside one that yields", a_task_gives_up_beside_one_that_yields,
+     3, 2, 0, ROOMY},
+    {"no memory: late once it is near", is_late_once_it_is_near, 3, 0, 0, 1, MANY, MANY, NO_MEMORY},
+    {"tasks: two tasks, room for one sleeper", tasks_beside_one_that_yields, 3, 0, 0, 15, 1, MANY, 0},
     {"tasks: the task that left enters in the call", enters_by_the_task_that_left, 2, 0, 0, ROOMY},
     {"bursts: tasks: the task that left enters in the call", enters_by_the_task_that_left, 2, 2, 0, ROOMY},
     {"tasks: the task that is told of a shut asks in the call", asks_by_the_task_that_was_told, 2, 0, 0, ROOMY},
@@ -918,16 +948,24 @@ static qolb_lock *unopened(const struct scene *scene, int k) {
     return lock;
 }
 
+/* As if so many turns had ended: the rounds in the cells began anew, and have their highest bits. */
+UNSEEN static void had_many_turns(struct lock *lock) {
+    uint64_t rounds = (uint64_t)7 << 28;
+    words_of(lock)[TAIL] += rounds * TICKETS_IN_ROUND;
+    for (int k = 0; k < TICKETS_IN_ROUND; k++) words_of(lock)[FIRST_CELL + k] += rounds << GRANTED_ROUNDS;
+}
+
 void set_up(const struct scene *scene) {
     memset(&it, 0, sizeof it), memset(order, 0, sizeof order);
     new_data_of_threads(asks_for_holder(scene->does), !scene->no_memory);
     memset(head_of, 0, sizeof head_of), memset(handed_over, 0, sizeof handed_over), entries.many = 0;
     time_of_order = 0, it.users = scene->threads, model_near = scene->near, model_sleepers = scene->sleepers,
     model_open = scene->open;
-    model_memory = !scene->no_memory, for_second = 0;
+    model_memory = !scene->no_memory, for_second = 0, model_tries = strncmp(scene->name, "one try", 7) ? 2 : 1;
     for (int k = 0; k < LOCKS; k++) {
         it.locks[k] = unopened(scene, k);
         if (!scene->at_first_use) MUST(qolb_lock_open(it.locks[k], scene->burst) == QOLB_DONE);
+        if (!strncmp(scene->name, "after many turns", 16)) had_many_turns(lock_of(it.locks[k]));
     }
     it.lock = it.locks[0];
     entries.lock = scene->does == late_with_memory_by_a_lock ? it.locks[2] : NULL;
@@ -939,6 +977,12 @@ UNSEEN static void check_lock(struct lock *lock) {
     MUST(!lock->waits && *(unsigned *)&lock->guests == 0 && *(uint64_t *)&lock->beyond_by == 0);
 }
 
+/* No notice is in a list, and no call is being made. */
+UNSEEN static void check_bells(void) {
+    for (struct bell *bell = qolb_bells_; bell < qolb_bells_ + BELLS; bell++)
+        MUST(!*(struct notice **)&bell->first && !bell->running && *(unsigned *)&bell->guard == 0);
+}
+
 /* All threads have ended. */
 void check_end(const struct scene *scene) {
     static const struct {
@@ -948,7 +992,7 @@ void check_end(const struct scene *scene) {
     for (size_t k = 0; k < sizeof each / sizeof each[0]; k++)
         MUST(scene->does != each[k].does || it.turns == each[k].turns * scene->threads);
     MUST(scene->does != one_stays || it.turns == 6);
-    MUST(it.inside == 0 && it.cond.own == NULL);
+    MUST(it.inside == 0 && it.cond.own == NULL && it.other.own == NULL);
     MUST(scene->does != looks_in || entries.many == 0);
     if (scene->does == ends_as_holder) {
         is_held_by(0);
@@ -961,6 +1005,7 @@ void check_end(const struct scene *scene) {
         if (lock->own) check_lock(lock_of(lock));
         MUST(qolb_lock_close(lock) == QOLB_DONE && lock->own == NULL);
     }
+    check_bells();
     for (int k = 0; k < entries.many; k++) must(was_freed(entries.at[k]), "an entry is not freed");
 }
 

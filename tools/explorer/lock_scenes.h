@@ -14,7 +14,7 @@ struct it {
     qolb_lock *lock; /* the first is `locks[0]`, unless it is freed */
     qolb_lock *locks[LOCKS];
     void *block; /* of the first */
-    qolb_cond cond;
+    qolb_cond cond, other;
     int turns, inside, users, has, shut;
     atomic_int over;
     /* Of each task: whether its call was made, and how often since it wanted one. Thread 0 may have a second task. */
@@ -56,8 +56,9 @@ void new_data_of_threads(int looked_at, int has_key);
 int is_in_table(uintptr_t at);
 void is_held_by(int self);
 
-#define HOLDER_SCENES(of) \
-    of(holder_comes_and_ends) of(ends_as_holder) of(leaves_in_a_destructor) of(enters_in_a_destructor)
+#define HOLDER_SCENES(of)                                                                              \
+    of(holder_comes_and_ends) of(ends_as_holder) of(leaves_in_a_destructor) of(enters_in_a_destructor) \
+        of(holds_behind_another)
 #define DECLARED(name) void name(int self);
 HOLDER_SCENES(DECLARED)
 
@@ -66,7 +67,8 @@ HOLDER_SCENES(DECLARED)
 /* clang-format off */
 #define LIMIT_SCENES(of)                                                                                              \
     of(is_late_while_one_stays_in) of(is_late_at_a_condition) of(signals_in_order) of(signals_whose_time_is_over)     \
-    of(signals_at_two_locks)
+    of(signals_at_two_locks) of(shuts_behind_a_signal) of(is_late_once_it_is_near) of(waits_again)                    \
+    of(signals_and_waits) of(broadcasts_at_two_locks)
 /* clang-format on */
 LIMIT_SCENES(DECLARED)
 
@@ -86,7 +88,8 @@ LIMIT_SCENES(DECLARED)
     of(has_task_turn_in_call) of(task_asks_again_in_call) of(enters_another_in_call) of(waits_while_a_call_enters)    \
     of(a_task_comes_to_a_younger_lock) of(a_task_finds_no_memory) of(last_frees_beside_entries)                       \
     of(a_task_shuts_beside_a_waiter) of(a_task_beside_one_that_yields_once) of(gives_up_far_before_one_near)          \
-    of(enters_by_the_task_that_left) of(one_frees_beside_a_task) of(asks_by_the_task_that_was_told)
+    of(enters_by_the_task_that_left) of(one_frees_beside_a_task) of(asks_by_the_task_that_was_told)                   \
+    of(asks_elsewhere_by_the_task_that_was_told) of(polls_for_two) of(waits_for_two)
 /* clang-format on */
 TASK_SCENES(DECLARED)
 

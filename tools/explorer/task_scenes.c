@@ -488,3 +488,66 @@ void asks_by_the_task_that_was_told(int self) {
     MUST(task_waits(0, FOR_EVER) == QOLB_CLOSED);
     while (!is_told(1, FOR_EVER)) {}
 }
+
+/* The first polls before it is called, and is told of the shut; a call that is made in its poll asks by it for another
+ * lock. */
+static void asks_elsewhere_by_first(void *task) {
+    int k = (int)(intptr_t)task;
+    MUST(qolb_task_poll(&it.task[k]) == QOLB_CLOSED);
+    if (self_number() == 0) {
+        MUST(qolb_task_enter(&it.task[0], it.locks[1], tells, NULL) == QOLB_WAITING);
+        it.has = 1;
+    }
+    task_ended(k);
+}
+
+static uint32_t polls_often(int k) {
+    uint32_t got = QOLB_WAITING;
+    while (got == QOLB_WAITING) sched_yield(), got = qolb_task_poll(&it.task[k]);
+    return got;
+}
+
+void asks_elsewhere_by_the_task_that_was_told(int self) {
+    if (self) {
+        for (int k = 0; k < 2; k++) MUST(qolb_lock_enter(it.locks[k]) == QOLB_GRANTED);
+        atomic_store(&it.over, 1);
+        while (atomic_fetch_add(&it.over, 0) < 2) sched_yield();
+        MUST(qolb_lock_shut(it.lock) == QOLB_DONE);
+        while (atomic_fetch_add(&it.over, 0) < 3) sched_yield();
+        MUST(qolb_lock_leave(it.locks[1]) == QOLB_DONE);
+        return;
+    }
+    while (!atomic_fetch_add(&it.over, 0)) sched_yield();
+    MUST(qolb_task_enter(&it.task[0], it.lock, tells, NULL) == QOLB_WAITING);
+    MUST(qolb_task_enter(&it.task[1], it.lock, asks_elsewhere_by_first, (void *)(intptr_t)1) == QOLB_WAITING);
+    atomic_store(&it.over, 2);
+    MUST(polls_often(0) == QOLB_CLOSED);
+    while (!is_told(1, FOR_EVER)) {}
+    atomic_store(&it.over, 3);
+    if (it.has) MUST(polls_often(0) == QOLB_GRANTED && qolb_task_leave(&it.task[0]) == QOLB_DONE);
+}
+
+/* ---- Tasks at two locks ---- */
+
+/* Two leave a lock each to a task, so that both are due. The third goes on with the later one first, and then with the
+ * other: once they were called, or as soon as they have their turns. */
+static void goes_on_with_two(int self, int once_called) {
+    if (self < 2) {
+        MUST(qolb_lock_enter(it.locks[self]) == QOLB_GRANTED);
+        atomic_fetch_add(&it.over, 1);
+        while (atomic_fetch_add(&it.over, 0) < 3) sched_yield();
+        MUST(qolb_lock_leave(it.locks[self]) == QOLB_DONE);
+        return;
+    }
+    while (atomic_fetch_add(&it.over, 0) < 2) sched_yield();
+    for (int k = 2; k < 4; k++)
+        MUST(qolb_task_enter(&it.task[k], it.locks[k - 2], tells, (void *)(intptr_t)k) == QOLB_WAITING);
+    atomic_fetch_add(&it.over, 1);
+    for (int k = 2; k < 4; k++) {
+        while (once_called && !is_told(k, FOR_EVER)) {}
+        MUST(polls_often(k) == QOLB_GRANTED && qolb_task_leave(&it.task[k]) == QOLB_DONE);
+    }
+}
+
+void polls_for_two(int self) { goes_on_with_two(self, 0); }
+void waits_for_two(int self) { goes_on_with_two(self, 1); }
