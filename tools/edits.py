@@ -100,7 +100,7 @@ def read(text):
         value = "\n".join(it or "" for _, it in group)
         if key == "new":
             changes.append(Change(said["file"], said["old"], value, None))
-        elif key == "harmless":
+        elif key == "harmless" and changes:
             changes[-1] = changes[-1]._replace(harmless=value)
         else:
             said[key] = value

@@ -20,6 +20,7 @@ HERE = pathlib.Path(__file__).resolve().parent
 ROOT = HERE.parent.parent
 LIBRARY = "c/build/libqolb.a"
 MOST_OTHERS = 3  # hundredths of the processors, in a quiet part
+LEAST_WAITS = 5000  # of one program, for the 99.9th of 100
 
 # A part: its name, threads, microseconds of a turn, words for the program, and goals: (lock, beside, the most of their ratio); the length of a phase in ms, whether others
 # must rest meanwhile, and whether threads stay at processors.
@@ -122,13 +123,21 @@ def lines_of(part, measured):
     return [line(part, name, measured, row, *([goals[name]] if name in goals else [])) for name, row in rows.items()]
 
 
+def waits_of(part, row):
+    """The number of waits of one program whose time was taken, where turns have a length."""
+    return row["phases"] * part.ms * 1e6 / row["mean"]
+
+
 def lines_of_older(part, measured, older, names, keys):
-    """The rows of these locks of an older library, with these figures as the goal of this one's: no more."""
+    """The rows of these locks of an older library, with these figures as the goal of this one's: no more. The 99.9th of 100 waits is judged if it is of enough."""
     lines = []
     for name in names:
         for key in keys:
             now, was = measured.rows[name][key], older.rows[name][key]
-            lines.append(line(part, f"{name} of the older library", older, older.rows[name], judged(f"{name}: {key}", now / was if was else 1, 1)))
+            tail = judged(f"{name}: {key}", now / was if was else 1, 1)
+            if key == "wait_999_us" and min(waits_of(part, it.rows[name]) for it in (measured, older)) < LEAST_WAITS:
+                tail = (*tail[:-1], "few waits")
+            lines.append(line(part, f"{name} of the older library", older, older.rows[name], tail))
     return lines
 
 

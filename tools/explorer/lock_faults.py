@@ -234,6 +234,10 @@ FAULTS = {
     "a broadcast stops at one that was told of a shut": (1, "a broadcast", (CONDITIONS, "signal_some", "        told = tell(first, SIGNALLED);\n", "        told = tell(first, SIGNALLED);\n        if (all && !told) break;\n")),
     "a shut stops at the first that was told before": (1, "who waits behind", (CONDITIONS, "qolb_tell_shut_", "it; it = it->beside) tell(it, SHUT);", "it && tell(it, SHUT); it = it->beside) continue;")),
     "who was told stays in the lock's list": (1, "", (CONDITIONS, "qolb_cond_wait_at_", "    stand_no_more_in(&me);\n", "")),
+    # Of the stand-in, so that the scenes are seen to check what the core decides: one turn at a time, the order, the bound of bursts.
+    "the stand-in: who is next has its turn": (0, "", ("core.c", "looks", "ticket->rounds = to_go(cell, ticket->number);", "ticket->rounds = to_go(cell, ticket->number) / 2;")),
+    "the stand-in: the second and the third ticket are exchanged": (0, "", ("core.c", "draws", "    ticket->number = number;\n", "    ticket->number = number == 1 || number == 2 ? 3 - number : number;\n")),
+    "the stand-in: a burst has two turns more": (1, "bursts", ("core.c", "qolb_core_leave_proved_", "guess / NEWCOMER + 1 >= lock->burst", "guess / NEWCOMER > lock->burst")),
 }
 
 # Changes after which no run may fail.
