@@ -261,7 +261,7 @@ static int holder_of_one_that_ended(void) {
  *
  * They run in at most PTHREAD_DESTRUCTOR_ITERATIONS rounds. In the first the library's own runs behind them. */
 
-enum { LEAVES, WAITS, ENTERS, ENTERS_AND_STAYS };
+enum { LEAVES, WAITS, ENTERS, ENTERS_AND_STAYS, FORKS };
 #ifdef __SANITIZE_THREAD__
 enum { ROUNDS = PTHREAD_DESTRUCTOR_ITERATIONS - 1 }; /* in the last one the sanitizer knows the thread no more */
 #else
@@ -299,9 +299,24 @@ static void enters_other(void) {
     }
 }
 
+/* The child of a fork goes on with what the one thread of its parent holds, and so does that. */
+static void both_leave_held(void) {
+    int status;
+    pid_t child = fork();
+    if (child == 0) {
+        leaves_held();
+        _exit(0);
+    }
+    MUST(waitpid(child, &status, 0), child);
+    MUST(status, 0);
+    leaves_held();
+    _exit(0); /* the sanitizer of threads has one of its own, which would not end */
+}
+
 static void in_a_destructor(void *round) {
     int now = (int)(intptr_t)round;
     if (now < end.rounds) MUST(pthread_setspecific(end.key, (void *)(intptr_t)(now + 1)), 0);
+    else if (end.does == FORKS) both_leave_held();
     else if (end.does < ENTERS) leaves_held();
     else enters_other();
 }
@@ -327,6 +342,23 @@ static int after_the_librarys_destructor(int rounds, int does) {
         WANT(qolb_lock_close(&held[k]), does < ENTERS ? QOLB_DONE : QOLB_MISUSE);
     }
     return pthread_key_delete(end.key);
+}
+
+/* In a process that has one thread, with the number that it had in its parent. */
+static int forks_in_a_destructor(void) {
+    int status;
+    pid_t thread = gettid(), child = fork();
+    if (child == 0) {
+        for (int k = 0; k < MANY; k++) held[k] = of_bursts(k % 3 ? 0 : 16);
+        end.rounds = 2, end.does = FORKS;
+        MUST(pthread_key_create(&end.key, in_a_destructor), 0);
+        ends_with_key(NULL);
+        end.thread = thread;
+        pthread_exit(NULL);
+    }
+    WANT(waitpid(child, &status, 0), child);
+    WANT(status, 0);
+    return 0;
 }
 
 /* The copy of a table, by which a holder that has ended is known, goes with the last lock of it that is left. */
@@ -480,7 +512,7 @@ int main(int argc, char **argv) {
             if (after_the_librarys_destructor(round, does) ||
                 (does >= ENTERS && first_use_in_a_destructor(round, does)))
                 return 1;
-    if (keeps_no_heap()) return 1;
+    if (keeps_no_heap() || forks_in_a_destructor()) return 1;
     for (int shut = 0; shut < 2; shut++)
         if (limits_behind_many(0, shut) || limits_behind_many(64, shut)) return 1;
     return 0;

@@ -260,13 +260,19 @@ static int overtaken_within_the_bound(uint32_t burst) {
     return 0;
 }
 
+/* On one processor a waiter that is woken may run at once, before the leaver enters again. */
+static int has_one_processor(void) {
+    cpu_set_t set;
+    return sched_getaffinity(0, sizeof set, &set) == 0 && CPU_COUNT(&set) == 1;
+}
+
 static int bursts(void) {
     static const uint32_t of[] = {2, 3, 16, 64, 1024, 65535};
     shared_turns = 0;
     for (int round = 0; round < 8; round++)
         for (size_t k = 0; k < sizeof of / sizeof of[0]; k++)
             if (overtaken_within_the_bound(of[k])) return 1;
-    WANT(shared_turns > 0, 1);
+    WANT(shared_turns > 0 || has_one_processor(), 1);
     return 0;
 }
 

@@ -154,6 +154,7 @@ FAULTS = {
     "a task that gives up frees its entry under the guard": (1, "tasks: the last frees beside", (REGISTRY, "qolb_state_of_", "    return_guard(guard);\n    free_entry(gone);\n", "    free_entry(gone);\n    return_guard(guard);\n")),
     "rounds are counted without their width": (1, "after many turns", (HEADER, "rounds_to_go", "(int32_t)((uint32_t)rounds << (GRANTED_ROUNDS - 32)) >> (GRANTED_ROUNDS - 32)", "(int32_t)rounds")),
     "a task that gives up as the queue head may be far": (1, "after many turns: bursts", (REGISTRY, "withdraw", "e->number != HEAD && rounds_to_go", "rounds_to_go")),
+    "who finds an abandoned ticket looks for a task's": (1, "far: tasks: two behind", (REGISTRY, "qolb_find_entry_", "found == NOBODY ? find_at(lock, lock, number, label, ticket, key) : found", "last_of(list_of(lock, number)) ? find_at(lock, lock, number, label, ticket, key) : found")),
     # A task as the queue head.
     "a queue head is told of before it is in its list": (2, "bursts: tasks", (REGISTRY, "waits_on", "    put_in(e);\n", ""), (REGISTRY, "waits_on", "            return 1;\n", "            return put_in(e), 1;\n"), (REGISTRY, "waits_on", "    take_out(e);\n", "")),
     "a task as the queue head requests no handoff": (1, "bursts of four: tasks", (REGISTRY, "waits_on", "qolb_core_request_handoff_proved_(core, ticket) == QOLB_DONE &&\n            ", "")),

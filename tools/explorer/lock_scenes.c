@@ -923,6 +923,7 @@ const struct scene scenes[] = {
     {"tasks: the task that is told of a shut asks elsewhere", asks_elsewhere_by_the_task_that_was_told, 2, 0, 0, ROOMY},
     {"bursts: tasks: the task that is told of a shut asks elsewhere", asks_elsewhere_by_the_task_that_was_told, 2, 2, 0,
      ROOMY},
+    {"far: tasks: two behind one that is late", two_tasks_behind_one_that_is_late, 3, 0, 0, FAR},
     {"tasks: one goes on with two at two locks", waits_for_two, 3, 0, 0, ROOMY},
     {"tasks: one polls for two at two locks", polls_for_two, 3, 0, 0, ROOMY},
     {"after many turns: far: two are late", is_late, 3, 0, 0, FAR},

@@ -89,7 +89,8 @@ LIMIT_SCENES(DECLARED)
     of(a_task_comes_to_a_younger_lock) of(a_task_finds_no_memory) of(last_frees_beside_entries)                       \
     of(a_task_shuts_beside_a_waiter) of(a_task_beside_one_that_yields_once) of(gives_up_far_before_one_near)          \
     of(enters_by_the_task_that_left) of(one_frees_beside_a_task) of(asks_by_the_task_that_was_told)                   \
-    of(asks_elsewhere_by_the_task_that_was_told) of(polls_for_two) of(waits_for_two)
+    of(asks_elsewhere_by_the_task_that_was_told) of(polls_for_two) of(waits_for_two)                  \
+    of(two_tasks_behind_one_that_is_late)
 /* clang-format on */
 TASK_SCENES(DECLARED)
 

@@ -551,3 +551,24 @@ static void goes_on_with_two(int self, int once_called) {
 
 void polls_for_two(int self) { goes_on_with_two(self, 0); }
 void waits_for_two(int self) { goes_on_with_two(self, 1); }
+
+/* Two tasks wait behind a request that gave up too far from its turn: the second of them has an entry in the list in
+ * which that one's would be, if it were a task's. */
+void two_tasks_behind_one_that_is_late(int self) {
+    if (self == 0) MUST(qolb_lock_enter(it.lock) == QOLB_GRANTED);
+    if (self == 0) atomic_store(&it.over, 1);
+    while (atomic_fetch_add(&it.over, 0) < (self ? self : 3)) sched_yield();
+    if (self == 0) return leave();
+    if (self == 1) {
+        time_goes_on(MS / 2);
+        MUST(qolb_lock_enter_within(it.lock, MS) == QOLB_LATE);
+        atomic_store(&it.over, 2);
+        return;
+    }
+    for (int k = 2; k < 4; k++) MUST(qolb_task_enter(&it.task[k], it.lock, tells, (void *)(intptr_t)k) == QOLB_WAITING);
+    atomic_store(&it.over, 3);
+    for (int k = 2; k < 4; k++) {
+        while (!is_told(k, FOR_EVER)) {}
+        MUST(polls_often(k) == QOLB_GRANTED && qolb_task_leave(&it.task[k]) == QOLB_DONE);
+    }
+}
