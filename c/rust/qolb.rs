@@ -18,8 +18,9 @@
 //! ```
 //!
 //! A program takes the crate that is installed, `qolb = { path = "PREFIX/share/qolb/rust" }`, whose build script finds the library; or, from edition
-//! 2021 on, this file as a module, `#[path = ".../qolb.rs"] mod qolb;`, and links with `-lqolb`. With the crate's feature `lock_api`, `lock_api::Mutex<RawQolb, T>` is a mutex as
-//! those of `parking_lot`, whose `lock` ends the process if this thread holds it or it was shut.
+//! 2021 on, this file as a module, `#[path = ".../qolb.rs"] mod qolb;`, and links with `-lqolb` (a library's doc tests would try its examples, which
+//! name a crate). With the crate's feature `lock_api`, `lock_api::Mutex<RawQolb, T>` is a mutex as those of `parking_lot`, whose `lock` ends the process
+//! if this thread holds it or it was shut.
 //!
 //! # Beside `std::sync::Mutex`
 //!
@@ -175,9 +176,9 @@ impl fmt::Display for Answer {
             Answer::Waiting => "the request waits still",
             Answer::Linking => "the request stands behind another, and is not linked yet",
             Answer::Withdrawn => "the request is withdrawn",
-            Answer::Closed => "the line is closed",
+            Answer::Closed => "the line is closed, or the lock shut",
             Answer::Busy => "the node's last request is not cleared away yet, or others have the line",
-            Answer::Misuse => "the node does not allow the call",
+            Answer::Misuse => "the node or lock does not allow the call",
             Answer::NoMemory => "out of memory",
             Answer::BadNodes => "a line has 1 to 200 nodes",
             Answer::BadLease => "a lease has at least one turn",
