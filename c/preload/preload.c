@@ -13,7 +13,8 @@
  * there. A program that never destroys its mutexes keeps half a KB for each address at which it locked one. The child
  * of a fork keeps what its parent had, and takes as much again for each that it uses. A wait until a time of the clock
  * CLOCK_REALTIME does not notice that this is set meanwhile. A wait at a condition may return for no reason when a
- * thread is cancelled.
+ * thread is cancelled. A signal's handler must use no mutex: POSIX allows none, and here one that interrupts the first
+ * use of the mutex that it tries waits for ever.
  *
  * QOLB_BURST=TURNS is the hard limit of a burst (man 3 qolb_lock): 1024, if it is not set, and 0 for strict order. A
  * lock that is opened in .preinit_array, where there is no environment yet, has 1024.
