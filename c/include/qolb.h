@@ -112,7 +112,7 @@
  * FORK
  *
  * A lock or a line is of one process: after a fork the copies guard nothing that both processes share. The child of
- * a process with one thread may go on with its copy. Its qolb_lock_holder is 0 where the holder had ended.
+ * a process with one thread may go on with its copy. Its qolb_lock_holder may be 0 where the holder had ended.
  *
  * WAITING
  *
