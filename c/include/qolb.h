@@ -112,7 +112,7 @@
  * FORK
  *
  * A lock or a line is of one process: after a fork the copies guard nothing that both processes share. The child of
- * a process with one thread may go on with its copy. Its qolb_lock_holder is 0 where the holder had ended.
+ * a process with one thread may go on with its copy. Its qolb_lock_holder may be 0 where the holder had ended.
  *
  * WAITING
  *
@@ -165,6 +165,7 @@
  *   time. A plugin that has the static one must stay open; glibc has room for two.
  * - A thread uses its first lock before the last round of its keys' destructors. Behind that glibc calls free(NULL),
  *   which must enter none.
+ * - The first call of a process is not made in pthread_atfork, as by a malloc that enters locks: it waits for ever.
  *
  * Every other call that a lock does not allow is MISUSE, and changes nothing.
  *

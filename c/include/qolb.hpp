@@ -353,6 +353,7 @@ class Lock {
     QOLB_NODISCARD qolb_answer enter_for(const std::chrono::duration<Rep, Period> &time) {
         return answer(qolb_lock_enter_within(&lock_, detail::nanoseconds(time)));
     }
+    // A guard that owns the lock is released first: else it ends with unlock, which throws Misuse.
     qolb_answer leave() { return answer(qolb_lock_leave(&lock_)); }
     qolb_answer shut() { return answer(qolb_lock_shut(&lock_)); }
     std::uint64_t holder() const { return qolb_lock_holder(&lock_); }

@@ -13,15 +13,16 @@
  * there. A program that never destroys its mutexes keeps half a KB for each address at which it locked one. The child
  * of a fork keeps what its parent had, and takes as much again for each that it uses. A wait until a time of the clock
  * CLOCK_REALTIME does not notice that this is set meanwhile. A wait at a condition may return for no reason when a
- * thread is cancelled.
+ * thread is cancelled. A signal's handler must use no mutex: POSIX allows none, and here one that interrupts the first
+ * use of the mutex that it tries waits for ever.
  *
  * QOLB_BURST=TURNS is the hard limit of a burst (man 3 qolb_lock): 1024, if it is not set, and 0 for strict order. A
  * lock that is opened in .preinit_array, where there is no environment yet, has 1024.
  *
- * With QOLB_REPORT=FILE each process of the program appends a line there at its end: the burst, how many mutexes were
- * ours in all, and at most at a time, how often one was granted, was late or was not free at once, and how often two
- * threads were in one at the same time, which must be 0. A child of a fork counts from 0 on. Counting costs time, and
- * is left out without it.
+ * With QOLB_REPORT=/FOLDER/FILE each process of the program that ends by exit, not by _exit, quick_exit, exec or a
+ * signal, appends a line there: the burst, how many mutexes were ours in all, and at most at a time, how often one was
+ * granted, was late or was not free at once, and how often two threads were in one at the same time, which must be 0. A
+ * child of a fork counts from 0 on. Counting costs time, and is left out without it.
  *
  * What does not call the C library's mutexes by their names is not taken in: C11's mtx_t, Rust's std::sync::Mutex, and
  * libraries that are opened with RTLD_DEEPBIND, which must not share a mutex with others then. */

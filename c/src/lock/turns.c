@@ -5,8 +5,8 @@
  * of locks, without memory of its own for them.
  *
  * Tables are in a list, under a guard, for qolb_lock_holder: so no turn writes down who has it. A thread's table is in
- * it from its first use of a lock to its end. Then a copy takes its place, if it holds locks yet. Those that it enters
- * later, in destructors of other keys, keep their turns in themselves. */
+ * it from its first use of a lock to its end. Then a copy takes its place, if it holds locks yet; without memory they
+ * keep their turns in themselves, as those do that it enters later, in destructors of other keys. */
 #define _GNU_SOURCE
 #include "lock.h"
 #include <errno.h>
@@ -107,8 +107,13 @@ struct turn *qolb_take_turn_(struct lock *lock, struct turn *beyond) {
 static pthread_key_t at_end;
 static int has_key;
 
-/* At the thread's end. Where no place names a lock, entering it takes the slow way. Without memory for a copy the
- * holder is not known. */
+/* Without memory for a copy. */
+static void move_all(const struct own *it) {
+    for (const struct turn *at = it->table; at < it->table + MOST_HELD; at++)
+        if (has(at, HELD) && at->ticket.label == lock_by(at)->label) move_into(lock_by(at), at);
+}
+
+/* At the thread's end. Where no place names a lock, entering it takes the slow way. */
 static void forget_table(void *table) {
     struct own *it = table;
     int kept = errno;
@@ -117,9 +122,9 @@ static void forget_table(void *table) {
     take_guard(&tables.guard);
     take_from_list(it);
     if (rest) *rest = *it, rest->known = ENDED, put_into_list(rest);
+    else move_all(it);
     return_guard(&tables.guard);
-    for (int k = 0; k < MOST_HELD; k++)
-        if (rest || !has(&it->table[k], HELD)) set_core(&it->table[k], 0);
+    for (int k = 0; k < MOST_HELD; k++) set_core(&it->table[k], 0);
     it->rest = rest;
     it->known = ENDED;
 }
