@@ -165,7 +165,7 @@
  *   time. A plugin that has the static one must stay open; glibc has room for two.
  * - A thread uses its first lock before the last round of its keys' destructors. Behind that glibc calls free(NULL),
  *   which must enter none.
- * - The first call of a process is not made in pthread_atfork, as by a malloc that enters locks: it waits for ever.
+ * - If malloc enters locks, a process makes its first call outside of pthread_atfork.
  *
  * Every other call that a lock does not allow is MISUSE, and changes nothing.
  *
