@@ -121,12 +121,11 @@
  * could use one processor only at its first wait. After polls without success a thread polls for less the next time.
  * A thread that is woken before its turn yields once.
  *
- * Leaving wakes the next holder. If the leaver had slept, it may wake the waiter behind that one, too. In a burst it
- * wakes the first waiter alone. It calls the system only if it may have to wake a sleeper.
+ * Leaving wakes the next holder. If the leaver had slept, it may wake the waiter behind that one, too. It calls the
+ * system only if it may have to wake a sleeper.
  *
  * A strict lock is the next thread's, even before that runs: all behind wait until it has had its turn. So if more
- * threads, of any program, want processors than there are, short turns may take many times as long. A lock with
- * bursts stays free meanwhile.
+ * threads, of any program, want processors than there are, short turns may take many times as long.
  *
  * No wait is a cancellation point. A thread that is cancelled while it waits is granted the lock or is late, and ends
  * at its next cancellation point. A thread that may be cancelled at any instruction (PTHREAD_CANCEL_ASYNCHRONOUS) must
