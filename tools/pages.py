@@ -4,7 +4,7 @@
     tools/pages.py            words of each page, of three paths and of the manuals, each with its limit; links, names, figures, the first screen, and what is claimed of a lock
     tools/pages.py --write    also writes tables and sentences of figures anew, from c/bench/figures/*.tsv, and whether explored code has changed since
 
-A word is what stands between blanks and has a letter or a digit. A name in code font must stand in a file that is no page, too. A ratio in a sentence
+A word is what is between blanks and has a letter or a digit. A name in code font must occur in a file that is no page, too. A ratio in a sentence
 is computed again from the table that it is of (`RATIOS` of tools/figures.py), and so is each table behind a line `<!-- figures: NAME -->`. It ends with 1 if a limit is
 passed, or something differs.
 """
@@ -137,7 +137,7 @@ def check_links(pages):
 
 
 def check_names(pages, files):
-    """Each name in code font that is of a file, a test, a function or a definition stands in the sources."""
+    """Each name in code font that is of a file, a test, a function or a definition occurs in the sources."""
     known = set(files) | {name.rsplit("/", 1)[-1] for name in files}
     for name in files:
         if not name.endswith((".md", ".svg")) and not name.startswith("docs/man/"):
