@@ -5,7 +5,7 @@ A mutant changes a crate. Those in its must-fail/, which the gate tries too, and
 
   == NAME                   (in mutants.edits, above each mutant)
   file: PATH                in the folder of the crate; further changes follow, and other files
-  old: TEXT                 it stands once in the file; in mutants.edits lines in a row are one text of several lines
+  old: TEXT                 the file has it once; in mutants.edits lines in a row are one text of several lines
   new: TEXT
   harmless: TEXT            if it is there: a text in the place of `new` with which the crate must be proved
   shows: WHAT               for a test to refuse: what it shows, and the test that must not pass

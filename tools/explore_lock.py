@@ -85,7 +85,7 @@ def compiled(folder, name, told):
 
 
 def built(folder, edits, width):
-    """The explorer, built over the library with these edits, with so many tickets in a round."""
+    """The explorer, built over the library with these edits, with `width` tickets in a round."""
     shutil.copytree(SOURCE, folder, dirs_exist_ok=True)
     for name in (*SCENES, "lock_scenes.h", "explorer.h"):
         shutil.copy(MODEL / name, folder)

@@ -261,7 +261,7 @@ def for_eight():
 
 
 def of_knob(state, knob, value, threads, turn, phases=None):
-    """The ratios to MCS's time, by these numbers of threads, of a knob that was tried; if it was tried more than once, in the run of so many phases."""
+    """The ratios to MCS's time, by these numbers of threads, of a knob that was tried; if it was tried more than once, in the run of this number of phases."""
     found = {}
     for row in rows_of("waiting.tsv"):
         if (row["state"], row["knob"], row["value"], row["turn_us"]) == (state, knob, value, turn) and (phases is None or row["phases"] in phases):

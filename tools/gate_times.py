@@ -5,7 +5,7 @@
     tools/gate_times.py --functions|--modules [--jobs N] [NAME ..]
 
 It starts `rt ci` (with the names, if given) in the checkout, with RT_JOBS as tools/gate sets it, and samples its processes in /proc twice a second.
-With `--anew` it reuses nothing of earlier runs: a toolchain that keeps what passed is told so, and any other keeps nothing. The kinds are the crate's
+With `--anew` it reuses nothing of earlier runs: it says so to a toolchain that keeps what passed, and any other keeps nothing. The kinds are the crate's
 proof; that of its tests; the seed, a check with which its mutants begin, if the toolchain makes one; the mutants. A check that ends loses
 what it took since the last sample; the total is the system's own count. The longest chain is of checks each of which waits for the one before, in
 processor minutes, which are minutes by the clock if each check has one job. The output of `rt ci` goes to the log. It ends as `rt ci` does.

@@ -4,7 +4,7 @@
     tools/pages.py            words of each page, of three paths and of the manuals, each with its limit; links, names, figures, the first screen, and what is claimed of a lock
     tools/pages.py --write    also writes tables and sentences of figures anew, from c/bench/figures/*.tsv, and whether explored code has changed since
 
-A word is what stands between blanks and has a letter or a digit. A name in code font must stand in a file that is no page, too. A ratio in a sentence
+A word is what is between blanks and has a letter or a digit. A name in code font must occur in a file that is no page, too. A ratio in a sentence
 is computed again from the table that it is of (`RATIOS` of tools/figures.py), and so is each table behind a line `<!-- figures: NAME -->`. It ends with 1 if a limit is
 passed, or something differs.
 """
@@ -50,6 +50,8 @@ TOO_MUCH = re.compile(r"library is proved|proved (?:queue )?locks?\b(?!_)|(?:nob
 # What an exploration runs: each row of PROVED's table begins with one of these, and ends with the commit whose code it ran.
 OF_BOTH = [f"c/src/{name}" for name in ("bells.c", "bells.h", "gaps.h", "notify.c", "spin.h")]
 EXPLORED = {"lock": ["c/src/lock", "c/src/core.h", *OF_BOTH], "nodes": ["c/src/calls.c", "c/src/hints.h", "c/src/proved.h", *OF_BOTH]}
+# In C: a comment, or a literal, in which none begins.
+IN_C = re.compile(r"(?P<comment>//[^\n]*|/\*.*?\*/)|\"(?:[^\"\\]|\\.)*\"|'(?:[^'\\\n]|\\.)'", re.S)
 # The files with their scenes.
 SCENES = {"lock": ["lock_scenes.c", "holder_scenes.c", "limit_scenes.c", "task_scenes.c"], "nodes": ["node_scenes.c"]}
 # The README of the archive, which has a table of figures too.
@@ -137,7 +139,7 @@ def check_links(pages):
 
 
 def check_names(pages, files):
-    """Each name in code font that is of a file, a test, a function or a definition stands in the sources."""
+    """Each name in code font that is of a file, a test, a function or a definition occurs in the sources."""
     known = set(files) | {name.rsplit("/", 1)[-1] for name in files}
     for name in files:
         if not name.endswith((".md", ".svg")) and not name.startswith("docs/man/"):
@@ -198,6 +200,21 @@ def has_whole_history():
     return told.strip() == "false"
 
 
+def code_of(text):
+    """The words of C without its comments."""
+    return IN_C.sub(lambda found: " " if found["comment"] else found[0], text).split()
+
+
+def has_changed(commit, paths):
+    """Whether one of these files, or of a folder's, has other code than at the commit. Comments do not count."""
+    names = subprocess.run(["git", "diff", "--name-only", commit, "--", *paths], cwd=ROOT, capture_output=True, text=True, check=True).stdout.splitlines()
+    for name in names:
+        was = subprocess.run(["git", "show", f"{commit}:{name}"], cwd=ROOT, capture_output=True, text=True, check=False)
+        if was.returncode or not (ROOT / name).is_file() or code_of(was.stdout) != code_of((ROOT / name).read_text()):
+            return True
+    return False
+
+
 def check_explored(is_write):
     """The table of explorations has the scenes and faults that there are, and says of each row whether the code has changed since."""
     path = ROOT / "docs/PROVED.md"
@@ -210,7 +227,7 @@ def check_explored(is_write):
         if int(scenes) != there:
             faults.append(f"docs/PROVED.md has {scenes} scenes of {what}, and tools/explorer has {there}")
         if knows(commit):
-            differs = subprocess.run(["git", "diff", "--quiet", commit, "--", *EXPLORED[what]], cwd=ROOT, check=False).returncode
+            differs = has_changed(commit, EXPLORED[what])
             text = re.sub(rf"(?m)^{re.escape(row)}(?:: changed since)? \|$", f"{row}{': changed since' if differs else ''} |", text)
         elif has_whole_history():
             faults.append(f"docs/PROVED.md names a commit that is not here: {commit}")

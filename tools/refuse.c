@@ -41,7 +41,7 @@ static __attribute__((noinline)) void grow_stack(void) {
     }
 }
 
-/* Limits the address space to what the process has, and so many kilobytes. */
+/* Limits the address space to what the process has, and these kilobytes more. */
 static void limit_to(unsigned long kilobytes) {
     char text[32] = "";
     int file = open("/proc/self/statm", O_RDONLY);

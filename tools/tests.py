@@ -61,7 +61,7 @@ def left_out(crate):
 
 
 def without(text, names=r"\w+"):
-    """The text of a file without the tests of these names: from their comment to the closing brace, as rt fmt lays them out."""
+    """The text of a file without the tests of these names: from their comment to the closing brace, as rt fmt formats them."""
     return re.sub(rf"^(?: *///[^\n]*\n)*( *){HEAD}(?:{names})\(.*?^\1}}\n", "", text, flags=re.M | re.S)
 
 

@@ -99,7 +99,7 @@ def shares(seconds, others, stolen):
 
 class Quiet:
     """Runs the parts of a measurement. If it is strict, a part during which other programs or other machines took more than 2 % of the processors is
-    thrown away, and run again, until so many were."""
+    thrown away and run again, up to `MOST` times in all."""
 
     LIMIT, MOST = 2, 40
 

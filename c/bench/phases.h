@@ -147,7 +147,7 @@ static void run_phase(int number, enum way by, int at) {
     found[by].took += (double)took;
 }
 
-/* All ways that are timed, for so many seconds, one phase after the other. */
+/* All ways that are timed, one phase after the other, until these seconds are over. */
 static void run_phases(double seconds) {
     pthread_t id;
     for (long k = 0; k < threads; k++)

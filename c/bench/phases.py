@@ -25,7 +25,7 @@ LEAST_WAITS = 5000  # of one program, for the 99.9th of 100
 # A part: its name, threads, microseconds of a turn, words for the program, and goals: (lock, beside, the most of their ratio); the length of a phase in ms, whether others
 # must rest meanwhile, and whether threads stay at processors.
 Part = namedtuple("Part", "name threads turn words goals ms is_quiet stays", defaults=(2, True, True))
-# The processors that are used, of at least so many.
+# The processors that are used: the first four, or all if there are fewer.
 ALL = "at=" + ",".join(map(str, range(min(4, len(names_of_processors())))))
 FIGURES = ("phases", "median", "low", "high", "mean", "wait_999_us", "longest_us")
 HEADS = ("part", "threads", "turn_us", "lock", "runs", "again", "kept", *FIGURES, "beside", "ratio", "goal", "met")

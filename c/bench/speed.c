@@ -14,7 +14,7 @@
  * way: its name, the phases, nanoseconds a turn over all threads (the median of the phases, the quartiles, and of all
  * turns together), and of the waits whose time was taken the 99.9th of 100 and the longest of a phase, the median of
  * the phases, in microseconds. `machine` prints hand-overs and the time of a pause. `bytes` prints the bytes of a lock,
- * and those of heap that so many take together. */
+ * and the bytes of heap that LOCKS of them take together. */
 #define _GNU_SOURCE
 #include <malloc.h>
 #include <qolb.h>

@@ -107,7 +107,7 @@ impl Pool {
         ready.pop_front()
     }
 
-    /// Runs all tasks to their ends, by so many threads.
+    /// Runs all tasks to their ends, on `threads` threads.
     pub fn run(&self, threads: usize) {
         thread::scope(|scope| {
             for _ in 0..threads {

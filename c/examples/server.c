@@ -64,7 +64,7 @@ static void begin_turn(struct connection *it) {
     uint64_t now = number;
     it->phase = HOLDS;
     if (!by_lock) MUST(qolb_read_lane(it->node, 0, &now), QOLB_DONE);
-    if (send(it->socket, &now, sizeof now, MSG_NOSIGNAL) != sizeof now) return; /* it is gone, which epoll tells */
+    if (send(it->socket, &now, sizeof now, MSG_NOSIGNAL) != sizeof now) return; /* disconnected, as epoll tells */
 }
 
 static void end_turn(struct connection *it) {

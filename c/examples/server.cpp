@@ -30,7 +30,7 @@ static void must(bool is_so, const char *what) {
 
 // ---- The server ----
 
-// A coroutine that begins at once, and is gone once it has ended.
+// A coroutine that begins at once, and is destroyed at its end.
 struct Job {
     struct promise_type {
         Job get_return_object() { return {}; }
@@ -67,7 +67,7 @@ class Loop {
         epoll_event event{EPOLLIN, {client}};
         must(epoll_ctl(epoll_, EPOLL_CTL_ADD, fd, &event) == 0, "epoll_ctl");
     }
-    // Until the last client has gone.
+    // Serves until the last client has disconnected.
     void run();
     int clients = 0;
 
@@ -108,7 +108,7 @@ class Client {
     }
     Client(const Client &) = delete;
 
-    // co_await: the next byte, 0 once the client has gone.
+    // co_await: the next byte, 0 once the client has disconnected.
     auto byte() {
         struct Byte {
             Client &of;
@@ -121,10 +121,10 @@ class Client {
         };
         return Byte{*this};
     }
-    // If the client has gone, the next byte tells.
+    // If the client has disconnected, the next byte tells.
     void send(std::uint64_t number) { (void)!::send(socket_, &number, sizeof number, MSG_NOSIGNAL); }
 
-    // Something came, or the client has gone. While it waits for its turn it has nothing to say.
+    // A byte arrived, or the client has disconnected. While a client waits for its turn it sends nothing.
     void has_event() {
         if (std::exchange(reads_, false)) coroutine_.resume();
         else coroutine_.destroy();
@@ -202,7 +202,7 @@ static int listens(sockaddr_in &address) {
     return fd;
 }
 
-// Serves each connection by a coroutine that `serves` makes, by so many loops; returns the number of additions.
+// Serves each connection by a coroutine that `serves` makes, by this number of loops; returns the number of additions.
 template <class Serves> static long run(int many, int connections, int rounds, Serves serves) {
     sockaddr_in address{};
     int server = listens(address);

@@ -71,7 +71,7 @@ impl Client {
         }
     }
 
-    /// The next byte; none once the client has gone.
+    /// The next byte; none once the client has disconnected.
     async fn byte(&self) -> Option<u8> {
         poll_fn(|context| self.poll_byte(context)).await
     }
@@ -86,7 +86,7 @@ impl Client {
         .await
     }
 
-    /// If the client has gone, the next byte tells.
+    /// If the client has disconnected, the next byte tells.
     fn send(&self, number: u64) {
         let _ = (&self.socket).write_all(&number.to_ne_bytes());
     }
@@ -123,13 +123,13 @@ impl Sockets {
         (&self.bell).write_all(&[0]).unwrap();
     }
 
-    /// A socket that was closed meanwhile counts as one that can be read: its task is gone, and the waker does nothing.
+    /// A socket that was closed meanwhile counts as one that can be read: its task has ended, and the waker does nothing.
     fn run(&self, mut hears: UnixStream) {
         let mut heard = [0; 64];
         loop {
             let fds: Vec<RawFd> = self.wanted.lock().unwrap().keys().copied().collect();
             let mut watched: Vec<_> = [hears.as_raw_fd()].into_iter().chain(fds).map(|fd| Watched { fd, wanted: POLLIN, got: 0 }).collect();
-            // SAFETY: the array has so many entries.
+            // SAFETY: the array has `watched.len()` entries.
             unsafe { poll(watched.as_mut_ptr(), watched.len() as std::ffi::c_ulong, -1) };
             if watched[0].got != 0 && hears.read(&mut heard).unwrap() == 0 {
                 return;
@@ -170,7 +170,7 @@ fn is_client(address: SocketAddr, which: u64, rounds: u64) -> u64 {
 
 // ---- A run ----
 
-/// Serves each connection by a task that `serves` makes, by so many threads; returns the number of additions.
+/// Serves each connection by a task that `serves` makes, on `threads` threads; returns the number of additions.
 fn run(threads: usize, connections: u64, rounds: u64, mut serves: impl FnMut(&Arc<Pool>, Client)) -> u64 {
     let listener = TcpListener::bind((Ipv4Addr::LOCALHOST, 0)).unwrap();
     let (address, added) = (listener.local_addr().unwrap(), AtomicU64::new(0));

@@ -561,7 +561,7 @@ template <class Loop> class Waits : public Ready {
     Waits &operator=(const Waits &) = delete;
 
   protected:
-    // The coroutine may be gone when this returns.
+    // The coroutine may have been destroyed when this returns.
     static void call(void *arg) {
         auto *it = static_cast<Waits *>(arg);
         it->loop_.post(*it);
@@ -584,7 +584,7 @@ template <class Loop> class Turn final : public detail::Waits<Loop> {
         this->got_ = qolb_enqolb(node_);
         return this->got_ != QOLB_QUEUED;
     }
-    // Once the call is wanted another thread may resume the coroutine and this is gone.
+    // Once the call is wanted another thread may resume the coroutine, which destroys this.
     bool await_suspend(std::coroutine_handle<> waiter) {
         this->waiter_ = waiter;
         this->waits_ = true;

@@ -473,11 +473,11 @@ int pthread_cond_destroy(pthread_cond_t *condition) {
 /* ---- Cancelling ----
  *
  * A thread that is cancelled while it waits with a line has to return. So whoever cancels one wakes all that wait with
- * lines, which may return for no reason. A waiter stands in its list before it sleeps, and then loads the number of
- * those that were cancelled; who cancels adds to that number before it looks at the lists. So one of the two sees the
- * other.
+ * lines, which may return for no reason. A waiter puts itself into its list before it sleeps, and then loads the number
+ * of those that were cancelled; who cancels adds to that number before it looks at the lists. So one of the two sees
+ * the other.
  *
- * A thread that is cancelled before it stands in its list may be signalled there before it sleeps. It ends all the
+ * A thread that is cancelled before it is in its list may be signalled there before it sleeps. It ends all the
  * same, and another waiter has to get that signal. So a waiter loads the number again after its wait, and if it has
  * changed wakes all that wait at the condition. If the waiter is cancelled after that load, who cancels looks at the
  * lists later still. The condition may have been destroyed meanwhile: its entry stays, perhaps for another condition,

@@ -15,7 +15,7 @@ static struct cleared *const own = &qolb_cleared_;
 
 /* ---- Processes ---- */
 
-/* The system gives a number again, once its process has ended: so the time stands beside it. */
+/* The system gives a number again once its process has ended: so the time is added to it. */
 static uint64_t drawn(void) { return ((uint64_t)getpid() << 40 ^ qolb_now_() << 1) | 1; }
 
 uint64_t qolb_process_(void) {
@@ -89,8 +89,8 @@ static void give_memory(void *block, size_t size) {
     return_guard(&own->guard);
 }
 
-/* The library's own malloc and free, by the linker's option --wrap. Its realloc calls these (gaps.c). Before each block
- * stands its size. */
+/* The library's own malloc and free, by the linker's option --wrap. Its realloc calls these (gaps.c). The bytes before
+ * each block have its size. */
 HIDDEN void *__wrap_malloc(size_t size);
 HIDDEN void __wrap_free(void *block);
 

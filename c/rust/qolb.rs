@@ -1386,7 +1386,7 @@ pub struct MutexFuture<'a, T: ?Sized> {
     entering: Option<Entering<'a>>,
 }
 
-// SAFETY: a task is of no thread, and only `&mut self` uses it. The guard that comes of it has the value.
+// SAFETY: a task is of no thread, and only `&mut self` uses it. The guard that the future gives has the value.
 unsafe impl<T: ?Sized + Send> Send for MutexFuture<'_, T> {}
 unsafe impl<T: ?Sized + Send> Sync for MutexFuture<'_, T> {}
 
@@ -1459,7 +1459,7 @@ mod api {
         }
     }
 
-    /// A guard that `unlocked` or `bump` has let go is used again when `lock` ends, also by a panic: so a refusal ends the process.
+    /// A guard that `unlocked` or `bump` has released is used again when `lock` ends, also by a panic: so a refusal ends the process.
     fn surely_had(answer: Answer) {
         if answer != Answer::Granted {
             _ = writeln!(std::io::stderr(), "qolb: lock_api's lock is refused: {answer}");

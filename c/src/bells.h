@@ -143,8 +143,8 @@ static inline struct bell *bell_of_key(uint64_t key) {
  * any other answer, and it will not. */
 HIDDEN uint32_t qolb_listen_(struct notice *notice, qolb_node *node);
 
-/* For the sanitizer of threads: what was done until now comes before what follows an acquire of this address, as the
- * call of the notice there. */
+/* For the sanitizer of threads: what was done until now happens before what follows an acquire of this address, as
+ * the call of the notice there. */
 HIDDEN void qolb_tell_release_(const void *at);
 HIDDEN void qolb_tell_acquire_(const void *at);
 
@@ -189,7 +189,7 @@ static inline void call_for(struct next next) {
     if (atomic_load(&next.holder->first)) qolb_make_call_(next.holder, next.key);
 }
 
-/* The call comes last, as it may take a while. */
+/* Makes the call last, as it may take a while. */
 static inline void ring_for(struct next next) {
     wake_for(next);
     call_for(next);

@@ -150,7 +150,7 @@ uint32_t qolb_close(qolb_node *node) {
 
 /* ---- Waiting for a turn ---- */
 
-/* At most so many nodes are before one that waits: all others of a line of few. */
+/* The most nodes that may be before one that waits: all others on a line of few, else unknown. */
 static uint64_t most_before(const qolb_node *node) {
     uint32_t others = *nodes_beside(node) - 1;
     return others <= NEAR_TURNS ? others : UNKNOWN_TURNS;

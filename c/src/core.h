@@ -26,7 +26,7 @@
 #include <stdbool.h>
 
 enum qolb_core_answer {
-    QOLB_FAR_ = 16,       /* so many rounds are before it (ticket.rounds) that it could not be withdrawn */
+    QOLB_FAR_ = 16,       /* too many rounds are before it (ticket.rounds) to withdraw it */
     QOLB_ASLEEP_ = 17,    /* the sleep is announced: sleep now, at the address and value named below */
     QOLB_FULL_ = 18,      /* 65,535 have announced a sleep at this cell: sleep by time */
     QOLB_UNFINISHED_ = 19 /* the turn is still the ticket's: call again */
@@ -58,19 +58,19 @@ struct qolb_core {
 struct qolb_ticket {
     uint64_t number;   /* from ask on: the ticket's number. After a release: the last number whose turn ended, so that
                             number + 1 is the ticket that was granted */
-    uint64_t rounds;   /* while it waits: at most so many rounds were to be granted yet when it last looked (4 tickets
+    uint64_t rounds;   /* while it waits: the most rounds that were to be granted yet when it last looked (4 tickets
                             a round; 1: at most four are before it); also after FAR */
     uint64_t outer;    /* a guess of the outer word, for the next go_in or leave, where no call says more. A wrong guess
                             costs a call */
     uint64_t word;     /* after an ASLEEP of announce_sleep: the cell's word to sleep at */
-    uint64_t sleepers; /* after a release: so many had announced their sleep at the granted ticket's cell */
+    uint64_t sleepers; /* after a release: how many had announced their sleep at the granted ticket's cell */
     uint64_t label;    /* the label of its lock, 0 if none: by this it is known whether a ticket is of the lock */
     uint32_t state;    /* enum qolb_ticket_state */
     bool head_sleeps;  /* after a leave: the queue head sleeps at the outer word, and is to be woken */
-    uint8_t claim;     /* stands for what the proof says of the ticket */
+    uint8_t claim;     /* represents what the proof says of the ticket */
 };
 
-/* Opens a lock in a block of the heap, or in the calling thread's room (gaps.h). `burst`: at most so many turns from
+/* Opens a lock in a block of the heap, or in the calling thread's room (gaps.h). `burst`: the most turns from
  * one take of the outer word by a queue head until the next; 0 or 1 is a strict lock. `label`: not 0, and given to
  * no other lock of the process, ever. DONE; BAD_NODES (burst above 65,535), MISUSE (label 0), NO_MEMORY: nothing
  * changed. */
@@ -96,12 +96,12 @@ uint32_t qolb_core_poll_proved_(const struct qolb_core *, struct qolb_ticket *);
 uint32_t qolb_core_announce_sleep_proved_(const struct qolb_core *, struct qolb_ticket *);
 /* Takes the count back: GRANTED or WAITING. MISUSE unless it is ASLEEP (state). */
 uint32_t qolb_core_retract_sleep_proved_(const struct qolb_core *, struct qolb_ticket *);
-/* WITHDRAWN: the ticket has no request any more, and the lock may be gone. GRANTED: it is at its turn. FAR:
+/* WITHDRAWN: the ticket has no request any more, and the lock may no longer exist. GRANTED: it is at its turn. FAR:
  * ticket.rounds is above 15, nothing changed. MISUSE unless it is WAITING: a sleep is retracted first. */
 uint32_t qolb_core_withdraw_proved_(const struct qolb_core *, struct qolb_ticket *);
 /* Ends the turn of the queue, passes withdrawn requests, and grants the next ticket: DONE (ticket.number + 1 is
- * granted, ticket.sleepers; a head that is in is INSIDE then, else the ticket is FREE and the lock may be gone).
- * UNFINISHED: it passed 64. MISUSE unless it is AT_TURN, SERVED, SERVED_SHUT, ENDING, HEAD_INSIDE or
+ * granted, ticket.sleepers; a head that is in is INSIDE then, else the ticket is FREE and the lock may no longer
+ * exist). UNFINISHED: it passed 64. MISUSE unless it is AT_TURN, SERVED, SERVED_SHUT, ENDING, HEAD_INSIDE or
  * HEAD_INSIDE_SHUT. */
 uint32_t qolb_core_release_proved_(const struct qolb_core *, struct qolb_ticket *);
 
@@ -116,8 +116,8 @@ uint32_t qolb_core_go_in_proved_(const struct qolb_core *, struct qolb_ticket *)
  * ticket.outer is the word as it was left; release the turn of the queue next. WAITING: it is held, or changed at that
  * moment; ticket.outer is the word that the last step found. MISUSE unless it is AT_TURN in a lock with bursts. */
 uint32_t qolb_core_take_outer_proved_(const struct qolb_core *, struct qolb_ticket *);
-/* Leaves the outer word, if that is ticket.outer: DONE (FREE; ticket.head_sleeps; the lock may be gone). BUSY: the
- * word is another, which ticket.outer has then: call again. MISUSE unless it is INSIDE or INSIDE_SHUT. */
+/* Leaves the outer word, if that is ticket.outer: DONE (FREE; ticket.head_sleeps; the lock may no longer exist). BUSY:
+ * the word is another, which ticket.outer has then: call again. MISUSE unless it is INSIDE or INSIDE_SHUT. */
 uint32_t qolb_core_leave_proved_(const struct qolb_core *, struct qolb_ticket *);
 /* The queue head asks whoever is in to leave the outer word for the head alone: DONE, or BUSY (it changed at that
  * moment). MISUSE unless it is AT_TURN in a lock with bursts. */
@@ -128,7 +128,7 @@ uint32_t qolb_core_request_handoff_proved_(const struct qolb_core *, struct qolb
 uint32_t qolb_core_announce_head_sleep_proved_(const struct qolb_core *, struct qolb_ticket *);
 
 /* Who is served shuts the lock: DONE (SERVED becomes SERVED_SHUT, and so on). From then on nobody goes in by go_in,
- * and who comes to a turn is told CLOSED. MISUSE unless it is SERVED, HEAD_INSIDE or INSIDE. */
+ * and who is granted a turn is told CLOSED. MISUSE unless it is SERVED, HEAD_INSIDE or INSIDE. */
 uint32_t qolb_core_shut_proved_(const struct qolb_core *, struct qolb_ticket *);
 /* Who was told CLOSED at a turn opens the lock again, if nobody asked after it: GRANTED (SERVED_SHUT becomes SERVED,
  * HEAD_INSIDE_SHUT becomes HEAD_INSIDE), or BUSY. MISUSE unless it is SERVED_SHUT or HEAD_INSIDE_SHUT. */
@@ -136,8 +136,8 @@ uint32_t qolb_core_reopen_proved_(const struct qolb_core *, struct qolb_ticket *
 
 /* Where to sleep and wake. The words of an open lock; they never move. Word 0 is the outer word: bit 0 handoff
  * requested, bit 1 the head sleeps, bits 2 and 3 free (0), held (1) or reserved for the head (2), bit 4 shut, from
- * bit 5 on the newcomers since the last head. A thread may read it (and the address is used after the lock may be
- * gone only to wake). */
+ * bit 5 on the newcomers since the last head. A thread may read it. When the lock may no longer exist, the address is
+ * used only to wake. */
 static inline uint64_t *qolb_core_words_(const struct qolb_core *core) { return *(uint64_t *const *)core->at; }
 /* The upper 32 bits of the cell of this ticket: sleep while they are (uint32_t)(ticket.word >> 32). */
 static inline uint32_t *qolb_core_cell_(const struct qolb_core *core, uint64_t number) {

@@ -18,7 +18,7 @@ enum {
  * align the block. */
 #define KEPT_BYTES(size) (((size) + GAP_BYTES - 1) / GAP_BYTES * GAP_BYTES)
 
-/* What stands before each block: what malloc gave, and the size asked for. */
+/* The bytes before each block: what malloc gave, and the size asked for. */
 struct before {
     void *given;
     size_t size;

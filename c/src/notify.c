@@ -3,9 +3,9 @@
  *
  * Under the bell's guard a waiter puts its notice into the list, counts it, and polls. Who releases the line loads the
  * counts, then the list's head, and then takes the guard. So it finds a count of 0 or an empty list, and then the poll
- * comes after the release; or it takes the guard, and finds the notice exactly if the poll was WAITING. It takes the
+ * follows the release; or it takes the guard, and finds the notice exactly if the poll was WAITING. It takes the
  * notice out, notes the call that it is about to make, which is on its stack, in the bell, and makes the call without
- * the guard. Once the call has begun the notice is not touched: its node may be gone. */
+ * the guard. Once the call has begun the notice is not touched: its node may no longer exist. */
 #define _GNU_SOURCE
 #include "bells.h"
 #include <errno.h>

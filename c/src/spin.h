@@ -60,7 +60,7 @@ static inline unsigned pauses_in_1024(void) {
     return counted ? counted : qolb_count_pauses_();
 }
 
-/* Pauses for so many nanoseconds, at most 1,000,000; returns 0, at once, if the process may use one processor only. */
+/* Pauses for these nanoseconds, at most 1,000,000; returns 0, at once, if the process may use one processor only. */
 static inline int qolb_pause_(unsigned nanoseconds) {
     unsigned each = pauses_in_1024();
     if (each == 0) return 0;
@@ -103,9 +103,9 @@ static inline void end_spin(struct spin *spin, unsigned *learned) {
     spin->slept = 1;
 }
 
-/* Whether a waiter that has so many before it is to spin on. If it is time to sleep: 0; the next call begins a new
- * spin. How many there are may be told anew with each call. It reads no clock: a thread that loses its processor spins
- * on afterwards. */
+/* Whether a waiter with this number before it is to spin on. If it is time to sleep: 0; the next call begins a new
+ * spin. The number may be another with each call. It reads no clock: a thread that loses its processor spins on
+ * afterwards. */
 static inline int qolb_spins_on_(struct spin *spin, uint64_t before) {
     unsigned *learned = &qolb_learned_[spin->slept ? WOKEN_SPIN : FIRST_SPIN], most = longest_spin(before);
     unsigned patience = spin->spun ? *learned : begin_spin(learned);
@@ -125,9 +125,9 @@ static inline int qolb_spin_once_(struct spin *spin, uint64_t before) {
     return qolb_spins_on_(spin, before) ? qolb_spin_for_(spin, NODE_PAUSE), 1 : 0;
 }
 
-/* The same for the queue head of a lock with bursts, which pauses for so many nanoseconds between two looks. It has
- * spun so many since its wait began, or since it slept. A spin in which turns ended pays, as a head that sleeps has to
- * be woken by who leaves; one in which none did makes the next one shorter, down to 2 us. */
+/* The same for the queue head of a lock with bursts, which pauses for `pause` nanoseconds between two looks. It has
+ * spun for `*spun` since its wait began, or since it slept. A spin in which turns ended pays, as a head that sleeps has
+ * to be woken by who leaves; one in which none did makes the next one shorter, down to 2 us. */
 static inline int qolb_watch_once_(unsigned *spun, unsigned pause, int pays) {
     unsigned *learned = &qolb_learned_[HEAD_SPIN], least = SPIN_FAR;
     unsigned patience = *spun ? *learned : begin_spin(learned), less = patience / SHRINKS_BY;

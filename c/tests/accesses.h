@@ -1,5 +1,5 @@
-/* Each access of a call to words of one page of memory, as it comes: the page is protected, an access to it faults, and
- * is then made as a single step. Before each access another call may be made. For x86-64. */
+/* Each access of a call to words of one page of memory, as it is made: the page is protected, an access to it faults,
+ * and is then made as a single step. Before each access another call may be made. For x86-64. */
 #ifndef ACCESSES_H
 #define ACCESSES_H
 #define _GNU_SOURCE
@@ -34,7 +34,7 @@ static void on_access(int signal, siginfo_t *info, void *context) {
     size_t offset = (size_t)((char *)info->si_addr - accesses.page);
     if (!accesses.page || offset >= PAGE || accesses.count == MOST_ACCESSES) {
         struct sigaction usual = {.sa_handler = SIG_DFL};
-        sigaction(signal, &usual, NULL); /* the fault comes again, and ends the process */
+        sigaction(signal, &usual, NULL); /* it faults again, which ends the process */
         return;
     }
     protect_page(PROT_READ | PROT_WRITE);

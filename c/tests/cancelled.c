@@ -73,7 +73,7 @@ static int cancelled(uint32_t kind, int how, int busy) {
 }
 
 int main(void) {
-    alarm(300); /* where the line stays with a thread that is gone, who waits for it does not end */
+    alarm(300); /* if a thread that has ended still holds the line, its waiters wait for ever */
     for (uint32_t kind = 0; kind < QOLB_KINDS; kind++)
         for (int how = FOR_EVER; how <= SHORT; how++)
             if (cancelled(kind, how, 0) || cancelled(kind, how, 1)) return 1;

@@ -95,7 +95,7 @@ enum {
     MOST_TICKETS = 96,
     OFTEN = 1000,
     FAR_OFF = 80,
-    BETWEEN = 500, /* one call in so many has another in its course, and more of those that seldom meet one */
+    BETWEEN = 500, /* one call in BETWEEN has another in its course; one in SELDOM of those that seldom meet one */
     SELDOM = 30
 };
 
@@ -169,7 +169,7 @@ enum { UNWRITTEN = 8 };
 static struct course {
     struct side *side;
     bool is_proved;
-    unsigned at; /* the other call comes before this access; behind the last if there are fewer */
+    unsigned at; /* the other call is made before this access; behind the last if there are fewer */
     struct one {
         int call;
         unsigned ticket;
@@ -247,7 +247,7 @@ static int seldom_meets(int k) {
 
 static void schedule(uint64_t label) {
     static const uint64_t bursts[] = {0, 1, 2, 3, 16};
-    int far_off = label % FAR_OFF == 0; /* so many tickets that some can't be withdrawn */
+    int far_off = label % FAR_OFF == 0; /* enough tickets that some can't be withdrawn */
     unsigned tickets = far_off ? MOST_TICKETS : 2 + (unsigned)draw(5);
     uint64_t burst = bursts[draw(5)];
     opens(&proved, qolb_core_open_proved_, burst, label);

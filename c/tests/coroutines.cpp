@@ -182,7 +182,7 @@ struct Asker {
         got = co_await qolb::turn(node, now);
         answers++;
     }
-    // Whether it has so many answers now, of which the last is this.
+    // Whether it has this number of answers now, of which the last is this.
     bool has(int many, qolb::Got last) const { return answers == many && got == last; }
 };
 

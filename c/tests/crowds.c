@@ -241,7 +241,7 @@ static void starts(struct comer *it, uint64_t limit) {
     until_asleep(&number);
 }
 
-/* One with a limit has drawn its ticket while fewer than may be are open: none that comes later is before it. */
+/* One with a limit has drawn its ticket while fewer than may be are open: none that asks later is before it. */
 static int keeps_the_order(void) {
     struct comer comer[4];
     begin(0);

@@ -412,8 +412,8 @@ static void *ends_without_locks(void *unused) {
     return unused;
 }
 
-/* The thread's memory is gone when the next one begins there, and when it is asked who holds a lock. The key is behind
- * others. */
+/* The thread's memory is overwritten before it is asked who holds a lock, and before the next thread begins there. The
+ * key is behind others. */
 static int first_use_in_a_destructor(int rounds, int does) {
     enum { OTHERS = 20 };
     static _Alignas(4096) char stack[1 << 20];
@@ -464,7 +464,7 @@ static void *enters_once(void *argument) {
 }
 
 /* Behind more waiters than a request may have that can be withdrawn: one call gives up at its limit, one at once, and
- * one waits until they have gone, or the lock is shut. While it waits the lock is not closed. */
+ * one waits until they have left, or the lock is shut. While it waits the lock is not closed. */
 static int limits_behind_many(uint32_t burst, int shut) {
     enum { WAITERS = 80 };
     static struct user waiters[WAITERS];

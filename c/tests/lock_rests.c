@@ -19,8 +19,8 @@ enum { MS = 1000000, KEPT = 8 };
 #define NEVER UINT64_MAX
 
 /* How often a waiter polls before it sleeps, as qolb.h says: behind the holder alone each 90 ns, for 50 us; behind one
- * more each 240 ns; farther than a round from its turn each 540 ns, until 2 us are over. A spin in vain halves the next
- * one, which begins with an eighth more. */
+ * more each 240 ns; farther than a round from its turn each 540 ns, until 2 us are over. A spin that ends with a sleep
+ * halves the next one, which begins with an eighth more. */
 enum {
     NEAR = 50000 / 90,
     BEHIND_ONE = (50000 - 90) / 240 + 1,

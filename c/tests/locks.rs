@@ -281,7 +281,7 @@ const TIMES: [(Duration, bool); 5] = [
     (Duration::MAX, true),
 ];
 
-/// Whether the waiter gets what is held. It is let go at the end, or soon, if it is waited for as long as it takes.
+/// Whether the waiter gets what is held. It is dropped at the end, or soon, if it is waited for as long as it takes.
 fn gets<H>(held: H, waits: bool, waiter: ScopedJoinHandle<'_, bool>) -> bool {
     if !waits {
         let got = waiter.join().unwrap();

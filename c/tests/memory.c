@@ -128,7 +128,7 @@ static int all_are_told(void) {
     return qolb_memory(QOLB_KINDS, 2) == 0;
 }
 
-/* Returns whether so many lines take less than this many bytes, with what malloc has for each block. */
+/* Returns whether these lines take less than this many bytes, with what malloc has for each block. */
 static int fit(size_t lines, size_t bytes) {
     qolb_bytes zeros = {{0}};
     qolb_node *node = calloc(2 * lines, sizeof *node);

@@ -27,7 +27,7 @@ static void await(int least) {
     while (!is_at(least)) sched_yield();
 }
 
-/* The first thread has looked whether it is cancelled, and does not stand at the condition yet. */
+/* The first thread has looked whether it is cancelled, and is not in the list of the condition yet. */
 void pthread_testcancel(void) {
     void (*real)(void) = (void (*)(void))dlsym(RTLD_NEXT, "pthread_testcancel");
     real();
@@ -37,7 +37,7 @@ void pthread_testcancel(void) {
     await(CANCELLED);
 }
 
-/* It stands there, has left the mutex to the other, and has not looked yet whether it was signalled. */
+/* It is in that list, has left the mutex to the other, and has not looked yet whether it was signalled. */
 long syscall(long number, ...) {
     long (*real)(long, ...) = (long (*)(long, ...))dlsym(RTLD_NEXT, "syscall");
     long given[6];
@@ -68,7 +68,7 @@ static void *takes_a_job(void *first) {
     return NULL;
 }
 
-/* A waiter leaves the mutex when it stands at the condition. */
+/* A waiter leaves the mutex when it is in the list of the condition. */
 static int waiters_by_now(void) {
     WANT(pthread_mutex_lock(&mutex), 0);
     int now = waiters;

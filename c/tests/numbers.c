@@ -30,7 +30,7 @@ long __wrap_syscall(long number, ...) {
 static qolb_lock lock;
 static qolb_cond cond = QOLB_COND_INIT;
 
-/* More than a thread's table has room for, by each of two threads: what comes behind them is held by number. */
+/* More than a thread's table has room for, by each of two threads: a lock that is entered later is held by number. */
 enum { MANY = 12 };
 static qolb_lock before[2][MANY];
 

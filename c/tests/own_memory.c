@@ -68,7 +68,7 @@ static void *enters_within(void *limit) {
     return NULL;
 }
 
-/* Behind so many tasks that its ticket can't be withdrawn, or few. */
+/* Behind too many tasks to withdraw its ticket, or few. */
 static int waits_behind(int tasks_before, uint64_t burst, uint64_t nanoseconds) {
     pthread_t id;
     waiting = tasks_before;

@@ -35,7 +35,7 @@ static void *enters(void *unused) {
     return unused;
 }
 
-/* Runs a thread to its end, and lets go of what it waits for once it sleeps. */
+/* Runs a thread to its end, and releases what it waits for once it sleeps. */
 static void run(void *(*thread)(void *), void (*let_go)(void)) {
     pthread_t id;
     atomic_store(&waits, 0);

@@ -28,11 +28,11 @@ static uint64_t now, clocks, yields, sleeps, longest, asks, spins, spun, looks, 
 
 /* How often a node polls before it sleeps, each 60 ns, as qolb.h says: for 50 us on a line of at most five nodes and
  * for 20 us on others; at least for 2 us, and once it has slept, for 10. It pauses while 90 ns are left. A poll is
- * before the pauses and behind each, and one more comes before the sleep. */
+ * before the pauses and behind each, and one more is before the sleep. */
 enum { PAUSE = 60 };
 #define POLLS(nanoseconds) (((nanoseconds)-90) / PAUSE + 1)
 enum { NEAR = POLLS(50000), UNKNOWN = POLLS(20000), LEAST = POLLS(2000) };
-/* The same behind a spin in vain: half as often, and an eighth of that more. */
+/* The same behind a spin that ended with a sleep: half as often, and an eighth of that more. */
 enum { LESS = POLLS(NEAR * PAUSE / 2 * 9 / 8) };
 /* How long 64 pauses take by the clock in each of the runs in which they are timed, between two clock calls; the number
  * of clock calls for that. */
@@ -344,9 +344,9 @@ static int rests(uint32_t kind) {
     return 0;
 }
 
-/* The polls of the next spin in vain, and its length: an eighth more than it was, at most 50 us; on a line of more than
- * five nodes it ends after 20 us. Half of it is left, but not less than the least; after a spin of less than 2,540 ns
- * all of it. */
+/* The polls of the next spin that ends with a sleep, and its length: an eighth more than it was, at most 50 us; on a
+ * line of more than five nodes it ends after 20 us. Half of it is left, but not less than the least; after a spin of
+ * less than 2,540 ns all of it. */
 static uint64_t next_spin(uint64_t *length, uint64_t nodes, uint64_t least) {
     uint64_t grown = *length + *length / 8;
     *length = *length && grown < 50000 ? grown : 50000;
@@ -355,8 +355,8 @@ static uint64_t next_spin(uint64_t *length, uint64_t nodes, uint64_t least) {
     return polls;
 }
 
-/* Each spin in vain makes the next one shorter, down to the least. A spin after a sleep has a length of its own. On a
- * line of more than five nodes both are shorter. */
+/* Each spin that ends with a sleep makes the next one shorter, down to the least. A spin after a sleep has a length of
+ * its own. On a line of more than five nodes both are shorter. */
 static int learns(uint32_t kind, uint64_t nodes) {
     qolb_bytes zeros = {{0}};
     qolb_node n[6] = {{0}};
@@ -504,7 +504,7 @@ static uint32_t is_told_after_being_busy(qolb_node *node) {
     return qolb_acquire(node);
 }
 
-/* A node that is told so late asks for the next holder, as the node did that shut the line. */
+/* A node that is told of the shut line late asks for the next holder, as the node did that shut it. */
 static int is_told_late(uint32_t kind, uint32_t (*call)(qolb_node *node)) {
     qolb_bytes zeros = {{0}};
     qolb_node n[2] = {{0}}, closed[2] = {{0}};

@@ -327,7 +327,7 @@ static int beside_threads(uint64_t burst) {
     return 0;
 }
 
-/* A blocking enter keeps its place before a task that comes later, and the other way round. */
+/* A blocking enter keeps its place before a task that asks later, and the other way round. */
 static atomic_int number;
 
 static void *enters_once(void *turn) {

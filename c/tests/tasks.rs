@@ -37,7 +37,7 @@ impl Future for Yield {
     }
 }
 
-/// Polls at most so many times, with a wake of its own between two, and then drops the future.
+/// Polls at most this number of times, with a wake of its own between two, and then drops the future.
 struct Within<F>(Option<F>, u32);
 
 impl<F: Future + Unpin> Future for Within<F> {
@@ -201,7 +201,7 @@ async fn by_mutex(mutex: Arc<Mutex<u64>>, lock: Arc<Mutex<u64>>, counts: Arc<Cou
     }
 }
 
-/// The guard may go to another thread meanwhile, or its task be dropped. Nothing comes between the addition and its count.
+/// The guard may go to another thread meanwhile, or its task be dropped. Nothing is done between the addition and its count.
 async fn add<G: std::ops::DerefMut<Target = u64>>(guard: Option<Result<G, Stopped>>, yields: bool) -> bool {
     let Some(guard) = guard else { return false };
     let mut guard = guard.unwrap();
@@ -235,7 +235,7 @@ fn owner<T: Send + 'static>(turn: T) -> std::task::Waker {
     Arc::new(Owner(std::sync::Mutex::new(turn))).into()
 }
 
-/// A future that waits is polled by another waker, whose predecessor ends the turn that it waits for: its call comes within that poll.
+/// A future that waits is polled by another waker, whose predecessor ends the turn that it waits for: its call is made within that poll.
 fn wakers_own_turns() {
     static LOCK: Mutex<u64> = Mutex::new(0);
     let other = owner(());

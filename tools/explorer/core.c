@@ -47,7 +47,7 @@ struct lock {
     uint64_t burst, label;
 };
 
-/* Each call reads this of the lock, whatever it answers: so none may be made once that may be gone. */
+/* Each call reads this of the lock, whatever it answers: so none may be made when that may no longer exist. */
 static const struct lock *of(const struct qolb_core *core) { return *(const void *const volatile *)&core->at; }
 static _Atomic uint64_t *outer_of(const struct lock *lock) { return &lock->words[OUTER]; }
 static _Atomic uint64_t *cell_of(const struct lock *lock, uint64_t number) {

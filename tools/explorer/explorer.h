@@ -12,9 +12,9 @@ struct clock {
 
 #ifdef OF_LOCKS
 /* What these threads do at the same time, each by its number, over a lock with these bursts, which is opened before or
- * at its first use. A request can be withdrawn with at most so many rounds to go, so many threads may announce a sleep
- * at one cell, and with fewer rounds to go than so many a call with a limit draws a ticket. There may be no memory for
- * the registry, nor a key of threads. */
+ * at its first use. A request can be withdrawn with at most `near` rounds to go, `sleepers` threads may announce a
+ * sleep at one cell, and with fewer rounds to go than `open` a call with a limit draws a ticket. There may be no memory
+ * for the registry, nor a key of threads. */
 struct scene {
     const char *name;
     void (*does)(int self);
@@ -64,7 +64,7 @@ void *model_malloc(size_t size);
 void model_free(void *block);
 int was_freed(const void *block);
 
-/* From now on each look of this thread at the clock finds it so much later. */
+/* From now on each look of this thread at the clock adds this to it. */
 void time_goes_on(uint64_t by);
 /* The time is over of all that sleep for a time: how many. */
 int times_out(void);

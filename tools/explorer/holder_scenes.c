@@ -87,8 +87,8 @@ void holder_comes_and_ends(int self) {
     MUST(number == 0 || (number >= FIRST_NUMBER && number < (uint64_t)(FIRST_NUMBER + self)));
 }
 
-/* One comes behind another, whose table is looked through first: it is the holder as soon as it has the lock, while the
- * other is still in its last call. */
+/* One enters behind another, whose table is looked through first: it is the holder as soon as it has the lock, while
+ * the other is still in its last call. */
 void holds_behind_another(int self) {
     if (self == 0) {
         MUST(qolb_lock_enter(it.lock) == QOLB_GRANTED);

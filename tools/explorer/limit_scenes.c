@@ -56,7 +56,7 @@ void is_late_once_it_is_near(int self) {
 
 /* ---- Signals ---- */
 
-/* Enters once so many have come before. */
+/* Enters once this number of threads is counted in `has`. */
 static void enters_after(qolb_lock *lock, int many) {
     for (;; sched_yield()) {
         MUST(qolb_lock_enter(lock) == QOLB_GRANTED);

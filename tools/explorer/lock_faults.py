@@ -1,4 +1,4 @@
-"""Edits of the lock, for ../explore_lock.py: file, function (empty: the file's other text), its text, and what stands in its place."""
+"""Edits of the lock, for ../explore_lock.py: file, function (empty: the file's other text), its text, and what replaces it."""
 
 LOCK, WAITS, TURNS, OPENS, CONDITIONS, REGISTRY, TASKS, HEADER = (
     f"lock/{name}" for name in ("lock.c", "waits.c", "turns.c", "opens.c", "conditions.c", "registry.c", "tasks.c", "lock.h")

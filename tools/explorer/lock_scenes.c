@@ -50,8 +50,8 @@ UNSEEN void hook_frees(const atomic_uint *guard) {
 /* ---- Who may be served before whom ----
  *
  * Of each thread in a call: since when; from the step that drew its ticket on, how many turns of calls that began later
- * it has seen, and how many threads have gone that were in their calls then. A task counts as the thread that makes its
- * calls. */
+ * it has seen, and how many calls have ended that other threads were in then. A task counts as the thread that makes
+ * its calls. */
 static struct {
     int in_call, waits, passed, gone, drawn;
     long began, since;
@@ -243,7 +243,7 @@ int enters_to_shut(int self) {
 
 static void shuts(int self) { enters_to_shut(self); }
 
-/* Once a shut has returned, each call is told so at once. */
+/* Once a shut has returned, each call is told CLOSED at once. */
 static void shuts_and_asks(int self) {
     if (!enters_to_shut(self) || self) return;
     MUST(qolb_lock_try(it.lock) == QOLB_CLOSED);
@@ -949,7 +949,7 @@ static qolb_lock *unopened(const struct scene *scene, int k) {
     return lock;
 }
 
-/* As if so many turns had ended: the rounds in the cells began anew, and have their highest bits. */
+/* As if many turns had ended: the rounds in the cells began anew, and have their highest bits. */
 UNSEEN static void had_many_turns(struct lock *lock) {
     uint64_t rounds = (uint64_t)7 << 28;
     words_of(lock)[TAIL] += rounds * TICKETS_IN_ROUND;

@@ -173,7 +173,7 @@ static void notified_in_time_and_again(int self) {
     if (got == QOLB_GRANTED) releases_turn(1);
 }
 
-/* One wants a call while the other holds the line and lets it go on once, and takes that back at once. */
+/* One wants a call while the other holds the line and releases it once, and takes that back at once. */
 static void one_takes_back(int self) {
     if (self == 0) {
         MUST(qolb_acquire(&it.of[0].node) == QOLB_GRANTED);

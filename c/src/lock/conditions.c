@@ -49,7 +49,7 @@ static void stand_no_more_in(struct waiter *me) {
 
 /* ---- Waiting ---- */
 
-/* Whether it had not been told yet. It may be gone then. */
+/* Whether it had not been told yet. Then the waiter may no longer exist. */
 static int tell(struct waiter *waiter, unsigned what) {
     unsigned nothing = NOTHING;
     atomic_uint *word = &waiter->told;

@@ -75,7 +75,7 @@ static uint32_t ask_later(struct request *my) {
     return got == QOLB_FAR_ ? closed_or(QOLB_LATE, my->lock) : got;
 }
 
-/* Who comes by CLOSED to the outer word of a shut lock is in by it, and leaves it. */
+/* A queue head that is told CLOSED at the outer word of a shut lock is in by that word, and leaves it. */
 void qolb_settle_(struct lock *lock, struct turn *at, uint32_t got) {
     int is_in = at->ticket.state == QOLB_TICKET_HEAD_INSIDE_SHUT_;
     if (has_bursts(lock) || got != QOLB_GRANTED) qolb_pass_on_(lock, at);
@@ -219,8 +219,8 @@ SLOW static uint32_t leave_slowly(struct lock *lock) {
     return QOLB_DONE;
 }
 
-/* In the thread's own place for the lock, after a proved call that answered this. The lock may be gone, but for
- * MISUSE. */
+/* In the thread's own place for the lock, after a proved call that answered this. The lock may no longer exist,
+ * but for MISUSE. */
 SLOW static uint32_t leave_on(struct turn *at, uint32_t got, int with_bursts) {
     struct lock *lock = lock_by(at);
     if (got == QOLB_MISUSE) return hold_by(at, lock), leave_slowly(lock);

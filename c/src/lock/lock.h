@@ -55,7 +55,7 @@ static inline struct lock *lock_of(const qolb_lock *lock) { return (struct lock 
 static inline uint64_t burst_of(const struct lock *lock) { return lock->turns < MAX_BURST ? lock->turns : MAX_BURST; }
 static inline int has_bursts(const struct lock *lock) { return lock->turns > 1; }
 
-/* The core's words. A function of the lock's address alone: so it can be used when the lock is gone. */
+/* The core's words. A function of the lock's address alone: so it can be used when the lock no longer exists. */
 static inline uint64_t *words_of(const struct lock *lock) {
     uintptr_t at = (uintptr_t)lock->words;
     return (uint64_t *)(at % LINE <= SPARE_WORDS * sizeof(uint64_t) ? at : (at + LINE - 1) / LINE * LINE);
@@ -278,7 +278,7 @@ HIDDEN uint32_t qolb_stand_for_(struct entry *e, struct qolb_ticket *ticket);
 #define HEAD UINT64_MAX
 
 /* Whom a granted ticket, or the queue head that sleeps, is of, in the lock with this label: of a thread; abandoned, and
- * here it is at its turn; of a task. The key is that of a call to make, or 0. The lock may be gone. */
+ * here it is at its turn; of a task. The key is that of a call to make, or 0. The lock may no longer exist. */
 enum found { NOBODY, ABANDONED, A_TASK };
 HIDDEN enum found qolb_find_entry_(struct lock *lock, uint64_t number, uint64_t label, struct qolb_ticket *ticket,
                                    uint64_t *key);
@@ -317,13 +317,13 @@ HIDDEN uint32_t qolb_await_turn_(struct request *my);
 HIDDEN uint32_t qolb_await_outer_(struct request *my);
 
 /* Ends a turn of the queue, and wakes the next, and one ahead after a sleep; makes the call of a task that is due, in
- * which this thread may enter and leave locks. The lock may be gone afterwards, unless the ticket is in by the outer
- * word: then no task is due. The first goes on after a release that answered this. */
+ * which this thread may enter and leave locks. Afterwards the lock may no longer exist, unless the ticket is in by the
+ * outer word: then no task is due. The first goes on after a release that answered this. */
 HIDDEN void qolb_end_turn_(struct lock *lock, struct turn *at, uint32_t got);
 static inline void qolb_pass_on_(struct lock *lock, struct turn *at) { qolb_end_turn_(lock, at, QOLB_UNFINISHED_); }
 
-/* Leaves the outer word, and wakes the queue head, or makes its call. The lock may be gone afterwards. The first goes
- * on after a leave that answered this. */
+/* Leaves the outer word, and wakes the queue head, or makes its call. Afterwards the lock may no longer exist. The
+ * first goes on after a leave that answered this. */
 HIDDEN void qolb_end_inside_(struct lock *lock, struct turn *at, uint32_t got);
 static inline void qolb_leave_outer_(struct lock *lock, struct turn *at) { qolb_end_inside_(lock, at, QOLB_BUSY); }
 
@@ -336,10 +336,10 @@ HIDDEN uint32_t qolb_enter_at_(struct lock *lock, struct turn *at, uint64_t nano
 HIDDEN uint32_t qolb_try_at_(struct lock *lock, struct turn *at);
 
 /* Of a ticket at its turn, and in by the outer word if the lock has bursts, GRANTED or CLOSED: passes on what it is not
- * to keep. The lock may be gone after CLOSED. */
+ * to keep. After CLOSED the lock may no longer exist. */
 HIDDEN void qolb_settle_(struct lock *lock, struct turn *at, uint32_t got);
 
-/* Leaves; and shuts before. The lock may be gone afterwards. */
+/* Leaves; and shuts before. Afterwards the lock may no longer exist. */
 HIDDEN void qolb_leave_at_(struct lock *lock, struct turn *at);
 HIDDEN void qolb_shut_at_(struct lock *lock, struct turn *at);
 

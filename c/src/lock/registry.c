@@ -5,8 +5,8 @@
  *
  * - An entry is put into its list, and then announces its ticket's sleep by the proved call. So who grants the ticket
  *   is told of a sleeper, looks, and finds the entry. If the ticket is at its turn already, the entry is taken out.
- * - Who grants has the lock's address and label: the lock may be gone. While an entry is in, its lock lives. One of a
- *   younger lock at that address has another label: it is left to who grants there.
+ * - Who grants has the lock's address and label: the lock may no longer exist. While an entry is in, its lock lives.
+ *   One of a younger lock at that address has another label: it is left to who grants there.
  * - Who takes an entry out retracts its sleep, and only then passes its turn on, withdraws or tells: with any of these
  *   the lock may go. An abandoned turn is passed on. A task's is the task's, which is *due*: its call is made, and its
  *   poll, or whoever cancels, goes on from there.
@@ -147,7 +147,8 @@ static int waits_on(struct entry *e, struct qolb_ticket *ticket) {
     return 0;
 }
 
-/* The task of an entry that is out is due: the key of its call. Once the guard is returned the task may be gone. */
+/* The task of an entry that is out is due: the key of its call. Once the guard is returned the task may no longer
+ * exist. */
 static uint64_t make_due(struct entry *e, const struct qolb_ticket *ticket) {
     struct task *task = e->task;
     uint64_t key = task->notice.key;
@@ -205,7 +206,7 @@ enum found qolb_find_entry_(struct lock *lock, uint64_t number, uint64_t label, 
 /* ---- A task gives up ---- */
 
 /* Of a task that waits. The ticket of one that is near is FREE afterwards, or AT_TURN, to be passed on, and the entry
- * gone; of one that is far the entry stays, abandoned. */
+ * is out; of one that is far the entry stays, abandoned. */
 static struct qolb_ticket withdraw(struct task *task, struct entry **gone) {
     struct entry *e = task->entry;
     task->entry = NULL;

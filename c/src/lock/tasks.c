@@ -40,7 +40,7 @@ static uint32_t settle(struct task *me) {
     return got;
 }
 
-/* Draws a ticket, and stands in the registry: WAITING, and the task may be gone; GRANTED or CLOSED; NO_MEMORY. */
+/* Draws a ticket, and registers it: WAITING, and the task may no longer exist; GRANTED or CLOSED; NO_MEMORY. */
 static uint32_t stand(struct task *me, struct qolb_ticket *ticket) {
     struct entry *e = has_room(me->lock) ? qolb_new_entry_(me->lock, me) : NULL;
     if (!e) return QOLB_NO_MEMORY;
