@@ -173,4 +173,5 @@ def main():
     sys.exit(0 if all(well) and all(found) and all(harmless) else 1)
 
 
-main()
+if __name__ == "__main__":
+    main()

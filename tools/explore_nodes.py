@@ -291,4 +291,5 @@ def explores(asked, base):
     sys.exit(0 if all(found) and all(harmless) else 1)
 
 
-main()
+if __name__ == "__main__":
+    main()

@@ -60,7 +60,8 @@
 //!
 //! A task of an executor waits without a thread: `node.turn().await` gives a node's turn ([`Node::turn`]), `mutex.lock_async().await` one of a [`Mutex`].
 //! These futures need no particular executor. They ask when they are first polled; tasks and threads are in one queue. A future that is dropped withdraws
-//! its request. The guards of `lock_async` may go from thread to thread, if the value may. A waker that panics in `wake` ends the process.
+//! its request. The guards of `lock_async` may go from thread to thread, if the value may. A waker that panics in `wake` ends the process;
+//! one that polls the task at once, and keeps its guard, may keep it from the thread in whose leave or wait it is called.
 //!
 //! # A panic while a line or a mutex is held
 //!
