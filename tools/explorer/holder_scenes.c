@@ -45,6 +45,12 @@ UNSEEN static void run_destructor(void) {
     if (value && key.is_there) key.destructor(value);
 }
 
+/* The copy of a table, for which there may be no memory. */
+static int has_no_copies;
+void *model_copy(size_t size);
+UNSEEN void *model_copy(size_t size) { return has_no_copies ? NULL : model_malloc(size); }
+UNSEEN static void have_no_copies(void) { has_no_copies = 1; }
+
 void end_thread(void) {
     run_destructor();
     if (are_looked_at) model_free(owns[self_number()]);
@@ -53,7 +59,7 @@ void end_thread(void) {
 void new_data_of_threads(int looked_at, int has_key) {
     memset(&key, 0, sizeof key);
     key.is_there = has_key;
-    are_looked_at = 0;
+    are_looked_at = has_no_copies = 0;
     model_clear_tables();
     for (int k = 0; k <= THREADS; k++) {
         owns[k] = model_malloc(sizeof(struct own));
@@ -113,7 +119,13 @@ void ends_as_holder(int self) {
     for (int k = 0; k < 2; k++) is_held_by(0);
 }
 
+void ends_without_memory(int self) {
+    have_no_copies();
+    ends_as_holder(self);
+}
+
 UNSEEN static const struct own *rest_of(int self) { return owns[self]->rest; }
+UNSEEN static int is_copied(int holds) { return holds && !has_no_copies; }
 
 /* In a destructor behind the library's one leaves, or enters, while another asks. Who leaves frees the copy of its
  * table. */
@@ -130,11 +142,16 @@ static void in_a_destructor(int self, int holds) {
     MUST(qolb_lock_enter(it.lock) == QOLB_MISUSE);
     is_held_by(0);
     const struct own *copy = rest_of(self);
-    MUST(holds == (copy != NULL));
+    MUST(is_copied(holds) == (copy != NULL));
     leave();
     MUST(qolb_lock_holder(it.lock) == 0 && !rest_of(self) && (!copy || was_freed(copy)));
 }
 
 void leaves_in_a_destructor(int self) { in_a_destructor(self, 1); }
+
+void leaves_without_memory(int self) {
+    have_no_copies();
+    in_a_destructor(self, 1);
+}
 
 void enters_in_a_destructor(int self) { in_a_destructor(self, 0); }

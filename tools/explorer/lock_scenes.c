@@ -727,7 +727,11 @@ const struct scene scenes[] = {
     {"holder: one comes and ends, without a key", holder_comes_and_ends, 2, 0, 0, 15, MANY, MANY, NO_MEMORY},
     {"holder: two come and end", holder_comes_and_ends, 3, 0, 0, ROOMY},
     {"holder: one ends with it", ends_as_holder, 2, 0, 0, ROOMY},
+    {"holder: one ends with it, without memory", ends_without_memory, 2, 0, 0, ROOMY},
+    {"bursts: holder: one ends with it, without memory", ends_without_memory, 2, 2, 0, ROOMY},
     {"holder: one leaves in a destructor", leaves_in_a_destructor, 2, 0, 0, ROOMY},
+    {"holder: one leaves in a destructor, without memory", leaves_without_memory, 2, 0, 0, ROOMY},
+    {"bursts: holder: one leaves in a destructor, without memory", leaves_without_memory, 2, 2, 0, ROOMY},
     {"holder: one enters in a destructor", enters_in_a_destructor, 2, 0, 0, ROOMY},
     {"holder: one holds behind another", holds_behind_another, 2, 0, 0, ROOMY},
     {"bursts: holder: one holds behind another", holds_behind_another, 2, 2, 0, ROOMY},
@@ -995,7 +999,7 @@ void check_end(const struct scene *scene) {
     MUST(scene->does != one_stays || it.turns == 6);
     MUST(it.inside == 0 && it.cond.own == NULL && it.other.own == NULL);
     MUST(scene->does != looks_in || entries.many == 0);
-    if (scene->does == ends_as_holder) {
+    if (scene->does == ends_as_holder || scene->does == ends_without_memory) {
         is_held_by(0);
         MUST(qolb_lock_close(it.lock) == QOLB_MISUSE);
         return;

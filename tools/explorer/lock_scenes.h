@@ -58,7 +58,7 @@ void is_held_by(int self);
 
 #define HOLDER_SCENES(of)                                                                              \
     of(holder_comes_and_ends) of(ends_as_holder) of(leaves_in_a_destructor) of(enters_in_a_destructor) \
-        of(holds_behind_another)
+        of(holds_behind_another) of(ends_without_memory) of(leaves_without_memory)
 #define DECLARED(name) void name(int self);
 HOLDER_SCENES(DECLARED)
 
