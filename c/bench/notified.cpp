@@ -65,18 +65,24 @@ static void has_turn(long round) {
 
 static void acquire() { must(qolb_acquire(&nodes[1]), QOLB_GRANTED); }
 
+// Whether it has to wait, by the answer of a call. A thread that lost its processor for longer than IDLE has its turn.
+static bool waits(std::uint32_t got, std::uint32_t wanted) {
+    if (got != QOLB_GRANTED) must(got, wanted);
+    return got == wanted;
+}
+
 static void poll() {
-    must(qolb_enqolb(&nodes[1]), QOLB_QUEUED);
+    if (!waits(qolb_enqolb(&nodes[1]), QOLB_QUEUED)) return;
     while (qolb_poll(&nodes[1]) != QOLB_GRANTED) {}
 }
 
 static void call() {
     static std::atomic<int> is_called;
     is_called = 0;
-    must(qolb_enqolb(&nodes[1]), QOLB_QUEUED);
-    must(qolb_notify(
-             &nodes[1], [](void *) { is_called = 1; }, nullptr),
-         QOLB_WAITING);
+    if (!waits(qolb_enqolb(&nodes[1]), QOLB_QUEUED)) return;
+    std::uint32_t got = qolb_notify(
+        &nodes[1], [](void *) { is_called = 1; }, nullptr);
+    if (!waits(got, QOLB_WAITING)) return;
     while (!is_called) {}
     must(qolb_poll(&nodes[1]), QOLB_GRANTED);
 }
@@ -84,8 +90,8 @@ static void call() {
 static void by_eventfd() {
     static int fd = eventfd(0, 0);
     eventfd_t count;
-    must(qolb_enqolb(&nodes[1]), QOLB_QUEUED);
-    must(qolb_notify_fd(&nodes[1], fd), QOLB_WAITING);
+    if (!waits(qolb_enqolb(&nodes[1]), QOLB_QUEUED)) return;
+    if (!waits(qolb_notify_fd(&nodes[1], fd), QOLB_WAITING)) return;
     must(eventfd_read(fd, &count) == 0, 1);
     must(qolb_poll(&nodes[1]), QOLB_GRANTED);
 }
@@ -95,8 +101,8 @@ static void by_epoll() {
     epoll_event event{EPOLLIN, {}};
     eventfd_t count;
     if (epoll < 0) must(epoll_ctl(epoll = epoll_create1(0), EPOLL_CTL_ADD, fd, &event) == 0, 1);
-    must(qolb_enqolb(&nodes[1]), QOLB_QUEUED);
-    must(qolb_notify_fd(&nodes[1], fd), QOLB_WAITING);
+    if (!waits(qolb_enqolb(&nodes[1]), QOLB_QUEUED)) return;
+    if (!waits(qolb_notify_fd(&nodes[1], fd), QOLB_WAITING)) return;
     while (epoll_wait(epoll, &event, 1, -1) != 1) {}
     must(eventfd_read(fd, &count) == 0, 1);
     must(qolb_poll(&nodes[1]), QOLB_GRANTED);
