@@ -121,11 +121,11 @@
  * could use one processor only at its first wait. After polls without success a thread polls for less the next time.
  * A thread that is woken before its turn yields once.
  *
- * Leaving wakes the next holder. If the leaver had slept, it may wake the waiter behind that one, too. It calls the
- * system only if it may have to wake a sleeper.
+ * Leaving wakes the next holder, in a burst the first waiter. If the leaver had slept, it may wake the waiter behind
+ * that one. It calls the system only if it may have to wake a sleeper.
  *
- * A strict lock is the next thread's, even before that runs: all behind wait until it has had its turn. So if more
- * threads, of any program, want processors than there are, short turns may take many times as long.
+ * A strict lock is the next thread's, even before that runs: all behind wait for its turn. So if more threads, of any
+ * program, want processors than there are, short turns may take many times as long.
  *
  * No wait is a cancellation point. A thread that is cancelled while it waits is granted the lock or is late, and ends
  * at its next cancellation point. A thread that may be cancelled at any instruction (PTHREAD_CANCEL_ASYNCHRONOUS) must
@@ -164,7 +164,7 @@
  *   time. A plugin that has the static one must stay open; glibc has room for two.
  * - A thread uses its first lock before the last round of its keys' destructors. Behind that glibc calls free(NULL),
  *   which must enter none.
- * - If malloc enters locks, a process makes its first call outside of pthread_atfork.
+ * - If malloc enters locks, a process makes its first call outside pthread_atfork.
  *
  * Every other call that a lock does not allow is MISUSE, and changes nothing.
  *
