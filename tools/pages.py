@@ -1,12 +1,11 @@
 #!/usr/bin/env python3
 """Checks the pages as a whole; docs/compare runs it.
 
-    tools/pages.py            words of each page, of three paths and of the manuals, each with its limit; links, names, figures, the first screen, and what is claimed of a lock
-    tools/pages.py --write    also writes tables and sentences of figures anew, from c/bench/figures/*.tsv, and whether explored code has changed since
+    tools/pages.py            compares links, names, tables of figures and what the pages say of proofs and explorations
+    tools/pages.py --write    also writes the tables of figures again, from c/bench/figures/*.tsv, and whether explored code has changed since
 
-A word is what is between blanks and has a letter or a digit. A name in code font must occur in a file that is no page, too. A ratio in a sentence
-is computed again from the table that it is of (`RATIOS` of tools/figures.py), and so is each table behind a line `<!-- figures: NAME -->`. It ends with 1 if a limit is
-passed, or something differs.
+A name in code font must also occur in a file that is not a page. Each table behind a line `<!-- figures: NAME -->` is computed again (`TABLES` of
+tools/figures.py). The program ends with 1 if something differs.
 """
 
 import pathlib
@@ -20,32 +19,10 @@ ROOT = pathlib.Path(__file__).resolve().parent.parent
 sys.path.insert(0, str(ROOT / "tools/explorer"))
 from lock_faults import FAULTS  # noqa: E402
 
-LIMITS = {
-    "README.md": 900,
-    "docs/ARCHITECTURE.md": 1550,
-    "docs/USING.md": 2450,
-    "docs/LOCKS.md": 1200,
-    "docs/PROVED.md": 4250,
-    "docs/CHANGING.md": 1850,
-    "docs/DECISIONS.md": 2800,
-    "docs/SCRIPTS.md": 2000,
-    "CHANGELOG.md": 1500,
-}
-# All pages but the CHANGELOG; the READMEs of crates, all and the lines of each; a call of the manual's third section.
-ALL, CRATES, CRATE_LINES, CALL = 23000, 4600, 25, 105
-# Three readers: who needs a lock, who wants the theorems, who carries it on.
-PATHS = {
-    "lock user": (["README.md", "docs/USING.md#locks"], 2500),
-    "verifier": (["README.md", "docs/PROVED.md"], 5150),
-    "carrier": (["README.md", "docs/ARCHITECTURE.md", "docs/CHANGING.md"], 4500),
-}
 # Names of other projects, of the system, and of what a reader makes.
 ELSEWHERE = {"ck_spinlock_mcs", "eh_frame", "my_program", "overcommit_memory", "queuing_mutex", "transparent_hugepage"}
-# What is claimed of a lock: the paragraph of PROVED that begins so is in each of these files, and the short form in those.
-CLAIM, SHORT_CLAIM = "Proved of a lock: ", "Fair locks: who has the turn is proved"
-CLAIMING = ["README.md", "c/include/qolb.h", "c/rust/qolb.rs", "c/package/README", "c/package/control.in"]
-CLAIMING_SHORT = ["c/package/qolb.pc.in", "c/rust/Cargo.toml.in"]
-# Sentences that claim more.
+# Beside the pages, files that say what is proved; and sentences that claim more.
+CLAIMING = ["c/include/qolb.h", "c/rust/qolb.rs", "c/rust/Cargo.toml.in", "c/package/README", "c/package/control.in", "c/package/qolb.pc.in"]
 TOO_MUCH = re.compile(r"library is proved|proved (?:queue )?locks?\b(?!_)|(?:nobody|no thread) is overtaken|no wake-up is lost")
 # What an exploration runs: each row of PROVED's table begins with one of these, and ends with the commit whose code it ran.
 OF_BOTH = [f"c/src/{name}" for name in ("bells.c", "bells.h", "gaps.h", "notify.c", "spin.h")]
@@ -56,10 +33,6 @@ IN_C = re.compile(r"(?P<comment>//[^\n]*|/\*.*?\*/)|\"(?:[^\"\\]|\\.)*\"|'(?:[^'
 SCENES = {"lock": ["lock_scenes.c", "holder_scenes.c", "limit_scenes.c", "task_scenes.c"], "nodes": ["node_scenes.c"]}
 # The README of the archive, which has a table of figures too.
 ARCHIVE = "c/package/README"
-# A first screen has a program in each language.
-FIRST_SCREEN, LANGUAGES = 45, ("c", "cpp", "rust")
-# A number in a sentence.
-FIGURE = r"(?:(?:\d[\d.,]*)?\d|\.\d+)"
 faults = []
 
 
@@ -67,11 +40,6 @@ def tracked():
     """The files of the repository."""
     names = subprocess.run(["git", "ls-files", "--cached", "--others", "--exclude-standard"], cwd=ROOT, capture_output=True, text=True, check=True)
     return [name for name in names.stdout.splitlines() if (ROOT / name).is_file()]
-
-
-def words(text):
-    """How many words the text has."""
-    return sum(bool(re.search(r"[^\W_]", it)) for it in text.split())
 
 
 def slug(title):
@@ -91,39 +59,6 @@ def sections(text):
         end = next((it[0] for it in heads[place + 1 :] if it[1] <= level), len(lines))
         found[anchor] = "\n".join(lines[number:end])
     return found
-
-
-def part_of(name):
-    """The text of a page, or of its section behind `#`."""
-    page, _, anchor = name.partition("#")
-    text = (ROOT / page).read_text()
-    return sections(text)[anchor] if anchor else text
-
-
-def limit(name, count, most):
-    """One row of the table of words."""
-    print(f"{count:7,} of {most:6,}  {name}")
-    if count > most:
-        faults.append(f"{name} has {count} words, and may have {most}")
-
-
-def count_words(pages):
-    """The table of words."""
-    counts = {page: words((ROOT / page).read_text()) for page in pages}
-    for page, most in LIMITS.items():
-        limit(page, counts[page], most)
-    crates = [page for page in pages if page.startswith("crates/")]
-    limit("crates/*/README.md", sum(counts[page] for page in crates), CRATES)
-    limit("all pages but CHANGELOG.md", sum(counts[page] for page in pages if page != "CHANGELOG.md"), ALL)
-    for reader, (parts, most) in PATHS.items():
-        limit(f"{reader}: {', '.join(parts)}", sum(words(part_of(part)) for part in parts), most)
-    manual = [page.read_text() for page in (ROOT / "docs/man").glob("*.3")]
-    calls = sum(page.split("\n.SH NAME\n", 1)[1].split(" \\- ", 1)[0].count(",") for page in manual)
-    limit("docs/man/*.3, a call", -(-sum(words(re.sub(r"(?m)^\.[A-Za-z]+ ?", "", page)) for page in manual) // calls), CALL)
-    for page in crates:
-        lines = (ROOT / page).read_text().count("\n")
-        if lines > CRATE_LINES:
-            faults.append(f"{page} has {lines} lines, and may have {CRATE_LINES}")
 
 
 def check_links(pages):
@@ -152,10 +87,10 @@ def check_names(pages, files):
                     faults.append(f"{page} names `{word}`, which stands in no source")
 
 
-def check_figures(is_write):
-    """Each table of figures in a page is what the measurements say, and each number in a sentence of `figures.RATIOS`."""
+def check_figures(pages, is_write):
+    """Each table of figures in a page is what the measurements say."""
     found = []
-    for page in sorted({"docs/LOCKS.md", ARCHIVE} | {page for page, _, _ in figures.RATIOS}):
+    for page in [*pages, ARCHIVE]:
         before = text = (ROOT / page).read_text()
         if page == ARCHIVE:
             text, count = re.subn(r"(?m)^(Which one, .*:\n\n)(?: {4}.*\n)+", lambda head: f"{head[1]}{figures.choice_of_archive()}\n", text)
@@ -164,13 +99,7 @@ def check_figures(is_write):
         for name, table in figures.TABLES.items():
             text, count = re.subn(rf"(<!-- figures: {name} -->\n\n).*?\n\n", lambda head: head[1] + table() + "\n\n", text, flags=re.S)
             found += [name] * count
-        for of_page, sentence, numbers in figures.RATIOS:
-            if of_page == page:
-                pattern = re.escape(sentence).replace(r"\{\}", rf"{FIGURE}(?: to {FIGURE})?")
-                text, count = re.subn(pattern, sentence.format(*numbers()), text)
-                if not count:
-                    faults.append(f"{page} has no sentence of the form: {sentence}")
-        if is_write:
+        if text != before and is_write:
             (ROOT / page).write_text(text)
         elif text != before:
             changed = [line for line in text.split("\n") if line not in before]
@@ -178,14 +107,9 @@ def check_figures(is_write):
     faults.extend(f"no page has the table of figures {name}" for name in figures.TABLES if name not in found)
 
 
-def check_claims(pages):
-    """What is claimed of a lock is the same everywhere, and no page claims more."""
-    claim = next(line for line in (ROOT / "docs/PROVED.md").read_text().split("\n") if line.startswith(CLAIM))
-    for name in [*CLAIMING, *CLAIMING_SHORT]:
-        text = " ".join(re.sub(r"(?m)^ *(?:\*|//!?)", " ", (ROOT / name).read_text()).split())
-        if (claim if name in CLAIMING else SHORT_CLAIM) not in text:
-            faults.append(f"{name} does not claim of a lock what docs/PROVED.md does")
-    for name in {*pages, *CLAIMING} - {"CHANGELOG.md"}:
+def check_claims(names):
+    """None of these files claims more than is proved."""
+    for name in names:
         for found in TOO_MUCH.finditer((ROOT / name).read_text()):
             faults.append(f"{name} claims too much: {found[0]}")
 
@@ -247,27 +171,12 @@ def check_verdict():
         faults.append(f"docs/PROVED.md shows another verdict than {path.relative_to(ROOT)}: {told[-1]}")
 
 
-def check_first_screen():
-    """README.md shows a program in each language in its first lines, the command that builds it, and advice that the figures bear out."""
-    first = "\n".join((ROOT / "README.md").read_text().split("\n")[:FIRST_SCREEN])
-    for language in LANGUAGES:
-        if not re.search(rf"(?ms)^```{language} program$.*?^```$", first):
-            faults.append(f"README.md has no whole program in {language} in its first {FIRST_SCREEN} lines")
-    if "pkg-config" not in first:
-        faults.append(f"README.md does not say in its first {FIRST_SCREEN} lines how a program is built")
-    for sentence, is_so in figures.advice():
-        if sentence not in first or not is_so:
-            faults.append(f"README.md {'does not advise' if is_so else 'must not advise, by the figures'}: {sentence}")
-
-
 def main():
     files = tracked()
     pages = [name for name in files if name.endswith(".md")]
-    check_figures("--write" in sys.argv[1:])
+    check_figures(pages, "--write" in sys.argv[1:])
     check_explored("--write" in sys.argv[1:])
-    count_words(pages)
-    check_claims(pages)
-    check_first_screen()
+    check_claims([*(page for page in pages if page != "CHANGELOG.md"), *CLAIMING])
     check_verdict()
     check_links(pages)
     check_names(pages, files)
