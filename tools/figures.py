@@ -69,18 +69,18 @@ def rounds():
     return table(["Threads", *threads], rows)
 
 
-WAITS = {"ticket line": "ticket line, spins", "ticket line, asleep": "ticket line, sleeps", "C, nodes": "C, nodes", "mutex": "mutex", "MCS": "MCS"}
+WAITS = {"C, nodes": "node", "C, qolb_lock": "strict", "C, qolb_lock, bursts": "barging", "mutex": "`pthread_mutex`", "MCS": "MCS"}
 
 
 def waits():
-    """Thousands of turns a second, and the longest wait in milliseconds."""
+    """Thousands of critical sections a second, and the longest wait in milliseconds."""
     found = {(row["turn_us"], row["threads"], row["name"]): row for row in rows_of("waits.tsv")}
 
     def cell(*key):
         return f"{short(float(found[key]['turns_a_second']) / 1000)}; {short(float(found[key]['longest_us']) / 1000)}"
 
-    rows = [[turn, count, *(cell(turn, count, name) for name in WAITS)] for turn, counts in (("0", "4 8 32"), ("10", "8 32"), ("1000", "8 32")) for count in counts.split()]
-    return table(["Turn, us", "Threads", *WAITS.values()], rows)
+    rows = [[turn, count, *(cell(turn, count, name) for name in WAITS)] for turn, counts in (("0", "2 4 8 32"), ("10", "8 32"), ("1000", "8 32")) for count in counts.split()]
+    return table(["Critical section, us", "Threads", *WAITS.values()], rows)
 
 
 def c_memory():
@@ -102,62 +102,43 @@ def memory():
     return table(["Nodes", *counts], rows)
 
 
-CHOICE = {"strict": "strict, `QOLB_LOCK_INIT`", "bursts": "bursts, `QOLB_LOCK_INIT_BURSTS(1024)`", "mutex": "`pthread_mutex`"}
+# The columns of a table about locks, with their names in the files of figures.
+OF_LOCKS = {"strict": "strict", "bursts": "barging", "mutex": "`pthread_mutex`", "MCS": "MCS"}
 
 
-def of_crowd():
-    """Nanoseconds of an empty turn by 32 threads, in runs so long that all of them run."""
-    turns = {row["lock"].replace("burst:1024", "bursts"): row["turns_a_second"] for row in rows_of("bursts.tsv") if (row["threads"], row["turn_us"]) == ("32", "0")}
-    return {lock: 1e9 / float(count) for lock, count in turns.items()}
+def of_speed(part):
+    """Nanoseconds of a critical section in one part of speed.tsv, by number of threads, up to one thread for each of the four processors."""
+    found = {}
+    for row in rows_of("speed.tsv"):
+        if row["part"] == part and int(row["threads"]) <= 4:
+            found.setdefault(row["threads"], {})[row["lock"]] = row["median"]
+    return [[threads, *(short(float(of[lock])) for lock in OF_LOCKS)] for threads, of in found.items()]
 
 
-def measured():
-    """Of a strict lock, one with bursts and a mutex: bytes, nanoseconds of a turn, and the longest wait."""
-    times = {(row["part"], row["threads"], row["lock"]): row["median"] for row in rows_of("speed.tsv")}
-    waits = {(row["threads"], row["turn_us"], row["lock"].replace("burst:1024", "bursts")): float(row["longest_wait_us"]) for row in rows_of("bursts.tsv")}
-    bytes_of = next(row["ratio"] for row in rows_of("speed.tsv") if row["part"] == "bytes")
-    rows = [["bytes", bytes_of, bytes_of, "40"]]
-    for title, *of in (("one thread", "alone", "1"), ("4 threads together", "quiet", "4")):
-        rows.append([f"{title}, ns an empty turn", *(short(float(times[*of, lock])) for lock in CHOICE)])
-    rows.append(["32 threads together, ns an empty turn", *(short(of_crowd()[lock]) for lock in CHOICE)])
-    rows.append(["32 threads, turns of 10 us, longest wait, ms", *(short(waits["32", "10", lock] / 1000) for lock in CHOICE)])
-    return rows
-
-
-def choice():
-    """Which lock to take: who may overtake, what is proved, and what was measured."""
-    rows = [
-        ["newcomers before a waiting ticket", "none", "at most 1,023, and 1,023 for each waiter before it (argued)", "any number"],
-        ["[proved](#what-is-proved) of its core", "one turn at a time, tickets in order", "the same; at most 1,023 newcomers counted between two", "nothing"],
-    ]
-    return table(["", *CHOICE.values()], rows + measured())
-
-
-def choice_of_archive():
-    """The same for the README of the archive, which is no page: in columns, indented."""
-    rows = [
-        ["", *(name.replace("`", "") for name in CHOICE.values())],
-        ["newcomers before a waiting ticket", "none", "1,023 for it and for each waiter before it", "any number"],
-        *(row for row in measured() if not row[0].startswith("32 threads together")),
-    ]
-    widths = [max(map(len, column)) for column in zip(*rows)]
-    return "\n".join("    " + "   ".join(map(str.ljust, row, widths)).rstrip() for row in rows)
-
-
-PARTS = {"alone": "empty", "quiet": "empty", "long": "10 us"}
+def empty():
+    """Nanoseconds of an empty critical section of a `qolb_lock`, a mutex and MCS."""
+    return table(["Threads", *OF_LOCKS.values()], of_speed("alone") + of_speed("quiet"))
 
 
 def speed():
-    """Nanoseconds of a turn of a `qolb_lock`, a mutex and MCS."""
-    found = {}
-    for row in rows_of("speed.tsv"):
-        if row["part"] in PARTS:
-            found.setdefault((row["part"], row["threads"]), {})[row["lock"]] = row["median"]
-    rows = []
-    for (part, threads), of in found.items():
-        times = (of["strict"], of["bursts"], of["mutex"], of.get("MCS", of["MCS that yields"]))
-        rows.append([PARTS[part], threads, *(short(float(it)) for it in times)])
-    return table(["Turn", "Threads", "strict", "bursts", "mutex", "MCS"], rows)
+    """The same, and for critical sections of 10 us."""
+    parts = {"alone": "empty", "quiet": "empty", "long": "10 us"}
+    return table(["Critical section", "Threads", *OF_LOCKS.values()], [[title, *row] for part, title in parts.items() for row in of_speed(part)])
+
+
+def choice_of_archive():
+    """A table for the README of the archive, which is no page: in columns, indented."""
+    names = {"strict": "strict, QOLB_LOCK_INIT", "bursts": "barging, QOLB_LOCK_INIT_BURSTS(1024)", "mutex": "pthread_mutex"}
+    times = {(row["part"], row["threads"], row["lock"]): row["median"] for row in rows_of("speed.tsv")}
+    bytes_of = next(row["ratio"] for row in rows_of("speed.tsv") if row["part"] == "bytes")
+    rows = [
+        ["", *names.values()],
+        ["threads that may overtake a waiter", "none", "1,023 for it and for each waiter before it", "any number"],
+        ["bytes", bytes_of, bytes_of, "40"],
+        *([f"{title}, ns an empty critical section", *(short(float(times[*of, lock])) for lock in names)] for title, *of in (("1 thread", "alone", "1"), ("4 threads", "quiet", "4"))),
+    ]
+    widths = [max(map(len, column)) for column in zip(*rows)]
+    return "\n".join("    " + "   ".join(map(str.ljust, row, widths)).rstrip() for row in rows)
 
 
 # How long a waiter spins: the name in the table, and the knob and its value in waiting.tsv.
@@ -180,4 +161,4 @@ def spins():
     return table(["Spin", "Quiet: 4, 8, 32 threads", "Loaded: 4, 8"], rows)
 
 
-TABLES = {"rounds": rounds, "fastest": fastest, "waits": waits, "memory": memory, "choice": choice, "speed": speed, "spins": spins}
+TABLES = {"rounds": rounds, "fastest": fastest, "waits": waits, "memory": memory, "empty": empty, "speed": speed, "spins": spins}

@@ -1,4 +1,4 @@
-/* QOLB for C and C++: locks, strict in the order of tickets, or with bursts, in which newcomers go first.
+/* QOLB for C and C++: queue locks, strict or barging, and lines, which hand over 64 bytes together with the lock.
  *
  * A lock (qolb_lock) guards any data, for any number of threads, as a mutex does. A line is a lock that hands over 64
  * bytes, among 1 to 200 nodes (qolb_node). A task (qolb_task) enters a lock from an event loop, which must not wait.
@@ -9,14 +9,19 @@
  *
  * PROOFS
  *
- * Proved of a lock: its core, which decides who is next, gives one turn at a time, to tickets in order, with bursts
- * of B turns counts at most B - 1 newcomers, without a ticket, from one waiter to the next, and tells a leaver
- * of the next one's announced sleep. Tested: the C around it, with wakes, time limits, conditions, tasks; at
- * the commits that PROVED names also explored, with a stand-in for the core, two or three threads, one or two
- * switches. Argued: the bound for a waiter, and that a holder sees what earlier holders wrote. No proof speaks of
- * the guarded data.
+ * The proofs of a lock are about its core, which decides who is next. They show that the core has at most one holder;
+ * that it serves tickets, the numbers that waiting threads draw, in order; that with bursts of B turns it counts at most
+ * B - 1 barging threads (threads without a ticket) from one waiter to the next; and that it tells a leaving thread
+ * whether the next waiter has announced that it sleeps.
  *
- * Of a line, order and bytes are proved. The rest is C: explored and tested.
+ * The C code around the core waits and wakes, and has the time limits, conditions and tasks. It is not proved but
+ * tested; at the commits that PROVED names it was also model-checked with two or three threads, at most two context
+ * switches, and a stand-in for the core. Two claims are argued and not proved: how many threads may overtake one waiter,
+ * and that a holder sees what earlier holders wrote. No proof is about the data that a lock protects, and none shows
+ * that a waiting thread is ever granted a lock or a line.
+ *
+ * The order of a line's requests and the bytes that each holder receives are proved. The C code that waits for a line
+ * is tested and model-checked, as that of locks is.
  *
  * SANITIZERS AND DEBUGGERS
  *

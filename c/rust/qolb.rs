@@ -32,11 +32,13 @@
 //!
 //! # What is proved
 //!
-//! Proved of a lock: its core, which decides who is next, gives one turn at a time, to tickets in order, with bursts of B turns counts at most
-//! B - 1 newcomers, without a ticket, from one waiter to the next, and tells a leaver of the next one's announced sleep. Tested: the C
-//! around it, with wakes, time limits, conditions, tasks; at the commits that PROVED names also explored, with a stand-in for the core, two or
-//! three threads, one or two switches. Argued: the bound for a waiter, and that a holder sees what earlier holders wrote. No proof speaks of the
-//! guarded data.
+//! What decides who is next in a lock, its core, is proved: it has at most one holder, it serves tickets in order, with bursts of B turns it counts at
+//! most B - 1 threads that overtake from one waiter to the next, and it tells a releasing thread whether the next waiter has announced its sleep.
+//!
+//! Not proved: the C code around the core, which waits, wakes, and has time limits, conditions and tasks, and this file. That C code is tested, and at
+//! the commits that PROVED names it was model-checked with two or three threads and at most two context switches over a stand-in for the core. How many
+//! threads may overtake one waiter, and that a holder sees what earlier holders wrote, is argued. Nothing is proved of the guarded value itself, nor
+//! that a waiting thread is ever served.
 //!
 //! # Nodes
 //!
