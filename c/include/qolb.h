@@ -10,18 +10,19 @@
  * PROOFS
  *
  * The proofs of a lock are about its core, which decides who is next. They show that the core has at most one holder;
- * that it serves tickets, the numbers that waiting threads draw, in order; that with bursts of B turns it counts at most
- * B - 1 barging threads (threads without a ticket) from one waiter to the next; and that it tells a leaving thread
- * whether the next waiter has announced that it sleeps.
+ * that it serves tickets, numbers that threads draw, in order; that with bursts of B turns it counts at most B - 1 turns
+ * of barging threads (threads without a ticket) from one served waiter to the next; and that it tells a leaving thread
+ * of a sleep that the next waiter has announced (with bursts, announced while that thread was in).
  *
- * The C code around the core waits and wakes, and has the time limits, conditions and tasks. It is not proved but
- * tested; at the commits that PROVED names it was also model-checked with two or three threads, at most two context
- * switches, and a stand-in for the core. Two claims are argued and not proved: how many threads may overtake one waiter,
- * and that a holder sees what earlier holders wrote. No proof is about the data that a lock protects, and none shows
- * that a waiting thread is ever granted a lock or a line.
+ * The code around the core is C and qolb.hpp. It waits and wakes, and has the time limits, conditions and tasks. It is
+ * not proved but tested. The C code was also model-checked, at the commit that PROVED names, in small scenes: two or
+ * three threads, at most two switches of the schedule, and a stand-in for the core. Two claims are argued and not
+ * proved: how many turns of barging threads come before one waiter, and that a holder sees what earlier holders wrote.
+ * No proof is about the data that a lock protects, and none shows that a waiting thread is ever served.
  *
- * The order of a line's requests and the bytes that each holder receives are proved. The C code that waits for a line
- * is tested and model-checked, as that of locks is.
+ * Of a line it is proved that it has at most one holder, that its requests end in their order, and which bytes each
+ * holder receives. The C code that waits for a line and notifies its nodes is tested, and was model-checked in small
+ * scenes over a model of the line.
  *
  * SANITIZERS AND DEBUGGERS
  *

@@ -33,12 +33,14 @@
 //! # What is proved
 //!
 //! What decides who is next in a lock, its core, is proved: it has at most one holder, it serves tickets in order, with bursts of B turns it counts at
-//! most B - 1 threads that overtake from one waiter to the next, and it tells a releasing thread whether the next waiter has announced its sleep.
+//! most B - 1 turns of threads without a ticket from one served waiter to the next, and it tells a releasing thread of a sleep that the next waiter has
+//! announced (with bursts, announced while that thread was in). Of a line it is proved that it has at most one holder, that its requests end in their
+//! order, and which bytes each holder receives.
 //!
-//! Not proved: the C code around the core, which waits, wakes, and has time limits, conditions and tasks, and this file. That C code is tested, and at
-//! the commits that PROVED names it was model-checked with two or three threads and at most two context switches over a stand-in for the core. How many
-//! threads may overtake one waiter, and that a holder sees what earlier holders wrote, is argued. Nothing is proved of the guarded value itself, nor
-//! that a waiting thread is ever served.
+//! Not proved: this file, and the C code below it, which waits, wakes, and has time limits, conditions and tasks. Both are tested. The C code was also
+//! model-checked, at the commit that PROVED names, in small scenes: two or three threads, at most two switches of the schedule, and stand-ins for the
+//! core and the lines. How many threads may overtake one waiter, and that a holder sees what earlier holders wrote, is argued. Nothing is proved of the
+//! guarded value itself, nor that a waiting thread is ever served.
 //!
 //! # Nodes
 //!
