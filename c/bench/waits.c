@@ -1,6 +1,5 @@
-// Threads take turns of one length at a lock for some time, and note how long they wait, as crates/bench_waits does at
-// a line. The lock is a pthread_mutex, or with -DMCS Concurrency Kit's MCS lock, which needs Debian's package
-// libck-dev:
+// Threads take turns of one length at a lock for some time, and note how long they wait. The lock is a pthread_mutex,
+// or with -DMCS Concurrency Kit's MCS lock, which needs Debian's package libck-dev:
 //
 //   clang -O3 -march=x86-64-v2 -pthread -o waits c/bench/waits.c && ./waits THREADS MICROSECONDS SECONDS
 //
