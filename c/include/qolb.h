@@ -10,9 +10,9 @@
  * PROOFS
  *
  * The proofs of a lock are about its core, which decides who is next. They show that the core has at most one holder;
- * that it serves tickets, numbers that threads draw, in order; that with bursts of B turns it counts at most B - 1 turns
- * of barging threads (threads without a ticket) from one served waiter to the next; and that it tells a leaving thread
- * of a sleep that the next waiter has announced (with bursts, announced while that thread was in).
+ * that it serves tickets, numbers that threads draw, in order; that with bursts of B turns it counts at most B - 1
+ * turns of barging threads (threads without a ticket) from one served waiter to the next; and that it tells a leaving
+ * thread of a sleep that the next waiter has announced (with bursts, announced while that thread was in).
  *
  * The code around the core is C and qolb.hpp. It waits and wakes, and has the time limits, conditions and tasks. It is
  * not proved but tested. The C code was also model-checked, at the commit that PROVED names, in small scenes: two or
