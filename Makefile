@@ -2,7 +2,7 @@
 #
 #   make test       all tests of the crates, without a proof (./qolb --test)
 #   make prove      proves and builds the program (./qolb --prove)
-#   make gate       the gate (tools/gate), which .ci/run calls
+#   make gate       the gate (.ci/run)
 #   make check      the tests of the C library (make -C c check)
 #   make fmt        lays out the crates' sources (rt fmt), and C and C++ (clang-format 14, by .clang-format)
 #   make fmt-check  whether C and C++ are laid out so
@@ -13,10 +13,9 @@ WANT_RT = $(if $(shell command -v rt 2>/dev/null),,$(error rt, the command of th
 test prove:
 	./qolb --$@
 
-# .ci/run asks what the gate ended with.
 gate:
 	$(WANT_RT)
-	tools/gate $(if $(ENDED),; echo $$? > "$(ENDED)")
+	.ci/run
 
 check install:
 	$(MAKE) -C c $@

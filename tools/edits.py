@@ -36,7 +36,7 @@ tried again, unless it was BROKEN, or with --anew: `kept from` that day is print
 `shape`, `names`, ALIVE or BROKEN.
 
 With --anchors it tries nothing: it says of each mutant whose old text does not stand once in its file where that text is now, and which files and lines
-of mutants are not read. `tools/gate` calls it.
+of mutants are not read. `.ci/run` calls it.
 
   tools/edits.py [--jobs N] [--only WORD] [--anew] [--proved] [--keep FOLDER] [CRATE ..]
   tools/edits.py --anchors

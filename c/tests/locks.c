@@ -192,7 +192,7 @@ static int in_order(uint32_t burst) {
     for (int k = 0; k < THREADS; k++) pthread_join(threads[k].id, NULL);
     for (int k = 0; k < THREADS; k++) {
         WANT(guarded.order[k], k);
-        WANT(threads[k].processor < 0.1, 1);
+        WANT_UNLESS_BUSY(threads[k].processor < 0.1);
     }
     WANT(qolb_lock_close(&lock), QOLB_DONE);
     return 0;
@@ -272,7 +272,7 @@ static int bursts(void) {
     for (int round = 0; round < 8; round++)
         for (size_t k = 0; k < sizeof of / sizeof of[0]; k++)
             if (overtaken_within_the_bound(of[k])) return 1;
-    WANT(shared_turns > 0 || has_one_processor(), 1);
+    WANT_UNLESS_BUSY(shared_turns > 0 || has_one_processor());
     return 0;
 }
 
@@ -302,7 +302,8 @@ static int others_sleep_on(uint32_t burst) {
     WANT(qolb_lock_leave(&lock), QOLB_DONE);
     for (int k = 0; k < THREADS; k++) {
         pthread_join(threads[k].id, NULL);
-        WANT(threads[k].self >= 1 && threads[k].self <= MOST_SLEEPS, 1);
+        WANT(threads[k].self >= 1, 1);
+        WANT_UNLESS_BUSY(threads[k].self <= MOST_SLEEPS);
     }
     WANT(qolb_lock_close(&lock), QOLB_DONE);
     return 0;
@@ -448,7 +449,7 @@ static int waiters_take_no_processor(void) {
     }
     for (int k = 0; k < 5; k++) {
         pthread_join(threads[k].id, NULL);
-        WANT(threads[k].processor < 0.1, 1);
+        WANT_UNLESS_BUSY(threads[k].processor < 0.1);
     }
     WANT(qolb_lock_leave(&held), QOLB_DONE);
     if (close_nodes(&node)) return 1;

@@ -301,7 +301,10 @@ bool condition_tells() {
     over = true;
     repeats.join();
     WANT(!is_so);
-    WANT(took >= 100ms && took < 2s);
+    WANT(took >= 100ms);
+#ifndef BUSY // in the gate, which may run on a busy machine
+    WANT(took < 2s);
+#endif
     int asked = 0;
     WANT(cond.wait_for(held, 30ms, [&] { return ++asked == 2; }));
     return true;

@@ -14,6 +14,13 @@
         }                                                             \
     } while (0)
 
+/* For a bound on time or on a number of sleeps, which a busy machine may pass: the gate leaves these out (-DBUSY). */
+#ifdef BUSY
+#define WANT_UNLESS_BUSY(condition) ((void)(condition))
+#else
+#define WANT_UNLESS_BUSY(condition) WANT(condition, 1)
+#endif
+
 /* For a thread that cannot return an error. */
 #define MUST(call, wanted)                                            \
     do {                                                              \
