@@ -12,7 +12,7 @@ ghost use Rattle.line_cells.specs.Layout as layout;
 pub const CELLS: u64 = 256;
 
 /// The distance in words between two nodes' words, and between two cells.
-pub(crate) const STRIDE: usize = 16;
+pub const STRIDE: usize = 16;
 
 /// The distance in words from the ticket counter to the first cell. So the cells are between the
 /// words of the nodes, which are seldom used.

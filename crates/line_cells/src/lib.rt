@@ -6,7 +6,7 @@ mod local;
 mod plays;
 
 pub use layout::{
-    CELLS, TICKET_WORD, WORDS, cell_count, cell_word, is_freed, no_word_is_none, node_word,
+    CELLS, STRIDE, TICKET_WORD, WORDS, cell_count, cell_word, is_freed, no_word_is_none, node_word,
     word_count, words_are_apart,
 };
 pub use local::{Local, Point};

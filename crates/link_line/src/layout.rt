@@ -5,10 +5,10 @@ ghost use Rattle.line_generic.specs.declared.elsewhere.TheConstants.{NO_WORD};
 ghost use Rattle.link_line.specs.Layout as layout;
 
 /// The distance in words between the entries of two nodes.
-pub(crate) const ENTRY_STRIDE: usize = 16;
+pub const ENTRY_STRIDE: usize = 16;
 
 /// The flag that a grant adds to an entry.
-pub(crate) const GRANTED: u64 = 1;
+pub const GRANTED: u64 = 1;
 
 /// The flag that a withdrawal adds to its own entry.
 pub(crate) const ROLLED: u64 = 2;
@@ -20,7 +20,7 @@ pub(crate) const DONE: u64 = 4;
 pub(crate) const FREED: u64 = 8;
 
 /// The unit of an entry's link: a link adds it times its node's number. The flags are below it.
-pub(crate) const LINK_UNIT: u64 = 256;
+pub const LINK_UNIT: u64 = 256;
 
 /// The home word. The entries are behind it.
 pub(crate) const HOME: usize = 0;

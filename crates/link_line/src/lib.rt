@@ -11,7 +11,7 @@ mod release;
 mod steps;
 
 pub use invariant::{LinkLine, LinkQueue, Port};
-pub use layout::{no_word_is_none, word_count, words_are_apart};
+pub use layout::{ENTRY_STRIDE, GRANTED, LINK_UNIT, no_word_is_none, word_count, words_are_apart};
 pub use local::LinkLocal;
 pub use qolb_model::Prep;
 pub use release::passed_nodes_have_room;

@@ -10,59 +10,62 @@ ghost use Rattle.std.specs.Int.{bit_at};
 ghost use Rattle.lock_core.specs.Layout.{cell_at, bit_of, count_of, rounds_of, shut_of, state_of, to_go};
 
 /// The outer word's number.
-pub(crate) const OUTER: usize = 0;
+pub const OUTER: usize = 0;
 
 /// The number of a word that is never written.
 pub(crate) const UNWRITTEN: usize = 8;
 
 /// The tail's number.
-pub(crate) const TAIL: usize = 16;
+pub const TAIL: usize = 16;
+
+/// The first cell's number.
+pub const FIRST_CELL: usize = 17;
 
 /// The number of cells.
-const CELLS: u64 = 4;
+pub const CELLS: u64 = 4;
 
 /// A round, in a cell.
-pub(crate) const ROUND: u64 = 1 << 34;
+pub const ROUND: u64 = 1 << 34;
 
 /// The number of rounds, until they begin anew.
 const ROUNDS: u64 = 1 << 30;
 
 /// A sleeper, in a cell.
-pub(crate) const SLEEPER: u64 = 1 << 16;
+pub const SLEEPER: u64 = 1 << 16;
 
 /// The most sleepers that a cell can count.
-pub(crate) const MAX_SLEEPERS: u64 = 65535;
+pub const MAX_SLEEPERS: u64 = 65535;
 
 /// The window of withdrawal: the most rounds to be granted until the request's own.
-pub(crate) const WINDOW: u64 = 15;
+pub const WINDOW: u64 = 15;
 
 /// The most withdrawn requests that one release passes.
-pub(crate) const MAX_PASSED: u64 = 64;
+pub const MAX_PASSED: u64 = 64;
 
 /// In the outer word: the queue head wants it.
-pub(crate) const HANDOFF: u64 = 1;
+pub const HANDOFF: u64 = 1;
 
 /// In the outer word: the queue head sleeps there.
-pub(crate) const HEAD_ASLEEP: u64 = 2;
+pub const HEAD_ASLEEP: u64 = 2;
 
 /// The outer word's state: held.
-pub(crate) const HELD: u64 = 4;
+pub const HELD: u64 = 4;
 
 /// The outer word's state: free for the queue head alone.
-pub(crate) const RESERVED: u64 = 8;
+pub const RESERVED: u64 = 8;
 
 /// In the outer word: the lock is shut.
-pub(crate) const SHUT: u64 = 16;
+pub const SHUT: u64 = 16;
 
 /// A newcomer, in the outer word.
-pub(crate) const NEWCOMER: u64 = 32;
+pub const NEWCOMER: u64 = 32;
 
 /// The number of the word of a ticket's cell.
 #[inline(always)]
 pub(crate) fn cell_word(ticket: u64) -> usize
     ensures { result ≡ cell_at ticket }
 {
-    17 + (ticket % CELLS) as usize
+    FIRST_CELL + (ticket % CELLS) as usize
 }
 
 /// The bit of a ticket in its cell.

@@ -5,7 +5,7 @@
 mod closing;
 mod guarded;
 mod handoff;
-mod layout;
+pub mod layout;
 mod meets;
 mod opening;
 mod outer;
@@ -22,7 +22,9 @@ pub use meets::{
     asked_while_open, first_come, learn, learn_order, never_two, never_two_heads, no_lost_wake,
     no_lost_wake_at_outer, none_left_at_reopening, none_served_after_shut, tell, turns_differ,
 };
-pub use opening::{LockKind, OpenError, OpenValueError, check_kind, new_seat, open, open_value};
+pub use opening::{
+    LockKind, OpenError, OpenValueError, WORDS, check_kind, new_seat, open, open_value,
+};
 pub use outer::{
     GoInResult, HeadSleepResult, LeaveResult, OuterState, TakeResult, announce_head_sleep, go_in,
     go_in_if, leave, leave_if, look_outer, request_handoff, take_outer,

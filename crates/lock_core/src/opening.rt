@@ -45,6 +45,9 @@ pub enum OpenError {
     ShortBurst(u16),
 }
 
+/// The number of a lock's words.
+pub const WORDS: usize = FIRST_WORDS.len();
+
 /// The words of a new lock: the first ticket is granted.
 const FIRST_WORDS: [u64; 21] = [
     0,

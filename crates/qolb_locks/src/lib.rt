@@ -26,7 +26,7 @@ pub use meets::{
     asked_while_open, first_come, never_two, never_two_at_turn, no_lost_wake,
     no_lost_wake_at_outer, none_left_at_reopening, none_served_after_shut, turns_differ,
 };
-pub use opening::open;
+pub use opening::{MAX_BURST, open};
 pub use outer::{announce_head_sleep, go_in, leave, release, request_handoff, take_outer};
 pub use ticket::{State, Ticket};
 pub use waiting::{announce_sleep, poll, retract_sleep, withdraw};

@@ -12,7 +12,7 @@ use lock_core::LockKind;
 use std::alloc::Global;
 
 /// The greatest bound of bursts.
-const MAX_BURST: u64 = 65_535;
+pub const MAX_BURST: u64 = 65_535;
 
 /// The kind of lock with this bound of bursts.
 fn kind_of(burst: u64) -> LockKind

@@ -10,6 +10,7 @@ use crate::answer::Answer;
 use crate::asking::take_new_seat;
 use crate::lock::Lock;
 use crate::ticket::{State, Ticket};
+use lock_core::layout::{HELD, NEWCOMER};
 use lock_core::{GoInResult, HeadSleepResult, LeaveResult, ReleaseResult, TakeResult};
 
 /// Passes a turn of the queue on. Returns `false` if it is not at its end.
@@ -118,7 +119,7 @@ fn go_in_again(lock: &Lock, ticket: &mut Ticket) -> Answer
     ticket.claim.put(seat);
     match went {
         GoInResult::Inside => {
-            ticket.outer = guess.wrapping_add(36);
+            ticket.outer = guess.wrapping_add(HELD + NEWCOMER);
             ticket.state = State::Inside as u32;
             Answer::Granted
         }
