@@ -313,6 +313,5 @@ uint64_t qolb_memory(uint32_t kind, uint64_t nodes) {
     return table + KEPT_BYTES(LINE_BYTES) + nodes * KEPT_BYTES(NODE_BYTES) + blocks * GAP_BYTES;
 }
 
-/* The version of the released library, with its parts in C: the proved part's is that of the last release that changed
- * it. */
+/* The version of the library that the program runs with, which may be another than that of its header. */
 uint32_t qolb_version(void) { return QOLB_VERSION; }

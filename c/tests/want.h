@@ -14,8 +14,9 @@
         }                                                             \
     } while (0)
 
-/* For a bound on time or on a number of sleeps, which a busy machine may pass: the gate leaves these out (-DBUSY). */
-#ifdef BUSY
+/* For a bound on time or on a number of sleeps, which a busy machine may pass: the gate leaves these out
+ * (-DANY_MACHINE). */
+#ifdef ANY_MACHINE
 #define WANT_UNLESS_BUSY(condition) ((void)(condition))
 #else
 #define WANT_UNLESS_BUSY(condition) WANT(condition, 1)

@@ -27,9 +27,6 @@ pub struct Bytes {
     pub bytes: [u8; 64],
 }
 
-/// The version of the library: 10,000 for each major version, 100 for each minor one. The header has it, too, as `QOLB_VERSION`.
-const VERSION: u32 = 10_800;
-
 /// A number that is no word of any line: no node waits there.
 const NO_WORD: u64 = u64::MAX;
 
@@ -314,12 +311,4 @@ pub extern "C" fn qolb_state_proved_(node: &mut Handle) -> u32
         None => 0,
         Some(called) => state_number(called.shown().state),
     }
-}
-
-/// Returns the library's version.
-#[unsafe(no_mangle)]
-pub extern "C" fn qolb_version_proved_() -> u32
-    ensures { result ≡ 10800 }
-{
-    VERSION
 }
