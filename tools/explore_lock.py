@@ -89,7 +89,7 @@ def built(folder, edits, width):
     shutil.copytree(SOURCE, folder, dirs_exist_ok=True)
     for name in (*SCENES, "lock_scenes.h", "explorer.h"):
         shutil.copy(MODEL / name, folder)
-    for change in (*edits, *HOOKED, ("core.c", "", "IN_ROUND = 4", f"IN_ROUND = {width}"), ("lock/lock.h", "", "TICKETS_IN_ROUND = 4", f"TICKETS_IN_ROUND = {width}")):
+    for change in (*edits, *HOOKED, ("core.c", "", "IN_ROUND = LAYOUT_CELLS", f"IN_ROUND = {width}"), ("lock/lock.h", "", "TICKETS_IN_ROUND = LAYOUT_CELLS", f"TICKETS_IN_ROUND = {width}")):
         edit(folder, *change)
     objects = [compiled(folder, name, ["-O2", "-DOF_LOCKS"] if name == "explorer.c" else BY_MODEL) for name in (*LIBRARY, *SCENES)]
     subprocess.run(["cc", *objects, "-pthread", "-o", folder / "explorer"], check=True)

@@ -78,10 +78,10 @@ FAULTS = {
 }
 
 # Notifications of nodes.
-LISTENS = "    put_in(notice, bell);\n    uint32_t got = qolb_poll_proved_(node);\n"
+LISTENS = "    put_in_list(notice, bell);\n    uint32_t got = qolb_poll_proved_(node);\n"
 LISTED = "    atomic_store(&bell->first, notice);\n    add_to_counts(notice, 1);\n"
 NOTED = "    me.notice = notice;\n    me.next = bell->running;\n    bell->running = &me;\n    return_guard(&bell->guard);\n    in_call->running = &me;\n"
-OFF = "    uint32_t got = notice->before ? QOLB_WITHDRAWN : QOLB_DONE;\n    if (notice->before) take_out(notice);\n    while ((call = running_elsewhere(notice, bell))) await_end(bell, call);\n"
+OFF = "    uint32_t got = notice->before ? QOLB_WITHDRAWN : QOLB_DONE;\n    if (notice->before) take_out_of_list(notice);\n    while ((call = running_elsewhere(notice, bell))) await_end(bell, call);\n"
 ENDS = "    if (me->awaited) atomic_fetch_add(&bell->ended, 1);\n    return_guard(&bell->guard);\n    if (me->awaited) qolb_wake_at_(&bell->ended, INT32_MAX);\n"
 TAKES = "    struct running me = {NULL, NULL, &in_call, 0};\n    take_guard(&bell->guard);\n"
 CALLS = "    qolb_tell_acquire_(notice);\n    call(arg);\n"
@@ -97,9 +97,9 @@ FAULTS |= {
     "notices: who releases takes no guard": (TAKES, TAKES.splitlines(True)[0]),
     "notices: who releases makes the call under the guard": (NOTED, NOTED.replace("    return_guard(&bell->guard);\n", ""), CALLS, CALLS + "    return_guard(&bell->guard);\n"),
     "notices: the call is noted after the guard": (NOTED, "    return_guard(&bell->guard);\n    take_guard(&bell->guard);\n" + NOTED),
-    "notices: a notice stays in the list while its call is made": ("    take_out(notice);\n    void (*call)", "    void (*call)"),
-    "notices: an off leaves the notice": (OFF, OFF.replace("    if (notice->before) take_out(notice);\n", "")),
-    "notices: an off takes the notice out without the guard": ("    struct running *call;\n    take_guard(&bell->guard);\n    uint32_t got = notice->before", "    struct running *call;\n    if (notice->before) return take_out(notice), QOLB_WITHDRAWN;\n    take_guard(&bell->guard);\n    uint32_t got = notice->before"),
+    "notices: a notice stays in the list while its call is made": ("    take_out_of_list(notice);\n    void (*call)", "    void (*call)"),
+    "notices: an off leaves the notice": (OFF, OFF.replace("    if (notice->before) take_out_of_list(notice);\n", "")),
+    "notices: an off takes the notice out without the guard": ("    struct running *call;\n    take_guard(&bell->guard);\n    uint32_t got = notice->before", "    struct running *call;\n    if (notice->before) return take_out_of_list(notice), QOLB_WITHDRAWN;\n    take_guard(&bell->guard);\n    uint32_t got = notice->before"),
     "notices: an off does not wait for a call": (OFF, OFF.replace("    while ((call = running_elsewhere(notice, bell))) await_end(bell, call);\n", "")),
     "notices: an off waits for no call that had begun before it": ("    if (!notice->call) return QOLB_DONE;\n", "    if (!notice->before) return QOLB_DONE;\n"),
     "notices: who ends a call wakes nobody": (ENDS, ENDS.replace("    if (me->awaited) qolb_wake_at_(&bell->ended, INT32_MAX);\n", "")),
@@ -116,7 +116,7 @@ FAULTS |= {
 # Nodes and notices, in steps of their own: when a count is read, where a sleeper sleeps, what a look decides.
 TOLLS = "    atomic_fetch_add(&bell->word, 1);\n    qolb_wake_at_(&bell->word, INT32_MAX);\n"
 RELEASES = "    return let_go(node, qolb_deqolb_proved_(node));\n"
-AFTER_LOOK = "    if (got != QOLB_WAITING) take_out(notice);\n"
+AFTER_LOOK = "    if (got != QOLB_WAITING) take_out_of_list(notice);\n"
 COUNTED_EARLY = "    unsigned early = atomic_load(&anywhere.waiting);\n    uint32_t got = qolb_deqolb_proved_(node);\n    return early && rings(node, got) ? rung(node, got) : got;\n"
 COUNTED_EARLY_IN_LINE = "    unsigned early = atomic_load(waiting_in_line(node));\n    uint32_t got = qolb_deqolb_proved_(node);\n    return atomic_load(&anywhere.waiting) && early ? rung(node, got) : got;\n"
 NEXT = "    ring(next.holder);\n    ring(next.ahead);\n"
@@ -134,8 +134,8 @@ FAULTS |= {
     "notices: who releases reads the count of all before the release": (RELEASES, COUNTED_EARLY),
     "notices: who releases reads the count of the line before the release": (RELEASES, COUNTED_EARLY_IN_LINE),
     "notices: who releases calls for its own place": ("qolb_went_to_proved_(node)", "qolb_waits_at_proved_(node)"),
-    "notices: a notice is counted before the look, and listed after it": (LISTED, LISTED.splitlines(True)[0], LISTENS + AFTER_LOOK, "    add_to_counts(notice, 1);\n    uint32_t got = qolb_poll_proved_(node);\n    if (got == QOLB_WAITING) put_in(notice, bell);\n    else add_to_counts(notice, -1u);\n"),
-    "notices: the look comes after the guard": (LISTENS + AFTER_LOOK, "    put_in(notice, bell);\n    return_guard(&bell->guard);\n    uint32_t got = qolb_poll_proved_(node);\n    take_guard(&bell->guard);\n    if (got != QOLB_WAITING && notice->before) take_out(notice);\n"),
+    "notices: a notice is counted before the look, and listed after it": (LISTED, LISTED.splitlines(True)[0], LISTENS + AFTER_LOOK, "    add_to_counts(notice, 1);\n    uint32_t got = qolb_poll_proved_(node);\n    if (got == QOLB_WAITING) put_in_list(notice, bell);\n    else add_to_counts(notice, -1u);\n"),
+    "notices: the look comes after the guard": (LISTENS + AFTER_LOOK, "    put_in_list(notice, bell);\n    return_guard(&bell->guard);\n    uint32_t got = qolb_poll_proved_(node);\n    take_guard(&bell->guard);\n    if (got != QOLB_WAITING && notice->before) take_out_of_list(notice);\n"),
     "notices: who is granted the line by its look stays in the list": (LISTENS + AFTER_LOOK, LISTENS),
     "notices: a call is noted no longer when it begins": ("    call(arg);\n    qolb_notify_done();\n", "    qolb_notify_done();\n    call(arg);\n"),
 }

@@ -63,7 +63,7 @@ REAL(cancel, "GLIBC_2.2.5", pthread_t)
 
 /* ---- Settings ---- */
 
-enum { USUAL_BURST = 1024, BURSTS = 65536 };
+enum { USUAL_BURST = 1024, BURSTS = MAX_BURST + 1 };
 
 static struct {
     uint32_t burst;

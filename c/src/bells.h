@@ -89,8 +89,8 @@ static inline void return_guard(atomic_uint *word) {
 
 /* A power of two. A line has fewer places: at most 256, a link line 201. */
 enum { BELLS = 1024 };
-/* The distance in words of two places of a line, in each kind. If it is wrong, places share bells. */
-enum { PLACE_WORDS = 16 };
+/* The distance in words of two places of a line, in each kind. */
+enum { PLACE_WORDS = LAYOUT_PLACE_WORDS };
 
 struct bell {
     _Alignas(APART) atomic_uint sleepers;

@@ -11,9 +11,9 @@
 #include "spin.h"
 
 /* The longest sleep of a busy node in nanoseconds: no call rings for it. */
-enum { NAP = 200000 };
+enum { LONGEST_NAP = 200000 };
 /* The nodes of a line, at most. */
-enum { MOST_NODES = 200 };
+enum { MOST_NODES = LAYOUT_MAX_NODES };
 
 /* An address for each label, for the tools that qolb.h tells of turns. */
 extern char qolb_lines_[1021];
@@ -187,25 +187,25 @@ static uint32_t sleep_at_bell(qolb_node *node, const struct limit *limit) {
     return got;
 }
 
-static uint32_t give_up(qolb_node *node) {
+static uint32_t give_up_turn(qolb_node *node) {
     uint32_t got = qolb_withdraw_proved_(node);
     return got == QOLB_WITHDRAWN ? (uint32_t)QOLB_LATE : got;
 }
 
 /* Waits until the request is at its turn: GRANTED, CLOSED, LATE. */
-static uint32_t await(qolb_node *node, const struct limit *limit) {
+static uint32_t await_turn(qolb_node *node, const struct limit *limit) {
     struct spin spun = {0};
     for (;;) {
         uint32_t got = spin(node, limit, &spun);
         if (got == QOLB_WAITING && left(limit)) got = sleep_at_bell(node, limit);
         if (got != QOLB_WAITING) return got;
-        if (left(limit) == 0) return give_up(node);
+        if (left(limit) == 0) return give_up_turn(node);
     }
 }
 
-static void nap(uint64_t most) {
+static void nap_busy(uint64_t most) {
     atomic_uint nobody_rings = 0;
-    qolb_sleep_at_(&nobody_rings, 0, most < NAP ? most : NAP);
+    qolb_sleep_at_(&nobody_rings, 0, most < LONGEST_NAP ? most : LONGEST_NAP);
 }
 
 /* Repeats the request while the node is busy: the final answer, or LATE. */
@@ -215,7 +215,7 @@ static uint32_t ask_again(qolb_node *node, const struct limit *limit) {
     for (int naps = 0; got == QOLB_BUSY;) {
         uint64_t time = left(limit);
         if (time == 0) return QOLB_LATE;
-        if (naps || !qolb_spin_once_(&spun, UNKNOWN_TURNS)) naps = 1, nap(time);
+        if (naps || !qolb_spin_once_(&spun, UNKNOWN_TURNS)) naps = 1, nap_busy(time);
         got = qolb_enqolb_proved_(node);
     }
     return got;
@@ -225,7 +225,7 @@ static uint32_t ask_again(qolb_node *node, const struct limit *limit) {
 static uint32_t waited(qolb_node *node, uint32_t got, const struct limit *limit) {
     PROBE(wait, of_node(node));
     if (got == QOLB_BUSY) got = ask_again(node, limit);
-    if (got == QOLB_QUEUED) got = await(node, limit);
+    if (got == QOLB_QUEUED) got = await_turn(node, limit);
     PROBE_END(got, of_node(node));
     return got;
 }

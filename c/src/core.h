@@ -22,30 +22,31 @@
 #ifndef QOLB_CORE_H
 #define QOLB_CORE_H
 
+#include "../proved/qolb_layout.h"
 #include "qolb.h"
 #include <stdbool.h>
 
 enum qolb_core_answer {
-    QOLB_FAR_ = 16,       /* too many rounds are before it (ticket.rounds) to withdraw it */
-    QOLB_ASLEEP_ = 17,    /* the sleep is announced: sleep now, at the address and value named below */
-    QOLB_FULL_ = 18,      /* 65,535 have announced a sleep at this cell: sleep by time */
-    QOLB_UNFINISHED_ = 19 /* the turn is still the ticket's: call again */
+    QOLB_FAR_ = LAYOUT_ANSWER_FAR,       /* too many rounds are before it (ticket.rounds) to withdraw it */
+    QOLB_ASLEEP_ = LAYOUT_ANSWER_ASLEEP, /* the sleep is announced: sleep now, at the address and value named below */
+    QOLB_FULL_ = LAYOUT_ANSWER_FULL,     /* 65,535 have announced a sleep at this cell: sleep by time */
+    QOLB_UNFINISHED_ = LAYOUT_ANSWER_UNFINISHED /* the turn is still the ticket's: call again */
 };
 
 /* What the ticket has, in `state`. */
 enum qolb_ticket_state {
-    QOLB_TICKET_FREE_ = 0,        /* no request; it may have been used before */
-    QOLB_TICKET_WAITING_ = 1,     /* it waits */
-    QOLB_TICKET_ASLEEP_ = 2,      /* it waits, and its sleep is announced */
-    QOLB_TICKET_AT_TURN_ = 3,     /* at its turn; with bursts: the queue head */
-    QOLB_TICKET_SERVED_ = 4,      /* at its turn in a strict lock, and told that this is open */
-    QOLB_TICKET_SERVED_SHUT_ = 5, /* the same, told that it is shut */
-    QOLB_TICKET_ENDING_ = 6,      /* a release that was UNFINISHED: only release goes on */
-    QOLB_TICKET_HEAD_INSIDE_ =
-        7, /* the queue head, in by the outer word: open. It has a turn of the queue to release */
-    QOLB_TICKET_HEAD_INSIDE_SHUT_ = 8, /* the same, of a lock that is shut */
-    QOLB_TICKET_INSIDE_ = 9,           /* in by the outer word alone: open */
-    QOLB_TICKET_INSIDE_SHUT_ = 10      /* the same, of a lock that is shut */
+    QOLB_TICKET_FREE_ = LAYOUT_STATE_FREE,               /* no request; it may have been used before */
+    QOLB_TICKET_WAITING_ = LAYOUT_STATE_WAITING,         /* it waits */
+    QOLB_TICKET_ASLEEP_ = LAYOUT_STATE_ASLEEP,           /* it waits, and its sleep is announced */
+    QOLB_TICKET_AT_TURN_ = LAYOUT_STATE_AT_TURN,         /* at its turn; with bursts: the queue head */
+    QOLB_TICKET_SERVED_ = LAYOUT_STATE_SERVED,           /* at its turn in a strict lock, and told that this is open */
+    QOLB_TICKET_SERVED_SHUT_ = LAYOUT_STATE_SERVED_SHUT, /* the same, told that it is shut */
+    QOLB_TICKET_ENDING_ = LAYOUT_STATE_ENDING,           /* a release that was UNFINISHED: only release goes on */
+    /* the queue head, in by the outer word: open. It has a turn of the queue to release */
+    QOLB_TICKET_HEAD_INSIDE_ = LAYOUT_STATE_HEAD_INSIDE,
+    QOLB_TICKET_HEAD_INSIDE_SHUT_ = LAYOUT_STATE_HEAD_INSIDE_SHUT, /* the same, of a lock that is shut */
+    QOLB_TICKET_INSIDE_ = LAYOUT_STATE_INSIDE,                     /* in by the outer word alone: open */
+    QOLB_TICKET_INSIDE_SHUT_ = LAYOUT_STATE_INSIDE_SHUT            /* the same, of a lock that is shut */
 };
 
 /* A reference to a lock. May be copied. */
@@ -69,6 +70,8 @@ struct qolb_ticket {
     bool head_sleeps;  /* after a leave: the queue head sleeps at the outer word, and is to be woken */
     uint8_t claim;     /* represents what the proof says of the ticket */
 };
+
+_Static_assert(sizeof(struct qolb_ticket) == LAYOUT_TICKET_BYTES, "a ticket has the proved size");
 
 /* Opens a lock in a block of the heap, or in the calling thread's room (gaps.h). `burst`: the most turns from
  * one take of the outer word by a queue head until the next; 0 or 1 is a strict lock. `label`: not 0, and given to
@@ -141,7 +144,7 @@ uint32_t qolb_core_reopen_proved_(const struct qolb_core *, struct qolb_ticket *
 static inline uint64_t *qolb_core_words_(const struct qolb_core *core) { return *(uint64_t *const *)core->at; }
 /* The upper 32 bits of the cell of this ticket: sleep while they are (uint32_t)(ticket.word >> 32). */
 static inline uint32_t *qolb_core_cell_(const struct qolb_core *core, uint64_t number) {
-    return (uint32_t *)(qolb_core_words_(core) + 17 + number % 4) + 1;
+    return (uint32_t *)(qolb_core_words_(core) + LAYOUT_FIRST_CELL + number % LAYOUT_CELLS) + 1;
 }
 /* The lower 32 bits of the outer word: sleep while they are (uint32_t)ticket.outer. */
 static inline uint32_t *qolb_core_outer_(const struct qolb_core *core) { return (uint32_t *)qolb_core_words_(core); }

@@ -3,7 +3,7 @@
  * is fetched together, and none has data of a node and data that all nodes read; and a slot of a table, with its 64
  * bytes and what goes with them, is in one pair.
  *
- * The toolchain's lines of C that allocate have these names instead of malloc's, realloc's and free's (Makefile). */
+ * The proved part calls rattle_alloc, rattle_realloc and rattle_dealloc, at the end of this file. */
 #include "gaps.h"
 #include <stdlib.h>
 #include <string.h>
@@ -29,7 +29,7 @@ static void *given_by_lock(size_t size) {
     return block;
 }
 
-static struct before *before(void *block) { return (struct before *)block - 1; }
+static struct before *before_of(void *block) { return (struct before *)block - 1; }
 
 static void *noted(void *block, size_t size) {
     struct noted_blocks *blocks = &qolb_noted_blocks_;
@@ -49,7 +49,7 @@ void qolb_give_back_(void) {
     void *block = qolb_noted_blocks_.freed;
     while (block) {
         void *next = *(void **)block;
-        free(before(block)->given);
+        free(before_of(block)->given);
         block = next;
     }
     qolb_noted_blocks_.keeps_freed = 0;
@@ -64,14 +64,14 @@ void *qolb_malloc_(size_t size) {
     char *given = size <= SIZE_MAX - 2 * GAP_BYTES ? malloc(KEPT_BYTES(size) + GAP_BYTES) : NULL;
     if (!given) return NULL;
     void *block = given + GAP_BYTES - (uintptr_t)given % GAP_BYTES;
-    *before(block) = (struct before){given, size};
+    *before_of(block) = (struct before){given, size};
     return noted(block, size);
 }
 
 void *qolb_realloc_(void *block, size_t size) {
     void *moved = qolb_malloc_(size);
     if (!moved || !block) return moved;
-    size_t had = before(block)->size;
+    size_t had = before_of(block)->size;
     memcpy(moved, block, had < size ? had : size);
     qolb_free_(block);
     return moved;
@@ -84,6 +84,35 @@ void qolb_free_(void *block) {
         *(void **)block = qolb_noted_blocks_.freed;
         qolb_noted_blocks_.freed = block;
     } else {
-        free(before(block)->given);
+        free(before_of(block)->given);
     }
 }
+
+/* The answer of an allocation. `at` is never NULL: without memory it is the address of a byte that nobody uses. */
+struct tried {
+    uint64_t is_there;
+    void *at;
+};
+
+HIDDEN struct tried rattle_alloc(size_t size, size_t align);
+HIDDEN struct tried rattle_realloc(void *block, size_t kept, size_t size, size_t align);
+HIDDEN void rattle_dealloc(void *block);
+
+static struct tried tried(void *block) {
+    static char nothing;
+    return block ? (struct tried){1, block} : (struct tried){0, &nothing};
+}
+
+/* A block of no bytes has as many as its alignment, which is at most 16. */
+static size_t bytes_for(size_t size, size_t align) { return size ? size : align; }
+
+struct tried rattle_alloc(size_t size, size_t align) {
+    return tried(qolb_malloc_(bytes_for(size, align)));
+}
+
+struct tried rattle_realloc(void *block, size_t kept, size_t size, size_t align) {
+    (void)kept;
+    return tried(qolb_realloc_(block, bytes_for(size, align)));
+}
+
+void rattle_dealloc(void *block) { qolb_free_(block); }

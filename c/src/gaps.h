@@ -3,13 +3,14 @@
 #ifndef QOLB_GAPS_H
 #define QOLB_GAPS_H
 
+#include "../proved/qolb_layout.h"
 #include "qolb.h"
 
 enum {
-    TABLE_BLOCKS = 2,  /* the words, and the slots */
-    LINE_BYTES = 112,  /* of the block with the line, which all nodes share, and the count of those that do */
-    NODE_BYTES = 160,  /* of the block of each node, to which its handle points */
-    SLOT_BYTES = 128,  /* of each slot */
+    TABLE_BLOCKS = 2, /* the words, and the slots */
+    LINE_BYTES = LAYOUT_LINE_BYTES,
+    NODE_BYTES = LAYOUT_NODE_BYTES,
+    SLOT_BYTES = LAYOUT_SLOT_BYTES,
     NOTICE_BYTES = 56, /* behind a node's data, for its notice */
     GAP_BYTES = QOLB_NODE_ALIGN
 };
@@ -26,7 +27,11 @@ struct before {
 
 /* The blocks of a lock's core, which lie in the lock's own bytes (lock/opens.c): its words, its slots, of which it
  * has none, and what refers to both. They have no `struct before`, and are never freed. */
-enum { CORE_WORDS_BYTES = 168, CORE_SLOTS_BYTES = 8, CORE_BLOCK_BYTES = 80 };
+enum {
+    CORE_WORDS_BYTES = LAYOUT_CORE_WORDS_BYTES,
+    CORE_SLOTS_BYTES = LAYOUT_CORE_SLOTS_BYTES,
+    CORE_BLOCK_BYTES = LAYOUT_CORE_BLOCK_BYTES
+};
 
 /* Where they go, while the thread opens a core; else NULL. */
 struct core_room {

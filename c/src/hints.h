@@ -17,7 +17,7 @@
 #include <stdatomic.h>
 
 /* In an entry: whether its node is granted the line; and the unit of the number of the successor. */
-enum { IS_GRANTED = 1, LINK_UNIT = 256 };
+enum { IS_GRANTED = LAYOUT_ENTRY_GRANTED, LINK_UNIT = LAYOUT_ENTRY_LINK };
 
 static inline void will_read(const volatile void *at) {
     __asm__ volatile("prefetcht0 %0" : : "m"(*(const volatile char *)at));

@@ -63,7 +63,7 @@ static void add_to_counts(const struct notice *notice, unsigned by) {
     if (notice->in_all) atomic_fetch_add(notice->in_all, by);
 }
 
-static void put_in(struct notice *notice, struct bell *bell) {
+static void put_in_list(struct notice *notice, struct bell *bell) {
     notice->next = atomic_load_explicit(&bell->first, memory_order_relaxed);
     notice->before = (struct notice **)&bell->first;
     if (notice->next) notice->next->before = &notice->next;
@@ -71,7 +71,7 @@ static void put_in(struct notice *notice, struct bell *bell) {
     add_to_counts(notice, 1);
 }
 
-static void take_out(struct notice *notice) {
+static void take_out_of_list(struct notice *notice) {
     if (notice->next) notice->next->before = notice->before;
     __atomic_store_n(notice->before, notice->next, __ATOMIC_SEQ_CST);
     notice->before = NULL;
@@ -101,9 +101,9 @@ uint32_t qolb_listen_(struct notice *notice, qolb_node *node) {
     notice->key = key_of(node, word);
     qolb_tell_release_(notice);
     take_guard(&bell->guard);
-    put_in(notice, bell);
+    put_in_list(notice, bell);
     uint32_t got = qolb_poll_proved_(node);
-    if (got != QOLB_WAITING) take_out(notice);
+    if (got != QOLB_WAITING) take_out_of_list(notice);
     return_guard(&bell->guard);
     return got;
 }
@@ -114,7 +114,7 @@ void qolb_list_(struct notice *notice, uint64_t key) {
     notice->key = key;
     qolb_tell_release_(notice);
     take_guard(&bell->guard);
-    put_in(notice, bell);
+    put_in_list(notice, bell);
     return_guard(&bell->guard);
 }
 
@@ -132,7 +132,7 @@ uint32_t qolb_unlist_(struct notice *notice) {
     struct running *call;
     take_guard(&bell->guard);
     uint32_t got = notice->before ? QOLB_WITHDRAWN : QOLB_DONE;
-    if (notice->before) take_out(notice);
+    if (notice->before) take_out_of_list(notice);
     while ((call = running_elsewhere(notice, bell))) await_end(bell, call);
     return_guard(&bell->guard);
     qolb_tell_acquire_(notice);
@@ -176,7 +176,7 @@ static void make_noted_call(struct bell *bell, uint64_t key) {
         return_guard(&bell->guard);
         return;
     }
-    take_out(notice);
+    take_out_of_list(notice);
     void (*call)(void *) = notice->call;
     void *arg = notice->arg;
     me.notice = notice;

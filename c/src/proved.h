@@ -31,6 +31,8 @@ uint64_t qolb_number_proved_(qolb_node *node);
 uint64_t qolb_label_proved_(qolb_node *node);
 uint32_t qolb_state_proved_(qolb_node *node);
 uint64_t qolb_memory_proved_(uint32_t kind, uint64_t nodes);
+/* Writes the first LAYOUT_TOLD numbers of ../proved/qolb_layout.h, in its order. */
+void qolb_layout_proved_(uint64_t *numbers);
 
 /* Numbers of words of the node's line, on which nodes wait. They name a place and nothing more: these calls read no
  * word.

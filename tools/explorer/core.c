@@ -28,17 +28,18 @@ enum { MOST_PASSED = 1 };
 #define hook_goes_in(label) ((void)0)
 #define hook_takes_outer(label) ((void)0)
 #define hook_head_sleeps(ticket) ((void)0)
-enum { MOST_NEAR = 15, MOST_SLEEPERS = 65535, MOST_PASSED = 64 };
+enum { MOST_NEAR = LAYOUT_MAX_ROUNDS_NEAR, MOST_SLEEPERS = LAYOUT_MAX_SLEEPERS, MOST_PASSED = LAYOUT_MAX_PASSED };
 #endif
 
 void *qolb_malloc_(size_t size);
 void qolb_free_(void *block);
 
-enum { OUTER = 0, TAIL = 16, CELLS = 17, WORDS = 21, IN_ROUND = 4 };
-enum { HANDOFF = 1, HEAD_SLEEPS = 2, HELD = 4, RESERVED = 8, STATE = 12, SHUT = 16, NEWCOMER = 32 };
-#define ROUND ((uint64_t)1 << 34)
-#define SLEEPER ((uint64_t)1 << 16)
-#define MOST_BURST ((uint64_t)65535)
+enum { OUTER = LAYOUT_OUTER_WORD, TAIL = LAYOUT_TAIL_WORD, CELLS = LAYOUT_FIRST_CELL, IN_ROUND = LAYOUT_CELLS };
+enum { WORDS = LAYOUT_CORE_WORDS, HANDOFF = LAYOUT_HANDOFF, HEAD_SLEEPS = LAYOUT_HEAD_ASLEEP, HELD = LAYOUT_HELD };
+enum { RESERVED = LAYOUT_RESERVED, STATE = HELD | RESERVED, SHUT = LAYOUT_SHUT, NEWCOMER = LAYOUT_NEWCOMER };
+#define ROUND ((uint64_t)1 << LAYOUT_ROUNDS_BIT)
+#define SLEEPER ((uint64_t)1 << LAYOUT_SLEEPERS_BIT)
+#define MOST_BURST ((uint64_t)LAYOUT_MAX_BURST)
 
 struct lock {
     _Atomic uint64_t *words;
@@ -53,9 +54,11 @@ static _Atomic uint64_t *outer_of(const struct lock *lock) { return &lock->words
 static _Atomic uint64_t *cell_of(const struct lock *lock, uint64_t number) {
     return &lock->words[CELLS + number % IN_ROUND];
 }
-static uint64_t bit_of(uint64_t number) { return (uint64_t)1 << (number / IN_ROUND % 16); }
-static uint64_t to_go(uint64_t cell, uint64_t number) { return (number / IN_ROUND + 1 - cell / ROUND) % (ROUND >> 4); }
-static uint64_t sleepers_in(uint64_t cell) { return cell / SLEEPER % 65536; }
+static uint64_t bit_of(uint64_t number) { return (uint64_t)1 << (number / IN_ROUND % LAYOUT_SLEEPERS_BIT); }
+static uint64_t to_go(uint64_t cell, uint64_t number) {
+    return (number / IN_ROUND + 1 - cell / ROUND) % ((uint64_t)1 << (64 - LAYOUT_ROUNDS_BIT));
+}
+static uint64_t sleepers_in(uint64_t cell) { return cell / SLEEPER % (LAYOUT_MAX_SLEEPERS + 1); }
 
 /* Whether the ticket is of this lock and in one of these states, which are bits. */
 static bool is(const struct lock *lock, const struct qolb_ticket *ticket, unsigned states) {

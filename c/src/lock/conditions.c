@@ -17,14 +17,14 @@ struct waiter {
 
 /* ---- The lists ---- */
 
-static struct link **list_of(qolb_cond *cond) { return (struct link **)&cond->own; }
+static struct link **waiters_of(qolb_cond *cond) { return (struct link **)&cond->own; }
 
-static void stand(qolb_cond *cond, struct lock *lock, struct waiter *me) {
+static void stand_at(qolb_cond *cond, struct lock *lock, struct waiter *me) {
     *me = (struct waiter){.beside = lock->waits, .before = &lock->waits};
     if (me->beside) me->beside->before = &me->beside;
     lock->waits = me;
     atomic_uint *guard = qolb_guard_(cond);
-    put_last(list_of(cond), &me->link);
+    put_last(waiters_of(cond), &me->link);
     return_guard(guard);
 }
 
@@ -35,7 +35,7 @@ static int stand_no_more(qolb_cond *cond, struct waiter *me) {
     if (stood) {
         struct link *it = &me->link;
         while (it->next != &me->link) it = it->next;
-        take_behind(list_of(cond), it);
+        take_behind(waiters_of(cond), it);
     }
     return_guard(guard);
     return stood;
@@ -50,7 +50,7 @@ static void stand_no_more_in(struct waiter *me) {
 /* ---- Waiting ---- */
 
 /* Whether it had not been told yet. Then the waiter may no longer exist. */
-static int tell(struct waiter *waiter, unsigned what) {
+static int tell_waiter(struct waiter *waiter, unsigned what) {
     unsigned nothing = NOTHING;
     atomic_uint *word = &waiter->told;
     if (!atomic_compare_exchange_strong(word, &nothing, what)) return 0;
@@ -68,7 +68,7 @@ static unsigned await_word(struct waiter *me, const struct limit *limit) {
 uint32_t qolb_cond_wait_at_(qolb_cond *cond, struct lock *lock, struct turn *at, uint64_t nanoseconds) {
     struct limit limit = from_now(nanoseconds); /* leaving may make calls of tasks */
     struct waiter me;
-    stand(cond, lock, &me);
+    stand_at(cond, lock, &me);
     atomic_fetch_add(&lock->guests, 1);
     qolb_leave_at_(lock, at);
     int stood = await_word(&me, &limit) != SIGNALLED && stand_no_more(cond, &me);
@@ -97,13 +97,13 @@ uint32_t qolb_cond_wait(qolb_cond *cond, qolb_lock *lock) { return qolb_cond_wai
 /* ---- Telling ---- */
 
 static uint32_t signal_some(qolb_cond *cond, int all) {
-    struct link **list = list_of(cond);
+    struct link **list = waiters_of(cond);
     if (!last_of(list)) return QOLB_DONE;
     atomic_uint *guard = qolb_guard_(cond);
     for (int told = 0; last_of(list) && (all || !told);) {
         struct waiter *first = (struct waiter *)take_behind(list, last_of(list));
         first->link.next = NULL;
-        told = tell(first, SIGNALLED);
+        told = tell_waiter(first, SIGNALLED);
     }
     return_guard(guard);
     return QOLB_DONE;
@@ -116,6 +116,6 @@ uint32_t qolb_cond_broadcast(qolb_cond *cond) { return signal_some(cond, 1); }
 /* From here on the holder does nothing but shut the lock. Who is told asks behind it, and stays in the list until it is
  * answered. */
 void qolb_tell_shut_(struct lock *lock) {
-    for (struct waiter *it = lock->waits; it; it = it->beside) tell(it, SHUT);
+    for (struct waiter *it = lock->waits; it; it = it->beside) tell_waiter(it, SHUT);
     lock->waits = NULL;
 }

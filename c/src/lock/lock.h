@@ -23,7 +23,7 @@
 
 /* ---- A lock's bytes ---- */
 
-enum { MAX_BURST = 65535, LOCK_BYTES = 320, LINE = 64, CORE_WORDS = CORE_WORDS_BYTES / 8, SPARE_WORDS = 3 };
+enum { MAX_BURST = LAYOUT_MAX_BURST, LOCK_BYTES = 320, LINE = 64, CORE_WORDS = LAYOUT_CORE_WORDS, SPARE_WORDS = 3 };
 
 /* How a qolb_lock's bytes are used. The first part is written once, when it is opened; what the holder writes lies
  * behind it; and the core's words begin where the outer word shares no cache line with `block`, which each call reads,
@@ -44,6 +44,7 @@ struct __attribute__((may_alias)) lock {
     uint32_t unused;
 };
 
+_Static_assert(CORE_WORDS * sizeof(uint64_t) == CORE_WORDS_BYTES, "a core has its words alone");
 _Static_assert(sizeof(struct lock) == LOCK_BYTES && sizeof(qolb_lock) == LOCK_BYTES, "the size that qolb.h says");
 
 /* A task holds the lock. */
@@ -71,9 +72,11 @@ static inline uint64_t *spare_of(struct lock *lock, enum spare which) {
 
 /* ---- Looks at the words: hints for waiting, CLOSED for who gives up, and whether who closes is alone ---- */
 
-enum { TICKETS_IN_ROUND = 4, TAIL = 16, FIRST_CELL = 17, CLASSES_OF_SLEEPERS = 32, GRANTED_ROUNDS = 34 };
-enum { HANDOFF_REQUESTED = 1, HEAD_ASLEEP = 2, OUTER_HELD = 4, OUTER_RESERVED = 8, OUTER_STATE = 12, OUTER_SHUT = 16 };
-enum { NEWCOMER = 32 };
+enum { TICKETS_IN_ROUND = LAYOUT_CELLS, TAIL = LAYOUT_TAIL_WORD, FIRST_CELL = LAYOUT_FIRST_CELL };
+enum { GRANTED_ROUNDS = LAYOUT_ROUNDS_BIT, CLASSES_OF_SLEEPERS = 32 };
+enum { HANDOFF_REQUESTED = LAYOUT_HANDOFF, HEAD_ASLEEP = LAYOUT_HEAD_ASLEEP, OUTER_HELD = LAYOUT_HELD };
+enum { OUTER_RESERVED = LAYOUT_RESERVED, OUTER_STATE = OUTER_HELD | OUTER_RESERVED, OUTER_SHUT = LAYOUT_SHUT };
+enum { NEWCOMER = LAYOUT_NEWCOMER };
 
 static inline uint64_t outer_word(const struct lock *lock) { return __atomic_load_n(words_of(lock), __ATOMIC_SEQ_CST); }
 
@@ -105,7 +108,7 @@ static inline int32_t rounds_to_go(const struct lock *lock, uint64_t number) {
 
 /* The most rounds from which a request can be withdrawn; and the most requests that are open when a call with a limit,
  * or a task, draws a ticket: so that one release passes the abandoned ones in 2 ms. */
-enum { MOST_ROUNDS_NEAR = 15, MOST_OPEN = 12288 };
+enum { MOST_ROUNDS_NEAR = LAYOUT_MAX_ROUNDS_NEAR, MOST_OPEN = 12288 };
 
 static inline int has_room(const struct lock *lock) {
     return rounds_to_go(lock, tail_word(lock)) < MOST_OPEN / TICKETS_IN_ROUND;

@@ -41,7 +41,7 @@ static uint32_t settle(struct task *me) {
 }
 
 /* Draws a ticket, and registers it: WAITING, and the task may no longer exist; GRANTED or CLOSED; NO_MEMORY. */
-static uint32_t stand(struct task *me, struct qolb_ticket *ticket) {
+static uint32_t stand_for_turn(struct task *me, struct qolb_ticket *ticket) {
     struct entry *e = has_room(me->lock) ? qolb_new_entry_(me->lock, me) : NULL;
     if (!e) return QOLB_NO_MEMORY;
     me->entry = e;
@@ -66,7 +66,7 @@ uint32_t qolb_task_enter(qolb_task *task, qolb_lock *of, void (*call)(void *), v
     if (got != QOLB_BUSY) return got;
     me->notice = (struct notice){.key = (uint64_t)(uintptr_t)me / sizeof *me << 32 | NO_WORD};
     me->notice.call = call, me->notice.arg = arg, me->notice.in_line = &due;
-    return stand(me, &at.ticket);
+    return stand_for_turn(me, &at.ticket);
 }
 
 uint32_t qolb_task_enter_fd(qolb_task *task, qolb_lock *lock, int fd) {

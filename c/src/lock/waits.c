@@ -106,7 +106,7 @@ static void make_call(uint64_t key) {
 /* Whether this turn slept, and somebody sleeps at the cell of the ticket behind the next. */
 static int wakes_ahead(struct lock *lock, const struct turn *at) {
     const uint64_t *cell = cell_of(words_of(lock), at->ticket.number + 2);
-    return has(at, SLEPT) && __atomic_load_n(cell, __ATOMIC_SEQ_CST) >> 16 & 0xffff;
+    return has(at, SLEPT) && __atomic_load_n(cell, __ATOMIC_SEQ_CST) >> LAYOUT_SLEEPERS_BIT & LAYOUT_MAX_SLEEPERS;
 }
 
 void qolb_end_turn_(struct lock *lock, struct turn *at, uint32_t got) {

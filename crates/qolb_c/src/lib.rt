@@ -14,6 +14,7 @@ ghost use Rattle.qolb_c.specs.Exports.{Calls, Closes, TurnsLeft, WaitsAt, WentTo
 ghost use Rattle.qolb_c.specs.Numbers.{number_of, state_number};
 
 mod core_calls;
+mod layout;
 
 use line_lanes::{Line64, Mask};
 use qolb_model::{LineConfig, PortState};

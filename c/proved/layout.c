@@ -1,0 +1,101 @@
+/* Prints the numbers of qolb_layout.h, one on each line in the header's order, as the proved part has them: COUNT
+ * numbers that it tells (crates/qolb_c/src/layout.rt), and the bytes of the blocks that opening a line or a lock
+ * allocates. tools/snapshot writes the header by this program, and `make -C c check` compares the two.
+ *
+ *   layout COUNT
+ *
+ * It is linked with the proved part alone: so it has its own functions for the proved part's memory. */
+#include "../src/proved.h"
+#include <stdio.h>
+#include <stdlib.h>
+#include <string.h>
+
+struct tried {
+    uint64_t is_there;
+    void *at;
+};
+
+struct tried rattle_alloc(size_t size, size_t align);
+struct tried rattle_realloc(void *block, size_t kept, size_t size, size_t align);
+void rattle_dealloc(void *block);
+uint32_t qolb_core_open_proved_(uint64_t burst, uint64_t label, void *out);
+
+/* The blocks that are allocated now, in the order of their allocation. */
+enum { MOST = 64 };
+static struct {
+    void *at;
+    size_t size;
+} blocks[MOST];
+static int many;
+
+static void fail(const char *what) {
+    fprintf(stderr, "layout: %s\n", what);
+    exit(1);
+}
+
+static void forget(const void *block) {
+    int k = 0;
+    while (k < many && blocks[k].at != block) k++;
+    if (k == many) fail("a block is freed that was not allocated");
+    memmove(blocks + k, blocks + k + 1, (size_t)(--many - k) * sizeof *blocks);
+}
+
+/* As in ../src/gaps.c, a block of no bytes has as many as its alignment. */
+struct tried rattle_alloc(size_t size, size_t align) {
+    if (!size) size = align;
+    void *at = malloc(size);
+    if (!at || many == MOST) fail("too many blocks");
+    blocks[many].at = at;
+    blocks[many++].size = size;
+    return (struct tried){1, at};
+}
+
+struct tried rattle_realloc(void *block, size_t kept, size_t size, size_t align) {
+    struct tried moved = rattle_alloc(size, align);
+    memcpy(moved.at, block, kept < size ? kept : size);
+    rattle_dealloc(block);
+    return moved;
+}
+
+void rattle_dealloc(void *block) {
+    forget(block);
+    free(block);
+}
+
+/* Of each kind of line: the words, the slots, what all nodes share, and the nodes. */
+enum { WORDS, SLOTS, SHARED, FIRST_NODE, NODES = 1 };
+
+/* The bytes of one slot, of the block that the nodes share, and of a node's. */
+static void measure_lines(size_t *slot, size_t *line, size_t *node) {
+    for (uint32_t kind = QOLB_RING; kind < QOLB_KINDS; kind++) {
+        qolb_bytes zeros = {{0}};
+        qolb_node nodes[NODES] = {{0}};
+        many = 0;
+        if (qolb_open_proved_(kind, 1, NODES, QOLB_NO_LEASE, &zeros, nodes, NODES) != QOLB_DONE) fail("no line");
+        if (many != FIRST_NODE + NODES || nodes[0].own != blocks[FIRST_NODE].at) fail("a line has other blocks");
+        if (kind == QOLB_RING) *slot = blocks[SLOTS].size, *line = blocks[SHARED].size, *node = blocks[FIRST_NODE].size;
+        if (*line != blocks[SHARED].size || *node != blocks[FIRST_NODE].size) fail("kinds of lines have other sizes");
+    }
+}
+
+int main(int argc, char **argv) {
+    enum { MOST_TOLD = 256 };
+    uint64_t told[MOST_TOLD];
+    size_t count = argc == 2 ? strtoul(argv[1], NULL, 10) : 0;
+    if (count == 0 || count >= MOST_TOLD) fail("the command is: layout COUNT");
+    memset(told, 0xff, sizeof told);
+    qolb_layout_proved_(told);
+    if (told[count - 1] == UINT64_MAX || told[count] != UINT64_MAX)
+        fail("the proved part tells another count of numbers");
+    for (size_t k = 0; k < count; k++) printf("%llu\n", (unsigned long long)told[k]);
+
+    size_t slot = 0, line = 0, node = 0;
+    const void *lock;
+    measure_lines(&slot, &line, &node);
+    printf("%zu\n%zu\n%zu\n", slot, line, node);
+    many = 0;
+    if (qolb_core_open_proved_(0, 1, &lock) != QOLB_DONE) fail("no lock");
+    if (many != 3 || lock != blocks[2].at) fail("a lock has other blocks");
+    for (int k = 0; k < many; k++) printf("%zu\n", blocks[k].size);
+    return 0;
+}

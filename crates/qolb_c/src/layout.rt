@@ -1,0 +1,145 @@
+//! What C knows of the proved types beside their calls: sizes, numbers of words, bits and limits.
+//!
+//! `tools/snapshot` writes them, with these comments, to `c/proved/qolb_layout.h`. The blocks that a call allocates are not here: it measures those.
+ghost use Rattle.std.specs.Prelude.{◌≡◌};
+
+use line_cells::STRIDE;
+use link_line::{ENTRY_STRIDE, GRANTED, LINK_UNIT};
+use lock_core::WORDS;
+use lock_core::layout::{
+    CELLS, FIRST_CELL, HANDOFF, HEAD_ASLEEP, HELD, MAX_PASSED, MAX_SLEEPERS, NEWCOMER, OUTER,
+    RESERVED, ROUND, SHUT, SLEEPER, TAIL, WINDOW,
+};
+use qolb_locks::{Answer, MAX_BURST, State, Ticket};
+use qolb_model::MAX_NODES;
+
+/// The numbers, each in 64 bits. C reads them as an array.
+#[repr(C)]
+#[derive(Clone, Copy)]
+pub struct Layout {
+    /// The most nodes of a line.
+    pub max_nodes: u64,
+    /// The distance in words of two words on which nodes of a line wait, of any kind.
+    pub place_words: u64,
+    /// In the entry of a link line's node: the node is granted the line.
+    pub entry_granted: u64,
+    /// In the same: the unit of the number of the node's successor.
+    pub entry_link: u64,
+    /// The bytes of a ticket of a lock.
+    pub ticket_bytes: u64,
+    /// The words of a lock's core: all of them.
+    pub core_words: u64,
+    /// The outer word.
+    pub outer_word: u64,
+    /// The tail: the next ticket's number.
+    pub tail_word: u64,
+    /// The first cell. Ticket t has the cell with number t modulo `cells`, in round t / `cells`.
+    pub first_cell: u64,
+    /// The number of cells.
+    pub cells: u64,
+    /// In a cell: the lowest bit of the rounds that are granted.
+    pub rounds_bit: u64,
+    /// In a cell: the lowest bit of the count of sleepers. The bits below it are of withdrawn requests.
+    pub sleepers_bit: u64,
+    /// The most sleepers that a cell counts.
+    pub max_sleepers: u64,
+    /// In the outer word: the queue head requests it.
+    pub handoff: u64,
+    /// In the outer word: the queue head sleeps there.
+    pub head_asleep: u64,
+    /// In the outer word: it is held.
+    pub held: u64,
+    /// In the outer word: it is free for the queue head alone.
+    pub reserved: u64,
+    /// In the outer word: the lock is shut.
+    pub shut: u64,
+    /// In the outer word: the unit of the number of newcomers since the last queue head.
+    pub newcomer: u64,
+    /// The greatest bound of bursts.
+    pub max_burst: u64,
+    /// The most rounds before a request that can be withdrawn.
+    pub max_rounds_near: u64,
+    /// The most withdrawn requests that one release passes.
+    pub max_passed: u64,
+    /// A ticket without a request.
+    pub state_free: u64,
+    /// A ticket that waits.
+    pub state_waiting: u64,
+    /// A ticket that waits, and whose sleep is announced.
+    pub state_asleep: u64,
+    /// A ticket at its turn.
+    pub state_at_turn: u64,
+    /// A ticket at its turn in a strict lock, told that this is open.
+    pub state_served: u64,
+    /// The same, told that it is shut.
+    pub state_served_shut: u64,
+    /// A ticket whose release goes on.
+    pub state_ending: u64,
+    /// The queue head's ticket, in by the outer word of an open lock.
+    pub state_head_inside: u64,
+    /// The same, of a lock that is shut.
+    pub state_head_inside_shut: u64,
+    /// A ticket that is in by the outer word alone, of an open lock.
+    pub state_inside: u64,
+    /// The same, of a lock that is shut.
+    pub state_inside_shut: u64,
+    /// The answer: too many rounds are before the request to withdraw it.
+    pub answer_far: u64,
+    /// The answer: the sleep is announced.
+    pub answer_asleep: u64,
+    /// The answer: the cell counts the most sleepers.
+    pub answer_full: u64,
+    /// The answer: the turn is still the ticket's.
+    pub answer_unfinished: u64,
+}
+
+/// The numbers, by the crates that own them.
+const LAYOUT: Layout = Layout {
+    max_nodes: MAX_NODES,
+    place_words: STRIDE as u64,
+    entry_granted: GRANTED,
+    entry_link: LINK_UNIT,
+    ticket_bytes: size_of::<Ticket>() as u64,
+    core_words: WORDS as u64,
+    outer_word: OUTER as u64,
+    tail_word: TAIL as u64,
+    first_cell: FIRST_CELL as u64,
+    cells: CELLS,
+    rounds_bit: u64::trailing_zeros(ROUND) as u64,
+    sleepers_bit: u64::trailing_zeros(SLEEPER) as u64,
+    max_sleepers: MAX_SLEEPERS,
+    handoff: HANDOFF,
+    head_asleep: HEAD_ASLEEP,
+    held: HELD,
+    reserved: RESERVED,
+    shut: SHUT,
+    newcomer: NEWCOMER,
+    max_burst: MAX_BURST,
+    max_rounds_near: WINDOW,
+    max_passed: MAX_PASSED,
+    state_free: State::Free as u64,
+    state_waiting: State::Waiting as u64,
+    state_asleep: State::Asleep as u64,
+    state_at_turn: State::AtTurn as u64,
+    state_served: State::Served as u64,
+    state_served_shut: State::ServedShut as u64,
+    state_ending: State::Ending as u64,
+    state_head_inside: State::HeadInside as u64,
+    state_head_inside_shut: State::HeadInsideShut as u64,
+    state_inside: State::Inside as u64,
+    state_inside_shut: State::InsideShut as u64,
+    answer_far: Answer::Far as u64,
+    answer_asleep: Answer::Asleep as u64,
+    answer_full: Answer::Full as u64,
+    answer_unfinished: Answer::Unfinished as u64,
+};
+
+const _: () = prove!(STRIDE == ENTRY_STRIDE);
+
+/// Tells C the numbers.
+#[unsafe(no_mangle)]
+pub extern "C" fn qolb_layout_proved_(out: &mut Layout)
+    ensures { out.new ≡ LAYOUT }
+{
+    *out = LAYOUT;
+}
