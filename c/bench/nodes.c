@@ -118,10 +118,10 @@ int main(int argc, char **argv) {
         has_polls |= strcmp(argv[k], "polls") == 0;
         acquires_alone |= strcmp(argv[k], "acquire") == 0;
     }
-    print_hand_overs();
+    print_hand_overs(processors, many_processors);
     if (has_loops) begin_loops();
     run_phases(atof(argv[4]));
-    if (!has_loops) print_hand_overs();
+    if (!has_loops) print_hand_overs(processors, many_processors);
     print_ways();
     fflush(stdout);
     _exit(0);

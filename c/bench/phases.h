@@ -6,7 +6,7 @@
 #ifndef PHASES_H
 #define PHASES_H
 
-#include "clock.h"
+#include "hand_over.h"
 #include <ck_pr.h>
 #include <ck_spinlock.h>
 #include <pthread.h>
@@ -188,52 +188,12 @@ static double wait_999(int by) {
 
 /* ---- The machine ---- */
 
-static atomic_int ball;
-enum { THROWS = 20000, WARM = 2000 };
-
-static void *throw_back(void *processor) {
-    stay_at((int)(long)processor);
-    for (int k = 0; k < THROWS; k++) {
-        while (atomic_load(&ball) != 2 * k + 1) continue;
-        atomic_store(&ball, 2 * k + 2);
-    }
-    return NULL;
-}
-
-/* The time of a hand-over of a cache line from one of these processors to the other, in nanoseconds. */
-static double hand_over(int a, int b) {
-    pthread_t other;
-    uint64_t since = 0;
-    atomic_store(&ball, 0);
-    if (pthread_create(&other, NULL, throw_back, (void *)(long)b)) abort();
-    stay_at(a);
-    for (int k = 0; k < THROWS; k++) {
-        if (k == WARM) since = now();
-        atomic_store(&ball, 2 * k + 1);
-        while (atomic_load(&ball) != 2 * k + 2) continue;
-    }
-    double each = (double)(now() - since) / (2 * (THROWS - WARM));
-    pthread_join(other, NULL);
-    return each;
-}
-
-static void print_hand_overs(void) {
-    cpu_set_t before;
-    if (sched_getaffinity(0, sizeof before, &before)) abort();
-    printf("# a hand-over between processors, ns:");
-    for (int a = 0; a < many_processors; a++)
-        for (int b = a + 1; b < many_processors; b++)
-            printf(" %d-%d %.0f", processors[a], processors[b], hand_over(processors[a], processors[b]));
-    puts("");
-    if (sched_setaffinity(0, sizeof before, &before)) abort();
-}
-
 static int print_machine(void) {
     enum { PAUSES = 100000 };
     uint64_t since = now();
     for (int k = 0; k < PAUSES; k++) __builtin_ia32_pause();
     printf("# a pause, ns: %.1f\n", (double)(now() - since) / PAUSES);
-    print_hand_overs();
+    print_hand_overs(processors, many_processors);
     return 0;
 }
 

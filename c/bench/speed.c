@@ -149,7 +149,7 @@ int main(int argc, char **argv) {
     if (argc == 3 && strcmp(argv[1], "bytes") == 0) return of_bytes((size_t)atol(argv[2]));
     if (!take_arguments(argc, argv))
         return fprintf(stderr, "speed THREADS MICROSECONDS PHASE_MS SECONDS at=0,2,1,3 [loops] [one]\n"), 2;
-    print_hand_overs();
+    print_hand_overs(processors, many_processors);
     for (int k = 6; k < argc; k++) {
         if (strcmp(argv[k], "loops") == 0) begin_loops();
         if (strcmp(argv[k], "one") == 0) by_one = 1, pinned = 0, stay_at(processors[0]);
@@ -158,7 +158,7 @@ int main(int argc, char **argv) {
     make_locks();
     run_phases(atof(argv[4]));
     if (!all_are_there()) return 1;
-    if (argc < 7) print_hand_overs(); /* nothing loops, and all processors may be used */
+    if (argc < 7) print_hand_overs(processors, many_processors); /* nothing loops, and all processors may be used */
     print_ways();
     fflush(stdout);
     _exit(0);
