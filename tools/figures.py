@@ -1,6 +1,7 @@
 """The tables of the pages that show figures of c/bench/figures."""
 
 import csv
+import functools
 import pathlib
 import re
 
@@ -160,5 +161,98 @@ def spins():
     rows = [[title, of_knob("quiet", knob, value, "4 8 32"), of_knob("loaded", knob, value, "4 8")] for title, knob, value in SPINS]
     return table(["Spin", "Quiet: 4, 8, 32 threads", "Loaded: 4, 8"], rows)
 
+
+# ---- c/bench/peers: our locks beside those that people use ----
+
+PEERS = "peers.tsv"
+OURS = ("strict", "barging", "ticket node", "link node", "ring node")
+# The columns of its tables; with more threads than processors an MCS lock yields.
+BESIDE = ("strict", "barging", "ticket node", "pthread_mutex", "absl::Mutex", "parking_lot", "Rust std", "tbb::queuing_mutex", "MCS")
+# Of each table the file's column, by how much its numbers are divided, whether more is better, and the rows: a workload and numbers of threads.
+MEASURES = {
+    "peers_time": ("ns", 1, False, ("E 1 2 4 8 32", "D 4", "T 4 8 32", "L 4 32", "M 4 32")),
+    "peers_tail": ("p999", 1000, False, ("E 4 32", "T 4 8 32", "L 4 32", "M 4 32")),
+    "peers_cpu": ("cpu", 1, False, ("E 4 32", "T 4 8 32", "L 4 32")),
+    "peers_fair": ("fair", 1, True, ("E 4 32", "T 8 32", "L 4 32")),
+}
+TOLD = {"E": "E: empty", "D": "D: 64 bytes", "T": "T: 1 us in, 3 us out", "L": "L: 10 us", "M": "M: mixed, 8 locks"}
+
+
+BEFORE = "before: "  # how the names of our locks begin if an older library has them
+
+
+def peers_of(name, column, is_before=False):
+    """A figure of each lock that a run has, by workload and number of threads; more than two threads only of a machine with four processors. Of an older library
+    of ours, or of the one of that day and all other locks."""
+    processors = int(fact(name, "machine").split()[0])
+    found = {}
+    for row in rows_of(name):
+        if row[column] and (processors >= 4 or int(row["threads"]) <= 2) and row["lock"].startswith(BEFORE) == is_before:
+            lock = row["lock"].removeprefix(BEFORE).removesuffix(" that yields")
+            found.setdefault((row["workload"], int(row["threads"])), {})[lock] = float(row[column])
+    return found
+
+
+def best_of(figures, names, is_more):
+    """The best figure of these locks, and the lock's name; None if none has one."""
+    there = [(figures[name], name) for name in names if name in figures]
+    return (max if is_more else min)(there) if there else None
+
+
+def of_theirs(figures, is_more):
+    """The best of our locks as a ratio to the best of the others: above 1, ours is worse."""
+    ours = best_of(figures, OURS, is_more)
+    theirs = best_of(figures, [name for name in figures if name not in OURS], is_more)
+    if not ours or not theirs:
+        return 0
+    better, worse = (ours[0], theirs[0]) if is_more else (theirs[0], ours[0])
+    return worse / better if better else 0
+
+
+def beside_peers(table_name, name=PEERS):
+    """A table of one measure, the best lock of each row in bold. The row in which our best is farthest behind the best of the others is there in any case."""
+    column, unit, is_more, wanted = MEASURES[table_name]
+    found = peers_of(name, column)
+    keys = [(of.split()[0], int(threads)) for of in wanted for threads in of.split()[1:]]
+    keys = [key for key in keys if key in found]
+    lost = max(found, key=lambda key: of_theirs(found[key], is_more))
+    rows = []
+    for key in sorted({*keys, lost}, key=lambda key: ("EDTLM".index(key[0]), key[1])):
+        best = best_of(found[key], BESIDE, is_more)[0]
+        cells = [short(found[key][lock] / unit) if lock in found[key] else "-" for lock in BESIDE]
+        cells = [f"**{cell}**" if found[key].get(lock) == best else cell for lock, cell in zip(BESIDE, cells)]
+        rows.append([TOLD[key[0]], str(key[1]), *cells, f"{of_theirs(found[key], is_more):.2f}"])
+    return table(["Workload", "Threads", *(f"`{lock}`" if "_" in lock or ":" in lock else lock for lock in BESIDE), "ours to theirs"], rows)
+
+
+def best_peers(name=PEERS):
+    """The best lock of all by each measure, for each workload and number of threads."""
+    of_all = {measure: peers_of(name, MEASURES[measure][0]) for measure in MEASURES}
+    rows = []
+    for key in of_all["peers_time"]:
+        cells = []
+        for measure, found in of_all.items():
+            best = best_of(found.get(key, {}), found.get(key, {}), MEASURES[measure][2])
+            cells.append(f"{best[1]} {short(best[0] / MEASURES[measure][1])}" if best else "-")
+        rows.append([TOLD[key[0]], str(key[1]), *cells])
+    rows.sort(key=lambda row: (list(TOLD.values()).index(row[0]), int(row[1])))
+    return table(["Workload", "Threads", "least time, ns", "least 99.9 %, us", "least processor time, ns", "fairest"], rows)
+
+
+def to_before(name=PEERS):
+    """Our locks' figures, each with its ratio to that of the older library in the same run; empty if the run has none."""
+    measures = {measure: (peers_of(name, of[0]), peers_of(name, of[0], is_before=True), of[1]) for measure, of in MEASURES.items()}
+    rows = []
+    for key, older in measures["peers_time"][1].items():
+        for lock in older:
+            row = [TOLD[key[0]], str(key[1]), lock]
+            for now, was, unit in measures.values():
+                figure, old = now.get(key, {}).get(lock), was.get(key, {}).get(lock)
+                row.append(f"{short(figure / unit)}; {figure / old:.2f}" if figure is not None and old else "-")
+            rows.append(row)
+    return table(["Workload", "Threads", "Lock", "time, ns", "99.9 %, us", "processor time, ns", "least to most"], rows) if rows else ""
+
+
+PEER_TABLES = {name: functools.partial(beside_peers, name) for name in MEASURES} | {"peers_best": best_peers}
 
 TABLES = {"rounds": rounds, "fastest": fastest, "waits": waits, "memory": memory, "empty": empty, "speed": speed, "spins": spins}
