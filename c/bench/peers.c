@@ -511,7 +511,7 @@ static int measure(const int *threads, int many) {
         all += all_ms(threads[k]);
     }
     fprintf(stderr, "peers: %d locks, about %.1f minutes\n", many_locks, all / 60000);
-    deadline = now() + (uint64_t)(all * 1.5e6) + 10000000000;
+    deadline = now() + (uint64_t)(all * 1.5e6) + 30000000000;
     calibrate();
     double was = steps_a_ns, ticks_were = ticks_a_ns;
     printf("# clock %s\n", by_tsc ? "the processor's counter, which is invariant" : "clock_gettime");
