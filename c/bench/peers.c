@@ -145,7 +145,7 @@ enum { THINK_IN = 1000, THINK_OUT = 3000, LONG_IN = 10000, MIXED_LEAST = 200, MI
 
 /* A lock and what it guards. Phases take one place after another, each type of lock the same ones. */
 static struct place {
-    _Alignas(PAGE) unsigned char lock[LOCK_BYTES];
+    _Alignas(APART) unsigned char lock[LOCK_BYTES];
     _Alignas(APART) uint64_t count;
     _Alignas(APART) uint64_t line[8];
 } places[PLACES];
