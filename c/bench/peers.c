@@ -507,7 +507,7 @@ static int list_locks(void) {
 static int measure(const int *threads, int many) {
     double all = 0;
     for (int k = 0; k < many; k++) {
-        if (threads[k] < 1 || threads[k] > MOST_THREADS) fail("1 to 64 threads");
+        if (threads[k] < 1 || threads[k] > MOST_THREADS) fail("1 to 200 threads");
         all += all_ms(threads[k]);
     }
     fprintf(stderr, "peers: %d locks, about %.1f minutes\n", many_locks, all / 60000);

@@ -8,7 +8,7 @@
 
 /* The room that a lock has, and the room that each thread has for its part of the lock, such as an MCS node. Both are
  * zeros before `open`, and lie apart from all else by at least QOLB_NODE_ALIGN. */
-enum { LOCK_BYTES = 384, OWN_BYTES = 128, MOST_THREADS = 64 };
+enum { LOCK_BYTES = 384, OWN_BYTES = 128, MOST_THREADS = 200 };
 
 struct lock_type {
     const char *name;
