@@ -1,6 +1,5 @@
 /* Measures locks beside each other. README.md says what is measured; c/bench/peers builds this program and runs it.
  *
- *   peers list                     prints the locks' names
  *   peers hand-overs PROCESSORS    prints how long a cache line takes between each two of them, as 0,1,2,3
  *   peers PROCESSORS THREADS WORKLOADS ROUNDS MILLISECONDS SEED [LOCK ..]
  *
@@ -498,12 +497,6 @@ static int take_numbers(const char *word, int *numbers, int most) {
     return many;
 }
 
-static int list_locks(void) {
-    find_locks(NULL, 0);
-    for (int k = 0; k < many_locks; k++) puts(locks[k]->name);
-    return 0;
-}
-
 static int measure(const int *threads, int many) {
     double all = 0;
     for (int k = 0; k < many; k++) {
@@ -525,7 +518,6 @@ static int measure(const int *threads, int many) {
 
 int main(int argc, char **argv) {
     int threads[32], many;
-    if (argc == 2 && strcmp(argv[1], "list") == 0) return list_locks();
     if (argc == 3 && strcmp(argv[1], "hand-overs") == 0)
         return print_hand_overs(processors, take_numbers(argv[2], processors, MOST_PROCESSORS)), 0;
     if (argc < 7) fail("PROCESSORS THREADS WORKLOADS ROUNDS MILLISECONDS SEED [LOCK ..]");
