@@ -1,4 +1,4 @@
-"""Plots of figures in c/bench/figures: the time of a turn, busy processors, and a line's bytes."""
+"""Plots of figures in c/bench/figures: the time of a turn, busy processors, a line's bytes, and what a simulation says of larger machines."""
 
 import math
 import pathlib
@@ -11,7 +11,7 @@ import figures
 from figures import LINES, rows_of
 
 WIDTH, LEFT, RIGHT, TOP = 760, 60, 540, 36
-COLOURS = {"ticket line": "#2da44e", "ring": "#d9730d", "link line": "#3b82f6", "MCS": "#768390", "mutex": "#a371f7"}
+COLOURS = {"ticket line": "#2da44e", "ring": "#d9730d", "link line": "#3b82f6", "MCS": "#768390", "mutex": "#a371f7", "strict": "#cf222e", "barging": "#8250df"}
 
 
 class Plot:
@@ -45,14 +45,15 @@ class Plot:
         self.picture.shapes.append(shape(RIGHT + 20, y))
         self.picture.text(RIGHT + 54, y + 4, name, anchor="start")
 
-    def curve(self, name, values, colour, dashes=""):
+    def curve(self, name, values, colour, dashes="", has_key=True):
         """Draws a value for each column, with a line between them."""
         style = f'style="fill: none; stroke: {colour}; stroke-width: 2; stroke-dasharray: {dashes or "none"}"'
         points = [(self.x(k), self.y(value)) for k, value in enumerate(values)]
         self.picture.shapes.append(f'<polyline points="{" ".join(f"{x:.1f},{y:.1f}" for x, y in points)}" {style}/>')
         for x, y in points:
             self.picture.shapes.append(f'<circle cx="{x:.1f}" cy="{y:.1f}" r="3.5" style="fill: {colour}"/>')
-        self.key(name, lambda x, y: f'<path d="M{x},{y} h26" {style}/>')
+        if has_key:
+            self.key(name, lambda x, y: f'<path d="M{x},{y} h26" {style}/>')
 
     def bars(self, name, values, colour, place, opacity):
         """Draws a bar for each column, at one of four places."""
@@ -114,6 +115,19 @@ def memory():
     return plot.picture
 
 
+def scale():
+    """The time of a critical section in a simulation, by the number of processors that wait."""
+    found = {(row["lock"], row["sockets"], int(row["waiters"])): float(row["ns"]) for row in rows_of("scale.tsv")}
+    waiters = sorted({count for _, _, count in found})
+    plot = Plot("SIMULATED nanoseconds of a critical section: lower is better", "processors that wait for one lock; dotted: on two sockets", waiters, 270)
+    plot.scale(40, 10000, (50, 100, 200, 500, 1000, 2000, 5000), log=True)
+    for name in dict.fromkeys(lock for lock, _, _ in found):
+        for sockets, dashes in (("1", ""), ("2", "2 4")):
+            plot.curve(name, [found[name, sockets, count] for count in waiters], COLOURS[name], dashes, has_key=sockets == "1")
+    plot.source("scale.tsv")
+    return plot.picture
+
+
 def pictures():
     """The pictures by their names."""
-    return {"rounds": rounds(), "processors": processors(), "memory": memory()}
+    return {"scale": scale(), "rounds": rounds(), "processors": processors(), "memory": memory()}
