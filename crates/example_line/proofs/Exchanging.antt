@@ -65,16 +65,6 @@ pub wrote_moves : (allows : List ℕ → List ℕ → Type 0) (old mid new : Vie
     → Moves (λ does. does found left) old new
 wrote_moves allows old mid new turn write found left before wrote = turn_moves allows old mid new turn write found left before wrote.granted wrote.releases wrote.lay wrote.lies
 
--- one thing after another
-pub moves_on : (total : (ℕ → ℕ → ℕ) → ℕ) (old mid new : View) → Moves (λ _. 0) old mid → Moves total mid new → Moves total old new
-moves_on total old mid new a b = record {
-  places = b.places;
-  sums = λ does none. b.sums does none ∙ ap (λ n. n + total does) (a.sums does none ∙ sym (plus_none (lane_sum_of does old)));
-}
-
-pub stays_still : (v : View) → KnowsOwnPlaces v → Moves (λ _. 0) v v
-stays_still v places = record { places = places; sums = λ does none. plus_none (lane_sum_of does v) }
-
 -- a turn that leaves what it found moves nothing
 pub same_moves : (old new : View) (lane : ℕ) → Moves (λ does. does lane lane) old new → Moves (λ _. 0) old new
 same_moves old new lane moves = record {
@@ -88,46 +78,11 @@ none_put lane = omega arith
 none_filled : (lane : ℕ) → fills lane lane ≡ 0
 none_filled lane = omega arith
 
-pub exchanges_none : (v : View) → KnowsOwnPlaces v → Exchanges 0 0 0 0 v v
-exchanges_none v places = record {
-  places = places;
-  filled = plus_none (lane_sum_of fills v);
-  in_all = plus_none (lane_sum_of puts v);
-  emptied = plus_none (lane_sum_of empties v);
-  out_all = plus_none (lane_sum_of takes v);
-}
-
 -- one thing more is counted
 adds_on : (a b c m d n : ℕ) → b ≡ a + m → c ≡ b + d → d ≡ n → c ≡ a + (m + n)
 adds_on a b c m d n before one is = omega (arith, before, one, is)
 
--- one value more is put, or taken
-pub puts_one : (old mid new : View) (value : ℕ) → Exchanges value (sum_up_to value) 0 0 old mid → Moves (λ does. does 0 (value + 1)) mid new → Exchanges (value + 1) (sum_up_to (value + 1)) 0 0 old new
-puts_one old mid new value before one = record {
-  places = one.places;
-  filled = adds_on (lane_sum_of fills old) (lane_sum_of fills mid) (lane_sum_of fills new) value (fills 0 (value + 1)) 1 before.filled (one.sums fills none_filled) (filled_one value);
-  in_all =
-      adds_on (lane_sum_of puts old) (lane_sum_of puts mid) (lane_sum_of puts new) (sum_up_to value) (puts 0 (value + 1)) (value + 1) before.in_all (one.sums puts none_put) (put_one value)
-      ∙ ap (λ n. lane_sum_of puts old + n) (sym (next value));
-  emptied = adds_on (lane_sum_of empties old) (lane_sum_of empties mid) (lane_sum_of empties new) 0 (empties 0 (value + 1)) 0 before.emptied (one.sums empties none_filled) (emptied_none value);
-  out_all = adds_on (lane_sum_of takes old) (lane_sum_of takes mid) (lane_sum_of takes new) 0 (takes 0 (value + 1)) 0 before.out_all (one.sums takes none_put) (took_none value);
-}
-  where
-    filled_one : (n : ℕ) → min (n + 1) 1 - min 0 1 ≡ 1
-    filled_one n = omega arith
-
-    put_one : (n : ℕ) → (n + 1) - 0 ≡ n + 1
-    put_one n = omega arith
-
-    emptied_none : (n : ℕ) → min 0 1 - min (n + 1) 1 ≡ 0
-    emptied_none n = omega arith
-
-    took_none : (n : ℕ) → 0 - (n + 1) ≡ 0
-    took_none n = omega arith
-
-    next : (n : ℕ) → sum_up_to (n + 1) ≡ sum_up_to n + (n + 1)
-    next n = let e : n + 1 ≡ suc n = omega arith in ap sum_up_to e ∙ ap (λ m. sum_up_to n + m) (sym e)
-
+-- one value more is taken
 pub takes_one : (old mid new : View) (many taken value : ℕ) → value ≢ 0 → Exchanges 0 0 many taken old mid → Moves (λ does. does value 0) mid new → Exchanges 0 0 (many + 1) (taken + value) old new
 takes_one old mid new many taken value not_zero before one = record {
   places = one.places;

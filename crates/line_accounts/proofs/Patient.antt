@@ -12,10 +12,6 @@ module _ {Port : Type 0} (counters : Port → Counters) (patience : ℕ) where
   still : (o : Port) (before after : Port) → Some before ≡ Some after → (counters after).poll_count ≤ (counters before).poll_count + patience
   still o before after e = let same : before ≡ after = cc in let l = ap (λ (port : Port). (counters port).poll_count) same in omega arith
 
-  -- no port was called
-  pub patient_none : (ports : List Port) → ArePatient counters patience ports ports
-  patient_none ports = record { each = λ i before after was is. still before before after (sym was ∙ is) }
-
   module _ (ports : List Port) (i : ℕ) (old new : Port) (at : slice_get ports i ≡ Some old) where
     there : slice_get (set ports i new) i ≡ Some new
     there = slice_get-set_same ports i new (slice_get_within ports i old at)

@@ -1,7 +1,6 @@
--- Answers that aren't late, and lanes.
-use Rattle.std.proofs.Common.{◌≡◌, ◌<◌, ℕ, arith}
-use Rattle.line_accounts.specs.declared.answer.Reply.TheVariants.{Done, Short, Over, Late, NoAccount, SameAccount}
-use Rattle.line_accounts.specs.Accounts.{lane_in}
+-- Answers that aren't late.
+use Rattle.std.proofs.Common.{◌≡◌}
+use Rattle.line_accounts.specs.declared.answer.Reply.TheVariants.{Done, Short, Over, Late, NoAccount}
 
 pub done_not_late : Done ≡ Late → ⊥
 done_not_late e = cc e
@@ -14,9 +13,3 @@ over_not_late e = cc e
 
 pub no_account_not_late : NoAccount ≡ Late → ⊥
 no_account_not_late e = cc e
-
-pub same_account_not_late : SameAccount ≡ Late → ⊥
-same_account_not_late e = cc e
-
-pub lane_small : (account : ℕ) → lane_in account < 8
-lane_small account = omega arith

@@ -153,19 +153,3 @@ transfers_none view lines source target amount d why = record {
     beyond : (8 * lines ≤ source) ⊎ (8 * lines ≤ target) → AreTwo lines source target → ⊥
     beyond (inl h) two = omega (arith, h, two.source_known)
     beyond (inr h) two = omega (arith, h, two.target_known)
-
--- nor if both accounts are one
-pub transfers_same : {Port : Type 0} (view : Port → View) (lines source target amount : ℕ) (d : DeskOf Port) → source < 8 * lines → source ≡ target → Transfers view lines source target amount d d SameAccount
-transfers_same view lines source target amount d known one = record {
-  unknown = λ e. absurd (other e);
-  same = λ _. (known, one, refl);
-  two = λ _ apart. absurd (apart refl);
-  within = λ two _. absurd (two.apart one);
-  up = λ two _. absurd (two.apart one);
-  down = λ two _. absurd (two.apart one);
-  paid_in = refl;
-  paid_out = refl;
-}
-  where
-    other : SameAccount ≡ NoAccount → ⊥
-    other e = cc e

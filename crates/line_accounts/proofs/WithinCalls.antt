@@ -12,10 +12,6 @@ module _ {Line Port : Type 0} (counters : Port → Counters) (max_steps : Line �
   still : (line : Line) (before after : Port) → Some before ≡ Some after → IsWithinCalls (max_steps line) 3 (counters before) (counters after)
   still line before after e = let same : before ≡ after = cc in subst (λ (port : Port). IsWithinCalls (max_steps line) 3 (counters before) (counters port)) same (no_call (max_steps line) 3 (counters before))
 
-  -- no port was called
-  pub calls_none : (ports : List Port) → AreWithinCalls counters max_steps lines ports ports
-  calls_none ports = record { each = λ i line before after _ was is. still line before after (sym was ∙ is) }
-
   called : (line line' : Line) (old before new after : Port) → Some line ≡ Some line' → Some old ≡ Some before → Some new ≡ Some after → IsWithinCalls (max_steps line) 3 (counters old) (counters new) → IsWithinCalls (max_steps line') 3 (counters before) (counters after)
   called line line' old before new after l o n few =
       let a : line ≡ line' = cc in let b : old ≡ before = cc in let c : new ≡ after = cc in

@@ -1,13 +1,11 @@
 -- How a seat goes on, step by step.
-use Rattle.std.proofs.Common.{◌≡◌, ℕ, ◌+◌, List, [], ◌∷◌, sym, refl, ap, ◌∙◌, subst, arith}
-use Rattle.atomic_table.specs.Seated.{TableId}
-use Rattle.qolb_model.specs.declared.config.LineConfig.{LineConfig}
+use Rattle.std.proofs.Common.{◌≡◌, ℕ, ◌+◌, List, [], ◌∷◌, sym, refl, subst, arith}
 use Rattle.qolb_model.specs.Views.{Extends}
 use Rattle.qolb_model.specs.Sound.{Continues}
 use Rattle.qolb_model.proofs.Agreeing.{extends_trans}
 use Rattle.qolb_model.proofs.Going.{extends_self, continues_on}
 use Rattle.line_generic.specs.declared.table.Payload.{Payload}
-use Rattle.line_cells.specs.Steps.{ArraySeat, SeatContents, IsOfOneNode, single, Advances, SeatAdvances, IsSeatOfNode, after_reset}
+use Rattle.line_cells.specs.Steps.{SeatContents, IsOfOneNode, single, Advances, after_reset}
 use Rattle.line_cells.specs.Array.{ArrayGhost}
 
 -- one counted step
@@ -18,10 +16,6 @@ goes_step allows m v w slots is c n = record {
   continues = λ u before. continues_on allows u v.view w.view (subst (λ z. Continues allows u (single z).view) is before).extends c;
   steps = subst (λ u. w.steps ≡ (single u).steps + 1) (sym is) n;
 }
-
--- and the node makes no request by it
-pub same_count : (m : SeatContents) (v w : ArrayGhost) → m.0 ≡ v ∷ [] → w.view.count ≡ v.view.count → w.view.count ≡ (single m.0).view.count
-same_count m v w is same = same ∙ ap (λ es. (single es).view.count) (sym is)
 
 -- no step, and one after others
 pub goes_none : (allows : List ℕ → List ℕ → Type 0) (m : SeatContents) → IsOfOneNode m → Advances allows m m 0
@@ -47,7 +41,3 @@ goes_same allows a w same n = record {
 -- the step that clears the own word
 pub goes_reset : (allows : List ℕ → List ℕ → Type 0) (a b : SeatContents) → b ≡ (after_reset (single a.0) ∷ [], a.1) → Advances allows a b 1
 goes_reset allows a b is = subst (λ m. Advances allows a m 1) (sym is) (goes_same allows a (after_reset (single a.0)) refl refl)
-
--- a seat stays that of its node
-pub seat_goes : {allows : List ℕ → List ℕ → Type 0} {table_id : TableId} {nodes node i : ℕ} (cells : ℕ → ℕ) (s t : ArraySeat) → SeatAdvances allows s t i → IsSeatOfNode cells nodes table_id node s → IsSeatOfNode cells nodes table_id node t
-seat_goes cells s t advances seat = ((advances.seat.0 ∙ seat.0.0, seat.0.1, seat.0.2), (seat.1.0 ∙ sym advances.advances.extends.node, seat.1.1, seat.1.2, ap (λ (t : LineConfig). t.nodes) advances.advances.extends.config ∙ seat.1.3))

@@ -44,8 +44,3 @@ lanes_of-at line k h = get_or-map-range_with_len (lane_of line) 0 8 k k 0 h (ome
 pub lane_sums-by : (line a b : List ℕ) → ((k : ℕ) → k < 8 → lane_of line k ≡ lane_of a k + lane_of b k) → lanes_of line ≡ lane_sums a b
 lane_sums-by line a b each =
     fill_by_all (λ k. lane_of a k + lane_of b k) (lanes_of line) 8 0 (length-map-range_with_len (lane_of line) 0 8) (λ k h. lanes_of-at line k h ∙ each k h)
-
--- and back: what a caller knows of each lane
-pub lane-of_sums : (line a b : List ℕ) → lanes_of line ≡ lane_sums a b → (k : ℕ) → k < 8 → lane_of line k ≡ lane_of a k + lane_of b k
-lane-of_sums line a b e k h =
-    sym (lanes_of-at line k h) ∙ ap (λ t. get_or t k 0) e ∙ get_or-map-range_with_len (λ i. lane_of a i + lane_of b i) 0 8 k k 0 h (omega arith)

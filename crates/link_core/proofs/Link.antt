@@ -150,9 +150,6 @@ module _ (config : LineConfig) (c : State) (h : Queue) (n p : ℕ) (pl : Place) 
   pub link_clears : Clears after_link.order (length after_link.ends) h.clear after_link.clear
   link_clears = cleared.grows
 
-  pub link_behind : IsBehind c h.order h.ends p n
-  link_behind = behind
-
 -- the older request isn't done: n waits
 module _ (config : LineConfig) (c : State) (h : Queue) (n p : ℕ) (ents : List Entry) (sts : List NodeCall)
     (s : Matches config c h) (is : IsNode c n) (at : point c n ≡ Linking p) (undone : (entry c p).done ≡ false)

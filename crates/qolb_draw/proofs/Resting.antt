@@ -1,12 +1,11 @@
 -- The marks of nodes at rest: which of them a command changes, and the marks after it that follow from them.
-use Rattle.std.proofs.Common.{◌≡◌, ◌≢◌, ◌⊎◌, inl, inr, ℕ, suc, zero, ◌+◌, ◌-◌, ◌<◌, ◌≤◌, ◌==◌, ◌&&◌, ◌||◌, not, Bool, true, false, cond, is_some, List, [], ◌∷◌, ◌++◌, length, map, drop, get_or, Option, Some, None, slice_get, remove, set, ne_eqb, replicate, refl, sym, ap, ◌∙◌, subst, arith, append-nil, length-append}
+use Rattle.std.proofs.Common.{◌≡◌, ◌≢◌, ◌⊎◌, inl, inr, ℕ, suc, zero, ◌+◌, ◌-◌, ◌<◌, ◌≤◌, ◌==◌, ◌&&◌, ◌||◌, not, Bool, true, false, cond, is_some, List, [], ◌∷◌, ◌++◌, length, map, drop, get_or, Option, Some, None, slice_get, remove, replicate, refl, sym, ap, ◌∙◌, subst, arith, append-nil, length-append}
 use Rattle.std.specs.List.{find, range_with_len}
 use Rattle.std.proofs.lemmas.Bool.{cases_eq}
 use Rattle.std.proofs.lemmas.Bool.Decides.{nat_tests}
-use Rattle.std.proofs.lemmas.List.{length-map, length-drop, length-set, length-replicate, get_or-set_other}
+use Rattle.std.proofs.lemmas.List.{length-map, length-drop, length-replicate}
 use Rattle.std.proofs.lemmas.List.FromFn.{fill_by_all}
 use Rattle.std.proofs.lemmas.Option.{same_Some}
-use Rattle.std.proofs.lemmas.Grind.{get_or-set_at}
 use Rattle.std.proofs.lemmas.List.Folds.{list_any-append}
 use Rattle.qolb_model.specs.declared.answer.PortState.TheVariants as port
 use Rattle.qolb_model.specs.declared.answer.PortState.{PortState}
@@ -279,9 +278,6 @@ ended_so line n state h = by (following.is_open (node_state line n)) h
     by true h = absurd (let no : None ≡ Some state = h in cc no)
     by false h = (refl, sym (same_Some (node_state line n) state h))
 
-pub none_passed : (line : PlainView) (waited : List ℕ) (old : List Symbol) → ArePassed line waited waited old old
-none_passed line waited old = record { size = refl; marks = λ n lt. inr (refl, refl) }
-
 pub one_passed : (line : PlainView) (waited waiting left : List ℕ) (x : ℕ) (state : PortState) (old now new : List Symbol) → state_ended line (slice_get waiting 0) ≡ Some state → x ≡ get_or waiting 0 x → left ≡ remove waiting 0
     → IsKept x (at_rest state) now new → ArePassed line waited waiting old now → ArePassed line waited left old new × (is_shut state ≡ line.closed) × (following.after_ended line left ≡ following.after_ended line waiting)
 one_passed line waited [] left x state old now new ended is rest kept had = absurd (let no : None ≡ Some state = ended in cc no)
@@ -385,19 +381,3 @@ all_marked change resting first one two three same a b c =
             ∙ at_one ∙ ap (λ t. cond t (mark_by change (get_or resting n symbol.Idle) n) (get_or first n symbol.Idle)) e
         by false false false e f g = at_three ∙ ap (λ t. cond t (mark_by change (get_or resting n symbol.Idle) n) (get_or two n symbol.Idle)) g ∙ at_two ∙ ap (λ t. cond t (mark_by change (get_or resting n symbol.Idle) n) (get_or one n symbol.Idle)) f
             ∙ at_one ∙ ap (λ t. cond t (mark_by change (get_or resting n symbol.Idle) n) (get_or first n symbol.Idle)) e ∙ ap (λ xs. get_or xs n symbol.Idle) same ∙ sym (is_by change (get_or resting n symbol.Idle) n e f g)
-
--- one mark is set
-pub mark_set : (n : ℕ) (mark : Symbol) (old new : List Symbol) → new ≡ set old n mark → n < length old → IsKept n mark old new
-mark_set n mark old new is lt = record {
-  size = ap length is ∙ length-set old n mark;
-  marks = λ k l. elim (cases_eq k n) [
-    | inl here ↦ ap (λ xs. get_or xs k symbol.Idle) is ∙ get_or-set_at old n k mark symbol.Idle here lt ∙ sym (ap (λ b. cond b mark (get_or old k symbol.Idle)) (let t : (k == n) ≡ true = grind (arith, nat_tests) in t))
-    | inr other ↦ ap (λ xs. get_or xs k symbol.Idle) is ∙ get_or-set_other old n k mark symbol.Idle other ∙ sym (ap (λ b. cond b mark (get_or old k symbol.Idle)) (let t : (k == n) ≡ false = grind (arith, nat_tests) in t))
-  ];
-}
-
-pub mark_left : (n : ℕ) (mark : Symbol) (old new : List Symbol) → new ≡ old → (n < length old → ⊥) → IsKept n mark old new
-mark_left n mark old new is out = record {
-  size = ap length is;
-  marks = λ k l. ap (λ xs. get_or xs k symbol.Idle) is ∙ sym (ap (λ b. cond b mark (get_or old k symbol.Idle)) (ne_eqb k n (λ e. out (subst (λ j. j < length old) e l))));
-}

@@ -1,8 +1,7 @@
 -- Lemmas on rows and blocks that are made of marks.
-use Rattle.std.proofs.Common.{◌≡◌, length, get_or, suc, refl, ℕ, ◌+◌, ◌-◌, ◌*◌, ◌<◌, ◌≤◌, ◌==◌, cond, List, [], ◌∷◌, ◌++◌, map, sym, ap, ◌∙◌, arith, append_assoc, append-nil, Bool, true, false}
+use Rattle.std.proofs.Common.{◌≡◌, length, get_or, suc, refl, ℕ, ◌+◌, ◌-◌, ◌*◌, ◌<◌, ◌≤◌, ◌==◌, cond, List, [], ◌∷◌, ◌++◌, map, sym, ap, ◌∙◌, arith, append-nil, Bool, true, false}
 use Rattle.std.specs.List.{filter, list_any, range_with_len}
 use Rattle.std.proofs.lemmas.List.Elements.{filter-append}
-use Rattle.std.proofs.lemmas.List.FromFn.{map-range_with_len_more}
 use Rattle.std.proofs.lemmas.Nat.{rows}
 use Rattle.std.proofs.lemmas.Grind.{common_steps}
 use Rattle.qolb_draw.specs.Grids.{shown_out_of}
@@ -23,25 +22,9 @@ pub node_left_out : (n : ℕ) (called shown after : List ℕ) (b : Bool) → sho
 node_left_out n called shown after b was is missed same =
     same ∙ was ∙ sym (shown_more n called ∙ ap (λ t. shown_out_of n called ++ cond t ((n + 1) ∷ []) []) (sym is ∙ missed) ∙ append-nil (shown_out_of n called))
 
--- one mark more in a row
-pub row_pushed : (f : ℕ → ℕ) (before label : List ℕ) (start k x : ℕ) (text after : List ℕ) → start ≤ k → text ≡ before ++ (label ++ map f (range_with_len start (k - start))) → x ≡ f k → after ≡ text ++ x ∷ []
-    → after ≡ before ++ (label ++ map f (range_with_len start (k + 1 - start)))
-row_pushed f before label start k x text after le was is pushed =
-    let at : start + (k - start) ≡ k = omega arith in
-    let next : k + 1 - start ≡ k - start + 1 = omega arith in
-    pushed ∙ ap (λ t. t ++ x ∷ []) was ∙ ap (λ y. (before ++ (label ++ map f (range_with_len start (k - start)))) ++ y ∷ []) is
-    ∙ append_assoc before (label ++ map f (range_with_len start (k - start))) (f k ∷ [])
-    ∙ ap (λ t. before ++ t) (append_assoc label (map f (range_with_len start (k - start))) (f k ∷ []) ∙ ap (λ t. label ++ t) (sym (ap (λ n. map f (range_with_len start n)) next ∙ map-range_with_len_more f start (k - start) k at)))
-
 -- the place of a mark
 pub place_within : (k nodes n count : ℕ) → k < count → 1 ≤ n → n ≤ nodes → k * nodes + (n - 1) < count * nodes
 place_within k nodes n count lt first last = let below : n - 1 < nodes = omega arith in grind (arith, common_steps, rows)
-
--- one more of a column
-pub column_pushed : {X : Type 0} (f : ℕ → X) (before : List X) (n : ℕ) (now after : List X) (x : X) → now ≡ before ++ map f (range_with_len 1 n) → x ≡ f (n + 1) → after ≡ now ++ x ∷ [] → after ≡ before ++ map f (range_with_len 1 (n + 1))
-column_pushed f before n now after x was is pushed =
-    pushed ∙ ap (λ xs. xs ++ x ∷ []) was ∙ ap (λ y. (before ++ map f (range_with_len 1 n)) ++ y ∷ []) is ∙ append_assoc before (map f (range_with_len 1 n)) (f (n + 1) ∷ [])
-    ∙ ap (λ xs. before ++ xs) (sym (map-range_with_len_more f 1 n (n + 1) (omega arith)))
 
 -- a list by its elements
 pub row_is : (g : ℕ → ℕ) (start : ℕ) (row : List ℕ) → ((k j : ℕ) → k < length row → start + k ≡ j → get_or row k 0 ≡ g j) → row ≡ map g (range_with_len start (length row))

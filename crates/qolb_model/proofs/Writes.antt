@@ -43,11 +43,6 @@ allowed-append allows bytes (Served write shut ∷ xs) ys h k = (h.0, allowed-ap
 allowed-append allows bytes (Gone ∷ xs) ys h k = allowed-append allows bytes xs ys h k
 allowed-append allows bytes (Told ∷ xs) ys h k = allowed-append allows bytes xs ys h k
 
--- passed requests keep every law
-pub allowed-passed : (allows : List ℕ → List ℕ → Type 0) (bytes : List ℕ) (passed : ℕ) → AreAllowed allows bytes (replicate passed Gone)
-allowed-passed allows bytes zero = tt
-allowed-passed allows bytes (suc passed) = allowed-passed allows bytes passed
-
 -- and a beginning of ends that keep it keeps it
 pub allowed-begins : (allows : List ℕ → List ℕ → Type 0) (bytes : List ℕ) (xs ys : List End) → AreAllowed allows bytes (xs ++ ys) → AreAllowed allows bytes xs
 allowed-begins allows bytes [] ys h = tt

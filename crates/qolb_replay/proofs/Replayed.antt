@@ -1,8 +1,8 @@
 -- The progress of a replay: its lines and its text after some of the commands.
-use Rattle.std.proofs.Common.{◌≡◌, ℕ, zero, suc, ◌+◌, ◌<◌, ◌≤◌, List, [], ◌∷◌, ◌++◌, length, map, take, get_or, set, refl, sym, ap, ◌∙◌, subst, arith, inl, inr, ◌⊎◌, replicate, Bool, ◌==◌, ◌&&◌, append-nil, append_assoc}
+use Rattle.std.proofs.Common.{◌≡◌, ℕ, zero, suc, ◌+◌, ◌<◌, ◌≤◌, List, [], ◌∷◌, ◌++◌, length, map, take, get_or, set, refl, sym, ap, ◌∙◌, subst, arith, inl, inr, ◌⊎◌, replicate, append-nil, append_assoc}
 use Rattle.std.specs.List.{range_with_len, fold}
 use Rattle.std.proofs.lemmas.List.{length-replicate, get_or_append_left, get_or_push, length-append, length-set, take_all, map-append, get_or_default}
-use Rattle.std.proofs.lemmas.List.Sums.{fold_more, count_by-le-length}
+use Rattle.std.proofs.lemmas.List.Sums.{fold_more}
 use Rattle.std.proofs.lemmas.Grind.{flat_map-append}
 use Rattle.std.proofs.lemmas.Bool.{cases_lt}
 use Rattle.std.proofs.lemmas.List.FromFn.{map-range_with_len_more}
@@ -13,9 +13,9 @@ use Rattle.qolb_script.specs.declared.reply_text.Said.{Said}
 use Rattle.qolb_script.specs.Commands.{line_of}
 use Rattle.qolb_script.specs.Script.{Script, IsInRange}
 use Rattle.qolb_script.specs.Said.{said_text}
-use Rattle.qolb_script.specs.Reply.{Replay, config_of, line_at, replay_start, replay_step, replay_of, said_of, text_of, summary_of, reply_of, times_said, is_served, is_withdrawn, is_told}
+use Rattle.qolb_script.specs.Reply.{Replay, config_of, line_at, replay_start, replay_step, replay_of, said_of, text_of, summary_of}
 use Rattle.qolb_replay.specs.declared.line.CountingLine.{CountingLine}
-use Rattle.qolb_replay.specs.Tallies.{AreWithin, no_counts, Does, IsLineOf, AreLinesOf}
+use Rattle.qolb_replay.specs.Tallies.{no_counts, Does, IsLineOf, AreLinesOf}
 use Rattle.qolb_replay.proofs.Tallying.{lines_step, said_is}
 
 opened_at : (config : LineConfig) (n k : ℕ) → k < n → opened config ≡ line_at (replicate n (opened config)) k
@@ -53,9 +53,6 @@ ends_step script k text after what e told more = record {
   where
     summary : ℕ → Said
     summary = summary_of script.nodes (replay_of script)
-
-pub ends_all : (script : Script) (k : ℕ) (text : List ℕ) → Ends script k text → k ≡ script.lines → text ≡ reply_of script
-ends_all script k text e all = e.text_is ∙ ap (λ n. said_text_of (replay_of script) ++ text_of (map (summary_of script.nodes (replay_of script)) (range_with_len 0 n))) all
 
 -- Lines of some kind: which state of one owner each shows, and how many nodes it has.
 module _ {R : Type 0} (represents : R → OwnerState → Type 0) (nodes_of : R → ℕ) where
@@ -106,9 +103,6 @@ module _ {R : Type 0} (represents : R → OwnerState → Type 0) (nodes_of : R �
     pub text_is : text ≡ said_text_of (replay_after script i)
     pub said_count : length (replay_after script i).said ≡ i
 
-  pub stands_start : (script : Script) (lines : List (CountingLine R)) → AreLinesOf represents nodes_of script.nodes (replay_start (config_of script) script.lines) lines → Stands script 0 lines []
-  stands_start script lines are = record { lines_are = are; many = are.len ∙ length-replicate script.lines (opened (config_of script)); text_is = refl; said_count = refl }
-
   pub stands_step : (script : Script) (i : ℕ) (lines : List (CountingLine R)) (text : List ℕ) (c : Command) (what : Said) (new : CountingLine R) (after : List ℕ)
       → Stands script i lines text → i < length script.commands → get_or script.commands i c ≡ c → line_of c < script.lines
       → Does represents nodes_of c what (get_or lines (line_of c) new) new → after ≡ text ++ said_text what → Stands script (i + 1) (set lines (line_of c) new) after
@@ -157,21 +151,6 @@ module _ {R : Type 0} (represents : R → OwnerState → Type 0) (nodes_of : R �
 
       old_is : old ≡ get_or lines (line_of (get_or commands i d)) new
       old_is = was ∙ ap (λ n. get_or lines n old) number ∙ get_or_default lines (line_of (get_or commands i d)) old new in_lines
-
-  -- no count is more than the number of commands done
-  pub counts_fit : (script : Script) (i k : ℕ) (lines : List (CountingLine R)) (text : List ℕ) (d : CountingLine R) → Stands script i lines text → k < length lines
-      → AreWithin i (get_or lines k d).counts × (nodes_of (get_or lines k d).line ≡ script.nodes)
-  counts_fit script i k lines text d s lt =
-      let is = s.lines_are.each k d lt in
-      let counts = (get_or lines k d).counts in
-      (record { served = fit is_served counts.served is.served_are; withdrawn = fit is_withdrawn counts.withdrawn is.withdrawn_are; told = fit is_told counts.told is.told_are }, is.nodes_are)
-    where
-      fit : (test : Said → Bool) (n : ℕ) → n ≡ times_said test k (replay_after script i).said → n ≤ i
-      fit test n e = let most : times_said test k (replay_after script i).said ≤ length (replay_after script i).said = count_by-le-length (λ t. (t.0 == k) && test t.1) (replay_after script i).said in
-          let all : length (replay_after script i).said ≡ i = s.said_count in omega arith
-
-  pub ends_start : (script : Script) (i : ℕ) (lines : List (CountingLine R)) (text : List ℕ) → Stands script i lines text → length script.commands ≤ i → Ends script 0 text
-  ends_start script i lines text s all = record { text_is = s.text_is ∙ ap said_text_of (whole script i all) ∙ sym (append-nil (said_text_of (replay_of script))) }
 
   -- the lines after all commands
   pub lines_at_end : (script : Script) (i : ℕ) (lines : List (CountingLine R)) (text : List ℕ) → Stands script i lines text → length script.commands ≤ i → AreLinesOf represents nodes_of script.nodes (replay_of script) lines

@@ -1,10 +1,9 @@
 -- The progress of a run of a step script.
-use Rattle.std.proofs.Common.{◌≡◌, ℕ, suc, ◌+◌, ◌<◌, ◌≤◌, List, [], ◌∷◌, ◌++◌, Bool, length, map, flat_map, take, get_or, refl, sym, ap, ◌∙◌, subst, arith, Option, Result, Ok, Err, IfOk, IfErr, OnErr}
+use Rattle.std.proofs.Common.{◌≡◌, ℕ, suc, ◌+◌, ◌<◌, List, [], ◌∷◌, ◌++◌, Bool, length, map, flat_map, take, get_or, refl, sym, ap, ◌∙◌, subst, arith, Option, Result, Ok, Err, IfOk, IfErr, OnErr}
 use Rattle.std.specs.Result.{result_ok}
 use Rattle.std.specs.List.{count_by, range_with_len}
-use Rattle.std.proofs.lemmas.List.{length-append, length-map, take_all, map-append, take_more, append-nil}
+use Rattle.std.proofs.lemmas.List.{length-append, map-append, take_more, append-nil}
 use Rattle.std.proofs.lemmas.Grind.{flat_map-append}
-use Rattle.std.proofs.lemmas.List.Sums.{count_by-le-length}
 use Rattle.link_core.specs.declared.event.Event.{Event}
 use Rattle.link_core.specs.declared.told.Told.{Told}
 use Rattle.link_core.specs.declared.told.NotEnabled.{NotEnabled}
@@ -13,14 +12,12 @@ use Rattle.link_core.specs.State.{first, point}
 use Rattle.link_core.specs.Steps.{Step, IsRefused}
 use Rattle.link_core.specs.Progress.{rank}
 use Rattle.qolb_script.specs.declared.reply_text.Said.{Said}
-use Rattle.qolb_script.specs.declared.reply_text.Said.TheVariants.{Summary}
-use Rattle.qolb_script.specs.Said.{said_text}
 use Rattle.qolb_script.specs.StepScript.{StepScript}
 use Rattle.qolb_script.specs.Reply.{is_served, is_withdrawn, is_told}
-use Rattle.qolb_script.specs.StepReply.{step_said, step_summary}
+use Rattle.qolb_script.specs.StepReply.{step_said}
 use Rattle.qolb_replay.specs.declared.line.Counts.{Counts}
-use Rattle.qolb_replay.specs.Tallies.{one_if, no_counts, AreWithin, Counted}
-use Rattle.qolb_replay.specs.StepRuns.{line_of, Tells, nothing, told, refused, IsStepReply, Heard, said_by, heard_text, nodes_busy, is_busy}
+use Rattle.qolb_replay.specs.Tallies.{one_if, no_counts, Counted}
+use Rattle.qolb_replay.specs.StepRuns.{line_of, Tells, nothing, told, refused, Heard, said_by, heard_text, nodes_busy, is_busy}
 use Rattle.qolb_replay.proofs.Tallying.{count_by_one_more, range_more}
 use Rattle.qolb_replay.specs.declared.steps.Detail.{Detail}
 
@@ -65,31 +62,6 @@ reaches_step detail script i core after counts new text longer event what r runs
   where
     one_more : (test : Said → Bool) (n : ℕ) → n ≡ count_by test (map said_by r.all) → n + one_if (test (said_by what)) ≡ count_by test (map said_by (r.all ++ what ∷ []))
     one_more test n e = ap (λ m. m + one_if (test (said_by what))) e ∙ sym (ap (count_by test) (map-append said_by r.all (what ∷ [])) ∙ count_by_one_more test (map said_by r.all) (said_by what))
-
--- no count is more than the number of events
-pub counts_few : (detail : Detail) (script : StepScript) (i : ℕ) (core : State) (counts : Counts) (text : List ℕ) → Reaches detail script i core counts text → AreWithin i counts
-counts_few detail script i core counts text r = record { served = few is_served counts.served r.served_are; withdrawn = few is_withdrawn counts.withdrawn r.withdrawn_are; told = few is_told counts.told r.told_are }
-  where
-    few : (test : Said → Bool) (n : ℕ) → n ≡ count_by test (map said_by r.all) → n ≤ i
-    few test n e =
-        let most : count_by test (map said_by r.all) ≤ length (map said_by r.all) = count_by-le-length test (map said_by r.all) in
-        let many : length (map said_by r.all) ≡ length r.all = length-map r.all said_by in
-        let one : length r.all ≡ i = r.one_each in
-        omega arith
-
--- the whole reply
-pub reaches_end : (detail : Detail) (script : StepScript) (i : ℕ) (core : State) (counts : Counts) (text longer : List ℕ) (left : ℕ) → Reaches detail script i core counts text
-    → length script.events ≤ i → left ≡ nodes_busy core.nodes core → longer ≡ text ++ said_text (Summary 0 counts.served counts.withdrawn counts.told left) → IsStepReply detail script longer
-reaches_end detail script i core counts text longer left r done busy more = record {
-  all = r.all;
-  last = core;
-  runs = subst (λ es. Tells (start_of script) es r.all core) (take_all i script.events done) r.runs;
-  text_is = more ∙ ap (λ t. t ++ said_text (Summary 0 counts.served counts.withdrawn counts.told left)) r.text_is
-      ∙ ap (λ s. flat_map (heard_text detail) r.all ++ said_text s) same;
-}
-  where
-    same : Summary 0 counts.served counts.withdrawn counts.told left ≡ step_summary (map said_by r.all) (nodes_busy core.nodes core)
-    same = let a = r.served_are in let b = r.withdrawn_are in let c = r.told_are in cc
 
 -- one more node
 pub nodes_busy_more : (c : State) (n : ℕ) (b : Bool) → is_busy (point c (n + 1)) ≡ b → nodes_busy (n + 1) c ≡ nodes_busy n c + one_if b

@@ -306,10 +306,6 @@ module _ (old new : View) (answer : Take) (rest : IsAtRest old) (past : KnowsOwn
 pub turns_on : (old mid new : View) (more : List Turn) → HasTurns old mid [] → HasTurns mid new more → HasTurns old new more
 turns_on old mid new more w v = record { node = v.node ∙ w.node; at_rest = v.at_rest; turns = v.turns ∙ ap (λ ts. ts ++ more) (w.turns ∙ append-nil (turns_of old)); unshut = λ unshut. v.unshut (w.unshut unshut) }
 
--- no call
-pub turns_none : (v : View) → IsAtRest v → HasTurns v v []
-turns_none v rest = record { node = refl; at_rest = rest; turns = sym (append-nil (turns_of v)); unshut = λ unshut. unshut }
-
 -- a put after tries without a turn
 module _ (u v w : View) (task : ℕ) (so : HasTurns u v []) (past : KnowsOwnHistory v) (answer : Put) (p : Puts task v w answer) where
   pub then_stored : answer ≡ put.Stored → (turn : Turn) × HasTurns u w (turn ∷ []) × HasStored task turn
