@@ -1,14 +1,12 @@
 -- The meaning of an outcome for its subcommand.
 use Rattle.std.proofs.Common.{◌≡◌, ℕ, List, Option, Some, None, IfSome, inl, inr, subst, arith}
-use Rattle.qolb_replay.specs.declared.replay.ReplayError.{ReplayError}
-use Rattle.qolb_replay.specs.declared.replay.ReplayError.TheVariants as error
 use Rattle.qolb_run.specs.declared.each_lock.AnyKind.TheVariants.{Plain}
 use Rattle.qolb_run.specs.declared.task.TaskError.{TaskError}
 use Rattle.qolb_run.specs.declared.task.TaskError.TheVariants as ending
 use Rattle.qolb_replay.specs.declared.steps.Detail.TheVariants.{Words}
 use Rattle.qolb_run.specs.declared.task.Task.{Task}
 use Rattle.qolb_run.specs.declared.task.Task.TheVariants.{Replay, Steps}
-use Rattle.qolb_run.specs.Outcome.{MayFail, MayEnd, IsRefused, replay_ending}
+use Rattle.qolb_run.specs.Outcome.{MayEnd, IsRefused}
 use Rattle.qolb_serve.specs.declared.command_line.Subcommand.{Subcommand}
 use Rattle.qolb_serve.specs.declared.command_line.Subcommand.TheVariants.{Answer, Draw, DrawSteps}
 use Rattle.qolb_serve.specs.Subcommands.{IsDenied, MayDeny}
@@ -21,14 +19,6 @@ fault task ending.Long input h one = inl h
 fault task (ending.Script why) input h one = inr (why, h.1)
 fault task ending.Write input h one = absurd (omega arith)
 fault task (ending.Stalled worker) input h one = absurd (omega arith)
-
--- a task ends as its replay does
-pub ends_as_replay : (task : Task) (e : ReplayError) (input : List ℕ) → MayFail task input e → MayEnd task input (replay_ending e)
-ends_as_replay task error.Memory input h = h
-ends_as_replay task error.Read input h = h
-ends_as_replay task error.Long input h = h
-ends_as_replay task (error.Script why) input h = h
-ends_as_replay task error.Write input h = h
 
 denied : (subcommand : Subcommand) (e : TaskError) (input : List ℕ) → MayDeny subcommand input e → status_of e ≡ 1 → IsDenied subcommand input
 denied (Answer task) e input h one = fault task e input h one
