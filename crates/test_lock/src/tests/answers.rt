@@ -1,5 +1,5 @@
 //! Each answer of the queue and of closing, to a few callers of one thread.
-ghost use Rattle.std.specs.Prelude.{IfOk};
+ghost use Rattle.std.specs.Prelude.{◌≤◌, IfOk};
 ghost use Rattle.lock_core.specs.Layout.{IsLockTable};
 
 use lock_core::{
@@ -12,13 +12,14 @@ use std::test::Fail;
 
 /// A new strict lock.
 fn strict(alloc: Global) -> Result<TicketTable, Fail>
-    ensures { IfOk result (λ table. IsLockTable table.shared.table_id) }
+    ensures table { IfOk result (λ table. IsLockTable table.shared.table_id) }
+    ensures strict { IfOk result (λ table. table.shared.key ≤ 1) }
 {
     Ok(open(alloc, LockKind::Strict).ok().ok_or("opened")?)
 }
 
-/// One holds, and another waits, announces its sleep, and is granted. Returns the rounds and the word of the announcement, what the release
-/// answered, and the rounds to go after that.
+/// A caller holds the lock. Another waits, announces its sleep, and is granted the lock. Returns the rounds and the word of the announcement,
+/// the answer of the release, and the rounds to go after it.
 fn granted_asleep(lock: &SharedTable) -> Option<(u64, u64, ReleaseResult, u64)>
     requires { IsLockTable lock.now.table_id }
 {
@@ -46,8 +47,8 @@ fn a_sleeper_is_told_of(rt: HostRuntime) -> Result<(), Fail> {
     Ok(())
 }
 
-/// A request is withdrawn, and the release passes it. Returns the withdrawn ticket with its rounds to go, what the release answered, the
-/// ticket that it passed last, and the next one.
+/// A request is withdrawn, and the release passes it. Returns the withdrawn ticket with its rounds to go, the answer of the release, the
+/// ticket that the release passed last, and the next one.
 fn passed(lock: &SharedTable) -> Option<(u64, u64, ReleaseResult, u64, AskNearResult)>
     requires { IsLockTable lock.now.table_id }
 {
@@ -61,6 +62,9 @@ fn passed(lock: &SharedTable) -> Option<(u64, u64, ReleaseResult, u64, AskNearRe
         return None;
     }
     let released = release(lock, &mut holder, &mut turn);
+    let ReleaseResult::Granted { .. } = released else {
+        return None;
+    };
     Some((ticket, rounds, released, turn, ask_near(lock, &mut holder)))
 }
 
@@ -102,7 +106,8 @@ fn draw_one(lock: &SharedTable) -> u64
     ask(lock, &mut seat)
 }
 
-/// Behind a holder and 60 requests one asks if it is near, one if it need not wait, and one in any case. Returns their answers.
+/// A caller holds the lock, and 60 requests wait. Returns the answers to a caller that asks only near its turn, to one that asks only if it
+/// need not wait, and to one that asks in any case.
 fn drawn_far(lock: &SharedTable) -> Option<(AskNearResult, Option<u64>, u64)>
     requires { IsLockTable lock.now.table_id }
 {
@@ -128,9 +133,10 @@ fn far_and_busy_draw_no_ticket(rt: HostRuntime) -> Result<(), Fail> {
     Ok(())
 }
 
-/// One finds the lock open and shuts it, and two behind it find it shut. Returns whether each of these two reopened the lock.
+/// A caller finds the lock open and shuts it, and two callers behind it find it shut. Returns whether each of these two reopened the lock.
 fn reopened(lock: &SharedTable) -> Option<(bool, bool)>
-    requires { IsLockTable lock.now.table_id }
+    requires table { IsLockTable lock.now.table_id }
+    requires strict { lock.now.key ≤ 1 }
 {
     let mut first = new_seat(lock);
     let mut second = new_seat(lock);

@@ -88,8 +88,8 @@ fn a_queue_head_is_told_of(rt: HostRuntime) -> Result<(), Fail> {
     Ok(())
 }
 
-/// A newcomer goes in by a step at an outer word that it expects, and leaves so. Returns the answers to words that it does not find, and to
-/// the right one.
+/// A newcomer goes in and leaves by steps that expect a certain outer word. Returns the answers to words that it does not find, and to the
+/// right one.
 fn left_as_expected(
     lock: &SharedTable,
 ) -> Option<(GoInResult, GoInResult, LeaveResult, LeaveResult)>
