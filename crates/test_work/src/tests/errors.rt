@@ -1,7 +1,8 @@
 //! The errors with their numbers, each variant of them.
 use crate::tests::rows::{expect, expect_at};
+use line_accounts::SettleError;
 use link_core::NotEnabled;
-use qolb_model::OpenError;
+use qolb_model::{FinishError, OpenError};
 use qolb_run::{ReplayError, RunError};
 use qolb_script::ScriptError;
 use std::test::Fail;
@@ -31,6 +32,18 @@ fn errors_without_fields_are_their_numbers(rt: HostRuntime) {
     for error in [NotEnabled::Node, NotEnabled::Point] {
         expect_at(&rt, &error, error as u8, of_event(error));
     }
+}
+
+#[test]
+fn errors_with_fields_say_their_numbers(rt: HostRuntime) {
+    let found = [
+        FinishError::Unquiet(7).number(),
+        SettleError::Memory.number(),
+        ScriptError::BadLine(1).number(),
+        RunError::Stalled(1).number(),
+        ReplayError::Write.number(),
+    ];
+    expect(&rt, "numbers", found, [2, 1, 2, 2, 5]);
 }
 
 /// Errors of scripts, and what they say.
