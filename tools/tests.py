@@ -21,7 +21,6 @@ ORDER = (
     "test_model",
     "test_blocking",
     "test_programs",
-    "test_surface",
     "test_calls",
 )
 

@@ -29,27 +29,37 @@ struct Known {
     table: usize,
 }
 
-/// The parts of the tests.
+/// What is tried over lines of each lock.
 #[derive(Clone, Copy)]
-enum Part {
+pub(crate) enum Part {
+    Lines(Row),
+    /// Lines that are opened by a lock's own calls.
+    Opening,
+    /// Lines whose waiters sleep elsewhere name the next.
+    Names,
+}
+
+/// What is tried over lines of one type.
+#[derive(Clone, Copy)]
+pub(crate) enum Row {
     Calls,
     /// The answers of opening while memory is refused. It takes all memory of the process.
     OpeningWithoutMemory,
 }
 
-/// Runs `part` over lines of this type.
-fn try_part<R: Wait + Abort, L: Instrumented + ParkingLine<Free> + Drop>(
+/// Tries `row` over lines of this type.
+fn try_row<R: Wait + Abort, L: Instrumented + ParkingLine<Free> + Drop>(
     rt: &R,
     alloc: Global,
     known: &Known,
-    part: Part,
+    row: Row,
 ) -> Result<(), Fail>
 where
     L::Port: Drop,
 {
-    match part {
-        Part::Calls => each_call::<R, L>(rt, alloc, known),
-        Part::OpeningWithoutMemory => lines::each_allocation_of_opening_is_refused::<R, L>(
+    match row {
+        Row::Calls => each_call::<R, L>(rt, alloc, known),
+        Row::OpeningWithoutMemory => lines::each_allocation_of_opening_is_refused::<R, L>(
             rt,
             alloc,
             known.table,
@@ -79,14 +89,19 @@ where
     lines::any_line_is_handed_over::<R, L>(rt, alloc)
 }
 
-/// Runs `part` over lines of this queue discipline.
+/// Tries `part` over lines of this queue discipline.
 fn part_over<R: Wait + Abort, Q: Discipline<Free>>(
     rt: &R,
     alloc: Global,
     known: &Known,
     part: Part,
 ) -> Result<(), Fail> {
-    try_part::<R, Line<Free, Q>>(rt, alloc, known, part)
+    match part {
+        Part::Lines(row) => try_row::<R, Line<Free, Q>>(rt, alloc, known, row)?,
+        Part::Opening => named::each_opening::<R, Q>(rt, alloc)?,
+        Part::Names => names_over::<R, Q>(rt, alloc),
+    }
+    Ok(())
 }
 
 /// The numbers of nodes of lines that tell to whom they went.
@@ -124,8 +139,8 @@ fn known_of(lines: Lock) -> Known {
     }
 }
 
-/// Runs `part` over lines of each lock.
-fn over_each<R: Wait + Abort>(rt: &R, alloc: Global, part: Part) -> Result<(), Fail> {
+/// Tries `part` over lines of each lock. The prover takes long wherever a lock is named, so all of them are named here alone.
+pub(crate) fn over_each<R: Wait + Abort>(rt: &R, alloc: Global, part: Part) -> Result<(), Fail> {
     for lines in ALL {
         let known = known_of(lines);
         for_kind!(lines, part_over, [R], (rt, alloc, &known, part))?;
@@ -135,17 +150,15 @@ fn over_each<R: Wait + Abort>(rt: &R, alloc: Global, part: Part) -> Result<(), F
 
 #[test]
 fn each_lock_answers_each_call(rt: HostRuntime) -> Result<(), Fail> {
-    over_each(&rt, rt.alloc(), Part::Calls)
+    over_each(&rt, rt.alloc(), Part::Lines(Row::Calls))
 }
 
 #[test]
-fn a_line_tells_to_whom_it_went(rt: HostRuntime) {
-    for lines in ALL {
-        for_kind!(lines, names_over, [HostRuntime], (&rt, rt.alloc()));
-    }
+fn a_line_tells_to_whom_it_went(rt: HostRuntime) -> Result<(), Fail> {
+    over_each(&rt, rt.alloc(), Part::Names)
 }
 
 #[test]
 fn each_allocation_of_opening_is_refused(rt: HostRuntime) -> Result<(), Fail> {
-    over_each(&rt, rt.alloc(), Part::OpeningWithoutMemory)
+    over_each(&rt, rt.alloc(), Part::Lines(Row::OpeningWithoutMemory))
 }

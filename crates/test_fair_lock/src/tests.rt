@@ -4,7 +4,7 @@ mod limits;
 mod order;
 mod threads;
 
-use fair_lock::FairLock;
+use fair_lock::{EnterError, FairLock, TryEnterError};
 use std::alloc::Global;
 use std::rt::Clock;
 use std::sync::Wait;
@@ -16,6 +16,55 @@ fn lock_of(alloc: Global, burst: u16, value: u64) -> Option<FairLock<u64>> {
         FairLock::new(alloc, value).ok()
     } else {
         FairLock::with_bursts(alloc, burst, value).ok()
+    }
+}
+
+/// What a call answers. A turn that it is given ends at once.
+#[derive(Clone, Copy, Debug, PartialEq)]
+enum Answer {
+    Served,
+    Busy,
+    Late,
+    Closed,
+}
+
+/// The answer of `enter`.
+fn enter<R: Wait>(rt: &R, lock: &FairLock<u64>) -> Answer {
+    match lock.enter(rt) {
+        Ok(guard) => {
+            guard.leave(rt);
+            Answer::Served
+        }
+        Err(_) => Answer::Closed,
+    }
+}
+
+/// The answer of `try_enter`.
+fn try_enter<R: Wait>(rt: &R, lock: &FairLock<u64>) -> Answer {
+    match lock.try_enter(rt) {
+        Ok(guard) => {
+            guard.leave(rt);
+            Answer::Served
+        }
+        Err(TryEnterError::Busy(_)) => Answer::Busy,
+        Err(TryEnterError::Closed(_)) => Answer::Closed,
+    }
+}
+
+/// The answer of `enter_within`, with this limit by this clock.
+fn enter_within<R: Wait, C: Wait + Clock>(
+    rt: &R,
+    lock: &FairLock<u64>,
+    clock: &C,
+    at_most: Duration,
+) -> Answer {
+    match lock.enter_within(clock, at_most) {
+        Ok(guard) => {
+            guard.leave(rt);
+            Answer::Served
+        }
+        Err(EnterError::Late(_)) => Answer::Late,
+        Err(EnterError::Closed(_)) => Answer::Closed,
     }
 }
 

@@ -8,7 +8,7 @@ mod rows;
 use line_accounts::AccountLaw;
 use line_board::BoardLaw;
 use line_generic::{Discipline, Line};
-use line_kinds::{ALL, LinkQueue, RingQueue, TicketQueue, for_kind};
+use line_kinds::{ALL, for_kind};
 use qolb_model::{Free, OpenLine, ParkingLine};
 use std::alloc::Global;
 use std::process::Abort;
@@ -32,28 +32,36 @@ where
     boards::each_task_is_taken_once::<R, L>(rt, alloc)
 }
 
-/// The parts of the tests of desks.
+/// What is tried over lines of each lock.
 #[derive(Clone, Copy)]
 enum Part {
-    Rows,
-    /// A million transfers, in threads.
+    Boards,
+    Desks(Row),
+    Counts,
+}
+
+/// What is tried with desks.
+#[derive(Clone, Copy)]
+enum Row {
+    Answers,
+    /// Random transfers, in threads.
     Transfers,
     /// The answers of settling while memory is refused. It takes all memory of the process.
     SettlingWithoutMemory,
 }
 
-/// Runs `part` over lines of this type.
+/// Tries `row` over lines of this type.
 fn try_desks<
     R: Threads + Wait + Sync + Abort,
     L: OpenLine<AccountLaw> + ParkingLine<AccountLaw> + Sync + Drop,
->(rt: &R, alloc: Global, part: Part) -> Result<(), Fail>
+>(rt: &R, alloc: Global, row: Row) -> Result<(), Fail>
 where
     L::Port: Send + Drop,
 {
-    match part {
-        Part::Rows => each_desk::<R, L>(rt, alloc),
-        Part::Transfers => desks::what_was_paid_in_is_settled::<R, L>(rt, alloc),
-        Part::SettlingWithoutMemory => {
+    match row {
+        Row::Answers => each_desk::<R, L>(rt, alloc),
+        Row::Transfers => desks::what_was_paid_in_is_settled::<R, L>(rt, alloc),
+        Row::SettlingWithoutMemory => {
             desks::settling_is_refused_for_want_of_memory::<R, L>(rt, alloc)
         }
     }
@@ -93,81 +101,51 @@ where
     counts::a_withdrawal_and_a_release_race::<R, L>(rt, alloc)
 }
 
-/// Runs each test of the board over lines of this discipline.
-fn boards_by<R: Threads + Wait + Sync + Abort, Q: Discipline<BoardLaw> + Send + Sync>(
-    rt: &R,
-    alloc: Global,
-) -> Result<(), Fail> {
-    each_board::<R, Line<BoardLaw, Q>>(rt, alloc)
+/// Tries `part` over lines of this discipline.
+fn part_by<
+    R: Threads + Wait + Sync + Abort,
+    Q: Discipline<BoardLaw> + Discipline<AccountLaw> + Discipline<Free> + Send + Sync,
+>(rt: &R, alloc: Global, part: Part) -> Result<(), Fail> {
+    match part {
+        Part::Boards => each_board::<R, Line<BoardLaw, Q>>(rt, alloc),
+        Part::Desks(row) => try_desks::<R, Line<AccountLaw, Q>>(rt, alloc, row),
+        Part::Counts => each_count::<R, Line<Free, Q>>(rt, alloc),
+    }
 }
 
-/// Runs `part` over lines of this discipline.
-fn desks_by<R: Threads + Wait + Sync + Abort, Q: Discipline<AccountLaw> + Send + Sync>(
-    rt: &R,
-    alloc: Global,
-    part: Part,
-) -> Result<(), Fail> {
-    try_desks::<R, Line<AccountLaw, Q>>(rt, alloc, part)
-}
-
-/// Runs `part` over lines of each lock.
-fn desks_over_each<R: Threads + Wait + Sync + Abort>(
+/// Tries `part` over lines of each lock. The prover takes long wherever a lock is named, so the locks are named here alone.
+fn over_each<R: Threads + Wait + Sync + Abort>(
     rt: &R,
     alloc: Global,
     part: Part,
 ) -> Result<(), Fail> {
     for lines in ALL {
-        for_kind!(lines, desks_by, [R], (rt, alloc, part))?;
+        for_kind!(lines, part_by, [R], (rt, alloc, part))?;
     }
     Ok(())
-}
-
-/// Runs each program of threads that count, over lines of this discipline.
-fn counts_by<R: Threads + Wait + Sync + Abort, Q: Discipline<Free> + Send + Sync>(
-    rt: &R,
-    alloc: Global,
-) -> Result<(), Fail> {
-    each_count::<R, Line<Free, Q>>(rt, alloc)
 }
 
 #[test]
 fn boards_over_each_lock(rt: HostRuntime) -> Result<(), Fail> {
-    for lines in ALL {
-        for_kind!(lines, boards_by, [HostRuntime], (&rt, rt.alloc()))?;
-    }
-    Ok(())
+    over_each(&rt, rt.alloc(), Part::Boards)
 }
 
 #[test]
 fn desks_over_each_lock(rt: HostRuntime) -> Result<(), Fail> {
-    desks_over_each(&rt, rt.alloc(), Part::Rows)
-}
-
-// A million transfers over each lock in one test would be out of time on a busy machine.
-#[test]
-fn transfers_over_rings(rt: HostRuntime) -> Result<(), Fail> {
-    desks_by::<_, RingQueue>(&rt, rt.alloc(), Part::Transfers)
+    over_each(&rt, rt.alloc(), Part::Desks(Row::Answers))
 }
 
 #[test]
-fn transfers_over_link_lines(rt: HostRuntime) -> Result<(), Fail> {
-    desks_by::<_, LinkQueue>(&rt, rt.alloc(), Part::Transfers)
-}
-
-#[test]
-fn transfers_over_ticket_lines(rt: HostRuntime) -> Result<(), Fail> {
-    desks_by::<_, TicketQueue>(&rt, rt.alloc(), Part::Transfers)
+fn transfers_over_each_lock(rt: HostRuntime) -> Result<(), Fail> {
+    over_each(&rt, rt.alloc(), Part::Desks(Row::Transfers))
 }
 
 #[test]
 fn counts_over_each_lock(rt: HostRuntime) -> Result<(), Fail> {
-    for lines in ALL {
-        for_kind!(lines, counts_by, [HostRuntime], (&rt, rt.alloc()))?;
-    }
-    Ok(())
+    over_each(&rt, rt.alloc(), Part::Counts)
 }
 
 #[test]
 fn settling_is_refused_without_memory(rt: HostRuntime) -> Result<(), Fail> {
-    desks_over_each(&rt, rt.alloc(), Part::SettlingWithoutMemory)
+    over_each(&rt, rt.alloc(), Part::Desks(Row::SettlingWithoutMemory))
 }

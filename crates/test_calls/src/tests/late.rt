@@ -10,142 +10,101 @@ use std::alloc::Global;
 use std::process::Abort;
 use std::test::Fail;
 
-/// Node 2 links after the release.
-static LATE: [(u64, CallOutcome); 12] = [
-    (1, CallOutcome::Ask(Enq::Granted)),
-    (1, CallOutcome::Write(0xab)),
-    (2, CallOutcome::Prepend(Prep::Linking)),
-    (1, CallOutcome::Release),
-    (1, CallOutcome::State(PortState::Left)),
-    (1, CallOutcome::Clear(false)),
-    (1, CallOutcome::Ask(Enq::Busy)),
-    (2, CallOutcome::Link(Enq::Granted)),
-    (2, CallOutcome::Sees(0xab)),
-    (1, CallOutcome::Clear(true)),
-    (1, CallOutcome::State(PortState::Idle)),
-    (1, CallOutcome::Ask(Enq::Queued)),
+/// The nodes of a line, and calls with their outcomes.
+static RUNS: [(u64, &[(u64, CallOutcome)]); 5] = [
+    // node 2 links after the release, which left the line in the mailbox before it
+    (
+        2,
+        &[
+            (1, CallOutcome::Ask(Enq::Granted)),
+            (1, CallOutcome::Write(0xab)),
+            (2, CallOutcome::Prepend(Prep::Linking)),
+            (1, CallOutcome::Release),
+            (1, CallOutcome::State(PortState::Left)),
+            (1, CallOutcome::Clear(false)),
+            (1, CallOutcome::Ask(Enq::Busy)),
+            (2, CallOutcome::Link(Enq::Granted)),
+            (2, CallOutcome::Sees(0xab)),
+            (1, CallOutcome::Clear(true)),
+            (1, CallOutcome::State(PortState::Idle)),
+            (1, CallOutcome::Ask(Enq::Queued)),
+        ],
+    ),
+    // node 1 has left, and asks again once its entry has become clear, without a look at it
+    (
+        2,
+        &[
+            (1, CallOutcome::Ask(Enq::Granted)),
+            (1, CallOutcome::Write(0xab)),
+            (2, CallOutcome::Prepend(Prep::Linking)),
+            (1, CallOutcome::Release),
+            (1, CallOutcome::Ask(Enq::Busy)),
+            (2, CallOutcome::Link(Enq::Granted)),
+            (2, CallOutcome::Sees(0xab)),
+            (1, CallOutcome::State(PortState::Left)),
+            (1, CallOutcome::Ask(Enq::Queued)),
+        ],
+    ),
+    // node 3 asks behind node 2, which links last
+    (
+        3,
+        &[
+            (1, CallOutcome::Ask(Enq::Granted)),
+            (2, CallOutcome::Prepend(Prep::Linking)),
+            (3, CallOutcome::Ask(Enq::Queued)),
+            (1, CallOutcome::Release),
+            (1, CallOutcome::State(PortState::Left)),
+            (3, CallOutcome::Poll(Poll::Waiting)),
+            (2, CallOutcome::Link(Enq::Granted)),
+            (2, CallOutcome::Release),
+            (2, CallOutcome::State(PortState::Idle)),
+            (3, CallOutcome::Poll(Poll::Granted)),
+        ],
+    ),
+    // node 2 links before the release, and is granted the line by it
+    (
+        2,
+        &[
+            (1, CallOutcome::Prepend(Prep::Granted)),
+            (2, CallOutcome::Prepend(Prep::Linking)),
+            (2, CallOutcome::State(PortState::Linking)),
+            (2, CallOutcome::Link(Enq::Queued)),
+            (1, CallOutcome::Release),
+            (1, CallOutcome::State(PortState::Idle)),
+            (2, CallOutcome::Poll(Poll::Granted)),
+        ],
+    ),
+    // two nodes withdraw before one that links last
+    (
+        4,
+        &[
+            (1, CallOutcome::Ask(Enq::Granted)),
+            (2, CallOutcome::Ask(Enq::Queued)),
+            (3, CallOutcome::Ask(Enq::Queued)),
+            (2, CallOutcome::Withdraw(Out::Withdrawn)),
+            (3, CallOutcome::Withdraw(Out::Withdrawn)),
+            (4, CallOutcome::Prepend(Prep::Linking)),
+            (1, CallOutcome::Release),
+            (1, CallOutcome::Steps(10)),
+            (1, CallOutcome::State(PortState::Idle)),
+            (3, CallOutcome::Ask(Enq::Busy)),
+            (2, CallOutcome::Ask(Enq::Queued)),
+            (4, CallOutcome::Link(Enq::Granted)),
+            (3, CallOutcome::Ask(Enq::Queued)),
+            (4, CallOutcome::Release),
+            (2, CallOutcome::Poll(Poll::Granted)),
+        ],
+    ),
 ];
 
-fn a_late_linker_finds_the_line_in_the_mailbox_before_it<R: Abort, L: SplitCalls + Drop>(
-    rt: &R,
-    alloc: Global,
-) -> Result<(), Fail>
+fn each_run<R: Abort, L: SplitCalls + Drop>(rt: &R, alloc: Global) -> Result<(), Fail>
 where
     L::Port: Drop,
 {
-    let mut row = CheckedLine::<L>::of_zeros(alloc, 2)?;
-    expect_by_halves(rt, &mut row, &LATE);
-    Ok(())
-}
-
-/// Node 1 has left, and asks again once its entry has become clear, without a look at it.
-static ASKS_AGAIN: [(u64, CallOutcome); 9] = [
-    (1, CallOutcome::Ask(Enq::Granted)),
-    (1, CallOutcome::Write(0xab)),
-    (2, CallOutcome::Prepend(Prep::Linking)),
-    (1, CallOutcome::Release),
-    (1, CallOutcome::Ask(Enq::Busy)),
-    (2, CallOutcome::Link(Enq::Granted)),
-    (2, CallOutcome::Sees(0xab)),
-    (1, CallOutcome::State(PortState::Left)),
-    (1, CallOutcome::Ask(Enq::Queued)),
-];
-
-fn who_left_asks_once_its_entry_is_clear<R: Abort, L: SplitCalls + Drop>(
-    rt: &R,
-    alloc: Global,
-) -> Result<(), Fail>
-where
-    L::Port: Drop,
-{
-    let mut row = CheckedLine::<L>::of_zeros(alloc, 2)?;
-    expect_by_halves(rt, &mut row, &ASKS_AGAIN);
-    Ok(())
-}
-
-/// Node 3 asks behind node 2, which links last.
-static BEHIND: [(u64, CallOutcome); 10] = [
-    (1, CallOutcome::Ask(Enq::Granted)),
-    (2, CallOutcome::Prepend(Prep::Linking)),
-    (3, CallOutcome::Ask(Enq::Queued)),
-    (1, CallOutcome::Release),
-    (1, CallOutcome::State(PortState::Left)),
-    (3, CallOutcome::Poll(Poll::Waiting)),
-    (2, CallOutcome::Link(Enq::Granted)),
-    (2, CallOutcome::Release),
-    (2, CallOutcome::State(PortState::Idle)),
-    (3, CallOutcome::Poll(Poll::Granted)),
-];
-
-fn those_behind_a_late_linker_wait_for_it<R: Abort, L: SplitCalls + Drop>(
-    rt: &R,
-    alloc: Global,
-) -> Result<(), Fail>
-where
-    L::Port: Drop,
-{
-    let mut row = CheckedLine::<L>::of_zeros(alloc, 3)?;
-    expect_by_halves(rt, &mut row, &BEHIND);
-    Ok(())
-}
-
-/// Node 2 has not linked yet, and may not poll.
-static LINKING: [(u64, CallOutcome); 3] = [
-    (1, CallOutcome::Prepend(Prep::Granted)),
-    (2, CallOutcome::Prepend(Prep::Linking)),
-    (2, CallOutcome::State(PortState::Linking)),
-];
-
-/// Node 2 links, and is granted the line at the release.
-static LINKED: [(u64, CallOutcome); 4] = [
-    (2, CallOutcome::Link(Enq::Queued)),
-    (1, CallOutcome::Release),
-    (1, CallOutcome::State(PortState::Idle)),
-    (2, CallOutcome::Poll(Poll::Granted)),
-];
-
-fn one_who_links_before_the_release_waits<R: Abort, L: SplitCalls + Drop>(
-    rt: &R,
-    alloc: Global,
-) -> Result<(), Fail>
-where
-    L::Port: Drop,
-{
-    let mut row = CheckedLine::<L>::of_zeros(alloc, 2)?;
-    expect_by_halves(rt, &mut row, &LINKING);
-    expect_eq(rt, "no poll", row.poll(2), None);
-    expect_by_halves(rt, &mut row, &LINKED);
-    Ok(())
-}
-
-/// Two nodes withdraw before one that links last.
-static CHAIN: [(u64, CallOutcome); 15] = [
-    (1, CallOutcome::Ask(Enq::Granted)),
-    (2, CallOutcome::Ask(Enq::Queued)),
-    (3, CallOutcome::Ask(Enq::Queued)),
-    (2, CallOutcome::Withdraw(Out::Withdrawn)),
-    (3, CallOutcome::Withdraw(Out::Withdrawn)),
-    (4, CallOutcome::Prepend(Prep::Linking)),
-    (1, CallOutcome::Release),
-    (1, CallOutcome::Steps(10)),
-    (1, CallOutcome::State(PortState::Idle)),
-    (3, CallOutcome::Ask(Enq::Busy)),
-    (2, CallOutcome::Ask(Enq::Queued)),
-    (4, CallOutcome::Link(Enq::Granted)),
-    (3, CallOutcome::Ask(Enq::Queued)),
-    (4, CallOutcome::Release),
-    (2, CallOutcome::Poll(Poll::Granted)),
-];
-
-fn a_chain_of_withdrawn_nodes_ends_at_a_late_linker<R: Abort, L: SplitCalls + Drop>(
-    rt: &R,
-    alloc: Global,
-) -> Result<(), Fail>
-where
-    L::Port: Drop,
-{
-    let mut row = CheckedLine::<L>::of_zeros(alloc, 4)?;
-    expect_by_halves(rt, &mut row, &CHAIN);
+    for (nodes, calls) in &RUNS {
+        let mut row = CheckedLine::<L>::of_zeros(alloc, *nodes)?;
+        expect_by_halves(rt, &mut row, *calls);
+    }
     Ok(())
 }
 
@@ -247,11 +206,7 @@ fn each_half<R: Abort, L: SplitCalls + Drop>(rt: &R, alloc: Global) -> Result<()
 where
     L::Port: Drop,
 {
-    a_late_linker_finds_the_line_in_the_mailbox_before_it::<R, L>(rt, alloc)?;
-    who_left_asks_once_its_entry_is_clear::<R, L>(rt, alloc)?;
-    those_behind_a_late_linker_wait_for_it::<R, L>(rt, alloc)?;
-    one_who_links_before_the_release_waits::<R, L>(rt, alloc)?;
-    a_chain_of_withdrawn_nodes_ends_at_a_late_linker::<R, L>(rt, alloc)?;
+    each_run::<R, L>(rt, alloc)?;
     finish_waits_for_a_late_linker::<R, L>(rt, alloc)?;
     finish_names_the_first_cause::<R, L>(rt, alloc)
 }

@@ -1,8 +1,8 @@
 //! Lines that are opened by a lock's own calls, and not as an `OpenLine`.
 
 use crate::tests::rows::{expect_at, expect_eq};
+use crate::tests::{Part, over_each};
 use line_generic::{Discipline, Line, Payload};
-use line_kinds::{ALL, for_kind};
 use line_lanes::Line64;
 use qolb_model::{Free, LineSync, OpenError, PortState};
 use std::alloc::Global;
@@ -49,17 +49,17 @@ fn a_line_is_opened_with_a_lease<R: Abort, Q: Discipline<Free>>(
 }
 
 /// Opens lines by each of a lock's own calls.
-fn each_opening<R: Abort, Q: Discipline<Free>>(rt: &R, alloc: Global) -> Result<(), Fail> {
+pub(super) fn each_opening<R: Abort, Q: Discipline<Free>>(
+    rt: &R,
+    alloc: Global,
+) -> Result<(), Fail> {
     a_line_is_opened::<R, Q>(rt, alloc)?;
     a_line_is_opened_with_a_lease::<R, Q>(rt, alloc)
 }
 
 #[test]
 fn lines_are_opened(rt: HostRuntime) -> Result<(), Fail> {
-    for lines in ALL {
-        for_kind!(lines, each_opening, [HostRuntime], (&rt, rt.alloc()))?;
-    }
-    Ok(())
+    over_each(&rt, rt.alloc(), Part::Opening)
 }
 
 /// A slot takes two cache lines, so that no two slots share one.

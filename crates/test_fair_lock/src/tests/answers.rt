@@ -1,6 +1,8 @@
 //! Each answer, by one thread.
-use super::{add, add_within, lock_of, try_add};
-use fair_lock::{EnterError, FairLock, NewError, OpenError, TryEnterError};
+use super::{Answer, add, add_within, enter, enter_within, lock_of, try_add, try_enter};
+use fair_lock::{FairLock, NewError, OpenError};
+use std::rt::Clock;
+use std::sync::Wait;
 use std::time::{Duration, Instant};
 
 #[test]
@@ -29,32 +31,15 @@ fn a_held_lock_is_busy_and_late(rt: HostRuntime) {
     for burst in [1, 2, 8] {
         let lock = lock_of(rt.alloc(), burst, 5).expect(&rt, "memory");
         let mut guard = lock.enter(&rt).ok().expect(&rt, "open");
-        assert_eq!(&rt; *guard.value_mut(), 5);
+        let value = *guard.value_mut();
         *guard.value_mut() = 6;
-        let tried = lock.try_enter(&rt);
-        match tried {
-            Ok(second) => {
-                second.leave(&rt);
-                panic!(&rt; "two were served, at {burst}")
-            }
-            Err(error) => match error {
-                TryEnterError::Busy(_busy) => {}
-                TryEnterError::Closed(_closed) => panic!(&rt; "shut, at {burst}"),
-            },
-        }
-        match lock.enter_within(&rt, Duration::from_millis(3)) {
-            Ok(second) => {
-                second.leave(&rt);
-                panic!(&rt; "two were served, at {burst}")
-            }
-            Err(error) => match error {
-                EnterError::Late(_late) => {}
-                EnterError::Closed(_closed) => panic!(&rt; "shut, at {burst}"),
-            },
-        }
+        let tried = try_enter(&rt, &lock);
+        let late = enter_within(&rt, &lock, &rt, Duration::from_millis(3));
         guard.leave(&rt);
-        assert_eq!(&rt; add(&rt, &lock, 3), 3);
-        assert_eq!(&rt; lock.into_inner(), 9);
+        let had = add(&rt, &lock, 3);
+        let found = (value, tried, late, had, lock.into_inner());
+        let wanted = (5, Answer::Busy, Answer::Late, 3, 9);
+        assert_eq!(&rt; found, wanted, "at {burst}");
     }
 }
 
@@ -65,17 +50,11 @@ fn a_late_call_waits_as_long_as_it_may(rt: HostRuntime) {
         let lock = lock_of(rt.alloc(), burst, 0).expect(&rt, "memory");
         let guard = lock.enter(&rt).ok().expect(&rt, "open");
         let begun = Instant::now(&rt).ok().expect(&rt, "clock");
-        if let Ok(second) = lock.enter_within(&rt, limit) {
-            second.leave(&rt);
-            panic!(&rt; "two were served, at {burst}")
-        }
+        let answer = enter_within(&rt, &lock, &rt, limit);
         let waited = begun.elapsed(&rt).ok().expect(&rt, "clock");
         guard.leave(&rt);
-        assert!(&rt; waited >= limit, "late too early, at {burst}");
-        assert!(&rt;
-            waited < Duration::from_secs(20),
-            "late too late, at {burst}"
-        );
+        let is_in_time = waited >= limit && waited < Duration::from_secs(20);
+        assert_eq!(&rt; (answer, is_in_time), (Answer::Late, true), "at {burst}");
     }
 }
 
@@ -87,31 +66,28 @@ fn a_shut_lock_is_closed_to_all(rt: HostRuntime) {
         guard.shut();
         *guard.value_mut() = 2;
         guard.leave(&rt);
-        match lock.enter(&rt) {
-            Ok(late) => {
-                late.leave(&rt);
-                panic!(&rt; "served after it was shut, at {burst}")
-            }
-            Err(_) => {}
-        }
-        match lock.try_enter(&rt) {
-            Ok(late) => {
-                late.leave(&rt);
-                panic!(&rt; "served after it was shut, at {burst}")
-            }
-            Err(TryEnterError::Closed(_)) => {}
-            Err(TryEnterError::Busy(_)) => panic!(&rt; "busy, at {burst}"),
-        }
-        match lock.enter_within(&rt, Duration::from_millis(3)) {
-            Ok(late) => {
-                late.leave(&rt);
-                panic!(&rt; "served after it was shut, at {burst}")
-            }
-            Err(EnterError::Closed(_)) => {}
-            Err(EnterError::Late(_)) => panic!(&rt; "late, at {burst}"),
-        }
-        assert_eq!(&rt; lock.into_inner(), 2);
+        let answers = [
+            enter(&rt, &lock),
+            try_enter(&rt, &lock),
+            enter_within(&rt, &lock, &rt, Duration::from_millis(3)),
+        ];
+        let found = (answers, lock.into_inner());
+        assert_eq!(&rt; found, ([Answer::Closed; 3], 2), "at {burst}");
     }
+}
+
+/// Holds the lock while five calls are late. Returns how many were served.
+fn hold_while_five_are_late<R: Wait + Clock>(rt: &R, lock: &FairLock<u64>) -> u64 {
+    let mut served = 0u64;
+    if let Ok(guard) = lock.enter(rt) {
+        for _ in 0..5 {
+            if enter_within(rt, lock, rt, Duration::from_micros(1)) != Answer::Late {
+                served = served.wrapping_add(1);
+            }
+        }
+        guard.leave(rt);
+    }
+    served
 }
 
 #[test]
@@ -119,17 +95,10 @@ fn a_withdrawn_request_is_passed(rt: HostRuntime) {
     for burst in [1, 2] {
         let lock = lock_of(rt.alloc(), burst, 0).expect(&rt, "memory");
         for _ in 0..40 {
-            let guard = lock.enter(&rt).ok().expect(&rt, "open");
-            for _ in 0..5 {
-                if let Ok(second) = lock.enter_within(&rt, Duration::from_micros(1)) {
-                    second.leave(&rt);
-                    panic!(&rt; "two were served, at {burst}")
-                }
-            }
-            guard.leave(&rt);
+            assert_eq!(&rt; hold_while_five_are_late(&rt, &lock), 0, "at {burst}");
         }
-        assert_eq!(&rt; add(&rt, &lock, 10), 10);
-        assert_eq!(&rt; lock.into_inner(), 10);
+        let had = add(&rt, &lock, 10);
+        assert_eq!(&rt; (had, lock.into_inner()), (10, 10), "at {burst}");
     }
 }
 

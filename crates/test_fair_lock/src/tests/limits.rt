@@ -1,6 +1,6 @@
 //! Limits of time, by a clock that a test moves.
-use super::lock_of;
-use fair_lock::{EnterError, FairLock};
+use super::{Answer, enter_within, lock_of};
+use fair_lock::FairLock;
 use std::io;
 use std::rt::Clock;
 use std::sync::Wait;
@@ -44,30 +44,11 @@ impl<R> Clock for Ticking<'_, R> {
     }
 }
 
-/// Whether a call is late, with this limit by this clock.
-fn is_late<R: Wait, C: Wait + Clock>(
-    rt: &R,
-    lock: &FairLock<u64>,
-    clock: &C,
-    at_most: Duration,
-) -> bool {
-    match lock.enter_within(clock, at_most) {
-        Ok(guard) => {
-            guard.leave(rt);
-            false
-        }
-        Err(error) => match error {
-            EnterError::Late(_late) => true,
-            EnterError::Closed(_closed) => false,
-        },
-    }
-}
-
 /// Whether a call is late, with this limit in nanoseconds, and how often it read the clock.
 fn late_call<R: Wait>(rt: &R, lock: &FairLock<u64>, can_be_read: bool, nanos: u64) -> (bool, u64) {
     let clock = Ticking::new(rt, can_be_read);
-    let is_late = is_late(rt, lock, &clock, Duration::from_nanos(nanos));
-    (is_late, clock.readings.load(SeqCst))
+    let answer = enter_within(rt, lock, &clock, Duration::from_nanos(nanos));
+    (answer == Answer::Late, clock.readings.load(SeqCst))
 }
 
 /// A call begins at its first reading, reads the clock once after each try, and is late at the reading that is `nanos` later; at the second
@@ -124,9 +105,9 @@ fn a_call_far_from_its_turn_naps(rt: HostRuntime) {
         rt: &rt,
         readings: AtomicU64::new(0),
     };
-    let is_late = is_late(&rt, &lock, &clock, Duration::from_millis(50));
+    let answer = enter_within(&rt, &lock, &clock, Duration::from_millis(50));
     let readings = clock.readings.load(SeqCst);
-    assert!(&rt; is_late && readings < 300, "{readings}");
+    assert!(&rt; answer == Answer::Late && readings < 300, "{readings}");
     guard.leave(&rt);
     assert_eq!(&rt; lock.into_inner(), 0);
 }

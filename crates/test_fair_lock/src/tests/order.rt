@@ -1,7 +1,7 @@
 //! Who is served when: in the order of requests, also of those that slept.
 use super::threads::{append, sum, wait_for};
-use super::{add, add_within, lock_of};
-use fair_lock::{FairLock, TryEnterError};
+use super::{Answer, add, add_within, lock_of, try_enter};
+use fair_lock::FairLock;
 use std::rt::Clock;
 use std::sync::Wait;
 use std::sync::atomic::AtomicU64;
@@ -82,16 +82,7 @@ fn try_while_another_waits<R: Wait + Clock>(
     stage.store(1, SeqCst);
     wait_for(rt, stage, 2);
     thread::sleep(rt, Duration::from_millis(5));
-    let is_busy = match lock.try_enter(rt) {
-        Ok(second) => {
-            second.leave(rt);
-            false
-        }
-        Err(error) => match error {
-            TryEnterError::Busy(_busy) => true,
-            TryEnterError::Closed(_closed) => false,
-        },
-    };
+    let is_busy = try_enter(rt, lock) == Answer::Busy;
     guard.leave(rt);
     u64::from(is_busy)
 }

@@ -40,49 +40,23 @@ fn each_turn_counts_once(rt: HostRuntime) {
 }
 
 #[test]
-fn whoever_is_late_had_no_turn(rt: HostRuntime) {
+fn who_had_no_turn_leaves_nothing(rt: HostRuntime) {
     for burst in [1, 2, 32] {
         let lock = lock_of(rt.alloc(), burst, 0).expect(&rt, "memory");
         let had = thread::map_indices(
             &rt,
             rt.alloc(),
-            8,
-            &|i| {
-                if i % 2 == 0 {
-                    add_within(&rt, &lock, 300, Duration::from_micros(30))
-                } else {
-                    add(&rt, &lock, 300)
-                }
+            9,
+            &|i| match i % 3 {
+                0 => add_within(&rt, &lock, 300, Duration::from_micros(30)),
+                1 => try_add(&rt, &lock, 500),
+                _ => add(&rt, &lock, 400),
             },
         )
         .ok()
         .expect(&rt, "memory");
         let all = sum(&had);
         assert!(&rt; all >= 1200);
-        assert_eq!(&rt; lock.into_inner(), all, "at {burst}");
-    }
-}
-
-#[test]
-fn a_try_that_fails_leaves_nothing(rt: HostRuntime) {
-    for burst in [1, 2, 32] {
-        let lock = lock_of(rt.alloc(), burst, 0).expect(&rt, "memory");
-        let had = thread::map_indices(
-            &rt,
-            rt.alloc(),
-            6,
-            &|i| {
-                if i % 2 == 0 {
-                    try_add(&rt, &lock, 500)
-                } else {
-                    add(&rt, &lock, 500)
-                }
-            },
-        )
-        .ok()
-        .expect(&rt, "memory");
-        let all = sum(&had);
-        assert!(&rt; all >= 1500);
         assert_eq!(&rt; lock.into_inner(), all, "at {burst}");
     }
 }

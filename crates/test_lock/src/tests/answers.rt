@@ -1,76 +1,100 @@
 //! Each answer of the queue and of closing, to a few callers of one thread.
+ghost use Rattle.std.specs.Prelude.{◌≤◌, IfOk};
 ghost use Rattle.lock_core.specs.Layout.{IsLockTable};
 
 use lock_core::{
-    AskNearResult, LockKind, ReleaseResult, SharedTable, SleepResult, TicketSeat, announce_sleep,
-    ask, ask_near, check_open, learn, new_seat, open, poll, release, reopen, retract_sleep, shut,
-    tell, try_ask, withdraw,
+    AskNearResult, LockKind, ReleaseResult, SharedTable, SleepResult, TicketSeat, TicketTable,
+    announce_sleep, ask, ask_near, check_open, learn, new_seat, open, poll, release, reopen,
+    retract_sleep, shut, tell, try_ask, withdraw,
 };
+use std::alloc::Global;
 use std::test::Fail;
 
-/// One waits, is counted as a sleeper, and is granted.
-#[test]
-fn a_sleeper_is_told_of(rt: HostRuntime) -> Result<(), Fail> {
-    let Ok(table) = open(rt.alloc(), LockKind::Strict) else {
-        return Err("opened".into());
-    };
-    let lock = &table.shared;
+/// A new strict lock.
+fn strict(alloc: Global) -> Result<TicketTable, Fail>
+    ensures table { IfOk result (λ table. IsLockTable table.shared.table_id) }
+    ensures strict { IfOk result (λ table. table.shared.key ≤ 1) }
+{
+    Ok(open(alloc, LockKind::Strict).ok().ok_or("opened")?)
+}
+
+/// A caller holds the lock. Another waits, announces its sleep, and is granted the lock. Returns the rounds and the word of the announcement,
+/// the answer of the release, and the rounds to go after it.
+fn granted_asleep(lock: &SharedTable) -> Option<(u64, u64, ReleaseResult, u64)>
+    requires { IsLockTable lock.now.table_id }
+{
     let mut holder = new_seat(lock);
     let mut waiter = new_seat(lock);
-    let Some(mut turn) = try_ask(lock, &mut holder) else {
-        return Err("tried".into());
-    };
+    let mut turn = try_ask(lock, &mut holder)?;
     let ticket = ask(lock, &mut waiter);
-    assert_eq!(rt; (turn, ticket), (0, 1));
     if poll(lock, &mut waiter, ticket) == 0 {
-        return Err("polled".into());
+        return None;
     }
     let SleepResult::Asleep { rounds, cell } = announce_sleep(lock, &mut waiter, ticket) else {
-        return Err("announced".into());
+        return None;
     };
-    // One sleeper, and no round is granted in the cell of ticket 1.
-    assert_eq!(rt; (rounds, cell), (1, 1 << 16));
     let released = release(lock, &mut holder, &mut turn);
-    assert_eq!(rt; released, ReleaseResult::Granted { sleepers: 1 });
-    assert_eq!(rt; retract_sleep(lock, &mut waiter, ticket), 0);
+    let to_go = retract_sleep(lock, &mut waiter, ticket);
+    Some((rounds, cell, released, to_go))
+}
+
+#[test]
+fn a_sleeper_is_told_of(rt: HostRuntime) -> Result<(), Fail> {
+    let table = strict(rt.alloc())?;
+    // One sleeper, and no round is granted in the cell of ticket 1.
+    let wanted = (1, 1 << 16, ReleaseResult::Granted { sleepers: 1 }, 0);
+    assert_eq!(rt; granted_asleep(&table.shared), Some(wanted));
     Ok(())
 }
 
-/// A request is withdrawn, and passed; another was granted first.
-#[test]
-fn a_withdrawn_request_is_passed(rt: HostRuntime) -> Result<(), Fail> {
-    let Ok(table) = open(rt.alloc(), LockKind::Strict) else {
-        return Err("opened".into());
-    };
-    let lock = &table.shared;
+/// A request is withdrawn, and the release passes it. Returns the withdrawn ticket with its rounds to go, the answer of the release, the
+/// ticket that the release passed last, and the next one.
+fn passed(lock: &SharedTable) -> Option<(u64, u64, ReleaseResult, u64, AskNearResult)>
+    requires { IsLockTable lock.now.table_id }
+{
     let mut holder = new_seat(lock);
     let mut waiter = new_seat(lock);
-    let Some(mut turn) = try_ask(lock, &mut holder) else {
-        return Err("tried".into());
-    };
+    let mut turn = try_ask(lock, &mut holder)?;
     let AskNearResult::Queued { ticket, rounds } = ask_near(lock, &mut waiter) else {
-        return Err("asked".into());
+        return None;
     };
-    assert_eq!(rt; (ticket, rounds), (1, 1));
     if !withdraw(lock, &mut waiter, ticket, rounds) {
-        return Err("withdrawn".into());
+        return None;
     }
     let released = release(lock, &mut holder, &mut turn);
-    assert_eq!(rt; released, ReleaseResult::Granted { sleepers: 0 });
-    // Ticket 1 was passed.
-    assert_eq!(rt; turn, 1);
-    let AskNearResult::AtTurn { ticket } = ask_near(lock, &mut holder) else {
-        return Err("near".into());
+    let ReleaseResult::Granted { .. } = released else {
+        return None;
     };
-    assert_eq!(rt; ticket, 2);
-    turn = ticket;
+    Some((ticket, rounds, released, turn, ask_near(lock, &mut holder)))
+}
+
+#[test]
+fn a_withdrawn_request_is_passed(rt: HostRuntime) -> Result<(), Fail> {
+    let table = strict(rt.alloc())?;
+    let released = ReleaseResult::Granted { sleepers: 0 };
+    let next = AskNearResult::AtTurn { ticket: 2 };
+    assert_eq!(rt; passed(&table.shared), Some((1, 1, released, 1, next)));
+    Ok(())
+}
+
+/// A request is granted before it is withdrawn. Returns whether it was withdrawn.
+fn withdrawn_late(lock: &SharedTable) -> Option<bool>
+    requires { IsLockTable lock.now.table_id }
+{
+    let mut holder = new_seat(lock);
+    let mut waiter = new_seat(lock);
+    let mut turn = try_ask(lock, &mut holder)?;
     let AskNearResult::Queued { ticket, rounds } = ask_near(lock, &mut waiter) else {
-        return Err("asked again".into());
+        return None;
     };
     release(lock, &mut holder, &mut turn);
-    if withdraw(lock, &mut waiter, ticket, rounds) {
-        return Err("granted first".into());
-    }
+    Some(withdraw(lock, &mut waiter, ticket, rounds))
+}
+
+#[test]
+fn a_granted_request_is_not_withdrawn(rt: HostRuntime) -> Result<(), Fail> {
+    let table = strict(rt.alloc())?;
+    assert_eq!(rt; withdrawn_late(&table.shared), Some(false));
     Ok(())
 }
 
@@ -82,79 +106,86 @@ fn draw_one(lock: &SharedTable) -> u64
     ask(lock, &mut seat)
 }
 
-/// No ticket is drawn beyond the window, or if it would wait.
-#[test]
-fn far_and_busy_draw_no_ticket(rt: HostRuntime) -> Result<(), Fail> {
-    let Ok(table) = open(rt.alloc(), LockKind::Strict) else {
-        return Err("opened".into());
-    };
-    let lock = &table.shared;
+/// A caller holds the lock, and 60 requests wait. Returns the answers to a caller that asks only near its turn, to one that asks only if it
+/// need not wait, and to one that asks in any case.
+fn drawn_far(lock: &SharedTable) -> Option<(AskNearResult, Option<u64>, u64)>
+    requires { IsLockTable lock.now.table_id }
+{
     let mut holder = new_seat(lock);
-    if try_ask(lock, &mut holder).is_none() {
-        return Err("tried".into());
-    }
+    try_ask(lock, &mut holder)?;
     for _ in 0..60 {
         draw_one(lock);
     }
-    // Ticket 61 is in round 15 of its cell, in which none is granted.
     let mut late = new_seat(lock);
-    assert_eq!(rt;
-        ask_near(lock, &mut late),
-        AskNearResult::Far { rounds: 16 }
-    );
+    let near = ask_near(lock, &mut late);
     let mut other = new_seat(lock);
-    assert_eq!(rt; try_ask(lock, &mut other), None);
-    assert_eq!(rt; draw_one(lock), 61);
+    let tried = try_ask(lock, &mut other);
+    Some((near, tried, draw_one(lock)))
+}
+
+/// No ticket is drawn beyond the window, or if it would wait.
+#[test]
+fn far_and_busy_draw_no_ticket(rt: HostRuntime) -> Result<(), Fail> {
+    let table = strict(rt.alloc())?;
+    // Ticket 61 is in round 15 of its cell, in which none is granted.
+    let far = AskNearResult::Far { rounds: 16 };
+    assert_eq!(rt; drawn_far(&table.shared), Some((far, None, 61)));
     Ok(())
 }
 
-/// After a shut each is told of it, until one with nobody behind reopens the lock.
-#[test]
-fn a_shut_lock_is_reopened(rt: HostRuntime) -> Result<(), Fail> {
-    let Ok(table) = open(rt.alloc(), LockKind::Strict) else {
-        return Err("opened".into());
-    };
-    let lock = &table.shared;
+/// A caller finds the lock open and shuts it, and two callers behind it find it shut. Returns whether each of these two reopened the lock.
+fn reopened(lock: &SharedTable) -> Option<(bool, bool)>
+    requires table { IsLockTable lock.now.table_id }
+    requires strict { lock.now.key ≤ 1 }
+{
     let mut first = new_seat(lock);
     let mut second = new_seat(lock);
     let mut third = new_seat(lock);
-    let Some(mut one) = try_ask(lock, &mut first) else {
-        return Err("tried".into());
-    };
+    let mut one = try_ask(lock, &mut first)?;
     if !check_open(lock, &mut first, one) {
-        return Err("open".into());
+        return None;
     }
     shut(lock, &mut first);
     let mut two = ask(lock, &mut second);
     let three = ask(lock, &mut third);
     release(lock, &mut first, &mut one);
     if poll(lock, &mut second, two) != 0 || check_open(lock, &mut second, two) {
-        return Err("second is told that it is shut".into());
+        return None;
     }
-    if reopen(lock, &mut second, two) {
-        return Err("third is behind".into());
+    let by_second = reopen(lock, &mut second, two);
+    if by_second {
+        return None;
     }
     release(lock, &mut second, &mut two);
     if poll(lock, &mut third, three) != 0 || check_open(lock, &mut third, three) {
-        return Err("third is told that it is shut".into());
+        return None;
     }
-    if !reopen(lock, &mut third, three) {
-        return Err("nobody is behind".into());
-    }
+    let by_third = reopen(lock, &mut third, three);
+    Some((by_second, by_third))
+}
+
+/// After a shut each is told of it, until one with nobody behind reopens the lock.
+#[test]
+fn a_shut_lock_is_reopened(rt: HostRuntime) -> Result<(), Fail> {
+    let table = strict(rt.alloc())?;
+    assert_eq!(rt; reopened(&table.shared), Some((false, true)));
     Ok(())
 }
 
-/// A caller tells another what it knows.
-#[test]
-fn callers_tell_one_another(rt: HostRuntime) -> Result<(), Fail> {
-    let Ok(table) = open(rt.alloc(), LockKind::Strict) else {
-        return Err("opened".into());
-    };
-    let lock = &table.shared;
+/// A caller tells another what it knows, which then asks.
+fn asked_after_it_learnt(lock: &SharedTable) -> Option<u64>
+    requires { IsLockTable lock.now.table_id }
+{
     let mut one = new_seat(lock);
     let mut other = new_seat(lock);
     let told = tell(lock, &mut one);
     learn(lock, &mut other, told);
-    assert_eq!(rt; try_ask(lock, &mut other), Some(0));
+    try_ask(lock, &mut other)
+}
+
+#[test]
+fn callers_tell_one_another(rt: HostRuntime) -> Result<(), Fail> {
+    let table = strict(rt.alloc())?;
+    assert_eq!(rt; asked_after_it_learnt(&table.shared), Some(0));
     Ok(())
 }

@@ -1,76 +1,156 @@
 //! Each answer at the outer word, to a few callers of one thread.
+ghost use Rattle.std.specs.Prelude.{◌≤◌, IfOk};
+ghost use Rattle.lock_core.specs.Layout.{IsLockTable};
+
 use lock_core::{
-    GoInResult, HeadSleepResult, LeaveResult, LockKind, ReleaseResult, TakeResult,
-    announce_head_sleep, ask, go_in, go_in_if, leave, leave_if, new_seat, open, poll, release,
-    request_handoff, take_outer,
+    GoInResult, HeadSleepResult, LeaveResult, LockKind, ReleaseResult, SharedTable, TakeResult,
+    TicketTable, announce_head_sleep, ask, go_in, go_in_if, leave, leave_if, new_seat, open, poll,
+    release, request_handoff, take_outer,
 };
+use std::alloc::Global;
 use std::test::Fail;
 
-/// A newcomer is inside, the queue head waits and sleeps, and then is inside.
-#[test]
-fn a_queue_head_is_told_of(rt: HostRuntime) -> Result<(), Fail> {
-    let Ok(table) = open(rt.alloc(), LockKind::Bursts(3)) else {
-        return Err("opened".into());
-    };
-    let lock = &table.shared;
+/// A new lock with bursts of three turns.
+fn in_threes(alloc: Global) -> Result<TicketTable, Fail>
+    ensures table { IfOk result (λ table. IsLockTable table.shared.table_id) }
+    ensures bursts { IfOk result (λ table. 3 ≤ table.shared.key) }
+{
+    Ok(open(alloc, LockKind::Bursts(3)).ok().ok_or("opened")?)
+}
+
+/// What the queue head and a newcomer are answered.
+#[derive(Clone, Copy, Debug, PartialEq)]
+struct Told {
+    held: TakeResult,
+    requested: bool,
+    asleep: HeadSleepResult,
+    left: LeaveResult,
+    awake: HeadSleepResult,
+    /// Whether another newcomer went in after that.
+    other_in: bool,
+    released: ReleaseResult,
+}
+
+/// A newcomer is inside; the queue head waits and sleeps, and is inside after the newcomer.
+fn woken(lock: &SharedTable) -> Option<Told>
+    requires table { IsLockTable lock.now.table_id }
+    requires bursts { 3 ≤ lock.now.key }
+{
     let mut newcomer = new_seat(lock);
     let mut head = new_seat(lock);
     if !go_in(lock, &mut newcomer) {
-        return Err("in".into());
+        return None;
     }
     let mut ticket = ask(lock, &mut head);
     if poll(lock, &mut head, ticket) != 0 {
-        return Err("head".into());
+        return None;
     }
-    // Held (4), one newcomer (32).
     let held = take_outer(lock, &mut head, ticket);
-    assert_eq!(rt; held, TakeResult::Held { outer: 36 });
-    if !request_handoff(lock, &mut head) {
-        return Err("requested".into());
-    }
-    // Held (4), one newcomer (32), handoff requested (1), the head asleep (2).
-    let asleep = announce_head_sleep(lock, &mut head);
-    assert_eq!(rt; asleep, HeadSleepResult::Asleep { outer: 39 });
-    let left = leave(lock, &mut newcomer, 3);
-    assert_eq!(rt; left, LeaveResult::Outside { head_asleep: true });
-    let noted = announce_head_sleep(lock, &mut head);
-    assert_eq!(rt; noted, HeadSleepResult::NotHeld);
-    let mut other = new_seat(lock);
-    if go_in(lock, &mut other) {
-        return Err("it is reserved".into());
-    }
-    let TakeResult::Open = take_outer(lock, &mut head, ticket) else {
-        return Err("taken".into());
+    let TakeResult::Held { .. } = held else {
+        return None;
     };
-    let released = release(lock, &mut head, &mut ticket);
-    assert_eq!(rt; released, ReleaseResult::Granted { sleepers: 0 });
+    let requested = request_handoff(lock, &mut head);
+    let asleep = announce_head_sleep(lock, &mut head);
+    let left = leave(lock, &mut newcomer, 3);
+    let awake = announce_head_sleep(lock, &mut head);
+    let mut other = new_seat(lock);
+    let other_in = go_in(lock, &mut other);
+    let TakeResult::Open = take_outer(lock, &mut head, ticket) else {
+        return None;
+    };
+    Some(Told {
+        held,
+        requested,
+        asleep,
+        left,
+        awake,
+        other_in,
+        released: release(lock, &mut head, &mut ticket),
+    })
+}
+
+#[test]
+fn a_queue_head_is_told_of(rt: HostRuntime) -> Result<(), Fail> {
+    let table = in_threes(rt.alloc())?;
+    let wanted = Told {
+        // Held (4), one newcomer (32).
+        held: TakeResult::Held { outer: 36 },
+        requested: true,
+        // Handoff requested (1), the head asleep (2).
+        asleep: HeadSleepResult::Asleep { outer: 39 },
+        left: LeaveResult::Outside { head_asleep: true },
+        awake: HeadSleepResult::NotHeld,
+        // The outer word is reserved.
+        other_in: false,
+        released: ReleaseResult::Granted { sleepers: 0 },
+    };
+    assert_eq!(rt; woken(&table.shared), Some(wanted));
     Ok(())
+}
+
+/// A newcomer goes in and leaves by steps that expect a certain outer word. Returns the answers to words that it does not find, and to the
+/// right one.
+fn left_as_expected(
+    lock: &SharedTable,
+) -> Option<(GoInResult, GoInResult, LeaveResult, LeaveResult)>
+    requires table { IsLockTable lock.now.table_id }
+    requires bursts { 3 ≤ lock.now.key }
+{
+    let mut caller = new_seat(lock);
+    // The word is 0: free. 32 is free after one newcomer, 4 is held.
+    let stale_in = go_in_if(lock, &mut caller, 32);
+    let GoInResult::Outside { .. } = stale_in else {
+        return None;
+    };
+    let no_entry = go_in_if(lock, &mut caller, 4);
+    let GoInResult::Outside { .. } = no_entry else {
+        return None;
+    };
+    let GoInResult::Inside = go_in_if(lock, &mut caller, 0) else {
+        return None;
+    };
+    // Held, one newcomer.
+    let stale = leave_if(lock, &mut caller, 3, 68);
+    let LeaveResult::Changed { .. } = stale else {
+        return None;
+    };
+    let left = leave_if(lock, &mut caller, 3, 36);
+    Some((stale_in, no_entry, stale, left))
+}
+
+#[test]
+fn a_newcomer_goes_by_the_word_that_it_expects(rt: HostRuntime) -> Result<(), Fail> {
+    let table = in_threes(rt.alloc())?;
+    let free = GoInResult::Outside { outer: 0 };
+    let stale = LeaveResult::Changed { outer: 36 };
+    let left = LeaveResult::Outside { head_asleep: false };
+    assert_eq!(rt;
+        left_as_expected(&table.shared),
+        Some((free, free, stale, left))
+    );
+    Ok(())
+}
+
+/// A newcomer goes in three times, and leaves each time. Returns whether it was inside each time.
+fn go_in_three_times(lock: &SharedTable) -> [bool; 3]
+    requires table { IsLockTable lock.now.table_id }
+    requires bursts { 3 ≤ lock.now.key }
+{
+    let mut was_in = [false; 3];
+    for at in 0..3usize {
+        let mut caller = new_seat(lock);
+        was_in[at] = go_in(lock, &mut caller);
+        if was_in[at] {
+            leave(lock, &mut caller, 3);
+        }
+    }
+    was_in
 }
 
 /// After two newcomers of a burst of three the outer word is reserved.
 #[test]
 fn a_burst_ends(rt: HostRuntime) -> Result<(), Fail> {
-    let Ok(table) = open(rt.alloc(), LockKind::Bursts(3)) else {
-        return Err("opened".into());
-    };
-    let lock = &table.shared;
-    let mut caller = new_seat(lock);
-    // The word is 0: free. 32 is free after one newcomer, 4 is held.
-    let stale = go_in_if(lock, &mut caller, 32);
-    assert_eq!(rt; stale, GoInResult::Outside { outer: 0 });
-    let no_entry = go_in_if(lock, &mut caller, 4);
-    assert_eq!(rt; no_entry, GoInResult::Outside { outer: 0 });
-    assert_eq!(rt; go_in_if(lock, &mut caller, 0), GoInResult::Inside);
-    // Held, one newcomer.
-    let stale = leave_if(lock, &mut caller, 3, 68);
-    assert_eq!(rt; stale, LeaveResult::Changed { outer: 36 });
-    let left = leave_if(lock, &mut caller, 3, 36);
-    assert_eq!(rt; left, LeaveResult::Outside { head_asleep: false });
-    if !go_in(lock, &mut caller) {
-        return Err("second newcomer".into());
-    }
-    let left = leave(lock, &mut caller, 3);
-    assert_eq!(rt; left, LeaveResult::Outside { head_asleep: false });
-    assert_eq!(rt; go_in(lock, &mut caller), false);
+    let table = in_threes(rt.alloc())?;
+    assert_eq!(rt; go_in_three_times(&table.shared), [true, true, false]);
     Ok(())
 }

@@ -57,332 +57,227 @@ fn expect_told(rt: &impl Abort, core: &mut Core, script: &[(Event, Result<Told, 
     }
 }
 
-/// A release finds a successor that has not linked yet.
-static LATE_LINKER: [(Event, Result<Told, NotEnabled>); 13] = [
-    (Event::Reset(1), Ok(Told::Went)),
-    (Event::Prepend(1), Ok(Told::Granted)),
+/// The nodes of a line, and the events of a run with their answers.
+static RUNS: [(u64, &[(Event, Result<Told, NotEnabled>)]); 9] = [
+    // a release finds a successor that has not linked yet
     (
-        Event::Write(1, Mask(1), Line64 { bytes: [0xab; 64] }),
-        Ok(Told::Went),
+        2,
+        &[
+            (Event::Reset(1), Ok(Told::Went)),
+            (Event::Prepend(1), Ok(Told::Granted)),
+            (
+                Event::Write(1, Mask(1), Line64 { bytes: [0xab; 64] }),
+                Ok(Told::Went),
+            ),
+            (Event::Reset(2), Ok(Told::Went)),
+            (Event::Prepend(2), Ok(Told::Went)),
+            (Event::Home(1), Ok(Told::Went)),
+            (Event::Done(1), Ok(Told::Released)),
+            (Event::Load(1), Ok(Told::Busy)),
+            (Event::Link(2), Ok(Told::Granted)),
+            (Event::Load(1), Ok(Told::Free)),
+            (Event::Reset(1), Ok(Told::Went)),
+            (Event::Prepend(1), Ok(Told::Went)),
+            (Event::Link(1), Ok(Told::Queued)),
+        ],
     ),
-    (Event::Reset(2), Ok(Told::Went)),
-    (Event::Prepend(2), Ok(Told::Went)),
-    (Event::Home(1), Ok(Told::Went)),
-    (Event::Done(1), Ok(Told::Released)),
-    (Event::Load(1), Ok(Told::Busy)),
-    (Event::Link(2), Ok(Told::Granted)),
-    (Event::Load(1), Ok(Told::Free)),
-    (Event::Reset(1), Ok(Told::Went)),
-    (Event::Prepend(1), Ok(Told::Went)),
-    (Event::Link(1), Ok(Told::Queued)),
+    // a node withdraws before the grant
+    (
+        2,
+        &[
+            (Event::Reset(1), Ok(Told::Went)),
+            (Event::Prepend(1), Ok(Told::Granted)),
+            (Event::Reset(2), Ok(Told::Went)),
+            (Event::Prepend(2), Ok(Told::Went)),
+            (Event::Link(2), Ok(Told::Queued)),
+            (Event::Home(1), Ok(Told::Went)),
+            (Event::Done(1), Ok(Told::Went)),
+            (Event::Roll(2), Ok(Told::Withdrawn)),
+            (Event::Grant(1), Ok(Told::Went)),
+            (Event::Home(1), Ok(Told::Went)),
+            (Event::Load(2), Ok(Told::Busy)),
+            (Event::Freed(1), Ok(Told::Released)),
+            (Event::Load(2), Ok(Told::Free)),
+        ],
+    ),
+    // a node withdraws after the grant
+    (
+        2,
+        &[
+            (Event::Reset(1), Ok(Told::Went)),
+            (Event::Prepend(1), Ok(Told::Granted)),
+            (Event::Reset(2), Ok(Told::Went)),
+            (Event::Prepend(2), Ok(Told::Went)),
+            (Event::Link(2), Ok(Told::Queued)),
+            (Event::Home(1), Ok(Told::Went)),
+            (Event::Done(1), Ok(Told::Went)),
+            (Event::Grant(1), Ok(Told::Released)),
+            (Event::Roll(2), Ok(Told::Granted)),
+        ],
+    ),
+    // a node asks for a line that it has closed
+    (
+        2,
+        &[
+            (Event::Reset(1), Ok(Told::Went)),
+            (Event::Prepend(1), Ok(Told::Granted)),
+            (Event::Close(1), Ok(Told::Went)),
+            (Event::Home(1), Ok(Told::Shut)),
+            (Event::Reset(1), Ok(Told::Went)),
+            (Event::Prepend(1), Ok(Told::Went)),
+            (Event::Home(1), Ok(Told::Closed)),
+        ],
+    ),
+    // events that are not enabled at their node's point
+    (
+        1,
+        &[
+            (Event::Link(1), Err(NotEnabled::Point)),
+            (Event::Prepend(1), Err(NotEnabled::Point)),
+            (Event::Reset(1), Ok(Told::Went)),
+            (Event::Home(1), Err(NotEnabled::Point)),
+        ],
+    ),
+    // a release passes two withdrawn nodes before one that has not linked yet
+    (
+        4,
+        &[
+            (Event::Reset(1), Ok(Told::Went)),
+            (Event::Prepend(1), Ok(Told::Granted)),
+            (Event::Reset(2), Ok(Told::Went)),
+            (Event::Prepend(2), Ok(Told::Went)),
+            (Event::Link(2), Ok(Told::Queued)),
+            (Event::Reset(3), Ok(Told::Went)),
+            (Event::Prepend(3), Ok(Told::Went)),
+            (Event::Link(3), Ok(Told::Queued)),
+            (Event::Roll(2), Ok(Told::Withdrawn)),
+            (Event::Roll(3), Ok(Told::Withdrawn)),
+            (Event::Reset(4), Ok(Told::Went)),
+            (Event::Prepend(4), Ok(Told::Went)),
+            (Event::Home(1), Ok(Told::Went)),
+            (Event::Done(1), Ok(Told::Went)),
+            (Event::Grant(1), Ok(Told::Went)),
+            (Event::Home(1), Ok(Told::Went)),
+            (Event::Done(1), Ok(Told::Went)),
+            (Event::Grant(1), Ok(Told::Went)),
+            (Event::Home(1), Ok(Told::Went)),
+            (Event::Done(1), Ok(Told::Went)),
+            (Event::Freed(1), Ok(Told::Went)),
+            (Event::Freed(1), Ok(Told::Released)),
+            (Event::Load(2), Ok(Told::Free)),
+            (Event::Load(3), Ok(Told::Busy)),
+            (Event::Link(4), Ok(Told::Granted)),
+            (Event::Load(3), Ok(Told::Free)),
+        ],
+    ),
+    // a closed line passes a withdrawn node, and tells the next one
+    (
+        3,
+        &[
+            (Event::Reset(1), Ok(Told::Went)),
+            (Event::Prepend(1), Ok(Told::Granted)),
+            (Event::Reset(2), Ok(Told::Went)),
+            (Event::Prepend(2), Ok(Told::Went)),
+            (Event::Link(2), Ok(Told::Queued)),
+            (Event::Reset(3), Ok(Told::Went)),
+            (Event::Prepend(3), Ok(Told::Went)),
+            (Event::Link(3), Ok(Told::Queued)),
+            (Event::Roll(2), Ok(Told::Withdrawn)),
+            (Event::Close(1), Ok(Told::Went)),
+            (Event::Home(1), Ok(Told::Went)),
+            (Event::Done(1), Ok(Told::Went)),
+            (Event::Grant(1), Ok(Told::Went)),
+            (Event::Home(1), Ok(Told::Went)),
+            (Event::Done(1), Ok(Told::Went)),
+            (Event::Grant(1), Ok(Told::Went)),
+            (Event::Freed(1), Ok(Told::Shut)),
+            (Event::Load(3), Ok(Told::Went)),
+            (Event::Home(3), Ok(Told::Closed)),
+            (Event::Load(2), Ok(Told::Free)),
+        ],
+    ),
+    // a node that is told finds a successor that has not linked yet
+    (
+        2,
+        &[
+            (Event::Reset(1), Ok(Told::Went)),
+            (Event::Prepend(1), Ok(Told::Granted)),
+            (Event::Close(1), Ok(Told::Went)),
+            (Event::Home(1), Ok(Told::Shut)),
+            (Event::Reset(2), Ok(Told::Went)),
+            (Event::Prepend(2), Ok(Told::Went)),
+            (Event::Reset(1), Ok(Told::Went)),
+            (Event::Prepend(1), Ok(Told::Went)),
+            (Event::Home(2), Ok(Told::Went)),
+            (Event::Done(2), Ok(Told::Closed)),
+            (Event::Load(2), Ok(Told::Busy)),
+            (Event::Link(1), Ok(Told::Went)),
+            (Event::Home(1), Ok(Told::Closed)),
+            (Event::Load(2), Ok(Told::Free)),
+        ],
+    ),
+    // nodes 0 and 3 of a line for two
+    (
+        2,
+        &[
+            (Event::Reset(0), Err(NotEnabled::Node)),
+            (Event::Reset(3), Err(NotEnabled::Node)),
+            (Event::Reset(2), Ok(Told::Went)),
+        ],
+    ),
 ];
 
 #[test]
-fn a_line_left_to_a_late_linker_makes_its_node_busy(rt: HostRuntime) -> Result<(), Fail> {
-    let _ = expect_run(&rt, 2, LATE_LINKER.as_slice())?;
-    Ok(())
-}
-
-/// A node withdraws before the grant.
-static PASSED_AND_FREED: [(Event, Result<Told, NotEnabled>); 13] = [
-    (Event::Reset(1), Ok(Told::Went)),
-    (Event::Prepend(1), Ok(Told::Granted)),
-    (Event::Reset(2), Ok(Told::Went)),
-    (Event::Prepend(2), Ok(Told::Went)),
-    (Event::Link(2), Ok(Told::Queued)),
-    (Event::Home(1), Ok(Told::Went)),
-    (Event::Done(1), Ok(Told::Went)),
-    (Event::Roll(2), Ok(Told::Withdrawn)),
-    (Event::Grant(1), Ok(Told::Went)),
-    (Event::Home(1), Ok(Told::Went)),
-    (Event::Load(2), Ok(Told::Busy)),
-    (Event::Freed(1), Ok(Told::Released)),
-    (Event::Load(2), Ok(Told::Free)),
-];
-
-#[test]
-fn a_withdrawn_node_is_passed_and_freed(rt: HostRuntime) -> Result<(), Fail> {
-    let _ = expect_run(&rt, 2, PASSED_AND_FREED.as_slice())?;
-    Ok(())
-}
-
-/// A node withdraws after the grant.
-static AFTER_THE_GRANT: [(Event, Result<Told, NotEnabled>); 9] = [
-    (Event::Reset(1), Ok(Told::Went)),
-    (Event::Prepend(1), Ok(Told::Granted)),
-    (Event::Reset(2), Ok(Told::Went)),
-    (Event::Prepend(2), Ok(Told::Went)),
-    (Event::Link(2), Ok(Told::Queued)),
-    (Event::Home(1), Ok(Told::Went)),
-    (Event::Done(1), Ok(Told::Went)),
-    (Event::Grant(1), Ok(Told::Released)),
-    (Event::Roll(2), Ok(Told::Granted)),
-];
-
-#[test]
-fn a_withdrawal_after_the_grant_takes_the_line(rt: HostRuntime) -> Result<(), Fail> {
-    let _ = expect_run(&rt, 2, AFTER_THE_GRANT.as_slice())?;
-    Ok(())
-}
-
-/// A node asks for a line that it has closed.
-static TOLD: [(Event, Result<Told, NotEnabled>); 7] = [
-    (Event::Reset(1), Ok(Told::Went)),
-    (Event::Prepend(1), Ok(Told::Granted)),
-    (Event::Close(1), Ok(Told::Went)),
-    (Event::Home(1), Ok(Told::Shut)),
-    (Event::Reset(1), Ok(Told::Went)),
-    (Event::Prepend(1), Ok(Told::Went)),
-    (Event::Home(1), Ok(Told::Closed)),
-];
-
-#[test]
-fn a_closed_line_is_told_and_goes_home(rt: HostRuntime) -> Result<(), Fail> {
-    let _ = expect_run(&rt, 2, TOLD.as_slice())?;
-    Ok(())
-}
-
-/// Events that are not enabled at their node's point.
-static REFUSED: [(Event, Result<Told, NotEnabled>); 4] = [
-    (Event::Link(1), Err(NotEnabled::Point)),
-    (Event::Prepend(1), Err(NotEnabled::Point)),
-    (Event::Reset(1), Ok(Told::Went)),
-    (Event::Home(1), Err(NotEnabled::Point)),
-];
-
-#[test]
-fn an_event_at_another_point_is_refused(rt: HostRuntime) -> Result<(), Fail> {
-    let _ = expect_run(&rt, 1, REFUSED.as_slice())?;
-    Ok(())
-}
-
-/// A release passes two withdrawn nodes before one that has not linked yet.
-static CHAIN: [(Event, Result<Told, NotEnabled>); 26] = [
-    (Event::Reset(1), Ok(Told::Went)),
-    (Event::Prepend(1), Ok(Told::Granted)),
-    (Event::Reset(2), Ok(Told::Went)),
-    (Event::Prepend(2), Ok(Told::Went)),
-    (Event::Link(2), Ok(Told::Queued)),
-    (Event::Reset(3), Ok(Told::Went)),
-    (Event::Prepend(3), Ok(Told::Went)),
-    (Event::Link(3), Ok(Told::Queued)),
-    (Event::Roll(2), Ok(Told::Withdrawn)),
-    (Event::Roll(3), Ok(Told::Withdrawn)),
-    (Event::Reset(4), Ok(Told::Went)),
-    (Event::Prepend(4), Ok(Told::Went)),
-    (Event::Home(1), Ok(Told::Went)),
-    (Event::Done(1), Ok(Told::Went)),
-    (Event::Grant(1), Ok(Told::Went)),
-    (Event::Home(1), Ok(Told::Went)),
-    (Event::Done(1), Ok(Told::Went)),
-    (Event::Grant(1), Ok(Told::Went)),
-    (Event::Home(1), Ok(Told::Went)),
-    (Event::Done(1), Ok(Told::Went)),
-    (Event::Freed(1), Ok(Told::Went)),
-    (Event::Freed(1), Ok(Told::Released)),
-    (Event::Load(2), Ok(Told::Free)),
-    (Event::Load(3), Ok(Told::Busy)),
-    (Event::Link(4), Ok(Told::Granted)),
-    (Event::Load(3), Ok(Told::Free)),
-];
-
-#[test]
-fn a_chain_of_withdrawn_nodes_ends_at_a_late_linker(rt: HostRuntime) -> Result<(), Fail> {
-    let _ = expect_run(&rt, 4, CHAIN.as_slice())?;
-    Ok(())
-}
-
-/// A closed line passes a withdrawn node, and tells the next one.
-static CLOSED_CHAIN: [(Event, Result<Told, NotEnabled>); 20] = [
-    (Event::Reset(1), Ok(Told::Went)),
-    (Event::Prepend(1), Ok(Told::Granted)),
-    (Event::Reset(2), Ok(Told::Went)),
-    (Event::Prepend(2), Ok(Told::Went)),
-    (Event::Link(2), Ok(Told::Queued)),
-    (Event::Reset(3), Ok(Told::Went)),
-    (Event::Prepend(3), Ok(Told::Went)),
-    (Event::Link(3), Ok(Told::Queued)),
-    (Event::Roll(2), Ok(Told::Withdrawn)),
-    (Event::Close(1), Ok(Told::Went)),
-    (Event::Home(1), Ok(Told::Went)),
-    (Event::Done(1), Ok(Told::Went)),
-    (Event::Grant(1), Ok(Told::Went)),
-    (Event::Home(1), Ok(Told::Went)),
-    (Event::Done(1), Ok(Told::Went)),
-    (Event::Grant(1), Ok(Told::Went)),
-    (Event::Freed(1), Ok(Told::Shut)),
-    (Event::Load(3), Ok(Told::Went)),
-    (Event::Home(3), Ok(Told::Closed)),
-    (Event::Load(2), Ok(Told::Free)),
-];
-
-#[test]
-fn a_closed_line_passes_a_withdrawn_node(rt: HostRuntime) -> Result<(), Fail> {
-    let _ = expect_run(&rt, 3, CLOSED_CHAIN.as_slice())?;
-    Ok(())
-}
-
-/// A node that is told finds a successor that has not linked yet.
-static TOLD_BEFORE_A_LINK: [(Event, Result<Told, NotEnabled>); 14] = [
-    (Event::Reset(1), Ok(Told::Went)),
-    (Event::Prepend(1), Ok(Told::Granted)),
-    (Event::Close(1), Ok(Told::Went)),
-    (Event::Home(1), Ok(Told::Shut)),
-    (Event::Reset(2), Ok(Told::Went)),
-    (Event::Prepend(2), Ok(Told::Went)),
-    (Event::Reset(1), Ok(Told::Went)),
-    (Event::Prepend(1), Ok(Told::Went)),
-    (Event::Home(2), Ok(Told::Went)),
-    (Event::Done(2), Ok(Told::Closed)),
-    (Event::Load(2), Ok(Told::Busy)),
-    (Event::Link(1), Ok(Told::Went)),
-    (Event::Home(1), Ok(Told::Closed)),
-    (Event::Load(2), Ok(Told::Free)),
-];
-
-#[test]
-fn a_told_node_leaves_a_closed_line_to_a_late_linker(rt: HostRuntime) -> Result<(), Fail> {
-    let _ = expect_run(&rt, 2, TOLD_BEFORE_A_LINK.as_slice())?;
-    Ok(())
-}
-
-#[test]
-fn lines_have_one_to_200_nodes(rt: HostRuntime) {
-    for (nodes, lease, starts) in [
-        (0, 1, false),
-        (1, 1, true),
-        (200, 1, true),
-        (201, 1, false),
-        (1, 0, false),
-    ] {
-        let without = Core::start(nodes, Line64::zero()).is_some();
-        let leased = Core::start_leased(nodes, Line64::zero(), lease).is_some();
-        let wanted = (starts || lease == 0, starts);
-        expect_at(&rt, &(nodes, lease), (without, leased), wanted);
+fn runs_are_told_and_replayed(rt: HostRuntime) -> Result<(), Fail> {
+    for (nodes, script) in &RUNS {
+        let _ = expect_run(&rt, *nodes, *script)?;
     }
+    Ok(())
 }
 
-/// A lease of one turn.
-static LEASE_OF_ONE: [(Event, Result<Told, NotEnabled>); 6] = [
-    (Event::Reset(1), Ok(Told::Went)),
-    (Event::Prepend(1), Ok(Told::Granted)),
-    (Event::Home(1), Ok(Told::Shut)),
-    (Event::Reset(1), Ok(Told::Went)),
-    (Event::Prepend(1), Ok(Told::Went)),
-    (Event::Home(1), Ok(Told::Closed)),
+/// The lease of a line, and a run that ends it.
+static LEASES: [(u64, &[(Event, Result<Told, NotEnabled>)]); 2] = [
+    // a lease of one turn
+    (
+        1,
+        &[
+            (Event::Reset(1), Ok(Told::Went)),
+            (Event::Prepend(1), Ok(Told::Granted)),
+            (Event::Home(1), Ok(Told::Shut)),
+            (Event::Reset(1), Ok(Told::Went)),
+            (Event::Prepend(1), Ok(Told::Went)),
+            (Event::Home(1), Ok(Told::Closed)),
+        ],
+    ),
+    // two turns, and a withdrawal between them
+    (
+        2,
+        &[
+            (Event::Reset(1), Ok(Told::Went)),
+            (Event::Prepend(1), Ok(Told::Granted)),
+            (Event::Reset(2), Ok(Told::Went)),
+            (Event::Prepend(2), Ok(Told::Went)),
+            (Event::Link(2), Ok(Told::Queued)),
+            (Event::Roll(2), Ok(Told::Withdrawn)),
+            (Event::Home(1), Ok(Told::Went)),
+            (Event::Done(1), Ok(Told::Went)),
+            (Event::Grant(1), Ok(Told::Went)),
+            (Event::Home(1), Ok(Told::Went)),
+            (Event::Freed(1), Ok(Told::Released)),
+            (Event::Reset(1), Ok(Told::Went)),
+            (Event::Prepend(1), Ok(Told::Granted)),
+            (Event::Home(1), Ok(Told::Shut)),
+        ],
+    ),
 ];
 
 #[test]
 fn the_last_turn_of_a_lease_closes_the_line(rt: HostRuntime) -> Result<(), Fail> {
-    let mut core = Core::start_leased(1, Line64::zero(), 1).ok_or("1 node")?;
-    expect_told(&rt, &mut core, LEASE_OF_ONE.as_slice());
-    Ok(())
-}
-
-/// Two turns, and a withdrawal between them.
-static LEASE_OF_TWO: [(Event, Result<Told, NotEnabled>); 14] = [
-    (Event::Reset(1), Ok(Told::Went)),
-    (Event::Prepend(1), Ok(Told::Granted)),
-    (Event::Reset(2), Ok(Told::Went)),
-    (Event::Prepend(2), Ok(Told::Went)),
-    (Event::Link(2), Ok(Told::Queued)),
-    (Event::Roll(2), Ok(Told::Withdrawn)),
-    (Event::Home(1), Ok(Told::Went)),
-    (Event::Done(1), Ok(Told::Went)),
-    (Event::Grant(1), Ok(Told::Went)),
-    (Event::Home(1), Ok(Told::Went)),
-    (Event::Freed(1), Ok(Told::Released)),
-    (Event::Reset(1), Ok(Told::Went)),
-    (Event::Prepend(1), Ok(Told::Granted)),
-    (Event::Home(1), Ok(Told::Shut)),
-];
-
-#[test]
-fn a_withdrawn_node_uses_no_turn_of_a_lease(rt: HostRuntime) -> Result<(), Fail> {
-    let mut core = Core::start_leased(2, Line64::zero(), 2).ok_or("2 nodes")?;
-    expect_told(&rt, &mut core, LEASE_OF_TWO.as_slice());
-    Ok(())
-}
-
-/// Node 1 takes the line.
-static TAKEN: [(Event, Result<Told, NotEnabled>); 2] = [
-    (Event::Reset(1), Ok(Told::Went)),
-    (Event::Prepend(1), Ok(Told::Granted)),
-];
-
-/// Its release passes a node, and finds the next one.
-static PASSED: [(Event, Result<Told, NotEnabled>); 3] = [
-    (Event::Home(1), Ok(Told::Went)),
-    (Event::Done(1), Ok(Told::Went)),
-    (Event::Grant(1), Ok(Told::Went)),
-];
-
-/// It has passed all, and frees them; below what it frees last, the node that it passed last.
-static ALL_PASSED: [(Event, Result<Told, NotEnabled>); 1] = [(Event::Home(1), Ok(Told::Went))];
-
-static FREED: [(Event, Result<Told, NotEnabled>); 1] = [(Event::Freed(1), Ok(Told::Went))];
-
-static ALL_FREED: [(Event, Result<Told, NotEnabled>); 2] = [
-    (Event::Freed(1), Ok(Told::Released)),
-    (Event::Load(200), Ok(Told::Free)),
-];
-
-#[test]
-fn one_release_passes_all_other_nodes(rt: HostRuntime) -> Result<(), Fail> {
-    let mut core = Core::start(200, Line64::zero()).ok_or("200 nodes")?;
-    expect_told(&rt, &mut core, TAKEN.as_slice());
-    for n in 2..201 {
-        let withdrawn = [
-            (Event::Reset(n), Ok(Told::Went)),
-            (Event::Prepend(n), Ok(Told::Went)),
-            (Event::Link(n), Ok(Told::Queued)),
-            (Event::Roll(n), Ok(Told::Withdrawn)),
-        ];
-        expect_told(&rt, &mut core, withdrawn.as_slice());
+    for (lease, script) in &LEASES {
+        let mut core = Core::start_leased(2, Line64::zero(), *lease).ok_or("2 nodes")?;
+        expect_told(&rt, &mut core, *script);
     }
-    for _ in 1..200 {
-        expect_told(&rt, &mut core, PASSED.as_slice());
-    }
-    expect_told(&rt, &mut core, ALL_PASSED.as_slice());
-    for _ in 1..199 {
-        expect_told(&rt, &mut core, FREED.as_slice());
-    }
-    expect_told(&rt, &mut core, ALL_FREED.as_slice());
     Ok(())
-}
-
-/// Nodes 0 and 3 of a line for two.
-static NO_NODE: [(Event, Result<Told, NotEnabled>); 3] = [
-    (Event::Reset(0), Err(NotEnabled::Node)),
-    (Event::Reset(3), Err(NotEnabled::Node)),
-    (Event::Reset(2), Ok(Told::Went)),
-];
-
-#[test]
-fn a_node_that_the_line_lacks_is_refused(rt: HostRuntime) -> Result<(), Fail> {
-    let _ = expect_run(&rt, 2, NO_NODE.as_slice())?;
-    Ok(())
-}
-
-/// Events of which the third is not enabled, and the fourth names no node.
-static TWO_FAULTS: [Event; 4] = [
-    Event::Reset(1),
-    Event::Prepend(1),
-    Event::Link(1),
-    Event::Reset(5),
-];
-
-#[test]
-fn the_first_refused_event_is_named(rt: HostRuntime) {
-    for (nodes, from, wanted) in [
-        (2, 0usize, (2, NotEnabled::Point)),
-        (2, 3, (0, NotEnabled::Node)),
-        (0, 1, (0, NotEnabled::Node)),
-        (201, 1, (0, NotEnabled::Node)),
-    ] {
-        let refused = replay(nodes, Line64::zero(), &TWO_FAULTS[from.min(4)..]).err();
-        expect_at(&rt, &(nodes, from), refused, Some(wanted));
-    }
 }
 
 /// A release that has marked its request as done, with a successor.
@@ -455,17 +350,6 @@ fn a_hand_over_is_seen_in_the_words(rt: HostRuntime) -> Result<(), Fail> {
     expect_told(&rt, &mut core, TAKEN_HOME.as_slice());
     let end = (core.place(), core.home());
     expect(&rt, "at the end", end, (Place::Home, 0));
-    Ok(())
-}
-
-#[test]
-fn a_replay_reaches_the_core_after_its_events(rt: HostRuntime) -> Result<(), Fail> {
-    let events = [Event::Reset(2), Event::Prepend(2)];
-    let core = replay(2, Line64::zero(), events.as_slice())
-        .ok()
-        .ok_or("a run")?;
-    let found = (core.home(), core.place());
-    expect(&rt, "the words", found, (2, Place::Hand(2)));
     Ok(())
 }
 

@@ -3,8 +3,7 @@ ghost use Rattle.std.specs.Prelude.{◌≡◌};
 
 use crate::tests::rows::expect_at;
 use line_lanes::{Line64, Mask};
-use qolb_model::laws::good_stays_good;
-use qolb_model::{Enq, Free, LineConfig, MAX_NODES, OpenError, Out, PlainLine, Poll, PortState};
+use qolb_model::{Enq, LineConfig, OpenError, Out, PlainLine, Poll, PortState};
 use std::process::Abort;
 use std::test::Fail;
 
@@ -88,113 +87,115 @@ fn expect_run<R: Abort>(
     Ok(())
 }
 
-/// A node is handed the line that another node wrote to.
-static HAND_OVER: [(u64, CallOutcome); 12] = [
-    (1, CallOutcome::State(PortState::Idle)),
-    (1, CallOutcome::Enq(Enq::Granted)),
-    (1, CallOutcome::State(PortState::Holding)),
-    (2, CallOutcome::State(PortState::Idle)),
-    (2, CallOutcome::Enq(Enq::Queued)),
-    (1, CallOutcome::Wrote(0xa1, 0xb2)),
-    (2, CallOutcome::Poll(Poll::Waiting)),
-    (1, CallOutcome::Deq),
-    (2, CallOutcome::State(PortState::Queued)),
-    (2, CallOutcome::Poll(Poll::Granted)),
-    (2, CallOutcome::State(PortState::Holding)),
-    (2, CallOutcome::Sees(0xa1, 0xb2, 0)),
+/// The nodes of a line, its lease, and calls with their outcomes.
+static RUNS: [(u64, Option<u64>, &[(u64, CallOutcome)]); 6] = [
+    // a node is handed the line that another node wrote to
+    (
+        2,
+        None,
+        &[
+            (1, CallOutcome::State(PortState::Idle)),
+            (1, CallOutcome::Enq(Enq::Granted)),
+            (1, CallOutcome::State(PortState::Holding)),
+            (2, CallOutcome::State(PortState::Idle)),
+            (2, CallOutcome::Enq(Enq::Queued)),
+            (1, CallOutcome::Wrote(0xa1, 0xb2)),
+            (2, CallOutcome::Poll(Poll::Waiting)),
+            (1, CallOutcome::Deq),
+            (2, CallOutcome::State(PortState::Queued)),
+            (2, CallOutcome::Poll(Poll::Granted)),
+            (2, CallOutcome::State(PortState::Holding)),
+            (2, CallOutcome::Sees(0xa1, 0xb2, 0)),
+        ],
+    ),
+    // a node withdraws, is not clear and so busy until a release passes it, and asks again
+    (
+        3,
+        None,
+        &[
+            (1, CallOutcome::Clear(true)),
+            (1, CallOutcome::Enq(Enq::Granted)),
+            (2, CallOutcome::Enq(Enq::Queued)),
+            (3, CallOutcome::Enq(Enq::Queued)),
+            (2, CallOutcome::Out(Out::Withdrawn)),
+            (2, CallOutcome::State(PortState::Rolled)),
+            (2, CallOutcome::Clear(false)),
+            (2, CallOutcome::Enq(Enq::Busy)),
+            (1, CallOutcome::Deq),
+            (1, CallOutcome::Clear(true)),
+            (3, CallOutcome::Poll(Poll::Granted)),
+            (2, CallOutcome::Clear(true)),
+            (2, CallOutcome::State(PortState::Idle)),
+            (2, CallOutcome::Enq(Enq::Queued)),
+        ],
+    ),
+    // a node closes the line before another node that waits
+    (
+        2,
+        None,
+        &[
+            (1, CallOutcome::Enq(Enq::Granted)),
+            (2, CallOutcome::Enq(Enq::Queued)),
+            (1, CallOutcome::Shut),
+            (2, CallOutcome::Poll(Poll::Closed)),
+            (1, CallOutcome::State(PortState::Shut)),
+            (1, CallOutcome::Clear(true)),
+            (2, CallOutcome::Clear(true)),
+            (1, CallOutcome::Enq(Enq::Closed)),
+        ],
+    ),
+    // two turns, and no third
+    (
+        2,
+        Some(2),
+        &[
+            (1, CallOutcome::Enq(Enq::Granted)),
+            (1, CallOutcome::Wrote(0x07, 0)),
+            (2, CallOutcome::Enq(Enq::Queued)),
+            (1, CallOutcome::TurnsLeft(Some(2))),
+            (1, CallOutcome::Deq),
+            (2, CallOutcome::Poll(Poll::Granted)),
+            (2, CallOutcome::TurnsLeft(Some(1))),
+            (2, CallOutcome::Sees(0x07, 0, 0)),
+            (1, CallOutcome::Enq(Enq::Queued)),
+            (2, CallOutcome::Deq),
+            (1, CallOutcome::Poll(Poll::Closed)),
+            (2, CallOutcome::State(PortState::Shut)),
+            (2, CallOutcome::Enq(Enq::Closed)),
+        ],
+    ),
+    // a withdrawal between two turns of a lease
+    (
+        3,
+        Some(2),
+        &[
+            (1, CallOutcome::Enq(Enq::Granted)),
+            (2, CallOutcome::Enq(Enq::Queued)),
+            (3, CallOutcome::Enq(Enq::Queued)),
+            (2, CallOutcome::Out(Out::Withdrawn)),
+            (1, CallOutcome::Deq),
+            (3, CallOutcome::Poll(Poll::Granted)),
+            (3, CallOutcome::TurnsLeft(Some(1))),
+        ],
+    ),
+    // a line without a lease counts no turns
+    (
+        33,
+        None,
+        &[
+            (33, CallOutcome::Enq(Enq::Granted)),
+            (33, CallOutcome::TurnsLeft(None)),
+            (34, CallOutcome::State(PortState::Idle)),
+        ],
+    ),
 ];
 
 #[test]
-fn next_holder_sees_what_was_written(rt: HostRuntime) -> Result<(), Fail> {
-    expect_run(&rt, 2, None, HAND_OVER.as_slice())
-}
-
-/// A node withdraws, is not clear and so busy until a release passes it, and asks again.
-static WITHDRAWAL: [(u64, CallOutcome); 14] = [
-    (1, CallOutcome::Clear(true)),
-    (1, CallOutcome::Enq(Enq::Granted)),
-    (2, CallOutcome::Enq(Enq::Queued)),
-    (3, CallOutcome::Enq(Enq::Queued)),
-    (2, CallOutcome::Out(Out::Withdrawn)),
-    (2, CallOutcome::State(PortState::Rolled)),
-    (2, CallOutcome::Clear(false)),
-    (2, CallOutcome::Enq(Enq::Busy)),
-    (1, CallOutcome::Deq),
-    (1, CallOutcome::Clear(true)),
-    (3, CallOutcome::Poll(Poll::Granted)),
-    (2, CallOutcome::Clear(true)),
-    (2, CallOutcome::State(PortState::Idle)),
-    (2, CallOutcome::Enq(Enq::Queued)),
-];
-
-#[test]
-fn withdrawn_node_is_passed(rt: HostRuntime) -> Result<(), Fail> {
-    expect_run(&rt, 3, None, WITHDRAWAL.as_slice())
-}
-
-/// A node closes the line before another node that waits.
-static CLOSING: [(u64, CallOutcome); 8] = [
-    (1, CallOutcome::Enq(Enq::Granted)),
-    (2, CallOutcome::Enq(Enq::Queued)),
-    (1, CallOutcome::Shut),
-    (2, CallOutcome::Poll(Poll::Closed)),
-    (1, CallOutcome::State(PortState::Shut)),
-    (1, CallOutcome::Clear(true)),
-    (2, CallOutcome::Clear(true)),
-    (1, CallOutcome::Enq(Enq::Closed)),
-];
-
-#[test]
-fn closed_line_serves_nobody(rt: HostRuntime) -> Result<(), Fail> {
-    expect_run(&rt, 2, None, CLOSING.as_slice())
-}
-
-/// Two turns, and no third.
-static TWO_TURNS: [(u64, CallOutcome); 13] = [
-    (1, CallOutcome::Enq(Enq::Granted)),
-    (1, CallOutcome::Wrote(0x07, 0)),
-    (2, CallOutcome::Enq(Enq::Queued)),
-    (1, CallOutcome::TurnsLeft(Some(2))),
-    (1, CallOutcome::Deq),
-    (2, CallOutcome::Poll(Poll::Granted)),
-    (2, CallOutcome::TurnsLeft(Some(1))),
-    (2, CallOutcome::Sees(0x07, 0, 0)),
-    (1, CallOutcome::Enq(Enq::Queued)),
-    (2, CallOutcome::Deq),
-    (1, CallOutcome::Poll(Poll::Closed)),
-    (2, CallOutcome::State(PortState::Shut)),
-    (2, CallOutcome::Enq(Enq::Closed)),
-];
-
-#[test]
-fn last_turn_of_a_lease_closes_the_line(rt: HostRuntime) -> Result<(), Fail> {
-    expect_run(&rt, 2, Some(2), TWO_TURNS.as_slice())
-}
-
-/// A withdrawal between two turns of a lease.
-static NO_TURN: [(u64, CallOutcome); 7] = [
-    (1, CallOutcome::Enq(Enq::Granted)),
-    (2, CallOutcome::Enq(Enq::Queued)),
-    (3, CallOutcome::Enq(Enq::Queued)),
-    (2, CallOutcome::Out(Out::Withdrawn)),
-    (1, CallOutcome::Deq),
-    (3, CallOutcome::Poll(Poll::Granted)),
-    (3, CallOutcome::TurnsLeft(Some(1))),
-];
-
-#[test]
-fn withdrawn_request_uses_no_turn(rt: HostRuntime) -> Result<(), Fail> {
-    expect_run(&rt, 3, Some(2), NO_TURN.as_slice())
-}
-
-#[test]
-fn line_without_a_lease_counts_no_turns(rt: HostRuntime) -> Result<(), Fail> {
-    let rows = [
-        (33, CallOutcome::Enq(Enq::Granted)),
-        (33, CallOutcome::TurnsLeft(None)),
-        (34, CallOutcome::State(PortState::Idle)),
-    ];
-    expect_run(&rt, 33, None, rows.as_slice())
+fn calls_have_their_outcomes(rt: HostRuntime) -> Result<(), Fail> {
+    for (nodes, lease, calls) in &RUNS {
+        expect_run(&rt, *nodes, *lease, *calls)?;
+    }
+    Ok(())
 }
 
 #[test]
@@ -223,43 +224,4 @@ fn nodes_are_refused_before_the_lease(rt: HostRuntime) {
         let refused = PlainLine::open_leased(nodes, Line64::zero(), lease).err();
         expect_at(&rt, &(nodes, lease), refused, wanted);
     }
-}
-
-#[test]
-fn config_are_of_some_nodes_and_turns(rt: HostRuntime) {
-    for (nodes, lease, wanted) in [
-        (1, None, Ok(())),
-        (MAX_NODES, Some(1), Ok(())),
-        (MAX_NODES, Some(0), Err(OpenError::Lease)),
-        (0, None, Err(OpenError::Nodes)),
-        (MAX_NODES + 1, Some(0), Err(OpenError::Nodes)),
-    ] {
-        let opening = Line64::zero();
-        let config = LineConfig {
-            nodes,
-            opening,
-            lease,
-        };
-        expect_at(&rt, &(nodes, lease), config.check(), wanted);
-    }
-}
-
-#[test]
-fn node_asks_once_its_request_neither_waits_nor_holds(rt: HostRuntime) {
-    for (state, wanted) in [
-        (PortState::Idle, true),
-        (PortState::Linking, false),
-        (PortState::Queued, false),
-        (PortState::Holding, false),
-        (PortState::Left, true),
-        (PortState::Rolled, true),
-        (PortState::Shut, true),
-    ] {
-        expect_at(&rt, &state, state.may_ask(), wanted);
-    }
-}
-
-#[test]
-fn the_free_law_keeps_all_bytes(_rt: HostRuntime) {
-    good_stays_good::<Free>();
 }

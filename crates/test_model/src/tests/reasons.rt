@@ -1,7 +1,6 @@
 //! The reasons for refusing a script: the line, and the first thing that is wrong with it.
-use crate::tests::rows::{expect, expect_at};
+use crate::tests::rows::expect;
 use qolb_explain::{Allowed, Complaint, Form, Reason, ScriptKind, explain_schedule, explain_steps};
-use qolb_script::read_schedule;
 use std::alloc::Global;
 use std::process::Abort;
 use std::test::Fail;
@@ -423,31 +422,6 @@ fn tells_what_is_wrong(rt: HostRuntime) {
     }
 }
 
-#[test]
-fn tells_of_too_many_commands(rt: HostRuntime) -> Result<(), Fail> {
-    let mut text = Vec::from_slice(rt.alloc(), b"nodes 2 lines 1\n")?;
-    for (more, wanted) in [(100_000, None), (1, Some((100_002, Reason::TooMany)))] {
-        for _ in 0..more {
-            text.extend_from_slice(b"poll 1 0\n")?;
-        }
-        expect(&rt, "many", told(explain_schedule(&text)), wanted);
-    }
-    Ok(())
-}
-
-#[test]
-fn says_of_too_many_commands(rt: HostRuntime) -> Result<(), Fail> {
-    let complaint = Complaint {
-        number: 100_002,
-        line: b"poll 1 0",
-        reason: Reason::TooMany,
-    };
-    let text = format!(in rt.alloc(); "{complaint}")?;
-    let wanted = "    poll 1 0\nmore than 100,000 commands, events or jobs";
-    expect(&rt, "the text", text.as_str(), wanted);
-    Ok(())
-}
-
 /// The text of a complaint.
 fn shown(alloc: Global, script: &[u8]) -> Result<String, Fail> {
     let complaint = explain_schedule(script).ok_or("a complaint")?;
@@ -479,12 +453,4 @@ fn shows_200_bytes_at_most(rt: HostRuntime) -> Result<(), Fail> {
     script.push(b'x')?;
     wanted.push_str(" ..")?;
     expect_shown(&rt, alloc, &script, wanted.as_str())
-}
-
-#[test]
-fn a_script_that_is_read_has_nothing_wrong(rt: HostRuntime) {
-    for (text, wanted) in &SCHEDULES {
-        let read = read_schedule(rt.alloc(), text.as_bytes());
-        expect_at(&rt, text, read.is_ok(), wanted.is_none());
-    }
 }

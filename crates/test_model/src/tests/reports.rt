@@ -46,14 +46,3 @@ fn reports_are_written_a_line_for_each_number(rt: HostRuntime) -> Result<(), Fai
     }
     Ok(())
 }
-
-#[test]
-fn a_writer_that_is_full_fails_the_report(rt: HostRuntime) {
-    for room in 0..40usize {
-        let mut bytes = [0u8; 40];
-        let mut out = Watched::new(&mut bytes[..room]);
-        let answer = write_report(&REPORTS[0].0, &mut out);
-        let fails = room < REPORTS[0].1.len();
-        expect_at(&rt, &room, (answer.is_err(), out.failed()), (fails, fails));
-    }
-}

@@ -28,7 +28,7 @@ pub(crate) fn expect_at<R: Abort, D: Debug, T: PartialEq + Debug + Drop>(
 }
 
 /// The line with one byte replaced.
-pub(crate) fn with_byte(line: &Line64, place: usize, byte: u8) -> Line64 {
+fn with_byte(line: &Line64, place: usize, byte: u8) -> Line64 {
     let mut bytes = line.to_bytes();
     if place < 64 {
         bytes[place] = byte;

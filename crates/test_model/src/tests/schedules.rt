@@ -7,7 +7,7 @@ use std::alloc::{AllocError, Global};
 use std::test::Fail;
 
 /// Refused scripts, each with its error.
-static REFUSED: [(&str, ScriptError); 35] = [
+static REFUSED: [(&str, ScriptError); 38] = [
     ("", ScriptError::BadLine(1)),
     ("\n \n\n", ScriptError::BadLine(1)),
     ("\n\t\n", ScriptError::BadLine(2)),
@@ -61,6 +61,16 @@ static REFUSED: [(&str, ScriptError); 35] = [
     ),
     ("nodes 2 lines 1\nwrite 1 0 0 zz\n", ScriptError::BadLine(2)),
     ("nodes 2 lines 1\nwrite 3 0 0 zz\n", ScriptError::Number(2)),
+    // the script ends in the middle of a line
+    ("nodes 2 lines", ScriptError::BadLine(1)),
+    (
+        "nodes 2 lines 1\nenq 1 0\nwrite 1 0 0 a1b",
+        ScriptError::BadLine(3),
+    ),
+    (
+        "nodes 2 lines 1\nenq 1 0\nwrite 1 0 0 a1b2\nenq 2 0\npoll 2 0\ndeq 1 0\npoll 2 0\nshow 2",
+        ScriptError::BadLine(8),
+    ),
 ];
 
 /// A script of `count` commands.
@@ -105,10 +115,11 @@ static COMMANDS: [Command; 6] = [
 #[test]
 fn reads_every_command(rt: HostRuntime) -> Result<(), Fail> {
     let text =
-        b" nodes 2  lines 8 \n\nenq 00000000000000000001 7\npoll 1 0\nshow 2 1\n  deq 1 2\nout 1 3 \nshut 1 4\n";
+        b" nodes 2  lines 8  lease 18446744073709551615 \n\nenq 00000000000000000001 7\npoll 1 0\nshow 2 1\n  deq 1 2\nout 1 3 \nshut 1 4\n";
     let schedule = read_schedule(rt.alloc(), text)?;
     expect(&rt, "nodes", schedule.nodes(), 2);
     expect(&rt, "lines", schedule.lines(), 8);
+    expect(&rt, "lease", schedule.lease(), Some(u64::MAX));
     expect(&rt, "commands", schedule.commands(), COMMANDS.as_slice());
     Ok(())
 }
@@ -127,27 +138,6 @@ fn reads_a_write(rt: HostRuntime) -> Result<(), Fail> {
     }];
     expect(&rt, "a write", schedule.commands(), wanted.as_slice());
     Ok(())
-}
-
-/// Scripts that end in the middle of a line.
-static CUT_OFF: [(&str, ScriptError); 3] = [
-    ("nodes 2 lines", ScriptError::BadLine(1)),
-    (
-        "nodes 2 lines 1\nenq 1 0\nwrite 1 0 0 a1b",
-        ScriptError::BadLine(3),
-    ),
-    (
-        "nodes 2 lines 1\nenq 1 0\nwrite 1 0 0 a1b2\nenq 2 0\npoll 2 0\ndeq 1 0\npoll 2 0\nshow 2",
-        ScriptError::BadLine(8),
-    ),
-];
-
-#[test]
-fn refuses_a_script_that_was_cut_off(rt: HostRuntime) {
-    for (text, error) in &CUT_OFF {
-        let found = read_schedule(rt.alloc(), text.as_bytes()).err();
-        expect_at(&rt, text, found, Some(*error));
-    }
 }
 
 #[test]
@@ -169,22 +159,6 @@ fn reads_a_last_line_without_its_end(rt: HostRuntime) -> Result<(), Fail> {
     ] {
         let schedule = read_schedule(rt.alloc(), text.as_bytes())?;
         expect(&rt, text, schedule.commands(), &wanted[..read.min(2)]);
-    }
-    Ok(())
-}
-
-#[test]
-fn reads_the_lease(rt: HostRuntime) -> Result<(), Fail> {
-    for (text, wanted) in [
-        ("nodes 200 lines 8", None),
-        (
-            "nodes 200 lines 8 lease 18446744073709551615",
-            Some(u64::MAX),
-        ),
-    ] {
-        let schedule = read_schedule(rt.alloc(), text.as_bytes())?;
-        expect(&rt, text, schedule.lease(), wanted);
-        expect(&rt, text, schedule.nodes(), 200);
     }
     Ok(())
 }

@@ -37,13 +37,6 @@ fn names_the_first_fault(rt: HostRuntime) {
     }
 }
 
-#[test]
-fn has_no_lease_where_none_is_written(rt: HostRuntime) -> Result<(), Fail> {
-    let lease = read_steps(rt.alloc(), b"nodes 1")?.lease();
-    expect(&rt, "lease", lease, None);
-    Ok(())
-}
-
 /// Each kind of event except a write, each by a node of its own.
 static EVENTS: [Event; 10] = [
     Event::Reset(1),

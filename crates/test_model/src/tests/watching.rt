@@ -34,32 +34,6 @@ impl Read for FailingReader {
     }
 }
 
-/// A writer of one byte a write. After `left` writes one write fails or takes nothing; later ones take bytes again.
-#[derive(Drop)]
-struct FailingWriter {
-    left: u64,
-    fails: bool,
-}
-
-impl Write for FailingWriter {
-    fn write(&mut self, buf: &[u8]) -> io::Result<usize> {
-        if self.left == 0 {
-            self.left = 9;
-            return if self.fails {
-                Err(Error::from(ErrorKind::Other))
-            } else {
-                Ok(0)
-            };
-        }
-        self.left -= 1;
-        Ok(buf.len().min(1))
-    }
-
-    fn flush(&mut self) -> io::Result<()> {
-        Ok(())
-    }
-}
-
 /// A writer of one byte a write, with `interruptions` interruptions before each write.
 #[derive(Drop)]
 struct SlowWriter {
@@ -147,17 +121,6 @@ fn short_and_interrupted_writes_go_on(rt: HostRuntime) -> Result<(), Fail> {
         );
     }
     Ok(())
-}
-
-#[test]
-fn a_failed_write_is_remembered(rt: HostRuntime) {
-    for (left, fails) in [(0, true), (2, true), (0, false), (2, false)] {
-        let mut writer = Watched::new(FailingWriter { left, fails });
-        for _ in 0..3 {
-            let found = (writer.write_all(b"abc"), writer.failed());
-            expect_at(&rt, &(left, fails), found, (Err(Fault), true));
-        }
-    }
 }
 
 #[test]

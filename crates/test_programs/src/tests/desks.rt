@@ -424,10 +424,10 @@ where
     );
 }
 
-/// The number of customers that transfer, and of the transfers of each.
+/// The number of customers that transfer, and of the transfers of each: over three locks they make a million.
 pub(super) const CUSTOMERS: u64 = 4;
 
-const ROUNDS: u64 = 250_000;
+const ROUNDS: u64 = 84_000;
 
 /// Settles eight lines after `CUSTOMERS` customers have transferred at random in threads.
 fn settled_at_random<R: Threads + Wait + Sync, L: OpenLine<AccountLaw> + Sync + Drop>(

@@ -2,8 +2,6 @@
 use crate::tests::rows::{expect, expect_refusals};
 use crate::tests::styles::{Sheet, are_seen, signs_differ};
 use qolb_draw::{Form, draw_schedule};
-use qolb_run::ReplayError;
-use qolb_script::ScriptError;
 use std::alloc::Global;
 use std::str;
 use std::test::Fail;
@@ -72,32 +70,6 @@ fn draws_scripts(rt: HostRuntime) -> Result<(), Fail> {
     for (script, picture) in &PICTURES {
         let whole = format!(in rt.alloc(); "{picture}{LETTERS}")?;
         expect(&rt, script, drawn(rt.alloc(), script, Form::Text)?, whole);
-    }
-    Ok(())
-}
-
-#[test]
-fn draws_long_scripts_in_blocks(rt: HostRuntime) -> Result<(), Fail> {
-    let mut script = String::from_str(rt.alloc(), "nodes 1 lines 1\nenq 1 0\n")?;
-    for _ in 0..70 {
-        script.push_str("show 1 0\n")?;
-    }
-    let picture = drawn(rt.alloc(), script.as_str(), Form::Text)?;
-    let blocks = "line 0
-
-                  1111111111222222222233333333334444444444555555555566666666667
-         1234567890123456789012345678901234567890123456789012345678901234567890
-node   1 HHHHHHHHHHHHHHHHHHHHHHHHHHHHHHHHHHHHHHHHHHHHHHHHHHHHHHHHHHHHHHHHHHHHHH
-
-         7
-         1
-node   1 H
-
-";
-    let whole = format!(in rt.alloc(); "{blocks}{LETTERS}")?;
-    expect(&rt, "the picture", picture.as_str(), whole.as_str());
-    for line in picture.lines() {
-        expect(&rt, "the width of a line", line.len() <= 79, true);
     }
     Ok(())
 }
@@ -209,18 +181,6 @@ fn draws_as_many_marks_as_an_svg(rt: HostRuntime) -> Result<(), Fail> {
         "<title>100000: poll 200 7: waiting</title></use>\n<text class='small' x='3200064' y='47'>poll</text>\n</g>\n</svg>\n";
     expect(&rt, "the end", svg.ends_with(end.as_bytes()), true);
     Ok(())
-}
-
-#[test]
-fn refuses_what_a_replay_refuses(rt: HostRuntime) {
-    for (script, error) in [
-        ("", ScriptError::BadLine(1)),
-        ("nodes 2 lines 1\nenq 3 0", ScriptError::Number(2)),
-        ("nodes 2 lines 1\nenq 1", ScriptError::BadLine(2)),
-    ] {
-        let done = draw_schedule(rt.alloc(), script.as_bytes(), Form::Text);
-        expect(&rt, script, done.err(), Some(ReplayError::Script(error)));
-    }
 }
 
 #[test]
@@ -348,31 +308,6 @@ fn timelines_have_their_shapes(rt: HostRuntime) -> Result<(), Fail> {
     Ok(())
 }
 
-/// The name is at the first column and at each twentieth after it.
-#[test]
-fn names_stand_again(rt: HostRuntime) -> Result<(), Fail> {
-    let mut script = String::from_str(rt.alloc(), "nodes 1 lines 1\nenq 1 0\n")?;
-    for _ in 1..20 {
-        script.push_str("show 1 0\n")?;
-    }
-    let names = "<text class='name' x='8' y='72'>node 1</text>\n<text class='small'";
-    let svg = drawn(rt.alloc(), script.as_str(), Form::Svg)?;
-    expect(&rt, "the names", svg.contains(names), true);
-    script.push_str("show 1 0\n")?;
-    let names =
-        "<text class='name' x='8' y='72'>node 1</text>\n<text class='name' x='648' y='87'>node 1</text>\n<text class='small'";
-    let svg = drawn(rt.alloc(), script.as_str(), Form::Svg)?;
-    expect(&rt, "the names", svg.contains(names), true);
-    // 21 columns, and a margin on both sides
-    expect(
-        &rt,
-        "the size",
-        svg.contains(" width='800' height='164' "),
-        true,
-    );
-    Ok(())
-}
-
 /// The legend: a bar or a sign, with its meaning beside it.
 const LEGEND: &str =
     "<rect class='waits' x='8' y='8' width='32' height='16'/><text x='46' y='20'>waits</text>
@@ -405,27 +340,5 @@ fn a_timeline_has_its_style_and_its_legend(rt: HostRuntime) -> Result<(), Fail> 
         "{LEGEND}<g transform='translate(0,64)'><text x='8' y='16'>line 0</text>\n</g>\n</svg>\n"
     )?;
     expect(&rt, "behind the sheet", behind, whole.as_str());
-    Ok(())
-}
-
-/// Scripts with some commands on line 0 and one on line 1, and the size of their timelines.
-static SIZES: [(usize, &str); 3] = [
-    // 96 pixels before the first column and 32 for each column and behind the last
-    (16, " width='640' height='264' "),
-    (17, " width='672' height='264' "),
-    (100, " width='3328' height='264' "),
-];
-
-#[test]
-fn a_timeline_is_as_wide_as_its_longest_line(rt: HostRuntime) -> Result<(), Fail> {
-    for (commands, size) in &SIZES {
-        let mut script = String::from_str(rt.alloc(), "nodes 2 lines 2\n")?;
-        for _ in 0..*commands {
-            script.push_str("poll 1 0\n")?;
-        }
-        script.push_str("enq 2 1\n")?;
-        let svg = drawn(rt.alloc(), script.as_str(), Form::Svg)?;
-        expect(&rt, size, svg.contains(*size), true);
-    }
     Ok(())
 }

@@ -1,15 +1,12 @@
 //! Replays of scripts by lines of each kind.
 use crate::tests::rows::{expect, expect_at};
-use line_kinds::{ALL, Lock, TicketLine};
+use line_kinds::{ALL, Lock};
 use linked_list_allocator::LocalHeap;
-use qolb_model::{Free, OpenLine};
-use qolb_run::{
-    AnyKind, KINDS, Kind, ReplayError, read_all, run_schedule, run_schedule_over, run_schedule_with,
-};
+use qolb_run::{AnyKind, KINDS, Kind, ReplayError, read_all, run_schedule, run_schedule_with};
 use qolb_script::{ScriptError, Watched};
 use std::alloc::Global;
 use std::io;
-use std::io::{Read, Write};
+use std::io::Read;
 use std::test::Fail;
 
 #[test]
@@ -28,14 +25,6 @@ fn reply_to(alloc: Global, script: &str, kind: AnyKind) -> Result<String, Fail> 
     let mut text: Vec<u8> = Vec::new(alloc);
     run_schedule_with(alloc, &mut reader, &mut Watched::new(&mut text), kind)?;
     Ok(String::from_utf8(text)?)
-}
-
-/// The error of a replay of the script, and the number of bytes that were written.
-fn refused(alloc: Global, script: &str, kind: AnyKind) -> (Option<ReplayError>, usize) {
-    let mut reader = Watched::new(script.as_bytes());
-    let mut text: Vec<u8> = Vec::new(alloc);
-    let done = run_schedule_with(alloc, &mut reader, &mut Watched::new(&mut text), kind);
-    (done.err(), text.len())
 }
 
 /// The length of the reply to a `show`: the digits of 64 bytes, and a newline.
@@ -289,50 +278,16 @@ fn shows_what_holders_wrote(rt: HostRuntime) -> Result<(), Fail> {
     Ok(())
 }
 
-/// Scripts that are refused.
-static FAULTS: [(&str, ScriptError); 8] = [
-    ("", ScriptError::BadLine(1)),
-    ("nodes 201 lines 1", ScriptError::Number(1)),
-    ("nodes 1 lines 1 lease 0", ScriptError::Number(1)),
-    ("nodes 1 lines 1 lease", ScriptError::BadLine(1)),
-    ("nodes 2 lines 1\nenq 3 0", ScriptError::Number(2)),
-    ("nodes 2 lines 1\nenq 1", ScriptError::BadLine(2)),
-    (
-        "nodes 1 lines 1\nenq 1 0\nwrite 1 0 63 ffff\nshow 1 0",
-        ScriptError::BadLine(3),
-    ),
-    ("nodes 2 lines 1\n\n\nenq 9 0\nenq", ScriptError::Number(4)),
-];
-
-#[test]
-fn names_the_first_fault(rt: HostRuntime) -> Result<(), Fail> {
-    for (script, error) in &FAULTS {
-        for kind in &KINDS {
-            expect(
-                &rt,
-                script,
-                refused(rt.alloc(), script, *kind),
-                (Some(ReplayError::Script(*error)), 0),
-            );
-        }
-    }
-    Ok(())
-}
-
-/// A reader of `left` bytes, at most `part` at a read, that then fails or ends. The first byte of each read is an `x`, and the others are
+/// A reader of `left` bytes, at most `part` at a read, that then ends. The first byte of each read is an `x`, and the others are
 /// newlines. So the first line of such a script is bad, and no time is spent on those behind it.
 #[derive(Drop)]
 struct BadLines {
     left: u64,
     part: usize,
-    fails: bool,
 }
 
 impl Read for BadLines {
     fn read(&mut self, buf: &mut [u8]) -> io::Result<usize> {
-        if self.left == 0 && self.fails {
-            return Err(io::Error::from(io::ErrorKind::Other));
-        }
         let room = self.part.min(buf.len());
         let given = self.left.min(room as u64) as usize;
         let read = &mut buf[..given];
@@ -345,77 +300,17 @@ impl Read for BadLines {
     }
 }
 
-/// A writer that takes `left` writes of one byte, and then fails.
-#[derive(Drop)]
-struct Failing {
-    left: u64,
-}
-
-impl Write for Failing {
-    fn write(&mut self, buf: &[u8]) -> io::Result<usize> {
-        if self.left == 0 || buf.is_empty() {
-            return Err(io::Error::from(io::ErrorKind::Other));
-        }
-        self.left -= 1;
-        Ok(1)
-    }
-
-    fn flush(&mut self) -> io::Result<()> {
-        Ok(())
-    }
-}
-
 #[test]
-fn tells_faults_of_reader_and_writer(rt: HostRuntime) -> Result<(), Fail> {
-    for left in 0..5u64 {
-        let mut reader = Watched::new(BadLines {
-            left,
-            part: 1,
-            fails: true,
-        });
-        let mut text: Vec<u8> = Vec::new(rt.alloc());
-        let done = run_schedule(
-            rt.alloc(),
-            &mut reader,
-            &mut Watched::new(&mut text),
-            Kind::Plain,
-        );
-        expect_at(&rt, &left, done, Err(ReplayError::Read));
-        expect(&rt, "the reader failed", reader.failed(), true);
-        expect(&rt, "bytes written", text.len(), 0);
-    }
-    for left in 0..5u64 {
-        let mut reader = Watched::new(HAND_OVER.as_bytes());
-        let mut writer = Watched::new(Failing { left });
-        let done = run_schedule(rt.alloc(), &mut reader, &mut writer, Kind::Plain);
-        expect_at(&rt, &left, done, Err(ReplayError::Write));
-        expect(&rt, "the writer failed", writer.failed(), true);
-    }
-    Ok(())
-}
-
-#[test]
-fn takes_inputs_up_to_the_limit(rt: HostRuntime) -> Result<(), Fail> {
-    for (left, error) in [
-        (16_777_216u64, ReplayError::Script(ScriptError::BadLine(1))),
-        (16_777_217, ReplayError::Long),
-    ] {
-        let mut reader = Watched::new(BadLines {
-            left,
-            part: 65_536,
-            fails: false,
-        });
-        let mut text: Vec<u8> = Vec::new(rt.alloc());
-        let done = run_schedule(
-            rt.alloc(),
-            &mut reader,
-            &mut Watched::new(&mut text),
-            Kind::Plain,
-        );
-        expect_at(&rt, &left, done, Err(error));
-        expect(&rt, "bytes written", text.len(), 0);
-    }
-    Ok(())
+fn takes_inputs_up_to_the_limit(rt: HostRuntime) {
+    let mut reader = Watched::new(BadLines {
+        left: 16_777_216,
+        part: 65_536,
+    });
+    let mut text: Vec<u8> = Vec::new(rt.alloc());
+    let mut writer = Watched::new(&mut text);
+    let done = run_schedule(rt.alloc(), &mut reader, &mut writer, Kind::Plain);
+    let refused = ReplayError::Script(ScriptError::BadLine(1));
+    expect(&rt, "16,777,216 bytes", done, Err(refused));
 }
 
 #[test]
@@ -423,7 +318,6 @@ fn an_input_may_come_byte_by_byte(rt: HostRuntime) -> Result<(), Fail> {
     let mut reader = Watched::new(BadLines {
         left: 10_000,
         part: 1,
-        fails: false,
     });
     let input = read_all(rt.alloc(), &mut reader).ok().ok_or("an input")?;
     expect(&rt, "bytes read", input.len(), 10_000);
@@ -462,7 +356,6 @@ fn an_input_is_read_up_to_the_limit_and_no_further(rt: HostRuntime) {
         let mut reader = Watched::new(BadLines {
             left: *bytes,
             part: 65_536,
-            fails: false,
         });
         let read = read_all(rt.alloc(), &mut reader).map(|input| input.len());
         expect_at(
@@ -507,24 +400,4 @@ fn an_input_is_not_read_behind_its_end(rt: HostRuntime) {
         (refused, reader.failed()),
         (None, false),
     );
-}
-
-/// The reply to the script over lines of this type.
-fn reply_over<L: OpenLine<Free> + Drop>(alloc: Global, script: &str) -> Result<String, Fail>
-where
-    L::Port: Drop,
-{
-    let mut reader = Watched::new(script.as_bytes());
-    let mut text: Vec<u8> = Vec::new(alloc);
-    run_schedule_over::<L, _, _>(alloc, &mut reader, &mut Watched::new(&mut text))?;
-    Ok(String::from_utf8(text)?)
-}
-
-#[test]
-fn answers_scripts_over_lines_of_a_type(rt: HostRuntime) -> Result<(), Fail> {
-    for (script, reply) in &REPLIES {
-        let found = reply_over::<TicketLine<Free>>(rt.alloc(), script)?;
-        expect(&rt, script, found.as_str(), *reply);
-    }
-    Ok(())
 }

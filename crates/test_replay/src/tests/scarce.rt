@@ -1,5 +1,5 @@
 //! Replays in a room of memory, which show that a replay opens lines of its kind or type.
-use crate::tests::rows::{expect, expect_at};
+use crate::tests::rows::expect_at;
 use line_kinds::{Lock, TicketLine};
 use qolb_model::Free;
 use qolb_run::{
@@ -14,29 +14,12 @@ use test_support::{GRAIN, MemoryLimit};
 /// Eight lines for 200 nodes, and no command.
 const MANY_NODES: &str = "nodes 200 lines 8\n";
 
-/// The kinds of lines, by the memory that they take. With 200 nodes a plain line takes 3.3 KB, a list 26 KB of words, a ring 33 KB of
-/// words, a ticket line as much and 33 KB of slots; the last three also take 25 KB of ports each.
-static BY_SIZE: [AnyKind; 4] = [
-    AnyKind::Plain,
-    AnyKind::Shared(Lock::Link),
-    AnyKind::Shared(Lock::Ring),
-    AnyKind::Shared(Lock::Ticket),
-];
-
-/// Rooms in KB, each of which holds eight lines of one kind more.
+/// Rooms in KB, each of which holds eight lines of one kind more: with 200 nodes a plain line takes 3.3 KB, a list 26 KB of words, a ring 33 KB
+/// of words, a ticket line as much and 33 KB of slots; the last three also take 25 KB of ports each.
 static ROOMS: [usize; 4] = [300, 450, 650, 1_200];
 
-#[test]
-fn each_kind_has_its_size(rt: HostRuntime) -> Result<(), Fail> {
-    expect(&rt, "kinds", BY_SIZE.len(), KINDS.len());
-    for kind in &KINDS {
-        expect_at(&rt, kind, BY_SIZE.contains(kind), true);
-    }
-    Ok(())
-}
-
 /// A call that replays a schedule.
-#[derive(Clone, Copy)]
+#[derive(Clone, Copy, Debug)]
 enum Call {
     /// `run_schedule_with`.
     With(AnyKind),
@@ -78,57 +61,26 @@ fn error_if(is_small: bool) -> Option<ReplayError> {
     }
 }
 
-#[test]
-fn a_replay_takes_lines_of_its_kind(rt: HostRuntime) -> Result<(), Fail> {
-    let limit = MemoryLimit::begin(rt.alloc(), 1 << 23)?;
-    for (larger, room) in ROOMS.iter().enumerate() {
-        for (place, kind) in BY_SIZE.iter().enumerate() {
-            let call = Call::With(*kind);
-            let (found, _) = replayed(rt.alloc(), &limit, MANY_NODES, *room << 10, call)?;
-            expect_at(&rt, &(*kind, *room), found, error_if(place > larger));
-        }
-    }
-    Ok(())
-}
-
-/// The kinds that `run_schedule` takes, by the memory that their lines take.
-static NAMED: [Kind; 3] = [Kind::Plain, Kind::Link, Kind::Ring];
+/// Calls, each with the place of the first room that holds its lines.
+static CALLS: [(Call, usize); 8] = [
+    (Call::With(AnyKind::Plain), 0),
+    (Call::With(AnyKind::Shared(Lock::Link)), 1),
+    (Call::With(AnyKind::Shared(Lock::Ring)), 2),
+    (Call::With(AnyKind::Shared(Lock::Ticket)), 3),
+    (Call::Named(Kind::Plain), 0),
+    (Call::Named(Kind::Link), 1),
+    (Call::Named(Kind::Ring), 2),
+    (Call::OverTickets, 3),
+];
 
 #[test]
 fn run_schedule_takes_lines_of_its_kind(rt: HostRuntime) -> Result<(), Fail> {
     let limit = MemoryLimit::begin(rt.alloc(), 1 << 23)?;
-    for (larger, room) in ROOMS.iter().enumerate() {
-        for (place, kind) in NAMED.iter().enumerate() {
-            let call = Call::Named(*kind);
-            let (found, _) = replayed(rt.alloc(), &limit, MANY_NODES, *room << 10, call)?;
-            expect_at(&rt, &(*kind, *room), found, error_if(place > larger));
+    for (at, room) in ROOMS.iter().enumerate() {
+        for (call, first) in &CALLS {
+            let (found, _) = replayed(rt.alloc(), &limit, MANY_NODES, *room << 10, *call)?;
+            expect_at(&rt, &(*call, *room), found, error_if(at < *first));
         }
-    }
-    Ok(())
-}
-
-/// One line for 200 nodes, and no command.
-const ONE_LINE: &str = "nodes 200 lines 1\n";
-
-/// The least room, in KB, in which a replay of one line of this kind for 200 nodes ends.
-fn least_room(alloc: Global, limit: &MemoryLimit, kind: AnyKind) -> Result<usize, Fail> {
-    for room in 1..1_000usize {
-        let (error, _) = replayed(alloc, limit, ONE_LINE, room << 10, Call::With(kind))?;
-        if error.is_none() {
-            return Ok(room);
-        }
-    }
-    Err(Fail::from("no room was large enough"))
-}
-
-#[test]
-fn a_replay_of_one_line_takes_one_of_its_kind(rt: HostRuntime) -> Result<(), Fail> {
-    let limit = MemoryLimit::begin(rt.alloc(), 1 << 21)?;
-    let mut before = 0usize;
-    for kind in &BY_SIZE {
-        let room = least_room(rt.alloc(), &limit, *kind)?;
-        expect_at(&rt, &(*kind, room, before), room > before, true);
-        before = room;
     }
     Ok(())
 }
@@ -170,22 +122,6 @@ fn each_allocation_of_a_replay_is_refused(rt: HostRuntime) -> Result<(), Fail> {
     for kind in &KINDS {
         let refused = refusals_of(&rt, rt.alloc(), &limit, *kind)?;
         expect_at(&rt, kind, refused > 100, true);
-    }
-    Ok(())
-}
-
-#[test]
-fn a_replay_takes_lines_of_its_type(rt: HostRuntime) -> Result<(), Fail> {
-    let limit = MemoryLimit::begin(rt.alloc(), 1 << 22)?;
-    for (room, is_small) in [(650usize, true), (1_200, false)] {
-        let (found, _) = replayed(
-            rt.alloc(),
-            &limit,
-            MANY_NODES,
-            room << 10,
-            Call::OverTickets,
-        )?;
-        expect_at(&rt, &room, found, error_if(is_small));
     }
     Ok(())
 }

@@ -4,8 +4,6 @@ use crate::tests::rows::{expect, expect_refusals};
 use crate::tests::styles::{Sheet, are_seen, signs_differ, steps_are_seen};
 use qolb_draw::Form;
 use qolb_draw_steps::draw_steps;
-use qolb_run::ReplayError;
-use qolb_script::ScriptError;
 use std::alloc::Global;
 use std::test::Fail;
 
@@ -251,30 +249,6 @@ fn pictures_have_their_shapes(rt: HostRuntime) -> Result<(), Fail> {
     Ok(())
 }
 
-/// The names of rows are at the first column and at each twentieth after it.
-#[test]
-fn names_of_rows_stand_again(rt: HostRuntime) -> Result<(), Fail> {
-    let mut script = String::from_str(rt.alloc(), "nodes 200\n")?;
-    for _ in 0..21 {
-        script.push_str("load 200\n")?;
-    }
-    let svg = drawn(rt.alloc(), script.as_str(), Form::Svg)?;
-    // 21 columns and a margin on both sides; 200 rows below the home word
-    expect(
-        &rt,
-        "the size",
-        svg.contains(" width='1640' height='9768' "),
-        true,
-    );
-    let home =
-        "<text class='name' x='8' y='72'>home</text>\n<text class='name' x='1448' y='94'>home</text>\n<path";
-    expect(&rt, "the home word", svg.contains(home), true);
-    let last =
-        "<text class='name' x='8' y='9672'>node 200</text>\n<text class='name' x='1448' y='9694'>node 200</text>\n<text class='small'";
-    expect(&rt, "the last node", svg.contains(last), true);
-    Ok(())
-}
-
 /// A script of 100,000 events of the last of 200 nodes, of which all except the first are refused.
 fn largest_script(alloc: Global) -> Result<String, Fail> {
     repeated(alloc, "nodes 200\nreset 200\n", 99_999, "load 200\n", "")
@@ -319,18 +293,6 @@ fn draws_as_many_events_of_as_many_nodes_as_an_svg(rt: HostRuntime) -> Result<()
         "<title>100000: load 200: refused</title></use>\n<text class='small' x='7200024' y='47'>load</text>\n</g>\n</svg>\n";
     expect(&rt, "the end", svg.ends_with(end.as_bytes()), true);
     Ok(())
-}
-
-#[test]
-fn refuses_what_a_run_refuses(rt: HostRuntime) {
-    for (script, error) in [
-        ("", ScriptError::BadLine(1)),
-        ("nodes 2\nreset 3", ScriptError::Number(2)),
-        ("nodes 2\nenq 1", ScriptError::BadLine(2)),
-    ] {
-        let done = draw_steps(rt.alloc(), script.as_bytes(), Form::Svg);
-        expect(&rt, script, done.err(), Some(ReplayError::Script(error)));
-    }
 }
 
 #[test]

@@ -13,37 +13,47 @@ static NO_DRAWING: [&[&str]; 4] = [
 /// A hand-over of which a picture is drawn.
 const DRAWN: &str = "nodes 2 lines 1\nenq 1 0\nenq 2 0\ndeq 1 0\npoll 2 0\n";
 
-#[test]
-fn draws_schedules(rt: HostRuntime) -> Result<(), Fail> {
-    let (status, out, err) = told(&rt, rt.alloc(), &["draw"], DRAWN)?;
-    assert_eq!(rt; (status, err.as_str()), (0, ""));
-    assert!(rt; out.starts_with("line 0\n\n         1234\nnode   1 HH>.\nnode   2 .w<H\n\n"));
-    Ok(())
-}
-
-#[test]
-fn draws_schedules_as_an_svg(rt: HostRuntime) -> Result<(), Fail> {
-    let (status, out, err) = told(&rt, rt.alloc(), &["draw", "--svg"], DRAWN)?;
-    assert_eq!(rt; (status, err.as_str()), (0, ""));
-    let arrow =
-        "<path class='arrow' d='M160 68V108'><title>3: node 1 hands over to node 2</title></path>";
-    assert!(rt; out.starts_with("<svg ") && out.contains(arrow));
-    Ok(())
-}
-
 /// A step script of which a picture is drawn.
 const STEPPED: &str = "nodes 1\nreset 1\nprepend 1\nhome 1\n";
 
+/// Words, a script, how its picture begins, and a part of it.
+static PICTURES: [(&[&str], &str, &str, &str); 4] = [
+    (
+        &["draw"],
+        DRAWN,
+        "line 0\n\n         1234\nnode   1 HH>.\nnode   2 .w<H\n\n",
+        ". idle   w waits",
+    ),
+    (
+        &["draw", "--svg"],
+        DRAWN,
+        "<svg ",
+        "<path class='arrow' d='M160 68V108'><title>3: node 1 hands over to node 2</title></path>",
+    ),
+    (
+        &["draw", "--steps"],
+        STEPPED,
+        "1\nr      1: reset 1: went; the line lies at home\n",
+        ". Idle   r Ready",
+    ),
+    (
+        &["draw", "--svg", "--steps"],
+        STEPPED,
+        "<svg ",
+        "<title>2: prepend 1: granted</title>",
+    ),
+];
+
 #[test]
-fn draws_step_scripts(rt: HostRuntime) -> Result<(), Fail> {
-    let (status, out, err) = told(&rt, rt.alloc(), &["draw", "--steps"], STEPPED)?;
-    assert_eq!(rt; (status, err.as_str()), (0, ""));
-    assert!(rt; out.starts_with("1\nr      1: reset 1: went; the line lies at home\n"));
-    let words = ["draw", "--svg", "--steps"];
-    let (status, out, err) = told(&rt, rt.alloc(), words.as_slice(), STEPPED)?;
-    assert_eq!(rt; (status, err.as_str()), (0, ""));
-    let title = "<title>2: prepend 1: granted</title>";
-    assert!(rt; out.starts_with("<svg ") && out.contains(title));
+fn draws_in_each_form(rt: HostRuntime) -> Result<(), Fail> {
+    for (words, script, first, part) in &PICTURES {
+        let (status, out, err) = told(&rt, rt.alloc(), *words, *script)?;
+        assert_eq!(rt; (status, err.as_str()), (0, ""), "of {words:?}");
+        assert!(rt;
+            out.starts_with(*first) && out.contains(*part),
+            "of {words:?}"
+        );
+    }
     Ok(())
 }
 
@@ -156,13 +166,4 @@ fn runs_step_scripts(rt: HostRuntime) -> Result<(), Fail> {
         )?;
     }
     Ok(())
-}
-
-#[test]
-fn ranks_are_told(rt: HostRuntime) -> Result<(), Fail> {
-    let script = "nodes 1\nreset 1\nprepend 1\nhome 1\nhome 1\n";
-    let ranked =
-        "went 0\ngranted 1\nreleased 0\nrefused 0\nline 0 served 1 withdrawn 0 told 0 left 0\n";
-    let words = ["steps", "--rank"];
-    expect(&rt, rt.alloc(), words.as_slice(), script, (0, ranked, ""))
 }

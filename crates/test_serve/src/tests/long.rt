@@ -1,5 +1,5 @@
 //! Long scripts and long answers.
-use crate::tests::hostile::{FailingWriter, HAND_OVER, HANDED_OVER};
+use crate::tests::hostile::{HAND_OVER, HANDED_OVER};
 use crate::tests::runs::run;
 use std::alloc::Global;
 use std::process::Abort;
@@ -312,71 +312,6 @@ fn the_last_line_of_a_long_script_is_refused(rt: HostRuntime) -> Result<(), Fail
             (1, b"".as_slice(), bad_line),
             explained,
         )?;
-    }
-    Ok(())
-}
-
-/// After how many writes of 4,096 bytes the next one fails.
-static GOOD_WRITES: [usize; 5] = [0, 1, 16, 17, 300];
-
-#[test]
-fn a_beginning_of_a_long_answer_is_written(rt: HostRuntime) -> Result<(), Fail> {
-    let alloc = rt.alloc();
-    let script = whole(alloc, &HELD)?;
-    let answer = whole(alloc, &SHOWN)?;
-    for good in &GOOD_WRITES {
-        let mut out = FailingWriter {
-            taken: Vec::new(alloc),
-            part: 4096,
-            good: *good,
-            fails: true,
-        };
-        let mut reader = script.as_bytes();
-        let words = ["replay", "--kind", "ring"];
-        let (status, err) = run(&rt, alloc, words.as_slice(), &mut reader, &mut out)?;
-        assert_eq!(rt;
-            (status, err.as_str()),
-            (4, "write fault\n"),
-            "after {good} writes"
-        );
-        let length = good.saturating_mul(4096);
-        let is_beginning = out.taken.len() == length
-            && answer.as_bytes().starts_with(out.taken.as_slice());
-        assert!(rt; is_beginning, "after {good} writes");
-    }
-    Ok(())
-}
-
-/// Words of drawings, a long script, and the beginning and the end of its picture.
-static DRAWN: [(&[&str], Long, &str, &str); 4] = [
-    (&["draw"], HELD, "line 0\n\n", "! misuse\n"),
-    (&["draw", "--svg"], HELD, "<svg ", "</g>\n</svg>\n"),
-    (
-        &["draw", "--steps"],
-        ["nodes 1\n", "link 1\n", ""],
-        "1\n.      1: link 1: refused; the line lies at home\n",
-        "- Shut\n",
-    ),
-    (
-        &["draw", "--steps", "--svg"],
-        ["nodes 1\n", "link 1\n", ""],
-        "<svg ",
-        "<title>12000: link 1: refused</title></use>\n<text class='small' x='864024' y='47'>link</text>\n</g>\n</svg>\n",
-    ),
-];
-
-#[test]
-fn a_long_script_is_drawn(rt: HostRuntime) -> Result<(), Fail> {
-    let alloc = rt.alloc();
-    for (words, script, first, last) in &DRAWN {
-        let script = whole(alloc, script)?;
-        let (status, picture, err) = answered(&rt, alloc, *words, script.as_str())?;
-        assert_eq!(rt; (status, err.as_str()), (0, ""), "of {words:?}");
-        let is_whole = picture.starts_with(first.as_bytes()) && picture.ends_with(last.as_bytes());
-        assert!(rt; is_whole && picture.len() > 65_536, "of {words:?}");
-        let all = with_explain(alloc, *words)?;
-        let want = (0, picture.as_slice(), "");
-        expect(&rt, alloc, all.as_slice(), script.as_str(), want)?;
     }
     Ok(())
 }

@@ -1,6 +1,5 @@
 //! Notes behind an answer: why `misuse` and `refused` are said.
-use crate::tests::long::with_explain;
-use crate::tests::runs::{KINDS, expect, told};
+use crate::tests::runs::{KINDS, expect};
 use std::test::Fail;
 
 /// Commands that are misuse in each state, and no other.
@@ -283,45 +282,6 @@ fn refusals_are_explained(rt: HostRuntime) -> Result<(), Fail> {
         expect(&rt, rt.alloc(), &["steps"], *script, (0, *answers, ""))?;
         let words = ["steps", "--explain"];
         expect(&rt, rt.alloc(), &words, *script, (0, noted.as_str(), ""))?;
-    }
-    Ok(())
-}
-
-#[test]
-fn refusals_are_explained_beside_ranks(rt: HostRuntime) -> Result<(), Fail> {
-    let alloc = rt.alloc();
-    for (script, _, notes) in &REFUSED {
-        let (_, ranks, _) = told(&rt, alloc, &["steps", "--rank"], *script)?;
-        let noted = format!(in alloc; "{ranks}{notes}")?;
-        let words = ["steps", "--rank", "--explain"];
-        expect(&rt, alloc, &words, *script, (0, noted.as_str(), ""))?;
-    }
-    Ok(())
-}
-
-/// Words, and scripts with misuses, refusals and jobs that can't be done, whose answers have no notes.
-static UNNOTED: [(&[&str], &str); 6] = [
-    (&["draw"], MISUSED),
-    (&["draw", "--svg"], MISUSED),
-    (&["draw", "--steps"], "nodes 1\nlink 1\n"),
-    (&["draw", "--steps", "--svg"], "nodes 1\nlink 1\n"),
-    (&["board"], "board workers 1\n1 take\n"),
-    (&["bank"], "bank workers 1 lines 1\n1 out 0 1\n"),
-];
-
-#[test]
-fn other_answers_have_no_notes(rt: HostRuntime) -> Result<(), Fail> {
-    let alloc = rt.alloc();
-    for (words, script) in &UNNOTED {
-        let (_, answer, _) = told(&rt, alloc, *words, *script)?;
-        let all = with_explain(alloc, *words)?;
-        expect(
-            &rt,
-            alloc,
-            all.as_slice(),
-            *script,
-            (0, answer.as_str(), ""),
-        )?;
     }
     Ok(())
 }

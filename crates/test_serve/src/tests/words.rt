@@ -1,9 +1,6 @@
 //! Words of the command line: what they ask for, what is not taken, help and version.
 use crate::tests::runs::{run, told};
-use line_kinds::{ALL, Lock};
-use qolb_run::Task;
-use qolb_serve::{Subcommand, parse_args, refuse_words};
-use std::alloc::Global;
+use qolb_serve::refuse_words;
 use std::io;
 use std::test::Fail;
 
@@ -135,60 +132,6 @@ fn tells_its_version(rt: HostRuntime) -> Result<(), Fail> {
     // nothing was read, nor written
     assert_eq!(rt; (status, reader.len(), out.len()), (2, 16, 0));
     assert_eq!(rt; err.as_str(), VERSION);
-    Ok(())
-}
-
-/// Returns the lock of work with this `--kind`.
-fn lock_of_kind(alloc: Global, name: &str) -> Result<Lock, Fail> {
-    let words = vec![in alloc;
-        "qolb".to_string(alloc)?,
-        "board".to_string(alloc)?,
-        "--kind".to_string(alloc)?,
-        name.to_string(alloc)?,
-    ]?;
-    match parse_args(alloc, words.as_slice())
-        .ok()
-        .ok_or("a request")?
-        .subcommand
-    {
-        Subcommand::Answer(Task::Work(_, lock, _)) => Ok(lock),
-        _ => Err(Fail::from("no work")),
-    }
-}
-
-#[test]
-fn the_version_names_each_lock(rt: HostRuntime) -> Result<(), Fail> {
-    let (_, _, version) = told(&rt, rt.alloc(), &["--version"], "")?;
-    let (_, names) = version
-        .split_once("kinds of lines: plain, ")
-        .ok_or("the kinds")?;
-    let mut locks = Vec::new(rt.alloc());
-    for name in names.trim_end().split(", ") {
-        locks.push(lock_of_kind(rt.alloc(), name)?)?;
-    }
-    assert_eq!(rt; locks.as_slice(), ALL.as_slice());
-    Ok(())
-}
-
-/// Words, and whether they ask for progress.
-static TOLD_OF_PROGRESS: [(&[&str], bool); 4] = [
-    (&["qolb", "board"], false),
-    (&["qolb", "board", "--progress"], true),
-    (&["qolb", "bank", "--sleep"], false),
-    (&["qolb", "bank", "--sleep", "--progress"], true),
-];
-
-#[test]
-fn progress_is_told_where_it_is_asked_for(rt: HostRuntime) -> Result<(), Fail> {
-    let alloc = rt.alloc();
-    for (words, want) in &TOLD_OF_PROGRESS {
-        let mut all = Vec::new(alloc);
-        for word in *words {
-            all.push(word.to_string(alloc)?)?;
-        }
-        let request = parse_args(alloc, all.as_slice()).ok().ok_or("a request")?;
-        assert_eq!(rt; request.progress, *want, "of {words:?}");
-    }
     Ok(())
 }
 

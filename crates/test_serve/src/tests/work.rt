@@ -40,46 +40,74 @@ fn expect_work<T: Threads + Wait + Clock + Eprint + Abort + Sync>(
     Ok(())
 }
 
-/// Scripts of work, with their reports.
-static WORK: [(&str, &str, &str); 6] = [
+/// Scripts of work, with the end of their run: reports, and complaints about scripts that are not of this work.
+static WORK: [(&str, &str, (u8, &str, &str)); 17] = [
     (
         "board",
         "board workers 1\n1 put 5\n1 put 9\n1 take\n1 take\n1 take\n",
-        "stored 2\nfull 0\ntaken 2\nempty 1\nleft 0\n",
+        (0, "stored 2\nfull 0\ntaken 2\nempty 1\nleft 0\n", ""),
     ),
     (
         "board",
         "board workers 1\n1 put 3\n1 put 3\n1 put 3\n1 put 3\n1 put 3\n1 put 3\n1 put 3\n1 put 3",
-        "stored 7\nfull 1\ntaken 0\nempty 0\nleft 7\n",
+        (0, "stored 7\nfull 1\ntaken 0\nempty 0\nleft 7\n", ""),
     ),
     // a board without jobs, and a worker without any
     (
         "board",
         "board workers 200",
-        "stored 0\nfull 0\ntaken 0\nempty 0\nleft 0\n",
+        (0, "stored 0\nfull 0\ntaken 0\nempty 0\nleft 0\n", ""),
     ),
     (
         "bank",
         "bank workers 1 lines 2\n1 in 0 10\n1 move 0 9 4\n1 out 9 9\n1 out 9 1\n",
-        "in 10\nout 1\ntotal 9\n",
+        (0, "in 10\nout 1\ntotal 9\n", ""),
     ),
     (
         "bank",
         "bank workers 3 lines 8\n1 in 0 1\n2 in 63 2\n",
-        "in 3\nout 0\ntotal 3\n",
+        (0, "in 3\nout 0\ntotal 3\n", ""),
     ),
     // no task is lost, though the order between the workers is open
     (
         "bank",
         "bank workers 2 lines 1\n1 in 0 281474976710656\n2 in 1 281474976710656\n1 in 0 1\n2 in 1 1\n",
-        "in 562949953421312\nout 0\ntotal 562949953421312\n",
+        (0, "in 562949953421312\nout 0\ntotal 562949953421312\n", ""),
+    ),
+    ("board", "", (1, "", "bad line 1\n")),
+    ("board", "board workers 201", (1, "", "bad line 1\n")),
+    ("board", "board workers 0", (1, "", "bad line 1\n")),
+    ("board", "board workers 1 lines 1", (1, "", "bad line 1\n")),
+    // a board's script is not a bank's, and the other way round
+    ("board", "bank workers 1 lines 1", (1, "", "bad line 1\n")),
+    ("bank", "board workers 1", (1, "", "bad line 1\n")),
+    (
+        "board",
+        "board workers 1\n\n2 take",
+        (1, "", "bad line 3\n"),
+    ),
+    (
+        "board",
+        "board workers 1\n1 in 0 1",
+        (1, "", "bad line 2\n"),
+    ),
+    (
+        "bank",
+        "bank workers 1 lines 1\n1 in 8 1",
+        (1, "", "bad line 2\n"),
+    ),
+    ("bank", "bank workers 1 lines 9", (1, "", "bad line 1\n")),
+    (
+        "bank",
+        "bank workers 1 lines 1\n1 put 5",
+        (1, "", "bad line 2\n"),
     ),
 ];
 
 #[test]
-fn runs_work(rt: HostRuntime) -> Result<(), Fail> {
-    for (name, script, report) in &WORK {
-        expect_work(&rt, rt.alloc(), *name, *script, (0, *report, ""))?;
+fn runs_and_refuses_work(rt: HostRuntime) -> Result<(), Fail> {
+    for (name, script, want) in &WORK {
+        expect_work(&rt, rt.alloc(), *name, *script, *want)?;
     }
     Ok(())
 }
@@ -96,30 +124,6 @@ fn no_payment_of_four_workers_is_lost(rt: HostRuntime) -> Result<(), Fail> {
     }
     let report = "in 400\nout 0\ntotal 400\n";
     expect_work(&rt, alloc, "bank", script.as_str(), (0, report, ""))
-}
-
-/// Scripts that are not of this work, with the complaint.
-static NO_WORK: [(&str, &str, &str); 11] = [
-    ("board", "", "bad line 1\n"),
-    ("board", "board workers 201", "bad line 1\n"),
-    ("board", "board workers 0", "bad line 1\n"),
-    ("board", "board workers 1 lines 1", "bad line 1\n"),
-    // a board's script is not a bank's, and the other way round
-    ("board", "bank workers 1 lines 1", "bad line 1\n"),
-    ("bank", "board workers 1", "bad line 1\n"),
-    ("board", "board workers 1\n\n2 take", "bad line 3\n"),
-    ("board", "board workers 1\n1 in 0 1", "bad line 2\n"),
-    ("bank", "bank workers 1 lines 1\n1 in 8 1", "bad line 2\n"),
-    ("bank", "bank workers 1 lines 9", "bad line 1\n"),
-    ("bank", "bank workers 1 lines 1\n1 put 5", "bad line 2\n"),
-];
-
-#[test]
-fn refuses_work(rt: HostRuntime) -> Result<(), Fail> {
-    for (name, script, fault) in &NO_WORK {
-        expect_work(&rt, rt.alloc(), *name, *script, (1, "", *fault))?;
-    }
-    Ok(())
 }
 
 #[test]

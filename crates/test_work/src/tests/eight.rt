@@ -7,7 +7,6 @@ use qolb_script::{Report, WorkKind, read_work};
 use std::alloc::Global;
 use std::sync::atomic::{AtomicU64, Ordering};
 use std::test::Fail;
-use std::thread::yield_now;
 
 /// Work whose gate is closed, with the first worker that has a job.
 static FIRST_TO_STALL: [(WorkKind, &str, u64); 6] = [
@@ -183,84 +182,5 @@ fn the_last_of_eight_waits_for_the_millionth_ask(rt: HostRuntime) -> Result<(), 
     let asked = [1, 1, 1, 1, 1, 1, 1, 2_000_001];
     let found = (found, gate.told(), loaded(&gate.asked));
     expect(&rt, "two jobs", found, (Ok(report), [1, 2, 0], asked));
-    Ok(())
-}
-
-/// A gate at which eight workers, each with one job, do their jobs one after the other, the last worker first if it is `backwards`.
-#[derive(Drop)]
-struct InOrder {
-    backwards: bool,
-    done: AtomicU64,
-}
-
-impl Gate for InOrder {
-    ghost may_refuse = { λ gate worker. Unit {0} };
-
-    fn may(&self, worker: u64, at: u64) -> bool {
-        let place = if self.backwards {
-            8u64.wrapping_sub(worker)
-        } else {
-            worker.wrapping_sub(1)
-        };
-        if at > 0 {
-            self.done.store(place.wrapping_add(1), Ordering::SeqCst);
-            return true;
-        }
-        for _ in 0..100 {
-            if self.done.load(Ordering::SeqCst) == place {
-                return true;
-            }
-            yield_now();
-        }
-        false
-    }
-}
-
-/// Puts of the first four workers, and takes of the others.
-const PUTS_FIRST: &str =
-    "board workers 8\n1 put 1\n2 put 2\n3 put 3\n4 put 4\n5 take\n6 take\n7 take\n8 take\n";
-
-/// Takes of the first four workers, and puts of the others.
-const TAKES_FIRST: &str =
-    "board workers 8\n1 take\n2 take\n3 take\n4 take\n5 put 5\n6 put 6\n7 put 7\n8 put 8\n";
-
-/// Each task is taken; or each take finds none, and each task is left.
-const ALL_TAKEN: Report = Report::Board {
-    stored: 4,
-    full: 0,
-    taken: 4,
-    empty: 0,
-    left: 0,
-};
-
-const NONE_TAKEN: Report = Report::Board {
-    stored: 4,
-    full: 0,
-    taken: 0,
-    empty: 4,
-    left: 4,
-};
-
-/// Work, whether it is done backwards, and its report. A job that is done before its gate is passed changes one of them.
-static IN_ORDER: [(&str, bool, Report); 4] = [
-    (PUTS_FIRST, false, ALL_TAKEN),
-    (PUTS_FIRST, true, NONE_TAKEN),
-    (TAKES_FIRST, false, NONE_TAKEN),
-    (TAKES_FIRST, true, ALL_TAKEN),
-];
-
-#[test]
-fn no_job_of_eight_is_done_before_its_gate_is_passed(rt: HostRuntime) -> Result<(), Fail> {
-    for (script, backwards, report) in &IN_ORDER {
-        let work = read_work(rt.alloc(), script.as_bytes(), WorkKind::Board)?;
-        for lock in ALL {
-            let gate = InOrder {
-                backwards: *backwards,
-                done: AtomicU64::new(0),
-            };
-            let found = run_work_with(&rt, rt.alloc(), &gate, &work, lock, WaitMode::Awake);
-            expect_at(&rt, &(*script, *backwards, lock), found, Ok(*report));
-        }
-    }
     Ok(())
 }

@@ -49,19 +49,6 @@ fn a_report_of_work_says_who_gave_up(rt: HostRuntime) {
     expect(&rt, "a report", done.err(), Some(TaskError::Stalled(2)));
 }
 
-#[test]
-fn a_worker_of_a_bank_gives_up_before_a_closed_gate(rt: HostRuntime) -> Result<(), Fail> {
-    let script = "bank workers 3 lines 1\n2 in 0 1\n3 in 1 1\n";
-    expect_work(
-        &rt,
-        rt.alloc(),
-        &Closed,
-        script,
-        WorkKind::Bank,
-        Err(RunError::Stalled(2)),
-    )
-}
-
 /// Runs the work behind a new gate, over each lock, and expects this report.
 fn expect_behind<R: Threads + Wait + Abort + Sync, G: Gate + Default + Sync + Drop>(
     rt: &R,
@@ -211,7 +198,7 @@ impl Begun {
 
 /// A gate that opens at the `opens_at`-th question for a job. It counts the questions for each job number.
 #[derive(Drop)]
-pub(crate) struct Counting {
+struct Counting {
     opens_at: u64,
     asked: [AtomicU64; 4],
     /// The numbers that were asked for, one digit each, 1 more than the number.
@@ -222,7 +209,7 @@ pub(crate) struct Counting {
 }
 
 impl Counting {
-    pub(crate) fn new(opens_at: u64) -> Counting {
+    fn new(opens_at: u64) -> Counting {
         Counting {
             opens_at,
             asked: [
@@ -237,7 +224,7 @@ impl Counting {
         }
     }
 
-    pub(crate) fn asks_for(&self, at: usize) -> u64 {
+    fn asks_for(&self, at: usize) -> u64 {
         self.asked[at % 4].load(Ordering::SeqCst)
     }
 
@@ -302,22 +289,13 @@ fn a_worker_asks_before_each_job_and_once_after_the_last(rt: HostRuntime) -> Res
         for lock in ALL {
             let gate = Counting::new(1);
             let done = run_work_with(&rt, rt.alloc(), &gate, &work, lock, WaitMode::Asleep);
-            let found = (done.is_ok(), gate.numbers(), gate.asks());
-            expect_at(&rt, &(*kind, lock), found, (true, 123, [1, 1, 1]));
-        }
-    }
-    Ok(())
-}
-
-#[test]
-fn a_gate_is_told_once_of_all_jobs_before_any_worker_asks(rt: HostRuntime) -> Result<(), Fail> {
-    for (kind, script) in &OF_THREE {
-        let work = read_work(rt.alloc(), script.as_bytes(), *kind)?;
-        for lock in ALL {
-            let gate = Counting::new(1);
-            let done = run_work_with(&rt, rt.alloc(), &gate, &work, lock, WaitMode::Awake);
-            let found = (done.is_ok(), gate.told());
-            expect_at(&rt, &(*kind, lock), found, (true, [1, 3, 0]));
+            let found = (done.is_ok(), gate.told(), gate.numbers(), gate.asks());
+            expect_at(
+                &rt,
+                &(*kind, lock),
+                found,
+                (true, [1, 3, 0], 123, [1, 1, 1]),
+            );
         }
     }
     Ok(())
@@ -376,39 +354,5 @@ fn a_gate_is_told_of_work_without_jobs_and_asked_once(rt: HostRuntime) -> Result
     let done = run_work(&rt, rt.alloc(), &gate, &work, Lines::Ring);
     let found = (done.is_ok(), gate.told(), gate.asks_for(0));
     expect(&rt, "no job", found, (true, [1, 0, 0], 1));
-    Ok(())
-}
-
-/// An open gate that counts the questions, and those whose job number is not the count before them.
-#[derive(Drop)]
-struct InOrder {
-    asked: AtomicU64,
-    wrong: AtomicU64,
-}
-
-impl Gate for InOrder {
-    fn may(&self, _worker: u64, at: u64) -> bool {
-        if self.asked.fetch_add(1, Ordering::SeqCst) != at {
-            self.wrong.fetch_add(1, Ordering::SeqCst);
-        }
-        true
-    }
-}
-
-#[test]
-fn a_worker_asks_by_the_number_of_its_job(rt: HostRuntime) -> Result<(), Fail> {
-    let mut script = "board workers 1\n".to_string(rt.alloc())?;
-    for _ in 0..300 {
-        script.push_str("1 take\n")?;
-    }
-    let work = read_work(rt.alloc(), script.as_bytes(), WorkKind::Board)?;
-    let gate = InOrder {
-        asked: AtomicU64::new(0),
-        wrong: AtomicU64::new(0),
-    };
-    let done = run_work(&rt, rt.alloc(), &gate, &work, Lines::Ring);
-    let asked = gate.asked.load(Ordering::SeqCst);
-    let found = (done.is_ok(), asked, gate.wrong.load(Ordering::SeqCst));
-    expect(&rt, "300 jobs", found, (true, 301, 0));
     Ok(())
 }

@@ -1,6 +1,5 @@
 //! Work in a room of memory: work is refused or done, and refused work is not begun twice.
 use crate::tests::eight::{Counts, loaded};
-use crate::tests::gates::Counting;
 use crate::tests::rows::{expect, expect_at};
 use line_kinds::{ALL, Lock};
 use qolb_run::{Gate, RunError, WaitMode, run_work_with};
@@ -27,36 +26,6 @@ fn worked_in<T: Threads + Wait + Sync, G: Gate + Sync>(
     let found = run_work_with(rt, alloc, gate, work, lock, WaitMode::Awake);
     drop(rest);
     Ok(found)
-}
-
-/// Eight workers, each with one job.
-const EIGHT: &str =
-    "board workers 8\n1 put 1\n2 put 2\n3 put 3\n4 put 4\n5 take\n6 take\n7 take\n8 take\n";
-
-#[test]
-fn work_that_is_refused_is_not_done_again(rt: HostRuntime) -> Result<(), Fail> {
-    let alloc = rt.alloc();
-    let work = read_work(alloc, EIGHT.as_bytes(), WorkKind::Board)?;
-    let limit = MemoryLimit::begin(alloc, 1 << 28)?;
-    let mut half_done = 0u32;
-    for room in 1..100usize {
-        let gate = Counting::new(1);
-        let error = worked_in(&rt, alloc, &limit, room << 20, &gate, &work, Lock::Ring)?.err();
-        let (first, second) = (gate.asks_for(0), gate.asks_for(1));
-        let row = (room, error, first, second);
-        let once = first <= 1 && second <= 1;
-        if error.is_none() {
-            let found = (once, second, half_done > 0);
-            expect_at(&rt, &row, found, (true, 1, true));
-            return Ok(());
-        }
-        let found = (once, error);
-        expect_at(&rt, &row, found, (true, Some(RunError::Memory)));
-        if second == 1 {
-            half_done = half_done.saturating_add(1);
-        }
-    }
-    Err(Fail::from("no room was large enough"))
 }
 
 /// Work of two workers with two jobs each, and its report.

@@ -179,27 +179,12 @@ fn no_payment_of_many_workers_is_lost(rt: HostRuntime) -> Result<(), Fail> {
     expect_payments(&rt, rt.alloc(), 200, 64, 1, 200)
 }
 
-/// One worker does these two jobs 50,000 times over rings, with this report.
-fn expect_longest<R: Threads + Wait + Abort + Sync>(
-    rt: &R,
-    alloc: Global,
-    header: &str,
-    jobs: &str,
-    kind: WorkKind,
-    report: Report,
-) -> Result<(), Fail> {
-    let mut script = header.to_string(alloc)?;
-    for _ in 0..50_000u32 {
-        script.push_str(jobs)?;
-    }
-    let work = read_work(alloc, script.as_bytes(), kind)?;
-    let found = run_work(rt, alloc, &AlwaysOpen, &work, Lines::Ring);
-    expect(rt, "50,000 times two jobs", found, Ok(report));
-    Ok(())
-}
-
 #[test]
 fn the_longest_work_of_a_board_is_done(rt: HostRuntime) -> Result<(), Fail> {
+    let mut script = "board workers 1\n".to_string(rt.alloc())?;
+    for _ in 0..50_000u32 {
+        script.push_str("1 put 5\n1 take\n")?;
+    }
     let report = Report::Board {
         stored: 50_000,
         full: 0,
@@ -207,31 +192,8 @@ fn the_longest_work_of_a_board_is_done(rt: HostRuntime) -> Result<(), Fail> {
         empty: 0,
         left: 0,
     };
-    let jobs = "1 put 5\n1 take\n";
-    expect_longest(
-        &rt,
-        rt.alloc(),
-        "board workers 1\n",
-        jobs,
-        WorkKind::Board,
-        report,
-    )
-}
-
-#[test]
-fn the_longest_work_of_a_bank_is_done(rt: HostRuntime) -> Result<(), Fail> {
-    let report = Report::Bank {
-        paid_in: 50_000,
-        paid_out: 0,
-        total: 50_000,
-    };
-    let jobs = "1 in 0 1\n1 move 0 63 1\n";
-    expect_longest(
-        &rt,
-        rt.alloc(),
-        "bank workers 1 lines 8\n",
-        jobs,
-        WorkKind::Bank,
-        report,
-    )
+    let work = read_work(rt.alloc(), script.as_bytes(), WorkKind::Board)?;
+    let found = run_work(&rt, rt.alloc(), &AlwaysOpen, &work, Lines::Ring);
+    expect(&rt, "50,000 times two jobs", found, Ok(report));
+    Ok(())
 }

@@ -1,15 +1,12 @@
 //! The variants of each answer and state, in their order.
 use crate::tests::rows::{expect, expect_at};
 use line_accounts::Reply;
-use line_board::{Put, Take};
+use line_board::Put;
 use line_kinds::ALL;
-use link_core::Place;
 use link_line::Prep;
 use qolb_model::{Enq, Out, Poll, PortState};
 use qolb_run::{AnyKind, Got, KINDS, Kind, Lines, Lock};
 use qolb_script::WorkKind;
-use std::fmt::Debug;
-use std::process::Abort;
 
 /// A type whose variants are all known.
 trait Listed {
@@ -73,16 +70,6 @@ impl Listed for PortState {
     }
 }
 
-impl Listed for Place {
-    fn place(&self) -> usize {
-        match self {
-            Place::Home => 0,
-            Place::Mailbox(_) => 1,
-            Place::Hand(_) => 2,
-        }
-    }
-}
-
 impl Listed for Put {
     fn place(&self) -> usize {
         match self {
@@ -91,18 +78,6 @@ impl Listed for Put {
             Put::Late => 2,
             Put::Closed => 3,
             Put::Busy => 4,
-        }
-    }
-}
-
-impl Listed for Take {
-    fn place(&self) -> usize {
-        match self {
-            Take::Task(_) => 0,
-            Take::Empty => 1,
-            Take::Late => 2,
-            Take::Closed => 3,
-            Take::Busy => 4,
         }
     }
 }
@@ -170,28 +145,6 @@ static ANY_OF_KINDS: [(Kind, AnyKind); 3] = [
     (Kind::Ring, AnyKind::Shared(Lock::Ring)),
     (Kind::Link, AnyKind::Shared(Lock::Link)),
 ];
-
-/// Expects that `all` are the type's variants, in their order.
-fn expect_order<R: Abort, T: Listed + Debug>(rt: &R, all: &[T]) {
-    for (place, one) in all.iter().enumerate() {
-        expect_at(rt, one, one.place(), place);
-    }
-}
-
-#[test]
-fn variants_with_fields_stand_so(rt: HostRuntime) {
-    expect_order(&rt, &[Place::Home, Place::Mailbox(1), Place::Hand(1)]);
-    expect_order(
-        &rt,
-        &[
-            Take::Task(5),
-            Take::Empty,
-            Take::Late,
-            Take::Closed,
-            Take::Busy,
-        ],
-    );
-}
 
 #[test]
 fn variants_are_declared_in_this_order(rt: HostRuntime) {
