@@ -3,16 +3,10 @@
  * is fetched together, and none has data of a node and data that all nodes read; and a slot of a table, with its 64
  * bytes and what goes with them, is in one pair.
  *
- * The proved part calls rattle_alloc, rattle_realloc and rattle_dealloc, at the end of this file. */
+ * The proved part allocates by heap.c. */
 #include "gaps.h"
 #include <stdlib.h>
 #include <string.h>
-
-#define HIDDEN __attribute__((visibility("hidden")))
-
-HIDDEN void *qolb_malloc_(size_t size);
-HIDDEN void *qolb_realloc_(void *block, size_t size);
-HIDDEN void qolb_free_(void *block);
 
 BY_THREAD struct core_room qolb_core_room_;
 BY_THREAD struct noted_blocks qolb_noted_blocks_;
@@ -87,32 +81,3 @@ void qolb_free_(void *block) {
         free(before_of(block)->given);
     }
 }
-
-/* The answer of an allocation. `at` is never NULL: without memory it is the address of a byte that nobody uses. */
-struct tried {
-    uint64_t is_there;
-    void *at;
-};
-
-HIDDEN struct tried rattle_alloc(size_t size, size_t align);
-HIDDEN struct tried rattle_realloc(void *block, size_t kept, size_t size, size_t align);
-HIDDEN void rattle_dealloc(void *block);
-
-static struct tried tried(void *block) {
-    static char nothing;
-    return block ? (struct tried){1, block} : (struct tried){0, &nothing};
-}
-
-/* A block of no bytes has as many as its alignment, which is at most 16. */
-static size_t bytes_for(size_t size, size_t align) { return size ? size : align; }
-
-struct tried rattle_alloc(size_t size, size_t align) {
-    return tried(qolb_malloc_(bytes_for(size, align)));
-}
-
-struct tried rattle_realloc(void *block, size_t kept, size_t size, size_t align) {
-    (void)kept;
-    return tried(qolb_realloc_(block, bytes_for(size, align)));
-}
-
-void rattle_dealloc(void *block) { qolb_free_(block); }

@@ -63,6 +63,10 @@ struct noted_blocks {
 
 extern BY_THREAD __attribute__((visibility("hidden"))) struct noted_blocks qolb_noted_blocks_;
 
+__attribute__((visibility("hidden"))) void *qolb_malloc_(size_t size);
+__attribute__((visibility("hidden"))) void *qolb_realloc_(void *block, size_t size);
+__attribute__((visibility("hidden"))) void qolb_free_(void *block);
+
 /* Frees what the thread kept. */
 __attribute__((visibility("hidden"))) void qolb_give_back_(void);
 
