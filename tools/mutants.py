@@ -12,10 +12,11 @@ A mutant of a crate's mutants.edits names a function, a text in it, and the text
   test: CRATE::PATH::NAME
 
 Only the words and signs of `old` count: the file may have other spaces and line breaks, comments between the words, and a comma before a closing
-bracket. `$name` in `old` stands for a local variable, whatever its name is now; `$name` in `new` and `harmless` is the variable found there. The lines
-of `new` below the first get the indentation of the line in which the text was found.
+bracket. `$name` in `old` stands for a local variable, whatever its name is now, and `$name` in `new` and `harmless` for the variable that was found.
+A `$name` that `old` does not have is the variable of exactly this name, and the function must have one. The text that is written gets the indentation of
+the one that it replaces.
 
-The mutants of must-fail/ are files in the form of the gate, with `file: PATH` in place of `in:`, and the file has their `old` once, to the letter.
+A mutant of must-fail/ is a file in the form of the gate: `file: PATH` stands in place of `in:`, and the file has `old` exactly once, to the letter.
 """
 
 import collections
@@ -37,7 +38,7 @@ HOLE = re.compile(r"\$([a-z_]\w*)")
 # What a file may have between two words or signs of a pattern.
 GAP = r"(?:\s|//[^\n]*\n)*"
 CLOSING = set(")]}")
-KEYS = {".edits": "in|old|new|harmless|shows|test", ".edit": "file|old|new|harmless"}
+KEYS = {".edits": "in|old|new|harmless|shows|test", ".edit": "file|old|new|harmless|shows|test"}
 
 
 class Mutant:
@@ -129,12 +130,25 @@ def pattern(old):
     return re.compile(GAP.join(parts))
 
 
+def within(text, change):
+    """Where the functions that a change means begin and end, or the whole file."""
+    return [(it.begin, it.end) for it in named(text, change.function)] if change.function else [(0, len(text))]
+
+
 def spots(text, change):
     """Where a file has the old text of a change."""
     if change.function is None:
         return list(re.finditer(re.escape(change.old), text))
-    within = [(it.begin, it.end) for it in named(text, change.function)] if change.function else [(0, len(text))]
-    return [spot for begin, end in within for spot in pattern(change.old).finditer(text, begin, end)]
+    return [spot for begin, end in within(text, change) for spot in pattern(change.old).finditer(text, begin, end)]
+
+
+def lacking(text, change):
+    """The variables of the function that only the new text of a change names, and that the function does not have."""
+    if change.function is None:
+        return []
+    names = set(HOLE.findall(f"{change.new} {change.harmless}")) - set(HOLE.findall(change.old))
+    words = {word for begin, end in within(text, change) for word in re.findall(r"\w+", text[begin:end])}
+    return sorted(names - words)
 
 
 def elsewhere(folder, change):
@@ -147,19 +161,19 @@ def elsewhere(folder, change):
 
 
 def misplaced(folder, change, body, count):
-    """Why a change can't be made whose old text its function, or its file, does not have once: where the text is now, or the line most like it."""
-    first = change.old.splitlines()[0].strip()
-    where = " of ".join(it for it in (change.function, change.file) if it)
-    if change.function and not named(body, change.function):
+    """Why a change can't be made whose old text is not there exactly once: with the places where the text is now, and the line that is most like it."""
+    old = [it.strip() for it in change.old.splitlines()]
+    there = [it.strip() for begin, end in within(body, change) for it in body[begin:end].splitlines()]
+    why = f"{old[0]!r} stands {count} times in {' of '.join(filter(None, (change.function, change.file)))}"
+    if change.function and not there:
         why = f"{change.file} has no function {change.function}"
-    else:
-        why = f"{first!r} stands {count} times in {where}"
-    now = [] if count else list(elsewhere(folder, change))
-    if now:
-        return f"{why}; {first!r} is at {', '.join(now[:3])}"
-    lines = [it.strip() for it in body.splitlines()]
-    near = [] if count else difflib.get_close_matches(next((it.strip() for it in change.old.splitlines() if it.strip() not in lines), first), lines, 1)
-    return why + "".join(f"; the nearest line there is {it!r}" for it in near)
+    if count:
+        return why
+    name = (change.function or "").rpartition("::")[2]
+    # The function itself comes first, if it was moved.
+    now = sorted(elsewhere(folder, change), key=lambda it: it.rpartition(" ")[2] != name)
+    near = difflib.get_close_matches(next((it for it in old if it not in there), old[0]), there, 1)
+    return why + f"; {old[0]!r} is at {', '.join(now[:3])}" * bool(now) + "".join(f"; the nearest line is {it!r}" for it in near)
 
 
 # ---- What a mutant makes of its crate ----
@@ -171,7 +185,7 @@ def filled(change, spot):
         return change.new
     text, lead = spot.string, re.match(" *", change.old)[0]
     indent = re.match(" *", text[text.rfind("\n", 0, spot.start()) + 1 :])[0].removeprefix(lead)
-    new = HOLE.sub(lambda it: spot[it[1]], change.new)
+    new = HOLE.sub(lambda it: spot.groupdict().get(it[1], it[1]), change.new)
     return re.sub(r"\n(?=.)", "\n" + indent, new.removeprefix(lead))
 
 
@@ -184,6 +198,8 @@ def changed(folder, changes):
         found = spots(body, it)
         if len(found) != 1:
             return {}, misplaced(folder, it, body, len(found))
+        if lacking(body, it):
+            return {}, f"{it.function} of {it.file} has no variable {lacking(body, it)[0]}"
         bodies[path] = body[: found[0].start()] + filled(it, found[0]) + body[found[0].end() :]
     return bodies, None
 
@@ -215,13 +231,9 @@ def harmless(changes):
 
 
 def changes_nothing(mutant):
-    """Why it can't be refused for what it shows, if so: a change of it, or all of them, is none, or names a variable that its old text lacks."""
+    """Why it can't be refused for what it shows, if so: a change of it, or all of them, is none."""
     if not mutant.changes or any(it.old == it.new for it in mutant.changes):
         return "it changes nothing"
-    for it in mutant.changes:
-        unknown = set() if it.function is None else set(HOLE.findall(f"{it.new} {it.harmless}")) - set(HOLE.findall(it.old))
-        if unknown:
-            return f"${min(unknown)} is in its new text, and not in the old one"
     olds = re.findall(r"(?m)^old:.*\n(?!old:)", mutant.text + "\n")
     return f"{len(olds)} texts to change, and {len(mutant.changes)} in their place" if len(olds) != len(mutant.changes) else None
 
