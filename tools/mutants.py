@@ -147,8 +147,9 @@ def lacking(text, change):
     if change.function is None:
         return []
     names = set(HOLE.findall(f"{change.new} {change.harmless}")) - set(HOLE.findall(change.old))
-    words = {word for begin, end in within(text, change) for word in re.findall(r"\w+", text[begin:end])}
-    return sorted(names - words)
+    # No field: no single dot before it, and no colon behind it.
+    variables = re.compile(r"\b(?<![^.]\.)[a-z_]\w*\b(?! *:[^:])")
+    return sorted(names.difference(*(variables.findall(text, begin, end) for begin, end in within(text, change))))
 
 
 def elsewhere(folder, change):
