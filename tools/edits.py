@@ -1,15 +1,8 @@
 #!/usr/bin/env python3
 """Tries each mutant of the named crates (of all, if none is named), and prints what refused it.
 
-A mutant changes a crate. Those in its must-fail/, which the gate tries too, and in its mutants.edits have one form:
-
-  == NAME                   (in mutants.edits, above each mutant)
-  file: PATH                in the folder of the crate; further changes follow, and other files
-  old: TEXT                 the file has it once; in mutants.edits lines in a row are one text of several lines
-  new: TEXT
-  harmless: TEXT            if it is there: a text in the place of `new` with which the crate must be proved
-  shows: WHAT               for a test to refuse: what it shows, and the test that must not pass
-  test: CRATE::PATH::NAME
+A mutant changes a crate. Those in its must-fail/, which the gate tries too, and in its mutants.edits name the text that they change, and the text in
+its place; `tools/mutants.py` describes both forms.
 
 A mutant without a test shows something only if the prover refuses it by a goal: what the changed function promises, what a call in it requires, or
 what a caller of it relies on. One that only renames goals is refused because answers name goals that no longer exist, and a harmless change of the
@@ -35,8 +28,8 @@ The lines are kept in out/mutants.tsv, each with a sum of what it was tried on, 
 tried again, unless it was BROKEN, or with --anew: `kept from` that day is printed behind its line. The program ends with 1 if a mutant is `new`,
 `shape`, `names`, ALIVE or BROKEN.
 
-With --anchors it tries nothing: it says of each mutant whose old text does not stand once in its file where that text is now, and which files and lines
-of mutants are not read. `.ci/run` calls it.
+With --anchors it tries nothing. It names each mutant whose old text its function does not have exactly once, with the place where the text is now, and
+the files and lines of mutants that are not read. `.ci/run` calls it.
 
   tools/edits.py [--jobs N] [--only WORD] [--anew] [--proved] [--keep FOLDER] [CRATE ..]
   tools/edits.py --anchors
@@ -45,10 +38,8 @@ of mutants are not read. `.ci/run` calls it.
 import argparse
 import collections
 import datetime
-import difflib
 import fcntl
 import hashlib
-import itertools
 import os
 import pathlib
 import re
@@ -56,8 +47,9 @@ import subprocess
 import sys
 import tempfile
 
-from crates import PARTS, ROOT, below, copy_sources, lay_out, named, read_crates, run_main, say, side_by_side, spawn, take_kept
-from tests import leave_out, left_out, tests_of
+from crates import ROOT, below, copy_sources, lay_out, named, read_crates, run_main, say, side_by_side, spawn, take_kept
+from mutants import changed, harmless, mutants_of, out_of_place
+from tests import leave_out, tests_of
 
 KEPT = ROOT / "out" / "mutants.tsv"
 HEAD = "# What refused each mutant: its name, how, by what; a sum of what it was tried on, the day (tools/edits.py).\n"
@@ -71,72 +63,6 @@ NO_CODE = re.compile(r"^.*\berror\[[\w-]+\].*$", re.M)
 # Declarations that rest on other refused ones: these, and those.
 UNCHECKED = re.compile(r"^\./proofs/(\S+)/Answers\.antt:\d+:\d+: error: \d+ declarations? that depends? on (.*?), which \w+ rejected, \w+ not checked: (.*)$", re.M)
 VERDICT = re.compile(r"^logic=", re.M)
-
-# A change of a mutant: the file, the old text, the new one, and a harmless one or None.
-Change = collections.namedtuple("Change", "file old new harmless")
-
-
-class Mutant:
-    def __init__(self, crates, crate, name, text):
-        self.crate, self.name, self.text = crate, f"{crate.name}/{name}", text
-        said, self.changes = read(text)
-        self.test = said.get("test")
-        self.tested = crates[self.test.partition("::")[0]] if self.test else None
-        # Those of one batch are tried one after another.
-        self.batch = self.name if self.test else crate.name
-
-    def takes_all_memory(self):
-        return bool(self.test) and self.test.rpartition("::")[2] in left_out(self.tested)
-
-    def concerns(self, names):
-        return not names or self.crate.name in names or (self.test and self.tested.name in names)
-
-
-def read(text):
-    """What a mutant says of itself, and its changes. Lines of one kind in a row are one text."""
-    rows = [it.groups() for it in map(re.compile(r"(\w+):(?: (.*))?$").match, text.splitlines()) if it]
-    said, changes = {}, []
-    for key, group in itertools.groupby(rows, key=lambda it: it[0]):
-        value = "\n".join(it or "" for _, it in group)
-        if key == "new":
-            changes.append(Change(said["file"], said["old"], value, None))
-        elif key == "harmless" and changes:
-            changes[-1] = changes[-1]._replace(harmless=value)
-        else:
-            said[key] = value
-    return said, changes
-
-
-def packed(file):
-    """The mutants of a file, each with its name, which the line `== NAME` above it has."""
-    _, *parts = re.split(r"^== (\S+)\n", file.read_text() if file.is_file() else "", flags=re.M)
-    return zip(parts[::2], parts[1::2])
-
-
-def unread(folder):
-    """The lines of a crate's mutants that say nothing, and its files of mutants that are not read."""
-    for file in sorted([*(folder / "must-fail").glob("*"), *folder.glob("*.edits")]):
-        if file.suffix != ".edit" and file.name != "mutants.edits":
-            yield f"{file.relative_to(folder)} is no file of mutants"
-            continue
-        may = r"$|(?:file|old|new|harmless|shows|test):(?: .*)?$" + (r"|== \S+$" if file.suffix == ".edits" else "")
-        yield from (f"{file.relative_to(folder)}:{number}: {line}" for number, line in enumerate(file.read_text().splitlines(), 1) if not re.match(may, line))
-
-
-def changes_nothing(mutant):
-    """Why it can't be refused for what it shows, if so: a change of it, or all of them, is none."""
-    if not mutant.changes or any(it.old == it.new for it in mutant.changes):
-        return "it changes nothing"
-    olds = re.findall(r"(?m)^old:.*\n(?!old:)", mutant.text + "\n")
-    return f"{len(olds)} texts to change, and {len(mutant.changes)} in their place" if len(olds) != len(mutant.changes) else None
-
-
-def mutants_of(crates, names=(), only=""):
-    found = []
-    for it in crates.values():
-        gate = [(file.stem, file.read_text()) for file in sorted((it.folder / "must-fail").glob("*.edit"))]
-        found += [Mutant(crates, it, *mutant) for mutant in [*gate, *packed(it.folder / "mutants.edits")]]
-    return [it for it in found if only in it.name and it.concerns(names)]
 
 
 class Kept:
@@ -180,55 +106,6 @@ class Kept:
             fresh.replace(KEPT)
         finally:
             os.close(here)
-
-
-def misplaced(folder, change, body):
-    """Why a change can't be made, if so: its old text does not stand once in its file. It may stand in another file of the crate, or changed a little."""
-    count = body.count(change.old)
-    if count == 1:
-        return None
-    texts = {it: it.read_text() for part in PARTS for it in sorted((folder / part).rglob("*")) if it.is_file()}
-    now = [f"{it.relative_to(folder)}:{text[: text.index(change.old)].count(chr(10)) + 1}" for it, text in texts.items() if text.count(change.old) == 1]
-    there = [it.strip() for it in body.splitlines()]
-    first = next((it.strip() for it in change.old.splitlines() if it.strip() not in there), change.old.splitlines()[0].strip())
-    near = [] if count or now else difflib.get_close_matches(first, there, 1)
-    return f"{first!r} stands {count} times in {change.file}" + "".join(f", once in {it}" for it in now) + "".join(f"; the nearest line there is {it!r}" for it in near)
-
-
-def changed(folder, changes):
-    """The files in the folder of a crate as the changes make them; or why they can't be made."""
-    bodies = {}
-    for it in changes:
-        path = folder / it.file
-        body = bodies.get(path) or (path.read_text() if path.is_file() else "")
-        why = misplaced(folder, it, body)
-        if why:
-            return {}, why
-        bodies[path] = body.replace(it.old, it.new)
-    return bodies, None
-
-
-def with_condition(change):
-    """A change that adds a condition to a line, with a condition that never or always holds in its place; None if it adds none."""
-    found = re.fullmatch(r"(.*?) (\|\||&&) (.+?)( \{|;|)", change.new)
-    if not found or change.old.split() != (found[1] + found[4]).split():
-        return None
-    head, joint, added, tail = found.groups()
-    if any(added.count(a) != added.count(b) for a, b in ("()", "{}", "[]")) or added.endswith("=>"):
-        return None
-    never = f"({added}) && !({added})" if joint == "||" else f"({added}) || !({added})"
-    return change._replace(new=f"{head} {joint} ({never}){tail}")
-
-
-def harmless(changes):
-    """The same changes made harmless: by what they say themselves, or, if one adds a condition, with one that never or always holds. Or None."""
-    if any(it.harmless is not None for it in changes):
-        return [it if it.harmless is None else it._replace(new=it.harmless) for it in changes]
-    for place, it in enumerate(changes):
-        other = with_condition(it)
-        if other:
-            return [*changes[:place], other, *changes[place + 1 :]]
-    return None
 
 
 # ---- What refused a mutant, from the output of a check or of a run of tests ----
@@ -422,12 +299,8 @@ def try_all(mutants, args):
 
 def compare_anchors(crates):
     """Prints each mutant that can't be made as the crates are now, and why; returns the status."""
-    mutants = mutants_of(crates)
-    lost = [f"{it.name}: {why}" for it in mutants for why in [changes_nothing(it) or changed(it.crate.folder, it.changes)[1]] if why]
-    lost += [f"{name}: {times} mutants of this name" for name, times in collections.Counter(it.name for it in mutants).items() if times > 1]
-    lost += [f"{it.name}/{line}" for it in crates.values() for line in unread(it.folder)]
-    lost += [f"{it.name}: {it.tested.name} has no such test: {it.test}" for it in mutants if it.test and it.test.rpartition("::")[2] not in tests_of(it.tested)]
-    print(*lost, f"{len(mutants)} mutants, {len(lost)} out of place", sep="\n")
+    count, lost = out_of_place(crates)
+    print(*lost, f"{count} mutants, {len(lost)} out of place", sep="\n")
     return 1 if lost else 0
 
 
