@@ -32,6 +32,9 @@
  * library's own words: valgrind --tool=helgrind --suppressions=PREFIX/share/qolb/valgrind.supp. The library's proved
  * part has no unwind tables, so a backtrace from there may end.
  *
+ * gdb tells which thread of a stopped program, or of its core dump, holds a lock: `source PREFIX/share/qolb/qolb.gdb`,
+ * then `qolb-holder &lock`. The file that has the library must have its symbols, so it must not be stripped.
+ *
  * bpftrace, perf and gdb find probes where a thread waits (provider qolb: wait, sleep, wake, granted, withdrawn,
  * closed), if the library was built with <sys/sdt.h>. Their arguments are a line's label, the node's number, and a
  * number by which lines of one label differ. A lock has no label: there they are its address, a ticket of the thread,
@@ -166,7 +169,7 @@
  *   may go when no thread is in a call on it.
  * - Call nothing from a signal handler, nor in the forked child of a process with threads.
  * - Use one copy of the library for a lock: not the static one in the program and another one in what it opens at run
- *   time. A plugin that has the static one must stay open; glibc has room for two.
+ *   time. A plugin that has the static one should stay open: glibc has room for two, and does not always get it back.
  *
  * Every other call that a lock does not allow is MISUSE, and changes nothing.
  *

@@ -5,7 +5,11 @@
  * of locks, without memory of its own for them. A thread that ends as a holder leaves the lock held. */
 #include "lock.h"
 
+/* ../../package/qolb.gdb looks for the holder of a lock here, and has these numbers as well. */
 _Alignas(LINE) BY_THREAD struct own qolb_own_;
+_Static_assert(sizeof(struct turn) == 64 && offsetof(struct turn, core) == 56, "");
+_Static_assert(offsetof(struct turn, ticket.label) == 40, "");
+_Static_assert(offsetof(struct lock, label) == 96 && offsetof(struct lock, beyond_by) == 112, "");
 
 /* Whether a place says that its thread holds this lock. It says so of one that lay at this address before, too: their
  * labels differ. */
