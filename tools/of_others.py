@@ -57,7 +57,7 @@ OF_LOCKS = """#include <qolb.h>
 #define LOCK do {{ if (qolb_lock_enter(&lock) != QOLB_GRANTED) exit(EXIT_FAILURE); }} while (0)
 #define UNLOCK qolb_lock_leave(&lock)
 #define TRYLOCK (qolb_lock_try(&lock) == QOLB_GRANTED)
-#define LOCKED (qolb_lock_holder(&lock) != 0)
+#define LOCKED qolb_lock_is_mine(&lock)
 """
 
 

@@ -30,7 +30,7 @@ EXPLORED = {"lock": ["c/src/lock", "c/src/core.h", *OF_BOTH], "nodes": ["c/src/c
 # In C: a comment, or a literal, in which none begins.
 IN_C = re.compile(r"(?P<comment>//[^\n]*|/\*.*?\*/)|\"(?:[^\"\\]|\\.)*\"|'(?:[^'\\\n]|\\.)'", re.S)
 # The files with their scenes.
-SCENES = {"lock": ["lock_scenes.c", "holder_scenes.c", "limit_scenes.c", "task_scenes.c"], "nodes": ["node_scenes.c"]}
+SCENES = {"lock": ["lock_scenes.c", "limit_scenes.c", "task_scenes.c"], "nodes": ["node_scenes.c"]}
 # The README of the archive, which has a table of figures too.
 ARCHIVE = "c/package/README"
 faults = []

@@ -10,8 +10,8 @@ The programs are Debian's: redis-server with four threads that read and write, u
 under clients that add to rows and check the sums; CPython, with threads that fork; pigz, pbzip2, zstd and xz with four threads; sysbench's tests of mutexes. One
 that is not installed is named and left out. Servers listen on 127.0.0.1 or on a socket in a temporary folder, for one load each, and are ended.
 
-Runs alone and preloaded take turns, RUNS of each. Each must end well, with the same output, within LIMIT. One run more counts the turns: in it no two threads may
-be in one mutex at the same time. If one of these fails, this program says so and ends with 1. Seconds, those of processors, and kilobytes are medians; of a server,
+Runs alone and preloaded take turns, RUNS of each. Each must end well, with the same output, within LIMIT. One run more, with the library that counts, counts the turns: in it no two
+threads may be in one mutex at the same time. If one of these fails, this program says so and ends with 1. Seconds, those of processors, and kilobytes are medians; of a server,
 those of its load. At most 1.25 times the seconds are said to be within, and at most 3 KB for each mutex at once, and 1,024 KB for the library, above the most
 that a run alone took; if one program is not, this one ends with 2. Seconds mean something on a machine that does nothing else: the load is said.
 
@@ -40,6 +40,8 @@ import time
 
 ROOT = pathlib.Path(__file__).resolve().parent.parent
 PRELOAD = ROOT / "c/build/preload.so"
+# The library that counts, by `make preload-report`.
+COUNTING = ROOT / "c/build/preload_report.so"
 KEPT = ROOT / "c/bench/figures/preloaded.tsv"
 LIMIT = [120]  # seconds, for a program, or to start or end a server
 MOST_TIMES, BYTES_EACH, KB_BESIDE = 1.25, 3072, 1024
@@ -331,7 +333,7 @@ def counted(name, run, env, folder, plain):
     """The run that counts: its output, and the numbers of the process that had the most mutexes. A child writes a line, too."""
     report = folder / "report"
     report.unlink(missing_ok=True)
-    output = run(env | {"QOLB_REPORT": str(report)}, folder, plain).output
+    output = run(env | {"LD_PRELOAD": str(COUNTING), "QOLB_REPORT": str(report)}, folder, plain).output
     told = [list(map(int, found)) for found in REPORT.findall(report.read_text() if report.exists() else "")]
     if not told or not any(of[2] for of in told):
         raise Wrong(f"{name}: no mutex was a lock: {told}")
@@ -406,7 +408,7 @@ def main():
     LIMIT[0] = asked.limit
     signal.signal(signal.SIGTERM, lambda *_: sys.exit("ended by SIGTERM"))  # so that servers and clients end
     os.environ["PATH"] += ":/usr/sbin"
-    subprocess.run(["make", "-s", "-C", ROOT / "c"], check=True, stdout=subprocess.DEVNULL)
+    subprocess.run(["make", "-s", "-C", ROOT / "c", "library", "preload-report"], check=True, stdout=subprocess.DEVNULL)
     load, all_of = os.getloadavg()[0], []
     print("\t".join(COLUMNS), flush=True)
     with tempfile.TemporaryDirectory() as name:

@@ -32,6 +32,9 @@
  * library's own words: valgrind --tool=helgrind --suppressions=PREFIX/share/qolb/valgrind.supp. The library's proved
  * part has no unwind tables, so a backtrace from there may end.
  *
+ * gdb tells which thread of a stopped program, or of its core dump, holds a lock: `source PREFIX/share/qolb/qolb.gdb`,
+ * then `qolb-holder &lock`. The file that has the library must have its symbols, so it must not be stripped.
+ *
  * bpftrace, perf and gdb find probes where a thread waits (provider qolb: wait, sleep, wake, granted, withdrawn,
  * closed), if the library was built with <sys/sdt.h>. Their arguments are a line's label, the node's number, and a
  * number by which lines of one label differ. A lock has no label: there they are its address, a ticket of the thread,
@@ -46,9 +49,8 @@
  * ==== qolb_lock(3): locks for any number of threads, with conditions ====
  *
  * A lock and the data that it guards lie where the program has them, as in a struct, the lock at a multiple of 16
- * bytes. It need not be freed. Heap is taken by a task, a call with a limit and more than 60 requests before it, a
- * thread that ends as a holder, and, with many thread keys or fork handlers, a thread's first call. No call of a thread
- * on a lock answers NO_MEMORY.
+ * bytes. It need not be freed. Two calls take memory from the heap: qolb_task_enter, and a call with a limit while more
+ * than 60 requests are before it. No call of a thread on a lock answers NO_MEMORY.
  *
  * INITIALISERS
  *
@@ -118,7 +120,7 @@
  * FORK
  *
  * A lock or a line is of one process: after a fork the copies guard nothing that both processes share. The child of
- * a process with one thread may go on with its copy. Its qolb_lock_holder may be 0 where the holder had ended.
+ * a process with one thread may go on with its copy.
  *
  * WAITING
  *
@@ -160,17 +162,14 @@
  * WHAT YOU MUST KEEP
  *
  * - Start a lock and a condition by an initialiser or zeros. Do not move or copy them once they are used.
- * - The thread that entered leaves, before it ends. If it ends as the holder, all others wait; qolb_lock_holder
- *   returns its number, on Linux gettid's.
+ * - The thread that entered a lock leaves it before it ends. If a thread ends while it holds a lock, the lock stays
+ *   held, as a mutex does, and all others wait.
  * - Close a lock only if no thread is about to call it. Its memory may go when it is closed, or when nobody holds it,
  *   waits for it or is about to call it: also while a thread that left it is still in that call. That of a condition
  *   may go when no thread is in a call on it.
  * - Call nothing from a signal handler, nor in the forked child of a process with threads.
  * - Use one copy of the library for a lock: not the static one in the program and another one in what it opens at run
- *   time. A plugin that has the static one must stay open; glibc has room for two.
- * - A thread uses its first lock before the last round of its keys' destructors. Behind that glibc calls free(NULL),
- *   which must enter none.
- * - If malloc enters locks, a process makes its first call outside pthread_atfork.
+ *   time. A plugin that has the static one should stay open: glibc has room for two, and does not always get it back.
  *
  * Every other call that a lock does not allow is MISUSE, and changes nothing.
  *
@@ -582,10 +581,6 @@ uint32_t qolb_lock_close(qolb_lock *lock);
 
 /* 1 if the calling thread holds the lock, else 0. */
 int qolb_lock_is_mine(const qolb_lock *lock);
-
-/* A number of the thread that holds the lock; UINT64_MAX if a task does; 0 if none does, and during a handoff: to a
- * task until that polls. On Linux it is what gettid said at the thread's first entry to a lock. */
-uint64_t qolb_lock_holder(const qolb_lock *lock);
 
 /* Leaves the lock, waits at the condition until a signal or a broadcast, and enters the lock again; no signal after the
  * leave is missed. Check what you wait for in a loop, as another thread may have been first. GRANTED, and it holds the

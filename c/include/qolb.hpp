@@ -356,7 +356,6 @@ class Lock {
     // A guard that owns the lock is released first: else it ends with unlock, which throws Misuse.
     qolb_answer leave() { return answer(qolb_lock_leave(&lock_)); }
     qolb_answer shut() { return answer(qolb_lock_shut(&lock_)); }
-    std::uint64_t holder() const { return qolb_lock_holder(&lock_); }
     bool is_mine() const { return qolb_lock_is_mine(&lock_) != 0; }
 
     // As a lock of the standard library: these throw Closed if the lock was shut, and Deadlock if the thread holds it

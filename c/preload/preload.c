@@ -19,18 +19,12 @@
  * QOLB_BURST=TURNS is the hard limit of a burst (man 3 qolb_lock): 1024, if it is not set, and 0 for strict order. A
  * lock that is opened in .preinit_array, where there is no environment yet, has 1024.
  *
- * With QOLB_REPORT=/FOLDER/FILE each process of the program that ends by exit, not by _exit, quick_exit, exec or a
- * signal, appends a line there: the burst, how many mutexes were ours in all, and at most at a time, how often one was
- * granted, was late or was not free at once, and how often two threads were in one at the same time, which must be 0. A
- * child of a fork counts from 0 on. Counting costs time, and is left out without it.
- *
  * What does not call the C library's mutexes by their names is not taken in: C11's mtx_t, Rust's std::sync::Mutex, and
  * libraries that are opened with RTLD_DEEPBIND, which must not share a mutex with others then. */
 #define _GNU_SOURCE
 #include "preload_turns.h"
 #include <dlfcn.h>
 #include <errno.h>
-#include <fcntl.h>
 #include <pthread.h>
 #include <stdio.h>
 #include <stdlib.h>
@@ -65,14 +59,9 @@ REAL(cancel, "GLIBC_2.2.5", pthread_t)
 
 enum { USUAL_BURST = 1024, BURSTS = MAX_BURST + 1 };
 
-static struct {
-    uint32_t burst;
-    char report[4096]; /* empty: nothing is counted */
-} settings = {.burst = USUAL_BURST};
+static uint32_t burst_of_all = USUAL_BURST;
 
-static inline int counts(void) { return settings.report[0] != 0; }
-
-static void refuse(const char *name, const char *value, const char *wanted) {
+void qolb_refuse_(const char *name, const char *value, const char *wanted) {
     dprintf(STDERR_FILENO, "qolb: %s=%s is not %s\n", name, value, wanted);
     _exit(2);
 }
@@ -87,20 +76,13 @@ static uint32_t number_in(const char *digits) {
 
 static void choose_burst(const char *digits) {
     if (!digits) return;
-    settings.burst = number_in(digits);
-    if (settings.burst == BURSTS) refuse("QOLB_BURST", digits, "a number from 0, for strict order, to 65535");
-}
-
-/* A copy, as a program may write its title over its environment. */
-static void choose_report(const char *name) {
-    if (!name) return;
-    if (strlen(name) >= sizeof settings.report) refuse("QOLB_REPORT", name, "a name of less than 4,096 bytes");
-    strcpy(settings.report, name);
+    burst_of_all = number_in(digits);
+    if (burst_of_all == BURSTS) qolb_refuse_("QOLB_BURST", digits, "a number from 0, for strict order, to 65535");
 }
 
 void qolb_begin_(void) {
     choose_burst(getenv("QOLB_BURST"));
-    choose_report(getenv("QOLB_REPORT"));
+    qolb_choose_report_(burst_of_all);
 }
 
 /* At once: dlvsym waits for who is in dlopen, which may wait in a constructor for a mutex that the caller has. And it
@@ -119,48 +101,6 @@ __attribute__((constructor)) static void begin(void) {
     find_all();
 }
 
-/* ---- Counters ---- */
-
-static atomic_ullong mutexes, grants, late, not_free, violations;
-static atomic_llong at_once, most_at_once;
-
-static void count(struct line *line, uint32_t got) {
-    if (got == QOLB_BUSY) not_free++;
-    if (got == QOLB_LATE) late++;
-    if (got != QOLB_GRANTED) return;
-    grants++;
-    if (atomic_fetch_add(&line->inside, 1) != 0) violations++;
-}
-
-/* One that nobody holds was not counted, nor one that was entered before the settings were read. */
-static void count_leaving(struct line *line) {
-    if (counts() && atomic_load(&line->inside) > 0) atomic_fetch_sub(&line->inside, 1);
-}
-
-static void count_mutex(void) {
-    long long now = ++at_once, most = most_at_once;
-    mutexes++;
-    while (now > most && !atomic_compare_exchange_weak(&most_at_once, &most, now)) continue;
-}
-
-void qolb_count_anew_(void) {
-    mutexes = grants = late = not_free = violations = 0;
-    at_once = most_at_once = 0;
-}
-
-/* It may run in the midst of the program's own end: so it allocates nothing. */
-__attribute__((destructor)) static void report(void) {
-    char text[200];
-    qolb_process_();
-    int file = counts() ? open(settings.report, O_WRONLY | O_APPEND | O_CREAT | O_CLOEXEC, 0666) : -1;
-    if (file < 0) return;
-    int size = snprintf(text, sizeof text,
-                        "burst %u mutexes %llu at once %lld grants %llu late %llu not free %llu violations %llu\n",
-                        settings.burst, mutexes, most_at_once, grants, late, not_free, violations);
-    if (write(file, text, (size_t)size) != size) perror(settings.report);
-    close(file);
-}
-
 /* ---- A mutex's line ---- */
 
 /* A line that serves no mutex; NULL if there is no memory. */
@@ -170,7 +110,7 @@ static struct line *take_line(void) {
     line = qolb_take_memory_(sizeof *line);
     if (!line) return NULL;
     *line = (struct line){0};
-    (void)!qolb_lock_open(&line->lock, settings.burst); /* it is unopened */
+    (void)!qolb_lock_open(&line->lock, burst_of_all); /* it is unopened */
     return line;
 }
 
@@ -230,7 +170,7 @@ static struct line *line_for(const struct entry *entry, const pthread_mutex_t *m
 static void remove_entry(struct entry *entry) {
     if (is_of_this_process(entry)) {
         if (is_free(entry->line)) qolb_give_spare_(entry->line);
-        at_once--;
+        qolb_count_destroyed_();
     }
     entry->line = NULL;
     __atomic_store_n(&entry->address, NULL, __ATOMIC_RELEASE);
@@ -253,8 +193,8 @@ static struct line *decide_for(pthread_mutex_t *mutex) {
         leave(mutex, entry, held);
         return NULL;
     }
-    if (!is_of_this_process(entry)) count_mutex();
-    if (line != entry->line) atomic_store(&line->inside, held);
+    if (!is_of_this_process(entry)) qolb_count_mutex_();
+    if (line != entry->line) qolb_count_held_(line, held);
     if (held && enter_line(line, FOR_EVER) != QOLB_GRANTED) return NULL;
     entry->line = line;
     entry->process = qolb_process_();
@@ -296,13 +236,13 @@ static uint64_t until(clockid_t clock, const struct timespec *end) {
 
 /* The answer of entering, as the C library returns it. */
 static inline int told(struct line *line, uint32_t got) {
-    if (counts()) count(line, got);
+    qolb_count_(line, got);
     return got == QOLB_GRANTED ? 0 : got == QOLB_BUSY ? EBUSY : got == QOLB_LATE ? ETIMEDOUT : EINVAL;
 }
 
 /* After the leave another thread may destroy the mutex. */
 static inline int unlock(struct line *line) {
-    count_leaving(line);
+    qolb_count_leaving_(line);
     leave_line(line);
     return 0;
 }
@@ -406,7 +346,7 @@ static int wait_at(struct line *line, pthread_cond_t *condition, uint64_t nanose
     pthread_testcancel();
     own_wait.at = cond_of(condition);
     if (!own_wait.at) return wait_a_moment(line, nanoseconds);
-    count_leaving(line);
+    qolb_count_leaving_(line);
     atomic_fetch_add(&line->waiting, 1);
     uint32_t got = wait_with_line(own_wait.at, line, nanoseconds);
     if (own_wait.cancels != atomic_load(&cancels)) qolb_cond_broadcast(own_wait.at);

@@ -34,8 +34,8 @@ HIDDEN uint64_t qolb_process_(void);
 /* Reads the environment; called before any lock is opened. */
 HIDDEN void qolb_begin_(void);
 
-/* Sets what was counted to 0; called in the child of a fork, before it uses a lock. */
-HIDDEN void qolb_count_anew_(void);
+/* Ends the program because of a variable of the environment. */
+HIDDEN void qolb_refuse_(const char *name, const char *value, const char *wanted);
 
 /* ---- Tables ---- */
 
@@ -44,7 +44,7 @@ HIDDEN void qolb_count_anew_(void);
 struct line {
     qolb_lock lock;
     struct line *next;      /* of those that serve none */
-    atomic_int inside;      /* the number of threads in it, if they are counted */
+    atomic_int inside;      /* the number of threads in it, if they are counted (preload_report.c) */
     atomic_int waiting;     /* the number of threads that left it to wait at a condition */
     struct turn at;         /* of its holder: any thread may unlock */
     _Atomic uint64_t owner; /* the number of that thread, or 0 */
@@ -77,5 +77,29 @@ HIDDEN void *qolb_take_memory_(size_t size);
 /* A lock that served a mutex before, or NULL. */
 HIDDEN struct line *qolb_take_spare_(void);
 HIDDEN void qolb_give_spare_(struct line *line);
+
+/* ---- Counters, of preload_report.c: they are compiled in by `make preload-report` alone ---- */
+
+#ifdef QOLB_REPORT
+/* Reads the environment. */
+HIDDEN void qolb_choose_report_(uint32_t burst);
+/* A call to enter got this answer; a thread leaves. */
+HIDDEN void qolb_count_(struct line *line, uint32_t got);
+HIDDEN void qolb_count_leaving_(struct line *line);
+/* A line begins to serve a mutex, which is held or not; a mutex got a line; a mutex was destroyed. */
+HIDDEN void qolb_count_held_(struct line *line, int held);
+HIDDEN void qolb_count_mutex_(void);
+HIDDEN void qolb_count_destroyed_(void);
+/* Called in the child of a fork, before it uses a lock: it has counted nothing. */
+HIDDEN void qolb_count_anew_(void);
+#else
+#define qolb_choose_report_(burst) ((void)0)
+#define qolb_count_(line, got) ((void)(line), (void)(got))
+#define qolb_count_leaving_(line) ((void)0)
+#define qolb_count_held_(line, held) ((void)0)
+#define qolb_count_mutex_() ((void)0)
+#define qolb_count_destroyed_() ((void)0)
+#define qolb_count_anew_() ((void)0)
+#endif
 
 #endif

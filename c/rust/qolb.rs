@@ -300,7 +300,6 @@ unsafe extern "C" {
     fn qolb_lock_shut(lock: *mut RawLock) -> u32;
     fn qolb_lock_close(lock: *mut RawLock) -> u32;
     fn qolb_lock_is_mine(lock: *const RawLock) -> std::ffi::c_int;
-    fn qolb_lock_holder(lock: *const RawLock) -> u64;
     fn qolb_cond_wait(cond: *mut RawCond, lock: *mut RawLock) -> u32;
     fn qolb_cond_wait_within(cond: *mut RawCond, lock: *mut RawLock, nanoseconds: u64) -> u32;
     fn qolb_cond_signal(cond: *mut RawCond) -> u32;
@@ -746,13 +745,6 @@ impl RawQolb {
         told(unsafe { qolb_lock_shut(self.at()) })
     }
 
-    /// Returns a number of the holding thread (`gettid` on Linux), or `u64::MAX` if a task holds it; `None` if nobody does, and for the moment of a handoff.
-    pub fn holder(&self) -> Option<u64> {
-        let at = self.boxed.load(Ordering::Acquire);
-        let number = if at.is_null() { 0 } else { unsafe { qolb_lock_holder(at) } };
-        Some(number).filter(|number| *number != 0)
-    }
-
     /// Whether the calling thread holds it.
     pub fn is_mine(&self) -> bool {
         unsafe { qolb_lock_is_mine(self.at()) == 1 }
@@ -811,7 +803,7 @@ impl Default for RawQolb {
 
 impl fmt::Debug for RawQolb {
     fn fmt(&self, f: &mut fmt::Formatter<'_>) -> fmt::Result {
-        f.debug_struct("RawQolb").field("holder", &self.holder()).finish()
+        f.debug_struct("RawQolb").field("is_mine", &self.is_mine()).finish()
     }
 }
 
@@ -916,11 +908,6 @@ impl<T: ?Sized> Mutex<T> {
     /// Returns the value, which no other thread can have now.
     pub fn get_mut(&mut self) -> &mut T {
         self.value.get_mut()
-    }
-
-    /// Returns the number of its holder ([`RawQolb::holder`]).
-    pub fn holder(&self) -> Option<u64> {
-        self.raw.holder()
     }
 
     /// Returns the lock.
@@ -1485,9 +1472,6 @@ mod api {
         }
         unsafe fn unlock(&self) {
             self.leave();
-        }
-        fn is_locked(&self) -> bool {
-            self.holder().is_some()
         }
     }
 

@@ -14,7 +14,6 @@ static struct copy {
     uint32_t (*leave)(qolb_lock *);
     uint32_t (*close)(qolb_lock *);
     int (*is_mine)(const qolb_lock *);
-    uint64_t (*holder)(const qolb_lock *);
     uint32_t (*open_line)(uint32_t, uint64_t, uint64_t, uint64_t, const qolb_bytes *, qolb_node *, size_t);
     uint32_t (*acquire)(qolb_node *);
     uint32_t (*deqolb)(qolb_node *);
@@ -38,7 +37,6 @@ static int find_both(void) {
                         .leave = qolb_lock_leave,
                         .close = qolb_lock_close,
                         .is_mine = qolb_lock_is_mine,
-                        .holder = qolb_lock_holder,
                         .open_line = qolb_open,
                         .acquire = qolb_acquire,
                         .deqolb = qolb_deqolb,
@@ -47,7 +45,6 @@ static int find_both(void) {
     *(void **)&other.leave = named(library, "qolb_lock_leave");
     *(void **)&other.close = named(library, "qolb_lock_close");
     *(void **)&other.is_mine = named(library, "qolb_lock_is_mine");
-    *(void **)&other.holder = named(library, "qolb_lock_holder");
     *(void **)&other.open_line = named(library, "qolb_open");
     *(void **)&other.acquire = named(library, "qolb_acquire");
     *(void **)&other.deqolb = named(library, "qolb_deqolb");
@@ -59,7 +56,6 @@ static int find_both(void) {
 static void is_in(struct copy *it, int k) {
     MUST(it->enter(&it->lock[k]), QOLB_GRANTED);
     MUST(it->is_mine(&it->lock[k]), 1);
-    MUST(it->holder(&it->lock[k]), gettid());
 }
 
 /* More locks than a thread's table has, of both copies, and a turn of a line of each. */

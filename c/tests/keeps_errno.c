@@ -39,7 +39,7 @@ static void *uses_lock(void *argument) {
                                     : (uint32_t)KEEPS(qolb_lock_enter(&lock));
         if (got != QOLB_GRANTED) continue;
         rest(k);
-        MUST(KEEPS(qolb_lock_holder(&lock)), gettid());
+        MUST(KEEPS(qolb_lock_is_mine(&lock)), 1);
         if (k % 5 == 0) {
             got = (uint32_t)KEEPS(qolb_cond_wait_within(&cond, &lock, 100 * US));
             MUST(got == QOLB_GRANTED || got == QOLB_LATE, 1);

@@ -1,12 +1,11 @@
 /* Where locks lie, and how many of them: a lock lies in its own bytes, at any multiple of 16, and takes no heap; a
  * thread holds any number of them; many threads open one at its first use; a call with a limit waits behind any number
- * of others, and a lock is not closed meanwhile. Locks work where no key of threads is left. Prints only errors. */
+ * of others, and a lock is not closed meanwhile. Prints only errors. */
 #define _GNU_SOURCE
 #include <limits.h>
 #include <malloc.h>
 #include <qolb.h>
 #include <string.h>
-#include <sys/wait.h>
 
 #include "waiters.h"
 
@@ -69,12 +68,8 @@ static int takes_no_heap(void) {
     enum { LOCKS = 10000 };
     static qolb_lock locks[LOCKS];
     WANT(sizeof(qolb_lock), 320);
-    WANT(qolb_lock_holder(&locks[0]), 0);
-    locks[0] = of_bursts(0);
-    WANT(qolb_lock_try(&locks[0]), QOLB_GRANTED); /* this thread's first use */
-    WANT(qolb_lock_leave(&locks[0]), QOLB_DONE);
     size_t before = mallinfo2().uordblks;
-    for (int k = 1; k < LOCKS; k++) {
+    for (int k = 0; k < LOCKS; k++) {
         locks[k] = of_bursts(k % 2 ? 0 : 64);
         WANT(qolb_lock_enter(&locks[k]), QOLB_GRANTED);
         WANT(qolb_lock_leave(&locks[k]), QOLB_DONE);
@@ -114,7 +109,6 @@ static void *holds_many(void *argument) {
             MUST(qolb_lock_enter_within(&held[k], 0), QOLB_MISUSE);
             MUST(qolb_lock_close(&held[k]), QOLB_MISUSE);
             MUST(qolb_lock_is_mine(&held[k]), 1);
-            MUST(qolb_lock_holder(&held[k]), gettid());
         }
         for (int k = 0; k < MANY; k++) {
             qolb_lock *lock = &held[(k * 7 + round) % MANY];
@@ -137,7 +131,6 @@ static int many_at_a_time(uint32_t burst) {
     for (int k = 0; k < THREADS; k++) pthread_join(users[k].id, NULL);
     for (int k = 0; k < MANY; k++) {
         WANT(guarded[k], TIMES * THREADS);
-        WANT(qolb_lock_holder(&held[k]), 0);
         WANT(qolb_lock_close(&held[k]), QOLB_DONE);
     }
     return 0;
@@ -207,21 +200,18 @@ static int opened_once(uint32_t burst) {
     return 0;
 }
 
-static void *ends_as_holder(void *argument) {
-    struct user *me = argument;
+static void *ends_as_holder(void *unused) {
     for (int k = 0; k < MANY; k++) MUST(qolb_lock_enter(&held[k]), QOLB_GRANTED);
-    me->turns = gettid();
-    return NULL;
+    return unused;
 }
 
-/* The first of them were in its table, and the others in themselves. */
+/* The locks stay held: the first of them were in the thread's table, and the others in themselves. */
 static int holder_that_ended(void) {
-    struct user ended = {0};
+    pthread_t id;
     for (int k = 0; k < MANY; k++) held[k] = of_bursts(k % 3 ? 0 : 16);
-    MUST(pthread_create(&ended.id, NULL, ends_as_holder, &ended), 0);
-    pthread_join(ended.id, NULL);
+    MUST(pthread_create(&id, NULL, ends_as_holder, NULL), 0);
+    pthread_join(id, NULL);
     for (int k = 0; k < MANY; k++) {
-        WANT(qolb_lock_holder(&held[k]), ended.turns);
         WANT(qolb_lock_try(&held[k]), QOLB_BUSY);
         WANT(qolb_lock_leave(&held[k]), QOLB_MISUSE);
         WANT(qolb_lock_close(&held[k]), QOLB_MISUSE);
@@ -230,38 +220,15 @@ static int holder_that_ended(void) {
     for (int k = 0; k < MANY; k++) { /* other locks, in the same bytes */
         held[k] = of_bursts(0);
         WANT(qolb_lock_enter(&held[k]), QOLB_GRANTED);
-        WANT(qolb_lock_holder(&held[k]), gettid());
         WANT(qolb_lock_leave(&held[k]), QOLB_DONE);
-        WANT(qolb_lock_holder(&held[k]), 0);
         WANT(qolb_lock_close(&held[k]), QOLB_DONE);
     }
     return 0;
 }
 
-/* Each of them alone, wherever its place in the table is. */
-static void *ends_with_one(void *argument) {
-    struct user *me = argument;
-    MUST(qolb_lock_enter(me->lock), QOLB_GRANTED);
-    me->turns = gettid();
-    return NULL;
-}
+/* ---- Destructors of a thread's keys, which run in at most PTHREAD_DESTRUCTOR_ITERATIONS rounds ---- */
 
-static int holder_of_one_that_ended(void) {
-    for (int k = 0; k < MANY; k++) {
-        struct user ended = {.lock = &held[k]};
-        held[k] = of_bursts(k % 3 ? 0 : 16);
-        MUST(pthread_create(&ended.id, NULL, ends_with_one, &ended), 0);
-        pthread_join(ended.id, NULL);
-        WANT(qolb_lock_holder(&held[k]), ended.turns);
-    }
-    return 0;
-}
-
-/* ---- Destructors of a thread's keys ----
- *
- * They run in at most PTHREAD_DESTRUCTOR_ITERATIONS rounds. In the first the library's own runs behind them. */
-
-enum { LEAVES, WAITS, ENTERS, ENTERS_AND_STAYS, FORKS };
+enum { LEAVES, WAITS, ENTERS, ENTERS_AND_STAYS };
 #ifdef __SANITIZE_THREAD__
 enum { ROUNDS = PTHREAD_DESTRUCTOR_ITERATIONS - 1 }; /* in the last one the sanitizer knows the thread no more */
 #else
@@ -271,169 +238,61 @@ static struct {
     pthread_key_t key;
     int rounds, does; /* in the last of these rounds */
     qolb_lock other;
-    pid_t thread;
 } end;
 
 static void leaves_held(void) {
     for (int k = 0; k < MANY; k++) {
         MUST(qolb_lock_is_mine(&held[k]), 1);
-        MUST(qolb_lock_holder(&held[k]), end.thread);
         MUST(qolb_lock_enter(&held[k]), QOLB_MISUSE);
-        if (end.does == WAITS) {
-            MUST(qolb_cond_wait_within(&told, &held[k], 1000), QOLB_LATE);
-            MUST(qolb_lock_holder(&held[k]), end.thread);
-        }
+        if (end.does == WAITS) MUST(qolb_cond_wait_within(&told, &held[k], 1000), QOLB_LATE);
         MUST(qolb_lock_leave(&held[k]), QOLB_DONE);
         MUST(qolb_lock_leave(&held[k]), QOLB_MISUSE);
-        MUST(qolb_lock_holder(&held[k]), 0);
     }
 }
 
 static void enters_other(void) {
     for (int k = 0; k < 2; k++) {
         MUST(qolb_lock_enter(&end.other), QOLB_GRANTED);
-        MUST(qolb_lock_holder(&end.other), end.thread);
         if (end.does == ENTERS_AND_STAYS) return;
         MUST(qolb_lock_leave(&end.other), QOLB_DONE);
-        MUST(qolb_lock_holder(&end.other), 0);
     }
-}
-
-/* The child of a fork goes on with what the one thread of its parent holds, and so does that. */
-static void both_leave_held(void) {
-    int status;
-    pid_t child = fork();
-    if (child == 0) {
-        leaves_held();
-        _exit(0);
-    }
-    MUST(waitpid(child, &status, 0), child);
-    MUST(status, 0);
-    leaves_held();
-    _exit(0); /* the sanitizer of threads has one of its own, which would not end */
 }
 
 static void in_a_destructor(void *round) {
     int now = (int)(intptr_t)round;
     if (now < end.rounds) MUST(pthread_setspecific(end.key, (void *)(intptr_t)(now + 1)), 0);
-    else if (end.does == FORKS) both_leave_held();
     else if (end.does < ENTERS) leaves_held();
     else enters_other();
 }
 
-static void *ends_with_key(void *unused) {
-    end.thread = gettid();
-    for (int k = 0; k < MANY; k++) MUST(qolb_lock_enter(&held[k]), QOLB_GRANTED);
+static void *ends_with_key(void *holds) {
+    for (int k = 0; holds && k < MANY; k++) MUST(qolb_lock_enter(&held[k]), QOLB_GRANTED);
     MUST(pthread_setspecific(end.key, (void *)1), 0);
+    return NULL;
+}
+
+static void *holds_none(void *unused) {
+    for (int k = 0; k < MANY; k++) MUST(qolb_lock_is_mine(&held[k]), 0);
+    MUST(qolb_lock_is_mine(&end.other), 0);
     return unused;
 }
 
-static int after_the_librarys_destructor(int rounds, int does) {
-    pthread_t id;
-    for (int k = 0; k < MANY; k++) held[k] = of_bursts(k % 3 ? 0 : 16);
-    end.rounds = rounds, end.does = does, end.other = of_bursts(does % 2 ? 0 : 16);
-    WANT(pthread_key_create(&end.key, in_a_destructor), 0);
-    MUST(pthread_create(&id, NULL, ends_with_key, NULL), 0);
-    pthread_join(id, NULL);
-    WANT(qolb_lock_holder(&end.other), does == ENTERS_AND_STAYS ? end.thread : 0);
-    WANT(qolb_lock_close(&end.other), does == ENTERS_AND_STAYS ? QOLB_MISUSE : QOLB_DONE);
-    for (int k = 0; k < MANY; k++) {
-        WANT(qolb_lock_holder(&held[k]), does < ENTERS ? 0 : end.thread);
-        WANT(qolb_lock_close(&held[k]), does < ENTERS ? QOLB_DONE : QOLB_MISUSE);
-    }
-    return pthread_key_delete(end.key);
-}
-
-/* In a process that has one thread, with the number that it had in its parent. */
-static int forks_in_a_destructor(void) {
-    int status;
-    pid_t thread = gettid(), child = fork();
-    if (child == 0) {
-        for (int k = 0; k < MANY; k++) held[k] = of_bursts(k % 3 ? 0 : 16);
-        end.rounds = 2, end.does = FORKS;
-        MUST(pthread_key_create(&end.key, in_a_destructor), 0);
-        ends_with_key(NULL);
-        end.thread = thread;
-        pthread_exit(NULL);
-    }
-    WANT(waitpid(child, &status, 0), child);
-    WANT(status, 0);
-    return 0;
-}
-
-/* The copy of a table, by which a holder that has ended is known, goes with the last lock of it that is left. */
-static int keeps_no_heap(void) {
-    enum { ENDS = 40, LESS_THAN_A_COPY = 64 };
-    size_t before = 0;
-    for (int k = 0; k <= ENDS; k++) {
-        if (k == 1) before = mallinfo2().uordblks;
-        if (after_the_librarys_destructor(2, LEAVES)) return 1;
-    }
-    WANT(mallinfo2().uordblks < before + ENDS * LESS_THAN_A_COPY, 1);
-    return 0;
-}
-
-/* ---- Without a key ---- */
-
-static int uses_without_a_key(void) {
-    pthread_key_t key;
-    while (pthread_key_create(&key, NULL) == 0) continue;
-    for (int k = 0; k < MANY; k++) held[k] = of_bursts(k % 3 ? 0 : 16);
-    for (int k = 0; k < MANY; k++) WANT(qolb_lock_enter(&held[k]), QOLB_GRANTED);
-    for (int k = 0; k < MANY; k++) {
-        WANT(qolb_lock_holder(&held[k]), gettid());
-        WANT(qolb_lock_is_mine(&held[k]), 1);
-        WANT(qolb_lock_enter(&held[k]), QOLB_MISUSE);
-        WANT(qolb_cond_wait_within(&told, &held[k], 1000), QOLB_LATE);
-        WANT(qolb_lock_leave(&held[k]), QOLB_DONE);
-        WANT(qolb_lock_holder(&held[k]), 0);
-        WANT(qolb_lock_leave(&held[k]), QOLB_MISUSE);
-        if (k % 8 == 0 && counted(&held[k], 30)) return 1;
-        WANT(qolb_lock_close(&held[k]), QOLB_DONE);
-    }
-    return 0;
-}
-
-/* In a child, which has not used a lock before. */
-static int without_a_key(void) {
-    int status;
-    pid_t child = fork();
-    if (child == 0) exit(uses_without_a_key());
-    WANT(waitpid(child, &status, 0), child);
-    WANT(status, 0);
-    return 0;
-}
-
-/* ---- A first use in a destructor ---- */
-
-static void *ends_without_locks(void *unused) {
-    end.thread = gettid();
-    MUST(pthread_setspecific(end.key, (void *)1), 0);
-    return unused;
-}
-
-/* The thread's memory is overwritten before it is asked who holds a lock, and before the next thread begins there. The
- * key is behind others. */
-static int first_use_in_a_destructor(int rounds, int does) {
-    enum { OTHERS = 20 };
+/* Of a thread that holds many locks, or has used none before; the next one begins in its memory, and holds none. */
+static int uses_in_a_destructor(int holds, int rounds, int does) {
     static _Alignas(4096) char stack[1 << 20];
-    pthread_key_t others[OTHERS];
     pthread_attr_t at_stack;
     pthread_t id;
-    struct user next = {.lock = &(qolb_lock)QOLB_LOCK_INIT, .count = &(long){0}, .turns = 1};
+    for (int k = 0; k < MANY; k++) held[k] = of_bursts(k % 3 ? 0 : 16);
     end.rounds = rounds, end.does = does, end.other = of_bursts(does % 2 ? 0 : 16);
-    for (int k = 0; k < OTHERS; k++) WANT(pthread_key_create(&others[k], NULL), 0);
     WANT(pthread_attr_init(&at_stack) | pthread_attr_setstack(&at_stack, stack, sizeof stack), 0);
     WANT(pthread_key_create(&end.key, in_a_destructor), 0);
-    MUST(pthread_create(&id, &at_stack, ends_without_locks, NULL), 0);
+    MUST(pthread_create(&id, &at_stack, ends_with_key, holds ? held : NULL), 0);
     pthread_join(id, NULL);
-    memset(stack, 0xa5, sizeof stack);
-    WANT(qolb_lock_holder(&end.other), does == ENTERS_AND_STAYS ? end.thread : 0);
-    MUST(pthread_create(&id, &at_stack, counts, &next), 0);
+    MUST(pthread_create(&id, &at_stack, holds_none, NULL), 0);
     pthread_join(id, NULL);
     WANT(qolb_lock_close(&end.other), does == ENTERS_AND_STAYS ? QOLB_MISUSE : QOLB_DONE);
+    for (int k = 0; k < MANY; k++) WANT(qolb_lock_close(&held[k]), holds && does >= ENTERS ? QOLB_MISUSE : QOLB_DONE);
     WANT(pthread_attr_destroy(&at_stack), 0);
-    for (int k = 0; k < OTHERS; k++) WANT(pthread_key_delete(others[k]), 0);
     return pthread_key_delete(end.key);
 }
 
@@ -502,17 +361,14 @@ static int limits_behind_many(uint32_t burst, int shut) {
 
 int main(int argc, char **argv) {
     alarm(argc > 1 ? (unsigned)atoi(argv[1]) : 1200);
-    if (without_a_key() || takes_no_heap() || lies_anywhere(0) || lies_anywhere(16) || on_the_stack()) return 1;
+    if (takes_no_heap() || lies_anywhere(0) || lies_anywhere(16) || on_the_stack()) return 1;
     if (many_at_a_time(0) || many_at_a_time(64) || waits_with_many(0) || waits_with_many(1)) return 1;
     if (opened_once(0) || opened_once(2) || holder_that_ended()) return 1;
-    if (holder_of_one_that_ended()) return 1;
     if (another_in_the_same_bytes(0) || another_in_the_same_bytes(1)) return 1;
     for (int round = 1; round <= ROUNDS; round++)
         for (int does = LEAVES; does <= ENTERS_AND_STAYS; does++)
-            if (after_the_librarys_destructor(round, does) ||
-                (does >= ENTERS && first_use_in_a_destructor(round, does)))
+            if (uses_in_a_destructor(1, round, does) || (does >= ENTERS && uses_in_a_destructor(0, round, does)))
                 return 1;
-    if (keeps_no_heap() || forks_in_a_destructor()) return 1;
     for (int shut = 0; shut < 2; shut++)
         if (limits_behind_many(0, shut) || limits_behind_many(64, shut)) return 1;
     return 0;

@@ -406,7 +406,7 @@ static int wakes_in_order(unsigned has_slept) {
     WANT(qolb_lock_open(&lock, 0), QOLB_DONE);
     holder = (struct turn){0};
     WANT(qolb_enter_at_(lock_of(&lock), &holder, NEVER, 0), QOLB_GRANTED);
-    if (has_slept) set_core(&holder, SLEPT);
+    if (has_slept) holder.core = SLEPT;
     lets_go = holder_leaves;
     begins(next_sleeps);
     event.at_sleep = 1;

@@ -45,7 +45,6 @@ static int of_an_unopened_one(void) {
     WANT(qolb_cond_wait_within(&cond, &lock, 0), QOLB_MISUSE);
     WANT(qolb_cond_signal(&cond), QOLB_DONE);
     WANT(qolb_cond_broadcast(&cond), QOLB_DONE);
-    WANT(qolb_lock_holder(&lock), 0);
     WANT(qolb_lock_is_mine(&lock), 0);
     WANT(qolb_lock_close(&lock), QOLB_DONE);
     WANT(memcmp(&lock, &zeros, sizeof lock), 0);
@@ -125,15 +124,13 @@ static int of_a_shut_one(qolb_lock *lock) {
 static int of_the_holder(uint32_t burst) {
     qolb_lock lock = of_bursts(burst);
     WANT(qolb_lock_enter(&lock), QOLB_GRANTED);
-    WANT(qolb_lock_holder(&lock), gettid());
     WANT(qolb_lock_is_mine(&lock), 1);
     WANT(qolb_lock_try(&lock), QOLB_BUSY);
     WANT(qolb_lock_close(&lock), QOLB_MISUSE);
     if (of_others(&lock)) return 1;
-    WANT(qolb_lock_holder(&lock), gettid());
+    WANT(qolb_lock_is_mine(&lock), 1);
     WANT(qolb_lock_leave(&lock), QOLB_DONE);
     WANT(qolb_lock_leave(&lock), QOLB_MISUSE);
-    WANT(qolb_lock_holder(&lock), 0);
     WANT(qolb_lock_is_mine(&lock), 0);
     WANT(qolb_lock_try(&lock), QOLB_GRANTED);
     return of_a_shut_one(&lock);

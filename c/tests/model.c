@@ -339,7 +339,6 @@ static void lock_call(void) {
     case 9: lock_is_opened(); break;
     default: SAME(qolb_lock_is_mine(&locked.lock), 0, (uint64_t)locked.held);
     }
-    SAME(qolb_lock_holder(&locked.lock) != 0, 0, (uint64_t)locked.held);
     SAME(locked.lock.own != NULL, 0, (uint64_t)locked.open);
     SAME(locked.lock.turns, 0, locked.turns);
     done++;

@@ -1,11 +1,10 @@
-/* A program whose malloc, as the C library's own calls take it, enters a lock. Where it has many pthread keys or fork
- * handlers, a thread's first call of a lock takes memory, or finds none. Prints only errors. */
-#include <errno.h>
+/* A program whose malloc, as the C library's own calls take it, enters a lock. So the first call of the process may be
+ * made inside pthread_atfork, and that of a thread inside pthread_setspecific, or in a free behind the thread's last
+ * destructor. A thread's first call on a lock takes no memory. Prints only errors. */
 #include <qolb.h>
 #include <pthread.h>
 #include <stdio.h>
 #include <stdlib.h>
-#include <sys/wait.h>
 #include <unistd.h>
 
 #include "want.h"
@@ -15,7 +14,7 @@ enum { MANY_KEYS = 40, MANY_HANDLERS = 48 };
 
 static qolb_lock heap = QOLB_LOCK_INIT;
 static int is_used; /* from then on the lock is entered */
-static __thread int refuses;
+static __thread int taken; /* blocks, by this thread */
 
 void *__libc_malloc(size_t size);
 void *__libc_calloc(size_t many, size_t size);
@@ -32,6 +31,7 @@ static void leaves(void) {
 
 void *malloc(size_t size) {
     enters();
+    taken++;
     void *block = __libc_malloc(size);
     leaves();
     return block;
@@ -39,14 +39,15 @@ void *malloc(size_t size) {
 
 void *calloc(size_t many, size_t size) {
     enters();
-    void *block = refuses ? NULL : __libc_calloc(many, size);
-    if (!block) errno = ENOMEM;
+    taken++;
+    void *block = __libc_calloc(many, size);
     leaves();
     return block;
 }
 
 void *realloc(void *block, size_t size) {
     enters();
+    taken++;
     block = __libc_realloc(block, size);
     leaves();
     return block;
@@ -60,47 +61,37 @@ void free(void *block) {
 
 static void does_nothing(void) {}
 
+static pthread_key_t last;
+
 static void *takes_memory(void *unused) {
+    MUST(pthread_setspecific(last, &last), 0);
     for (int k = 0; k < 100; k++) free(malloc(100));
     return unused;
 }
 
-/* A thread's first call finds no memory, and does without; errno stays. */
-static void *finds_no_memory(void *unused) {
+static void *takes_none(void *unused) {
     static qolb_lock lock = QOLB_LOCK_INIT;
-    enum { KEPT = 4711 };
-    refuses = 1;
-    errno = KEPT;
+    int before = taken;
     MUST(qolb_lock_enter(&lock), QOLB_GRANTED);
     MUST(qolb_lock_leave(&lock), QOLB_DONE);
-    MUST(errno, KEPT);
-    refuses = 0;
+    MUST(taken, before);
     return unused;
 }
 
-/* In a process of its own, which has used no lock yet. */
-static int takes_memory_with(int keys, int handlers) {
-    pthread_key_t key;
+/* It calls a lock only behind its last destructor, if the C library frees there. */
+static void *does_not_use_it(void *unused) { return unused; }
+
+static int in_a_thread(void *(*does)(void *)) {
     pthread_t id;
-    alarm(60);
-    for (int k = 0; k < keys; k++) WANT(pthread_key_create(&key, NULL), 0);
-    for (int k = 0; k < handlers; k++) WANT(pthread_atfork(does_nothing, does_nothing, does_nothing), 0);
-    is_used = 1;
-    takes_memory(NULL);
-    WANT(pthread_create(&id, NULL, takes_memory, NULL), 0);
-    WANT(pthread_join(id, NULL), 0);
-    WANT(pthread_create(&id, NULL, finds_no_memory, NULL), 0);
-    WANT(pthread_join(id, NULL), 0);
-    return 0;
+    WANT(pthread_create(&id, NULL, does, NULL), 0);
+    return pthread_join(id, NULL);
 }
 
 int main(void) {
-    for (int k = 0; k < 4; k++) {
-        int status = 0;
-        pid_t child = fork();
-        if (child == 0) _exit(takes_memory_with(k & 1 ? MANY_KEYS : 0, k & 2 ? MANY_HANDLERS : 0));
-        WANT(waitpid(child, &status, 0), child);
-        WANT(status, 0);
-    }
-    return 0;
+    alarm(60);
+    is_used = 1;
+    for (int k = 0; k <= MANY_HANDLERS; k++) WANT(pthread_atfork(does_nothing, does_nothing, does_nothing), 0);
+    WANT(taken > 0, 1);
+    for (int k = 0; k < MANY_KEYS; k++) WANT(pthread_key_create(&last, NULL), 0);
+    return in_a_thread(takes_memory) || in_a_thread(takes_none) || in_a_thread(does_not_use_it);
 }

@@ -1,7 +1,6 @@
 /* A program whose malloc and free enter a lock of its own. A call with a limit on another lock takes memory while it
- * waits, a thread that ends as a holder does, too, and both locks have one place in a thread's table. One that ends
- * where there is no memory is known as the holder all the same. Linked with --wrap for malloc and free. Prints only
- * errors. */
+ * waits, and both locks have one place in a thread's table. A thread takes no memory for a lock that it holds as it
+ * ends. Linked with --wrap for malloc and free. Prints only errors. */
 #define _GNU_SOURCE
 #include <qolb.h>
 #include <string.h>
@@ -20,7 +19,6 @@ static qolb_task tasks[TASKS];
 static atomic_int number;
 static __thread int counts; /* this thread's uses of memory are counted */
 static __thread int taken, freed;
-static __thread int fails; /* there is no memory for this thread */
 
 void *__real_malloc(size_t size);
 void __real_free(void *block);
@@ -28,13 +26,12 @@ void __real_free(void *block);
 static void holds_it(void) {
     MUST(qolb_lock_enter(&it.of_memory), QOLB_GRANTED);
     MUST(qolb_lock_is_mine(&it.of_memory), 1);
-    MUST(qolb_lock_holder(&it.of_memory), gettid());
 }
 
 void *__wrap_malloc(size_t size) {
     holds_it();
-    taken += counts && !fails;
-    void *block = fails ? NULL : __real_malloc(size);
+    taken += counts;
+    void *block = __real_malloc(size);
     MUST(qolb_lock_leave(&it.of_memory), QOLB_DONE);
     return block;
 }
@@ -98,47 +95,24 @@ static void leaves_in_second_round(void *value) {
     }
     MUST(qolb_lock_is_mine(&it.lock), 1);
     MUST(qolb_lock_leave(&it.lock), QOLB_DONE);
-    MUST(taken, !fails);
-    MUST(freed, !fails);
+    MUST(taken, 0);
+    MUST(freed, 0);
     counts = 0;
 }
 
-static void *ends_as_holder(void *has_memory) {
+static void *ends_as_holder(void *unused) {
     MUST(qolb_lock_enter(&it.lock), QOLB_GRANTED);
     MUST(pthread_setspecific(key, &key), 0);
     counts = 1;
-    fails = !has_memory;
-    return NULL;
+    return unused;
 }
 
-static int leaves_after_its_end(uint64_t burst, void *has_memory) {
+static int leaves_in_a_destructor(uint64_t burst) {
     pthread_t id;
     it.of_memory = (qolb_lock)QOLB_LOCK_INIT_BURSTS(burst), it.lock = (qolb_lock)QOLB_LOCK_INIT_BURSTS(burst);
-    WANT(pthread_create(&id, NULL, ends_as_holder, has_memory), 0);
+    WANT(pthread_create(&id, NULL, ends_as_holder, NULL), 0);
     pthread_join(id, NULL);
-    WANT(qolb_lock_holder(&it.lock), 0);
     WANT(qolb_lock_close(&it.lock), QOLB_DONE);
-    return 0;
-}
-
-static uint64_t ended;
-
-static void *never_leaves(void *has_memory) {
-    MUST(qolb_lock_enter(&it.lock), QOLB_GRANTED);
-    ended = (uint64_t)gettid();
-    fails = !has_memory;
-    return NULL;
-}
-
-static int is_still_the_holder(uint64_t burst, void *has_memory) {
-    pthread_t id;
-    it.of_memory = (qolb_lock)QOLB_LOCK_INIT_BURSTS(burst), it.lock = (qolb_lock)QOLB_LOCK_INIT_BURSTS(burst);
-    WANT(pthread_create(&id, NULL, never_leaves, has_memory), 0);
-    pthread_join(id, NULL);
-    WANT(qolb_lock_holder(&it.lock), ended);
-    WANT(qolb_lock_is_mine(&it.lock), 0);
-    WANT(qolb_lock_try(&it.lock), QOLB_BUSY);
-    WANT(qolb_lock_leave(&it.lock), QOLB_MISUSE);
     return 0;
 }
 
@@ -150,8 +124,7 @@ int main(void) {
             if (waits_behind(before, burst, (uint64_t)1000000 * MS) || waits_behind(before, burst, MS)) return 1;
             if (waits_behind(before, burst, UINT64_MAX)) return 1;
         }
-        if (leaves_after_its_end(burst, &it) || leaves_after_its_end(burst, NULL)) return 1;
-        if (is_still_the_holder(burst, &it) || is_still_the_holder(burst, NULL)) return 1;
+        if (leaves_in_a_destructor(burst)) return 1;
     }
     return 0;
 }

@@ -96,7 +96,6 @@ static void is_shut_for_who_is_told(uint64_t burst) {
     MUST(qolb_cond_wait(&cond, &lock), QOLB_CLOSED);
     MUST(qolb_lock_try(&lock), QOLB_CLOSED);
     MUST(qolb_lock_enter_within(&lock, 0), QOLB_CLOSED);
-    MUST(qolb_lock_holder(&lock), 0);
     MUST(qolb_lock_close(&lock), QOLB_DONE);
     memset(&lock, 0x5a, sizeof lock);
     pthread_join(one, NULL);

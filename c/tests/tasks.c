@@ -53,7 +53,6 @@ static int refuses(uint64_t burst) {
     WANT(qolb_lock_shut(&lock), QOLB_MISUSE);
     WANT(qolb_lock_try(&lock), QOLB_BUSY);
     WANT(qolb_lock_is_mine(&lock), 0);
-    WANT(qolb_lock_holder(&lock), UINT64_MAX);
     WANT(qolb_lock_close(&lock), QOLB_MISUSE);
     WANT(enters(1), QOLB_WAITING);
     WANT(enters(1), QOLB_MISUSE);
@@ -63,7 +62,6 @@ static int refuses(uint64_t burst) {
     WANT(qolb_task_leave(&task[0]), QOLB_DONE);
     WANT(qolb_task_holds(&task[0]), 0);
     WANT(qolb_task_leave(&task[0]), QOLB_MISUSE);
-    WANT(qolb_lock_holder(&lock), 0);
     WANT(calls, 0);
     WANT(qolb_lock_close(&lock), QOLB_DONE);
     return 0;

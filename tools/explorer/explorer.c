@@ -333,7 +333,6 @@ static void wakes(uintptr_t word, int many, uint32_t classes) {
 enum { WAITS = 128, WAITS_IN_CLASSES = 137, WAKES_CLASSES = 138 };
 long model_syscall(long number, ...) {
     va_list rest;
-    if (number == SYS_gettid) return 100 + self_;
     MUST(number == SYS_futex);
     va_start(rest, number);
     uintptr_t word = va_arg(rest, uintptr_t);
@@ -359,9 +358,6 @@ long model_syscall(long number, ...) {
 
 static void body(int k) {
     scene->does(k);
-#ifdef OF_LOCKS
-    end_thread();
-#endif
     step(0);
     show_all();
     me()->state = ENDED;

@@ -30,8 +30,6 @@ struct own_data {
     char none;
 };
 
-/* The thread ends: destructors of its keys run, and its data are freed. */
-void end_thread(void);
 #else
 /* What these threads do at the same time, each by its number, with a node each of a line of this kind. The places of a
  * line share one bell or none; of two lines the places share their bells. */

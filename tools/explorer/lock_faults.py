@@ -4,15 +4,13 @@ LOCK, WAITS, TURNS, OPENS, CONDITIONS, REGISTRY, TASKS, HEADER = (
     f"lock/{name}" for name in ("lock.c", "waits.c", "turns.c", "opens.c", "conditions.c", "registry.c", "tasks.c", "lock.h")
 )
 
-# Less room and fewer looks before the same decisions; no clock in pauses, and each thread's data where holder_scenes.c has them. What limits tickets is by scenes,
+# Less room and fewer looks before the same decisions; no clock in pauses, and each thread's data where lock_scenes.c has them. What limits tickets is by scenes,
 # and so is the memory for entries. All tasks have one key. A ticket is withdrawn for the scenes when its entry is abandoned. The model has several threads in
 # one, so what a thread keeps while it makes calls is its.
 HOOKED = [
     (HEADER, "", "MOST_HELD = 8", "MOST_HELD = 1"),
     (HEADER, "", "CLASSES_OF_SLEEPERS = 32", "CLASSES_OF_SLEEPERS = 2"),
     (HEADER, "", "static inline struct own *this_thread(void) { return &qolb_own_; }", "struct own *model_own(void);\nstatic inline struct own *this_thread(void) { return model_own(); }"),
-    (TURNS, "", "} tables;\n", "} tables;\nvoid *model_copy(size_t size);\nvoid model_clear_tables(void) { tables.first = NULL; }\n"),
-    (TURNS, "forget_table", "malloc(sizeof *rest)", "(struct own *)model_copy(sizeof *rest)"),
     (LOCK, "", "enum { TRIES = 4 };", "enum { TRIES = 2 };\nextern int model_tries;"),
     (LOCK, "ask_near", "k < TRIES", "k < model_tries"),
     ("spin.h", "", "WATCH_PAUSE = 300", "WATCH_PAUSE = 90"),
@@ -47,7 +45,7 @@ FAULTS = {
     "who passes on wakes only if nobody was withdrawn": (2, "two are late beside", (WAITS, "qolb_end_turn_", "if (at->ticket.sleepers)", "if (at->ticket.sleepers && at->ticket.number + 2 == ahead)"), (LOCK, "leave_on", "    else qolb_end_turn_(lock, at, got);\n", "    else if (got != QOLB_UNFINISHED_) qolb_end_turn_(lock, at, got);\n    else while (qolb_core_release_proved_(&lock->core, &at->ticket) == QOLB_UNFINISHED_) continue;\n")),
     "who passes on stops at the first that was withdrawn": (1, "", (WAITS, "release", "    while (got == QOLB_UNFINISHED_) got =", "    if (got == QOLB_UNFINISHED_)")),
     "who passes on reads the lock afterwards": (1, "the last frees", (WAITS, "tell", "qolb_unpark_(cell_half(words_of(lock), number)", "qolb_unpark_(cell_half(qolb_core_words_(&lock->core), number)")),
-    "who passes on looks afterwards whether one sleeps ahead": (2, "the last frees, and each yields", (WAITS, "qolb_end_turn_", "    if (at->ticket.sleepers) key", "    set_core(at, core_at(at) | SLEPT), wakes = wakes_ahead(lock, at), set_core(at, core_at(at) - SLEPT);\n    if (at->ticket.sleepers) key")),
+    "who passes on looks afterwards whether one sleeps ahead": (2, "the last frees, and each yields", (WAITS, "qolb_end_turn_", "    if (at->ticket.sleepers) key", "    at->core |= SLEPT, wakes = wakes_ahead(lock, at), at->core -= SLEPT;\n    if (at->ticket.sleepers) key")),
     "a waiter sleeps at the value that it finds": (1, "", (WAITS, "sleep_for_turn", "(uint32_t)(ticket->word >> 32)", "__atomic_load_n(cell_half(words_of(my->lock), ticket->number), __ATOMIC_SEQ_CST)")),
     "a waiter announces no sleep": (1, "", (WAITS, "sleep_for_turn", "uint32_t got = qolb_core_announce_sleep_proved_(core_of(my), ticket);", "uint32_t got = qolb_core_poll_proved_(core_of(my), ticket);\n    if (got == QOLB_WAITING) ticket->word = __atomic_load_n(words_of(my->lock) + FIRST_CELL + ticket->number % TICKETS_IN_ROUND, __ATOMIC_SEQ_CST), got = QOLB_ASLEEP_, ticket->state = QOLB_TICKET_WAITING_;"), (WAITS, "sleep_for_turn", "qolb_core_retract_sleep_proved_", "qolb_core_poll_proved_")),
     "a waiter does not retract its sleep": (1, "", (WAITS, "sleep_for_turn", "qolb_core_retract_sleep_proved_(core_of(my), ticket)", "(ticket->state = QOLB_TICKET_WAITING_, qolb_core_poll_proved_(core_of(my), ticket))")),
@@ -90,7 +88,7 @@ FAULTS = {
     "who goes in after a nap waits for the outer word": (1, "bursts: crowded: two are late", (LOCK, "await", " && my->at->ticket.state == QOLB_TICKET_AT_TURN_", "")),
     "a call whose time is over draws a ticket that it can't withdraw": (1, "far: two look in", (LOCK, "ask", "    if (my->until != FOR_EVER && is_over(my->until)) return ask_near(my);\n", "")),
     "a call with a limit draws a ticket while too many are open": (1, "far: crowded", (LOCK, "ask", "    if (my->until != FOR_EVER && !has_room(my->lock)) return QOLB_FAR_;\n", "")),
-    "who waited and is told of a shut holds the lock": (1, "one enters until", (LOCK, "enter_after_wait", "    if (got == QOLB_GRANTED) set_core", "    set_core")),
+    "who waited and is told of a shut holds the lock": (1, "one enters until", (LOCK, "enter_after_wait", "    if (got == QOLB_GRANTED) my->at->core", "    my->at->core")),
     "who went in before and is told of a shut holds the lock": (1, "bursts: one enters until", (LOCK, "enter_on", "    if (got == QOLB_GRANTED) hold_by", "    hold_by")),
     # Leaving, shutting and closing.
     "who leaves the quick way looks for no sleeper": (1, "", (LOCK, "qolb_lock_leave", "likely(got == QOLB_DONE && !at->ticket.sleepers)", "likely(got == QOLB_DONE)")),
@@ -117,14 +115,14 @@ FAULTS = {
     # The thread's table.
     "a turn goes to a place that is taken": (1, "", (TURNS, "is_free", "has(at, HELD) ? says_held(at, lock) : at->ticket.state == QOLB_TICKET_FREE_", "1")),
     "a turn goes to a place whose ticket waits": (1, "far: memory by a lock", (TURNS, "is_free", "has(at, HELD) ? says_held(at, lock) : at->ticket.state == QOLB_TICKET_FREE_", "!has(at, HELD) || says_held(at, lock)")),
-    "a turn beyond the table is not counted": (1, "holds three", (TURNS, "move_into", "    this_thread()->beyond++;\n", "")),
-    "a turn beyond the table has no holder": (1, "holds three", (TURNS, "move_into", "    atomic_store_explicit(&lock->beyond_by, own_number(), memory_order_relaxed);\n", "")),
+    "a turn beyond the table has no holder": (1, "holds three", (TURNS, "qolb_keep_turn_", "        atomic_store_explicit(&lock->beyond_by, own_number(), memory_order_relaxed);\n", "")),
     "a turn beyond the table keeps its holder": (1, "holds three", (TURNS, "qolb_take_turn_", "    atomic_store_explicit(&lock->beyond_by, 0, memory_order_relaxed);\n", "")),
-    "a turn beyond the table forgets its ticket": (1, "holds three", (TURNS, "move_into", "= at->ticket.number;", "= 0;")),
-    "a turn beyond the table forgets its lock": (1, "holds three", (TURNS, "qolb_take_turn_", "    this_thread()->beyond--;\n", "    this_thread()->beyond--;\n    beyond->ticket.label = 0;\n")),
+    "two threads have one number": (2, "holds three", (TURNS, "qolb_draw_number_", "atomic_fetch_add(&threads, 1) + 1", "atomic_load(&threads) + 1")),
+    "a thread without a number holds what no number says": (1, "", (TURNS, "holds_beyond", "this_thread()->number &&\n           ", "")),
+    "a turn beyond the table forgets its ticket": (1, "holds three", (TURNS, "qolb_keep_turn_", "= at->ticket.number;", "= 0;")),
+    "a turn beyond the table forgets its lock": (1, "holds three", (TURNS, "qolb_take_turn_", "    return beyond;\n", "    beyond->ticket.label = 0;\n    return beyond;\n")),
     "a turn beyond the table lies in the core's words": (1, "holds three", (HEADER, "spare_of", "lock->words + (which < before ? which : which + CORE_WORDS)", "which == KEPT_NUMBER ? words_of(lock) + TAIL : lock->words + (which < before ? which : which + CORE_WORDS)"), (HEADER, "", "enum spare {", "enum { TAIL = 16 };\nenum spare {"), (HEADER, "", "TAIL = LAYOUT_TAIL_WORD,", "")),
     "who waits at a condition keeps no turn beyond the table": (1, "waits beyond", (CONDITIONS, "qolb_cond_wait_within", "    qolb_keep_turn_(lock, at, &beyond);\n", "")),
-    "a thread counts one lock beyond its table": (1, "holds three", (TURNS, "move_into", "this_thread()->beyond++;", "this_thread()->beyond = 1;"), (TURNS, "qolb_take_turn_", "this_thread()->beyond--;", "this_thread()->beyond = 0;")),
     # The registry.
     "who is granted as it abandons its ticket keeps the entry": (2, "far: ", (WAITS, "qolb_await_turn_", "    if (my->spare) free(my->spare);\n", "")),
     "who looks for an entry looks at its number alone": (1, "tasks: the last frees beside", (REGISTRY, "find_before", "e->lock == lock && e->number == number", "e->number == number")),
@@ -187,7 +185,6 @@ FAULTS = {
     "a task that gives up as the queue head retracts a sleep": (1, "bursts: tasks", (REGISTRY, "out_from", "ticket.number = e->task->number, ticket.state = QOLB_TICKET_AT_TURN_;\n    else qolb", "ticket.number = e->task->number;\n    qolb")),
     "a task draws its ticket before its entry is allocated": (1, "tasks: no memory", (TASKS, "stand_for_turn", "    struct entry *e = has_room(me->lock)", "    qolb_core_ask_proved_(&me->lock->core, ticket);\n    struct entry *e = has_room(me->lock)"), (TASKS, "stand_for_turn", "    qolb_core_ask_proved_(&me->lock->core, ticket);\n    me->number", "    me->number")),
     "a task draws a ticket while too many are open": (1, "tasks: crowded", (TASKS, "stand_for_turn", "has_room(me->lock) ? qolb_new_entry_(me->lock, me) : NULL", "qolb_new_entry_(me->lock, me)")),
-    "a task that has left is the holder": (1, "tasks", (TASKS, "leave", "    atomic_store_explicit(&lock->beyond_by, 0, memory_order_relaxed);\n", "")),
     "a task waits before its state says so": (2, "tasks: a task each", (TASKS, "stand_for_turn", "    atomic_store(&me->state, WAITS);\n", ""), (TASKS, "stand_for_turn", "    if (qolb_stand_for_(e, ticket) == QOLB_WAITING) return QOLB_WAITING;\n", "    if (qolb_stand_for_(e, ticket) == QOLB_WAITING) return atomic_store(&me->state, WAITS), QOLB_WAITING;\n")),
     "a task's shut is told to nobody at a condition": (1, "tasks", (TASKS, "leave", "qolb_shut_at_(lock, &at);", "qolb_core_shut_proved_(&lock->core, &at.ticket), qolb_leave_at_(lock, &at);")),
     "a task shuts nothing": (1, "tasks", (TASKS, "leave", "qolb_shut_at_(lock, &at);", "qolb_tell_shut_(lock), qolb_leave_at_(lock, &at);")),
@@ -200,24 +197,6 @@ FAULTS = {
     "a notice behind one that is taken out keeps its address": (1, "tasks: one goes on with two", ("notify.c", "take_out_of_list", "    if (notice->next) notice->next->before = notice->before;\n", "")),
     "a poll takes its call back once it has passed on": (1, "tasks: the task that is told of a shut asks elsewhere", (TASKS, "qolb_task_poll", "    qolb_unlist_(&me->notice);\n    return settle(me);\n", "    uint32_t got = settle(me);\n    qolb_unlist_(&me->notice);\n    return got;\n")),
     # Who holds a lock.
-    "the tables are looked through without the guard": (2, "holder: ", (TURNS, "qolb_lock_holder", "    take_guard(&tables.guard);\n", "")),
-    "a table comes into the list without the guard": (2, "holder: ", (TURNS, "know_table", "    take_guard(&tables.guard);\n", "")),
-    "a table goes out of the list without the guard": (2, "holder: ", (TURNS, "forget_table", "    take_guard(&tables.guard);\n", "")),
-    "a table stays in the list at its thread's end": (1, "holder: ", (TURNS, "forget_table", "    take_from_list(it);\n", "")),
-    "a table behind one that goes keeps its address": (2, "holder: two", (TURNS, "take_from_list", "    if (it->next) it->next->before = it->before;\n", "")),
-    "without memory a thread that ends forgets its turns": (1, "holder: ", (TURNS, "forget_table", "    else move_all(it);\n", "")),
-    "a thread that ends forgets its turns": (1, "holder: ", (TURNS, "forget_table", "holds_some(it) ?", "holds_some(it) > 1 ?")),
-    "a thread that ends copies its table after it has gone": (1, "holder: ", (TURNS, "forget_table", "    take_from_list(it);\n", "    take_from_list(it);\n    return_guard(&tables.guard);\n    take_guard(&tables.guard);\n")),
-    "who leaves after its end is the holder yet": (1, "holder: ", (TURNS, "qolb_take_turn_", "        set_core(at, core_at(at) - HELD + LAST);\n", "        if (this_thread()->rest) return at;\n        set_core(at, core_at(at) - HELD + LAST);\n")),
-    "who leaves after its end keeps the copy": (1, "holder: ", (TURNS, "take_from_rest", "    if (holds_some(rest)) return beyond;\n", "    return beyond;\n")),
-    "who leaves after its end frees a copy that is in the list": (1, "holder: ", (TURNS, "take_from_rest", "    take_guard(&tables.guard);\n    take_from_list(rest);\n    return_guard(&tables.guard);\n", "")),
-    "who leaves after its end takes the copy from the list without the guard": (2, "holder: ", (TURNS, "take_from_rest", "    take_guard(&tables.guard);\n    take_from_list(rest);\n    return_guard(&tables.guard);\n", "    take_from_list(rest);\n")),
-    "who leaves after its end leaves by the copy": (1, "holder: ", (TURNS, "take_from_rest", "    free(rest);\n    return beyond;\n", "    free(rest);\n    return (struct turn *)at;\n")),
-    "a table comes into the list without a key": (1, "holder: ", (TURNS, "know_table", "has_key && ", "")),
-    "who enters after its end has a place in its table": (1, "holder: ", (TURNS, "qolb_place_for_", "me->known == ENDED || ", "")),
-    "who enters after its end may take the quick way": (1, "holder: ", (TURNS, "forget_table", "    for (int k = 0; k < MOST_HELD; k++) set_core(", "    for (int k = 0; k < MOST_HELD && rest; k++) set_core(")),
-    "who leaves is the holder until its call has left": (1, "holder: one holds behind", (LOCK, "qolb_lock_leave", "    set_core(at, core_at(at) + LAST - HELD);\n    if (!likely(!has_bursts(lock_of(of)))) return leave_burst(at);\n", "    if (!likely(!has_bursts(lock_of(of)))) return set_core(at, core_at(at) + LAST - HELD), leave_burst(at);\n"), (LOCK, "qolb_lock_leave", "    return likely(got", "    set_core(at, core_at(at) + LAST - HELD);\n    return likely(got")),
-    "who leaves a burst is the holder until its call has left": (1, "bursts: holder: one holds behind", (LOCK, "qolb_lock_leave", "    set_core(at, core_at(at) + LAST - HELD);\n    if (!likely(!has_bursts(lock_of(of)))) return leave_burst(at);\n", "    if (!likely(!has_bursts(lock_of(of)))) return leave_burst(at);\n    set_core(at, core_at(at) + LAST - HELD);\n"), (LOCK, "leave_burst", "    return likely(got", "    set_core(at, core_at(at) + LAST - HELD);\n    return likely(got")),
     # Conditions.
     "who waits stands in the list after it has left": (1, "", (CONDITIONS, "qolb_cond_wait_at_", "    stand_at(cond, lock, &me);\n", ""), (CONDITIONS, "qolb_cond_wait_at_", "    qolb_leave_at_(lock, at);\n", "    qolb_leave_at_(lock, at);\n    stand_at(cond, lock, &me);\n")),
     "who waits at a condition is no guest": (1, "one closes beside", (CONDITIONS, "qolb_cond_wait_at_", "    atomic_fetch_add(&lock->guests, 1);\n", ""), (CONDITIONS, "qolb_cond_wait_at_", "qolb_enter_at_(lock, at, FOR_EVER, 1)", "qolb_enter_at_(lock, at, FOR_EVER, 0)")),

@@ -12,6 +12,11 @@ unsigned model_near, model_sleepers, model_open;
 int model_tries;
 static int model_memory;
 
+/* The tables of the model's threads, which are in one thread of the system. */
+static struct own owns[THREADS + 1];
+struct own *model_own(void);
+UNSEEN struct own *model_own(void) { return &owns[self_number()]; }
+
 /* As gaps.c, which is not explored. */
 void *qolb_malloc_(size_t size);
 void qolb_free_(void *block);
@@ -652,13 +657,6 @@ static void waits_beyond(int self) {
     if (self == 0) MUST(qolb_cond_signal(&it.cond) == QOLB_DONE);
 }
 
-UNSEEN static int asks_for_holder(void (*does)(int)) {
-#define IS(name) is |= does == name;
-    int is = 0;
-    HOLDER_SCENES(IS)
-    return is;
-}
-
 /* ---- All scenes ---- */
 
 enum { MANY = 65535, NO_MEMORY = 1 };
@@ -723,18 +721,6 @@ const struct scene scenes[] = {
     {"one signals and frees", signals_and_frees, 2, 0, 0, ROOMY},
     {"one closes beside a waiter", one_closes_beside_a_waiter, 2, 0, 0, ROOMY},
     {"enters again", enters_again, 2, 0, 0, ROOMY},
-    {"holder: one comes and ends", holder_comes_and_ends, 2, 0, 0, ROOMY},
-    {"holder: one comes and ends, without a key", holder_comes_and_ends, 2, 0, 0, 15, MANY, MANY, NO_MEMORY},
-    {"holder: two come and end", holder_comes_and_ends, 3, 0, 0, ROOMY},
-    {"holder: one ends with it", ends_as_holder, 2, 0, 0, ROOMY},
-    {"holder: one ends with it, without memory", ends_without_memory, 2, 0, 0, ROOMY},
-    {"bursts: holder: one ends with it, without memory", ends_without_memory, 2, 2, 0, ROOMY},
-    {"holder: one leaves in a destructor", leaves_in_a_destructor, 2, 0, 0, ROOMY},
-    {"holder: one leaves in a destructor, without memory", leaves_without_memory, 2, 0, 0, ROOMY},
-    {"bursts: holder: one leaves in a destructor, without memory", leaves_without_memory, 2, 2, 0, ROOMY},
-    {"holder: one enters in a destructor", enters_in_a_destructor, 2, 0, 0, ROOMY},
-    {"holder: one holds behind another", holds_behind_another, 2, 0, 0, ROOMY},
-    {"bursts: holder: one holds behind another", holds_behind_another, 2, 2, 0, ROOMY},
     {"holds three", holds_three, 2, 0, 1, ROOMY},
     {"waits beyond the table", waits_beyond, 2, 0, 0, ROOMY},
     {"bursts: each enters, at the first use", enters, 2, 2, 1, ROOMY},
@@ -962,8 +948,8 @@ UNSEEN static void had_many_turns(struct lock *lock) {
 
 void set_up(const struct scene *scene) {
     memset(&it, 0, sizeof it), memset(order, 0, sizeof order);
-    new_data_of_threads(asks_for_holder(scene->does), !scene->no_memory);
-    memset(head_of, 0, sizeof head_of), memset(handed_over, 0, sizeof handed_over), entries.many = 0;
+    memset(owns, 0, sizeof owns), memset(head_of, 0, sizeof head_of);
+    memset(handed_over, 0, sizeof handed_over), entries.many = 0;
     time_of_order = 0, it.users = scene->threads, model_near = scene->near, model_sleepers = scene->sleepers,
     model_open = scene->open;
     model_memory = !scene->no_memory, for_second = 0, model_tries = strncmp(scene->name, "one try", 7) ? 2 : 1;
@@ -999,11 +985,6 @@ void check_end(const struct scene *scene) {
     MUST(scene->does != one_stays || it.turns == 6);
     MUST(it.inside == 0 && it.cond.own == NULL && it.other.own == NULL);
     MUST(scene->does != looks_in || entries.many == 0);
-    if (scene->does == ends_as_holder || scene->does == ends_without_memory) {
-        is_held_by(0);
-        MUST(qolb_lock_close(it.lock) == QOLB_MISUSE);
-        return;
-    }
     for (int k = 0; k < LOCKS; k++) {
         qolb_lock *lock = k ? it.locks[k] : it.lock;
         if (!lock) continue;
@@ -1015,7 +996,7 @@ void check_end(const struct scene *scene) {
 }
 
 UNSEEN int is_own(uintptr_t at) {
-    return is_in_table(at) || at - (uintptr_t)&qolb_core_room_ < sizeof qolb_core_room_ ||
+    return at - (uintptr_t)owns < sizeof owns || at - (uintptr_t)&qolb_core_room_ < sizeof qolb_core_room_ ||
            at - (uintptr_t)&qolb_learned_ < sizeof qolb_learned_ || at - (uintptr_t)&errno < sizeof errno;
 }
 

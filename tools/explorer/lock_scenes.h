@@ -48,20 +48,6 @@ int enters_to_shut(int self);
 void last_frees(int self);
 void free_lock(void);
 
-/* ---- holder_scenes.c ---- */
-
-/* New tables of all threads, and a key for them or none. Unless other threads look at them they are in no list, and no
- * access to them is shared. */
-void new_data_of_threads(int looked_at, int has_key);
-int is_in_table(uintptr_t at);
-void is_held_by(int self);
-
-#define HOLDER_SCENES(of)                                                                              \
-    of(holder_comes_and_ends) of(ends_as_holder) of(leaves_in_a_destructor) of(enters_in_a_destructor) \
-        of(holds_behind_another) of(ends_without_memory) of(leaves_without_memory)
-#define DECLARED(name) void name(int self);
-HOLDER_SCENES(DECLARED)
-
 /* ---- limit_scenes.c ---- */
 
 /* clang-format off */
@@ -70,6 +56,7 @@ HOLDER_SCENES(DECLARED)
     of(signals_at_two_locks) of(shuts_behind_a_signal) of(is_late_once_it_is_near) of(waits_again)                    \
     of(signals_and_waits) of(broadcasts_at_two_locks)
 /* clang-format on */
+#define DECLARED(name) void name(int self);
 LIMIT_SCENES(DECLARED)
 
 /* ---- task_scenes.c ---- */

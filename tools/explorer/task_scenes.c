@@ -56,7 +56,7 @@ static uint32_t task_enters(int k, uint64_t time) {
 
 static void task_turn(int k) {
     MUST(qolb_task_holds(&it.task[k]) && !qolb_lock_is_mine(it.lock) && qolb_lock_leave(it.lock) == QOLB_MISUSE);
-    MUST(qolb_task_cancel(&it.task[k]) == QOLB_MISUSE && qolb_lock_holder(it.lock) == UINT64_MAX);
+    MUST(qolb_task_cancel(&it.task[k]) == QOLB_MISUSE);
     turn();
     MUST(qolb_task_leave(&it.task[k]) == QOLB_DONE && !qolb_task_holds(&it.task[k]));
 }

@@ -150,7 +150,7 @@ static uint32_t enter_after_wait(struct request *my) {
     qolb_await_turn_(my);
     uint32_t got = enter_at_turn(my);
     PROBE_END(got, it);
-    if (got == QOLB_GRANTED) set_core(my->at, core_at(my->at) + HELD - LAST);
+    if (got == QOLB_GRANTED) my->at->core += HELD - LAST;
     return got;
 }
 
@@ -168,7 +168,7 @@ SLOW static uint32_t enter_on(struct turn *at, uint32_t got) {
 static uint32_t enter_burst(struct turn *at) {
     uint32_t got = qolb_core_go_in_proved_(&lock_by(at)->core, &at->ticket);
     if (!likely(got == QOLB_GRANTED)) return enter_on(at, got);
-    set_core(at, core_at(at) + HELD - LAST);
+    at->core += HELD - LAST;
     return got;
 }
 
@@ -178,7 +178,7 @@ FAST uint32_t qolb_lock_enter(qolb_lock *of) {
     if (!likely(!has_bursts(lock_of(of)))) return enter_burst(at);
     uint32_t got = qolb_core_ask_open_proved_(&lock_of(of)->core, &at->ticket);
     if (!likely(got == QOLB_GRANTED)) return enter_on(at, got);
-    set_core(at, core_at(at) + HELD - LAST);
+    at->core += HELD - LAST;
     return got;
 }
 
@@ -237,7 +237,7 @@ static uint32_t leave_burst(struct turn *at) {
 FAST uint32_t qolb_lock_leave(qolb_lock *of) {
     struct turn *at = home_of(lock_of(of));
     if (!likely(is_at(at, lock_of(of), HELD))) return leave_slowly(lock_of(of));
-    set_core(at, core_at(at) + LAST - HELD);
+    at->core -= HELD - LAST;
     if (!likely(!has_bursts(lock_of(of)))) return leave_burst(at);
     uint32_t got = qolb_core_release_proved_(&lock_of(of)->core, &at->ticket);
     return likely(got == QOLB_DONE && !at->ticket.sleepers) ? got : leave_on(at, got, 0);

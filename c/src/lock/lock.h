@@ -8,7 +8,7 @@
  *   lock.c         entering, trying, leaving, shutting, closing
  *   waits.c        waiting for a turn of the queue, and for the outer word; passing a turn on; whom to wake
  *   registry.c     the tickets for which no thread waits: of tasks, and of calls that gave up
- *   turns.c        the thread's table of the locks that it holds; who holds a lock
+ *   turns.c        the thread's table of the locks that it holds
  *   opens.c        opening a lock in its own bytes, at its first use
  *   ../core.h      the proved calls; ../spin.h how long to spin; ../bells.h the clock, sleep, guards, calls of notices
  *
@@ -35,7 +35,7 @@ struct __attribute__((may_alias)) lock {
     char block[CORE_BLOCK_BYTES]; /* the core's: never written after opening */
     uint64_t label;               /* by who opens it: no other opening of the process has it */
     struct waiter *waits;         /* by the holder: those that wait at a condition */
-    /* By the holder: its number, if this turn is in no thread's table; BY_TASK; else 0. */
+    /* By the holder: its thread's number, if this turn is in no table; else 0. */
     _Atomic uint64_t beyond_by;
     uint64_t words[CORE_WORDS + SPARE_WORDS]; /* the core's, and around them what spare_of says */
     /* The number of threads in a call that have no ticket yet or any more: they wait at a condition, or until a request
@@ -46,9 +46,6 @@ struct __attribute__((may_alias)) lock {
 
 _Static_assert(CORE_WORDS * sizeof(uint64_t) == CORE_WORDS_BYTES, "a core has its words alone");
 _Static_assert(sizeof(struct lock) == LOCK_BYTES && sizeof(qolb_lock) == LOCK_BYTES, "the size that qolb.h says");
-
-/* A task holds the lock. */
-#define BY_TASK UINT64_MAX
 
 static inline struct lock *lock_of(const qolb_lock *lock) { return (struct lock *)(uintptr_t)lock; }
 
@@ -176,25 +173,16 @@ struct turn {
     struct qolb_ticket ticket;
     /* Of a place in a thread's table: the address of the core of the lock that it is or was last for, and marks. So one
      * comparison with the lock's own `core.at` says that the lock is open, and whether this thread holds it. */
-    _Atomic uintptr_t core;
+    uintptr_t core;
 };
 
 /* The marks. A turn has LAST or HELD while it is in a table; SLEPT if it slept while it waited, until it is passed
  * on. */
 enum { LAST = 1, HELD = 2, SLEPT = 4, MARKS = 7, MOST_HELD = 8 };
 
-/* The number of a thread: the system's, 22 bits of it, and above them 22 bits of a count of the threads of this
- * process that have drawn one. A thread keeps it over a fork. So a thread of the child that the system gives the
- * parent's number has another one here. */
-enum { SYSTEM_BITS = 22 };
-
 struct own {
     struct turn table[MOST_HELD];
-    uint64_t number;                      /* 0 until it is drawn */
-    unsigned beyond;                      /* the number of locks that it holds by themselves, not by the table */
-    enum { UNKNOWN, KNOWN, ENDED } known; /* to qolb_lock_holder: from the first use to the thread's end */
-    struct own *next, **before;           /* of those that are */
-    struct own *rest;                     /* after that, a copy with the locks that it held; or NULL */
+    uint64_t number; /* the thread's, which no other of the process ever has; 0 until it is drawn */
 };
 
 extern HIDDEN _Alignas(LINE) BY_THREAD struct own qolb_own_;
@@ -208,27 +196,21 @@ static inline struct turn *home_of(const struct lock *lock) {
     return at;
 }
 
-static inline uintptr_t core_at(const struct turn *at) { return atomic_load_explicit(&at->core, memory_order_relaxed); }
-
-static inline void set_core(struct turn *at, uintptr_t core) {
-    atomic_store_explicit(&at->core, core, memory_order_relaxed);
-}
-
-static inline int has(const struct turn *at, unsigned mark) { return (core_at(at) & mark) != 0; }
+static inline int has(const struct turn *at, unsigned mark) { return (at->core & mark) != 0; }
 
 /* Whether the place is for this lock, which is open, with these marks alone. */
 static inline int is_at(const struct turn *at, const struct lock *lock, unsigned marks) {
-    return core_at(at) == own_of(lock) + marks;
+    return at->core == own_of(lock) + marks;
 }
 
 /* The lock of a place that has one. */
 static inline struct lock *lock_by(const struct turn *at) {
-    return (struct lock *)((core_at(at) & ~(uintptr_t)MARKS) - offsetof(struct lock, block));
+    return (struct lock *)((at->core & ~(uintptr_t)MARKS) - offsetof(struct lock, block));
 }
 
 /* The thread holds the lock by this place from now on. */
 static inline void hold_by(struct turn *at, const struct lock *lock) {
-    set_core(at, own_of(lock) + HELD + (core_at(at) & SLEPT));
+    at->core = own_of(lock) + HELD + (at->core & SLEPT);
 }
 
 HIDDEN uint64_t qolb_draw_number_(void);

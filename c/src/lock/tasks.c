@@ -24,7 +24,6 @@ static void hold(struct task *me, const struct turn *at) {
     me->turn = at->ticket.state;
     me->number = at->ticket.number;
     me->entry = NULL;
-    atomic_store_explicit(&me->lock->beyond_by, BY_TASK, memory_order_relaxed);
     atomic_store(&me->state, HOLDS);
 }
 
@@ -114,7 +113,6 @@ static uint32_t leave(struct task *me, int shuts) {
     if (atomic_load(&me->state) != HOLDS) return QOLB_MISUSE;
     struct turn at = {.ticket = kept_ticket(lock, me->number, me->turn)};
     atomic_store(&me->state, IDLE);
-    atomic_store_explicit(&lock->beyond_by, 0, memory_order_relaxed);
     if (shuts) qolb_shut_at_(lock, &at);
     else qolb_leave_at_(lock, &at);
     return QOLB_DONE;

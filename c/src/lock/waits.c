@@ -20,7 +20,7 @@ static inline struct qolb_ticket *ticket_of(const struct request *my) { return &
 
 /* Sleeps at these 32 bits, with its sleep announced. */
 static void sleep_at(const struct request *my, uint32_t *half, uint32_t value, uint32_t classes, uint64_t until) {
-    set_core(my->at, core_at(my->at) | SLEPT);
+    my->at->core |= SLEPT;
     PROBE(sleep, of_request(my));
     qolb_park_(half, value, classes, until);
     PROBE(wake, of_request(my));
@@ -112,7 +112,7 @@ static int wakes_ahead(struct lock *lock, const struct turn *at) {
 void qolb_end_turn_(struct lock *lock, struct turn *at, uint32_t got) {
     uint64_t *words = words_of(lock), ahead = at->ticket.number + 2, key = 0;
     int wakes = wakes_ahead(lock, at);
-    set_core(at, core_at(at) & ~(uintptr_t)SLEPT);
+    at->core &= ~(uintptr_t)SLEPT;
     release(lock, &at->ticket, got);
     if (at->ticket.sleepers) key = tell(lock, at->ticket.number + 1, at->ticket.label);
     if (wakes) qolb_unpark_(cell_half(words, ahead), class_of(ahead));

@@ -1,0 +1,75 @@
+/* What a process did with its mutexes, counted for tools and tests: in the library of `make -C c preload-report` alone.
+ *
+ * With QOLB_REPORT=/FOLDER/FILE each process of the program that ends by exit, not by _exit, quick_exit, exec or a
+ * signal, appends a line to that file. The line says the burst; how many mutexes were ours in all, and at most at a
+ * time; how often a mutex was granted, how often a call was late, and how often a mutex was not free at once; and how
+ * often two threads were in one mutex at the same time, which must be 0. The child of a fork counts from 0 on. */
+#define _GNU_SOURCE
+#ifndef QOLB_REPORT
+#define QOLB_REPORT
+#endif
+#include "preload.h"
+#include <fcntl.h>
+#include <stdio.h>
+#include <stdlib.h>
+#include <string.h>
+#include <unistd.h>
+
+static struct {
+    uint32_t burst;
+    char file[4096]; /* empty: nothing is counted */
+} settings;
+
+static atomic_ullong mutexes, grants, late, not_free, violations;
+static atomic_llong at_once, most_at_once;
+
+/* A copy of the name, as a program may write its title over its environment. */
+void qolb_choose_report_(uint32_t burst) {
+    const char *name = getenv("QOLB_REPORT");
+    settings.burst = burst;
+    if (!name) return;
+    if (strlen(name) >= sizeof settings.file) qolb_refuse_("QOLB_REPORT", name, "a name of less than 4,096 bytes");
+    strcpy(settings.file, name);
+}
+
+void qolb_count_(struct line *line, uint32_t got) {
+    if (!settings.file[0]) return;
+    if (got == QOLB_BUSY) not_free++;
+    if (got == QOLB_LATE) late++;
+    if (got != QOLB_GRANTED) return;
+    grants++;
+    if (atomic_fetch_add(&line->inside, 1) != 0) violations++;
+}
+
+/* A mutex that nobody holds was not counted, nor one that was entered before the settings were read. */
+void qolb_count_leaving_(struct line *line) {
+    if (settings.file[0] && atomic_load(&line->inside) > 0) atomic_fetch_sub(&line->inside, 1);
+}
+
+void qolb_count_held_(struct line *line, int held) { atomic_store(&line->inside, held); }
+
+void qolb_count_mutex_(void) {
+    long long now = ++at_once, most = most_at_once;
+    mutexes++;
+    while (now > most && !atomic_compare_exchange_weak(&most_at_once, &most, now)) continue;
+}
+
+void qolb_count_destroyed_(void) { at_once--; }
+
+void qolb_count_anew_(void) {
+    mutexes = grants = late = not_free = violations = 0;
+    at_once = most_at_once = 0;
+}
+
+/* It may run in the midst of the program's own end: so it allocates nothing. */
+__attribute__((destructor)) static void report(void) {
+    char text[200];
+    qolb_process_();
+    int file = settings.file[0] ? open(settings.file, O_WRONLY | O_APPEND | O_CREAT | O_CLOEXEC, 0666) : -1;
+    if (file < 0) return;
+    int size = snprintf(text, sizeof text,
+                        "burst %u mutexes %llu at once %lld grants %llu late %llu not free %llu violations %llu\n",
+                        settings.burst, mutexes, most_at_once, grants, late, not_free, violations);
+    if (write(file, text, (size_t)size) != size) perror(settings.file);
+    close(file);
+}
