@@ -643,7 +643,9 @@ static inline qolb_node qolb_move(qolb_node *from) {
     return to;
 }
 
-#if defined(__SANITIZE_THREAD__)
+#if defined(QOLB_BUILDING_)
+/* The library's own sources: it is the program whose calls are told to the sanitizer. */
+#elif defined(__SANITIZE_THREAD__)
 #define QOLB_TSAN 1
 #elif defined(__has_feature)
 #if __has_feature(thread_sanitizer)
@@ -653,7 +655,7 @@ static inline qolb_node qolb_move(qolb_node *from) {
 
 /* ---- Below: what the sanitizer and valgrind want. No name that ends in `_` is for callers. ---- */
 
-#if defined(QOLB_HELGRIND) || defined(QOLB_DRD)
+#if (defined(QOLB_HELGRIND) || defined(QOLB_DRD)) && !defined(QOLB_BUILDING_)
 #define QOLB_TOOK_(address) ANNOTATE_HAPPENS_AFTER(address)
 #define QOLB_GIVES_(address) ANNOTATE_HAPPENS_BEFORE(address)
 #elif defined(QOLB_TSAN)
