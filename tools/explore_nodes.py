@@ -3,7 +3,8 @@
 processor's memory (tools/explorer).
 
 tools/explore_nodes.py [MOST] [--scene BEGINNING ..] [--fault WORDS | --no-faults] [--jobs 2] | --anchors
-    runs of at most MOST turns of the schedule, 2, of the library as it is; and of each library with a fault, as many as it takes. It needs GCC
+    runs of at most MOST turns of the schedule, 2, of the library as it is; and of each library with a fault, as many as it takes. It needs GCC.
+    With --anchors nothing is run: it names each change that can't be made, and where its text is now
 
 A turn of the schedule is one of these: another thread goes on although this one could; a thread's time ends; a plain store stays in its thread's
 buffer, unseen by the others, or is seen from there before it must be. All runs with at most MOST turns are made. Stores are seen as x86-64 has them: in
@@ -14,8 +15,7 @@ of the line, leases, or two lines that share a bell's guard.
 
 In no run may a thread sleep without being woken, two threads have the line at once, two threads call a node or one call it out of its order,
 freed memory be touched, or an answer be wrong. Each library with one fault must fail in some run, or this program does not see what it is for; and after each change
-that is harmless none may fail. It ends with 1 if this is not so. With --anchors nothing is explored: the program names each change that can't be made, and where
-its text is now. tools/explore_lock.py does the same of locks.
+that is harmless none may fail. It ends with 1 if this is not so. tools/explore_lock.py does the same of locks.
 """
 
 import argparse
@@ -29,10 +29,9 @@ import time
 import mutants
 
 ROOT = pathlib.Path(__file__).resolve().parent.parent
-LIBRARY = ROOT / "c/src"
 BUILT = ("calls.c", "notify.c", "bells.c")
 HEADERS = ("bells.h", "spin.h")
-SOURCES = {name: (LIBRARY / name).read_text() for name in (*BUILT, *HEADERS)}
+SOURCES = {name: (ROOT / "c/src" / name).read_text() for name in (*BUILT, *HEADERS)}
 # What a thread keeps while it makes calls of notifications: the model has several threads in one.
 OF_THREAD = "static BY_THREAD struct caller_of_notices *in_call;\n"
 assert OF_THREAD in SOURCES["notify.c"]
@@ -182,6 +181,9 @@ HARMLESS = {
     # Its node is not closed, and wants no other call, before the call is done.
     "the notice is read after the guard": ("    void *arg = notice->arg;\n", "", CALLS, CALLS.replace("call(arg)", "call(notice->arg)")),
 }
+
+
+LIBRARY = ROOT / "c/src"
 
 
 def change_of(sources, old, new):
