@@ -3,5 +3,5 @@
 mod answers;
 mod memory;
 mod opening;
-mod outer;
+mod lock_word;
 mod threads;
