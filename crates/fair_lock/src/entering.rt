@@ -5,12 +5,15 @@ ghost use Rattle.lock_core.specs.Views.{InTime, IsSeatOf, IsAtTurn, IsOvertakenI
 ghost use Rattle.fair_lock.specs.Turns.{IsGuard, IsInOrder, IsOpen, TookAtMost};
 ghost use Rattle.lock_core.specs.Looks.{StepsLater};
 
-use crate::outcomes::{Busy, Closed, TryEnterError};
 use crate::drawing::Turn;
 use crate::found::FoundTaken;
 use crate::guard::Guard;
 use crate::lock::FairLock;
-use lock_core::{DrawWithinResult, ValueSeat, draw_within, TakeResult, barge, new_seat, take_lock_word, check_open};
+use crate::outcomes::{Busy, Closed, TryEnterError};
+use lock_core::{
+    DrawWithinResult, TakeResult, ValueSeat, barge, check_open, draw_within, new_seat,
+    take_lock_word,
+};
 use std::sync::Wait;
 
 impl<T> FairLock<T> {

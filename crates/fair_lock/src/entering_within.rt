@@ -4,15 +4,15 @@ ghost use Rattle.fair_lock.specs.Closing.{IsOut, IsToldShut, IsTimedOutAt, IfEnt
 ghost use Rattle.lock_core.specs.Views.{InTime, IsSeatOf, IsAtTurn, IsOvertakenInBounds, IsOutside};
 ghost use Rattle.fair_lock.specs.Turns.{IsGuard, IsInOrder, IsOpen};
 
-use crate::outcomes::{EnterError, TimedOut, Closed};
 use crate::drawing::Turn;
 use crate::guard::Guard;
 use crate::lock::FairLock;
+use crate::outcomes::{Closed, EnterError, TimedOut};
 use crate::policy::pause_or_nap;
 use crate::span::{Over, Span};
 use crossbeam_utils::Backoff;
 use lock_core::layout::WITHDRAWAL_WINDOW;
-use lock_core::{DrawWithinResult, ValueSeat, draw_within, barge, new_seat};
+use lock_core::{DrawWithinResult, ValueSeat, barge, draw_within, new_seat};
 use std::rt::Clock;
 use std::sync::{Wait, WaitMethods};
 use std::time::Duration;

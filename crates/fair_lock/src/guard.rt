@@ -6,9 +6,9 @@ ghost use Rattle.lock_core.specs.Looks.{StepsLater, LeavesAsFound};
 ghost use Rattle.fair_lock.specs.Closing.{HasLeft, ended_by};
 ghost use Rattle.fair_lock.specs.Turns.{IsServed, CameInOrder, IsGuard, IsInOrder, IsOpen, LendsValue, SameValue, number_of, with_value};
 
-use crate::outcomes::Left;
-use crate::lock::FairLock;
 use crate::drawing::Turn;
+use crate::lock::FairLock;
+use crate::outcomes::Left;
 use lock_core::ValueSeat;
 use std::sync::Wait;
 

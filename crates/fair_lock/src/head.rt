@@ -6,20 +6,15 @@ ghost use Rattle.lock_core.specs.Views.{view_of, InTime, LoadGrows, IsSeatOf, Is
 ghost use Rattle.fair_lock.specs.Timeouts.{IsOverOf};
 
 use crate::lock::FairLock;
-use crate::span::{Rest, Over, Span};
+use crate::span::{Over, Rest, Span};
 use crate::watch::{Next, Watch};
-use lock_core::{ValueSeat, TakeResult, read_lock_word, request_handoff, take_lock_word};
+use lock_core::{TakeResult, ValueSeat, read_lock_word, request_handoff, take_lock_word};
 use std::rt::Clock;
 use std::sync::{Wait, WaitMethods};
 
 impl<T> FairLock<T> {
     /// Waits as the queue head until it is inside. `false`: the lock is shut. Blocks.
-    pub(crate) fn take_as_head<R: Wait>(
-        &self,
-        rt: &R,
-        seat: &mut ValueSeat<T>,
-        ticket: u64,
-    ) -> bool
+    pub(crate) fn take_as_head<R: Wait>(&self, rt: &R, seat: &mut ValueSeat<T>, ticket: u64) -> bool
         requires barging { 2 ≤ self.now.barging_limit }
         requires seat { IsSeatOf self.now.table.shared.table_id self.now.table.shared.key seat.old }
         requires at_turn { InTime seat.old (IsAtTurn ticket) }

@@ -47,7 +47,11 @@ impl<T> FairLock<T> {
     ///
     /// `OpenError::BadBargingLimit` for a limit of less than two, `OpenError::Memory` where memory is short. The value is
     /// returned.
-    pub fn with_barging(alloc: Global, barging_limit: u16, value: T) -> Result<FairLock<T>, NewError<T>>
+    pub fn with_barging(
+        alloc: Global,
+        barging_limit: u16,
+        value: T,
+    ) -> Result<FairLock<T>, NewError<T>>
         ensures barging { IfOk result (λ lock. (lock.barging_limit ≡ barging_limit)
             × (2 ≤ barging_limit)) }
         ensures err { IfErr result (λ e. (e.value ≡ value)

@@ -4,8 +4,8 @@ ghost use Rattle.std.specs.Prelude.{◌≡◌, ◌<◌, ◌≤◌, false, IfSome
 ghost use Rattle.lock_core.specs.Views.{view_of, InTime, InTimeFrom, LoadGrows, IsSeatOf, IsIdle, IsInside, IsOutside, IsNotServed, HasEnded, HasTurnOf, SameKnown, SameOvertaking, SameTurn};
 ghost use Rattle.lock_core.specs.Looks.{LeavesAsFound};
 
-use crate::lock::FairLock;
 use crate::drawing::Turn;
+use crate::lock::FairLock;
 use crate::wake::{HEAD, TICKETS, WakeWords, WordSeat};
 use lock_core::{LeaveResult, ReleaseResult, ValueSeat, leave_lock_word, release};
 use std::sync::{Wait, WaitMethods};

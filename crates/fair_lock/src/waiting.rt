@@ -8,7 +8,7 @@ ghost use Rattle.fair_lock.specs.Timeouts.{IsOverOf};
 
 use crate::lock::FairLock;
 use crate::policy::{POLLS, POLLS_FAR, pause};
-use crate::span::{Rest, Over, Span};
+use crate::span::{Over, Rest, Span};
 use crate::wake::Announced;
 use lock_core::layout::WITHDRAWAL_WINDOW;
 use lock_core::{ValueSeat, poll, withdraw};

@@ -319,7 +319,7 @@ draw_near_allowed {fl} id slots old new me few_ new_is has s r sized at low = di
         let t = r.tail in
         other (omega arith)
 
-    -- so few requests are open that one more is within the limit
+    -- so few requests are open that one more is within `max_open`
     few_open : length s.homes ≡ 1 → tail ≡ old → r.drawn ≡ v.tail_seen → r.drawn ≤ r.g.turn + 536870912
     few_open one is same_ =
         let le : r.most_open ≤ max_open = (r.guard one).0 in

@@ -59,7 +59,7 @@ module _ {fl : ℕ} (s : State ℕ View) (r : Tickets fl s) (id : ℕ) (h : Ghos
     pub keeps_shut : r.g.epoch ≡ h.epoch → shut_of r.g.lock_word ≡ 1 → shut_of h.lock_word ≡ 1
     pub counted : (k : ℕ) → tally k (set s.views id w) ≡ tally k s.views
     pub apart : (j : ℕ) (b : View) → j ≢ id → get_elem? s.views j ≡ some b → b.phase ≢ Idle → b.ticket ≡ r.g.turn → h.head_inside ≡ r.g.head_inside
-    pub guests : (j : ℕ) (b : View) → j ≢ id → get_elem? s.views j ≡ some b → b.inside ≡ 1 → Occupant fl after j
+    pub occupants : (j : ℕ) (b : View) → j ≢ id → get_elem? s.views j ≡ some b → b.inside ≡ 1 → Occupant fl after j
     pub rests : (j : ℕ) (b : View) → j ≢ id → get_elem? s.views j ≡ some b → Rests after b
     pub doors : (j : ℕ) (b : View) → j ≢ id → get_elem? s.views j ≡ some b → b.door ≢ 0 → (shut_of h.lock_word ≡ shut_of r.g.lock_word) × (h.epoch ≡ r.g.epoch)
     pub at_draw : (j : ℕ) (b : View) → j ≢ id → get_elem? s.views j ≡ some b → AtDraw r.drawn after b b.phase
@@ -96,7 +96,7 @@ module _ {fl : ℕ} (s : State ℕ View) (r : Tickets fl s) (id : ℕ) (h : Ghos
             told_nobody = f.told_nobody;
             lock_word = record {
               turn_of = λ some_. let k = f.lock_word.turn_of some_ in let k0 = k.0 in let k3 = k.3 in let n = m.more_heads in ((omega arith), m.whose b.newcomer_number k.0 ∙ k.1, k.2 ∙ ap (λ z. z + b.place_after_head) (sym (m.starts b.heads_before k.3)), (omega arith));
-              occupant = m.guests j b ne there;
+              occupant = m.occupants j b ne there;
               rests = m.rests j b ne there;
               dated = let d = f.lock_word.dated in let n = m.later in omega arith;
               barrier = λ one now. let d = f.lock_word.dated in let n = m.later in m.keeps_shut (omega arith) (f.lock_word.barrier one (omega arith));
@@ -128,7 +128,7 @@ module _ {fl : ℕ} (s : State ℕ View) (r : Tickets fl s) (id : ℕ) (v : View
     pub later : r.g.epoch ≤ epoch
     pub keeps_shut : r.g.epoch ≡ epoch → shut_of r.g.lock_word ≡ 1 → shut_of x ≡ 1
     pub counted : (k : ℕ) → tally k (set s.views id w) ≡ tally k s.views
-    pub guests : (j : ℕ) (b : View) → j ≢ id → get_elem? s.views j ≡ some b → b.inside ≡ 1 → state_of x ≡ 1
+    pub occupants : (j : ℕ) (b : View) → j ≢ id → get_elem? s.views j ≡ some b → b.inside ≡ 1 → state_of x ≡ 1
     pub awake : state_of x ≡ 1 → lulled (takes_of r.g) ≡ 0
     pub dark : (n : ℕ) → takes_of r.g < n → lulled n ≡ 0
     pub rests : (j : ℕ) (b : View) → j ≢ id → get_elem? s.views j ≡ some b → Rests still b
@@ -160,7 +160,7 @@ module _ {fl : ℕ} (s : State ℕ View) (r : Tickets fl s) (id : ℕ) (v : View
         keeps_shut = m.keeps_shut;
         counted = m.counted;
         apart = λ j b ne there busy e. refl;
-        guests = λ j b ne there one. let h = (o.each j b there).lock_word.occupant one in (h.0, m.guests j b ne there one, h.2);
+        occupants = λ j b ne there one. let h = (o.each j b there).lock_word.occupant one in (h.0, m.occupants j b ne there one, h.2);
         rests = m.rests;
         doors = m.doors;
         fit = record { knows = m.knows; lowest = m.lowest; mine = m.mine; place = place_after fl r.g still w (omega arith) (omega arith) w.phase (λ busy e. refl) m.place; told_nobody = m.told_nobody; lock_word = m.lock_word; door = m.door; tail_seen = m.tail_seen; at_draw = m.at_draw };
@@ -198,7 +198,7 @@ module _ {fl : ℕ} (s : State ℕ View) (r : Tickets fl s) (id : ℕ) (v : View
         later = m.later;
         keeps_shut = m.keeps_shut;
         counted = λ k. let e = tally_set k s.views id v knowing at in omega arith;
-        guests = λ j b ne there one. m.state ∙ ((o.each j b there).lock_word.occupant one).1;
+        occupants = λ j b ne there one. m.state ∙ ((o.each j b there).lock_word.occupant one).1;
         awake = λ e. o.counts.awake (sym m.state ∙ e);
         dark = o.counts.later;
         rests = λ j b ne there. rest_on r.g x epoch b (λ e. sym m.state ∙ e) m.asleep (o.each j b there).lock_word.rests;
@@ -236,7 +236,7 @@ request_handoff_allowed {fl} id slots old new me half s r sized at low =
             later = omega arith;
             keeps_shut = λ e z. shut_ ∙ z;
             counted = λ k. ap (tally k) (set_again s.views id v at);
-            guests = λ j b ne there one. state ∙ ((o.each j b there).lock_word.occupant one).1;
+            occupants = λ j b ne there one. state ∙ ((o.each j b there).lock_word.occupant one).1;
             awake = λ e. o.counts.awake (sym state ∙ e);
             dark = o.counts.later;
             rests = λ j b ne there. rest_on r.g x r.g.epoch b (λ e. sym state ∙ e) (λ e. asleep ∙ e) (o.each j b there).lock_word.rests;
@@ -300,7 +300,7 @@ barge_allowed {fl} id slots old new me barging same_newcomers free new_is fresh 
                 keeps_shut = λ e z. absurd (omega arith);
                 counted = λ k. tally_none s id k v w at (idle le).1 refl;
                 apart = λ j b ne there busy e. refl;
-                guests = λ j b ne there one. let h = ((o.each j b there).lock_word.occupant one).1 in absurd (omega arith);
+                occupants = λ j b ne there one. let h = ((o.each j b there).lock_word.occupant one).1 in absurd (omega arith);
                 rests = λ j b ne there. let k = (o.each j b there).lock_word in record { takes_seen = let n = k.rests.takes_seen in omega arith; held = λ one. let h = (k.occupant one).1 in absurd (omega arith); lulls = k.rests.lulls; sleeps_at_lock_word = λ one. let q = k.rests.sleeps_at_lock_word one in let q0 = q.0 in (omega arith, q.1, (λ e. absurd (omega arith))) };
                 doors = λ j b ne there told. (omega arith, refl);
                 at_draw = λ j b ne there. at_draw_kept r.drawn r.g (record r.g { lock_word = x }) b b.nobody_behind b.phase refl (λ z. omega arith) (λ e. e) (o.each j b there).at_draw;
@@ -391,7 +391,7 @@ take_lock_word_allowed {fl} id slots ticket old new me barging same_newcomers fr
                 keeps_shut = λ e z. omega arith;
                 counted = λ k. tally_none s id k v w at (had le).3 refl;
                 apart = λ j b ne there busy e. absurd (other s r id v at le j b ne (λ e'. let z = (had le).0 in cc) busy there (e ∙ sym t0));
-                guests = λ j b ne there one. absurd (free (ap state_of old_is ∙ ((o.each j b there).lock_word.occupant one).1));
+                occupants = λ j b ne there one. absurd (free (ap state_of old_is ∙ ((o.each j b there).lock_word.occupant one).1));
                 rests = λ j b ne there. let k = (o.each j b there).lock_word in record { takes_seen = let n = k.rests.takes_seen in omega arith; held = λ one. absurd (free (ap state_of old_is ∙ (k.occupant one).1)); lulls = k.rests.lulls; sleeps_at_lock_word = λ one. let q = k.rests.sleeps_at_lock_word one in let q0 = q.0 in (omega arith, q.1, (λ e. absurd (omega arith))) };
                 doors = λ j b ne there told. (omega arith, refl);
                 at_draw = λ j b ne there. at_draw_kept r.drawn r.g (record r.g { lock_word = x }) b b.nobody_behind b.phase refl (λ z. omega arith) (λ e. e) (o.each j b there).at_draw;
@@ -482,7 +482,7 @@ leave_allowed {fl} id slots old new me same_ free few still_shut has s r sized a
                 later = omega arith;
                 keeps_shut = λ e z. shut_ ∙ z;
                 counted = λ k. tally_none s id k v w at (inside le).1.1 refl;
-                guests = λ j b ne there one. absurd (ne (sym ((o.each j b there).lock_word.occupant one).2 ∙ here));
+                occupants = λ j b ne there one. absurd (ne (sym ((o.each j b there).lock_word.occupant one).2 ∙ here));
                 awake = λ e. absurd (free (ap state_of (sym x_is) ∙ e));
                 dark = λ n l. put_else r.g.left_quietly (takes_of r.g) (1 - asleep_of lock_word) n (λ e. omega arith) ∙ o.counts.later n l;
                 rests = λ j b ne there. let k = (o.each j b there).lock_word in record { takes_seen = k.rests.takes_seen; held = λ one. absurd (ne (sym (k.occupant one).2 ∙ here)); lulls = λ one. let q = k.rests.lulls one in put_else r.g.left_quietly (takes_of r.g) (1 - asleep_of lock_word) b.last_take (λ e. let z : r.g.left_quietly b.last_take ≡ r.g.left_quietly (takes_of r.g) = ap r.g.left_quietly e in omega arith) ∙ q; sleeps_at_lock_word = λ one. let q = k.rests.sleeps_at_lock_word one in (q.0, dite (ℕ_discrete b.slept_in_take (takes_of r.g)) (λ e. put_here r.g.left_quietly (takes_of r.g) (1 - asleep_of lock_word) b.slept_in_take e ∙ (let a = q.2 e held in let z : asleep_of lock_word ≡ asleep_of r.g.lock_word = ap asleep_of r.lock_word in omega arith)) (λ e. put_else r.g.left_quietly (takes_of r.g) (1 - asleep_of lock_word) b.slept_in_take e ∙ q.1), (λ e z. absurd (free (ap state_of (sym x_is) ∙ z)))) };

@@ -8,7 +8,7 @@ use Rattle.atomic_table.specs.Table.{State}
 use Rattle.lock_core.specs.declared.view.View.{View}
 use Rattle.lock_core.specs.declared.view.Phase.{Phase}
 use Rattle.lock_core.specs.declared.view.Phase.TheVariants.{Idle, Queued, Asleep, AtTurn, Passing, HeadInside, Impossible}
-use Rattle.lock_core.specs.Layout.{asleep_of, bit_of, came_of, cell_at, count_of, lock_word_at, rounds, rounds_of, shut_of, state_of, tail_at}
+use Rattle.lock_core.specs.Layout.{max_sleepers, max_tickets, withdrawal_window, asleep_of, bit_of, came_of, cell_at, count_of, lock_word_at, rounds, rounds_of, shut_of, state_of, tail_at}
 use Rattle.lock_core.specs.Views.{Awaits, max_open}
 
 -- the sleepers of a cell: the counted seats whose ticket is of it
@@ -128,15 +128,15 @@ pub record Fits (c drawn : ℕ) (owner who : ℕ → ℕ) (g : Ghost) (id : ℕ)
 abbrev pub Cell : Ghost → ℕ → ℕ → ℕ → Type 0
 Cell g sleepers word t = record {
   high : rounds_of word ≡ rounds g.turn t % 1073741824;
-  bits : g.turn ≤ t → t / 4 < rounds g.turn t + 15 → bit_at word (bit_of t) ≡ g.withdrawn t;
-  spare : t / 4 ≡ rounds g.turn t + 15 → t % 4 ≢ g.turn % 4 → bit_at word (bit_of t) ≡ 0;
+  bits : g.turn ≤ t → t / 4 < rounds g.turn t + withdrawal_window → bit_at word (bit_of t) ≡ g.withdrawn t;
+  spare : t / 4 ≡ rounds g.turn t + withdrawal_window → t % 4 ≢ g.turn % 4 → bit_at word (bit_of t) ≡ 0;
   count : count_of word ≡ sleepers;
 }
 
 -- of tickets: none is withdrawn beyond the window, or before it is drawn
 abbrev pub Marks : ℕ → Ghost → Type 0
 Marks drawn g = record {
-  far : (t : ℕ) → rounds g.turn t + 15 ≤ t / 4 → g.withdrawn t ≡ 0;
+  far : (t : ℕ) → rounds g.turn t + withdrawal_window ≤ t / 4 → g.withdrawn t ≡ 0;
   future : (t : ℕ) → drawn ≤ t → g.withdrawn t ≡ 0;
   unheard : (t : ℕ) → g.turn < t → g.nobody_asleep t ≡ 0;
 }
@@ -161,7 +161,7 @@ pub record Granted (c drawn most : ℕ) (owner who : ℕ → ℕ) (g : Ghost) (w
   pub idle : drawn ≤ g.turn → g.head_inside ≡ 0
   pub marks : Marks drawn g
   pub counts : Counts c g
-  pub crowd : (k : ℕ) → tally k views ≤ 65535
+  pub crowd : (k : ℕ) → tally k views ≤ max_sleepers
   pub cells : (t : ℕ) → Cell g (tally (t % 4) views) (slice_index words (cell_at t)) t
   pub each : (id : ℕ) (v : View) → get_elem? views id ≡ some v → Fits c drawn owner who g id v
 
@@ -179,4 +179,4 @@ pub record Tickets (c : ℕ) (s : State ℕ View) : Type 0 where
   pub seen : (id : ℕ) (v : View) → get_elem? s.views id ≡ some v → v.most_open ≤ most_open
   pub heard : (id : ℕ) (v : View) → get_elem? s.views id ≡ some v → v.newcomers_seen ≤ g.newcomers
   pub granted : most_open ≤ max_open → Granted c drawn most_open owner who g s.words s.views
-  pub guard : length s.homes ≡ 1 → (most_open ≤ max_open) × (drawn ≤ 9223372036854775808)
+  pub guard : length s.homes ≡ 1 → (most_open ≤ max_open) × (drawn ≤ max_tickets)

@@ -59,3 +59,23 @@ rounds turn ticket = (turn + 4 - ticket % 4) / 4
 -- the rounds to be granted until the ticket's own is, by the word of its cell
 abbrev pub to_go : ℕ → ℕ → ℕ
 to_go cell ticket = (ticket / 4 + 1 + 1073741824 - rounds_of cell) % 1073741824
+
+-- The limits of a lock, as src/layout.rt has them: the most sleepers that a cell counts; the most rounds to be granted before a request that can be
+-- withdrawn; the most requests that one release passes; the greatest barging limit; the widest window of `draw_within`, and the most tickets that it draws
+abbrev pub max_sleepers : ℕ
+max_sleepers = 65535
+
+abbrev pub withdrawal_window : ℕ
+withdrawal_window = 15
+
+abbrev pub max_passed : ℕ
+max_passed = 64
+
+abbrev pub max_barging_limit : ℕ
+max_barging_limit = 65535
+
+abbrev pub max_window : ℕ
+max_window = 134217728
+
+abbrev pub max_tickets : ℕ
+max_tickets = 9223372036854775808

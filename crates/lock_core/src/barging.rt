@@ -8,9 +8,9 @@ ghost use Rattle.lock_core.specs.Views.{InTime, InTimeFrom, LoadGrows, IsSeatOf,
 ghost use Rattle.lock_core.specs.Looks.{StepsLater, LooksOnce, Found, Changes, IsHeldByNewcomer, IsNoEntry, FoundNotFree};
 ghost use Rattle.lock_core.specs.Answers.{IfIn, IfNotIn};
 
-use crate::layout::{HELD, NEWCOMER, LOCK_WORD};
-use crate::plays::{Barge, ReadLockWord};
 use crate::invariant::{SharedValue, ValueSeat};
+use crate::layout::{HELD, LOCK_WORD, NEWCOMER};
+use crate::plays::{Barge, ReadLockWord};
 
 /// What `barge_if` did.
 #[derive(Clone, Copy, Debug, PartialEq, Eq)]

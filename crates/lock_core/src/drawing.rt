@@ -1,13 +1,13 @@
 //! A caller requests the lock: it draws a ticket, which is its place in the order.
 ghost use Rattle.std.specs.Prelude.{◌≡◌, ◌<◌, ◌≤◌, IfSome, IfNone};
-ghost use Rattle.lock_core.specs.Layout.{IsLockTable, cell_at, to_go, HasLockWords, tail_at};
+ghost use Rattle.lock_core.specs.Layout.{withdrawal_window, max_window, max_tickets, IsLockTable, cell_at, to_go, HasLockWords, tail_at};
 ghost use Rattle.lock_core.specs.Views.{view_of, InTime, InTimeFrom, LoadGrows, IsSeatOf, IsIdle, IsQueued, IsQueuedWithin, IsAtTurn, IsOvertakenInBounds, DrawsAfter, SameTurn};
 ghost use Rattle.lock_core.specs.Looks.{StepsLater, FoundBefore, FoundNext, FoundTailMoved, FoundBusy, Found};
 ghost use Rattle.lock_core.specs.Answers.{IfNearAtTurn, IfNearQueued, IfNearFar, IfNearChanged, IfDrawn, IfNotDrawn, IfWithinDrawn, IfWithinNotDrawn, IfWithinAtTurn, IfWithinQueued, IfWithinFar, IfWithinChanged, IfWithinSpent};
 
+use crate::invariant::{SharedTable, SharedValue, TicketSeat, ValueSeat};
 use crate::layout::{MAX_TICKETS, TAIL, WITHDRAWAL_WINDOW, cell_word, rounds_to_go};
 use crate::plays::{Draw, DrawGranted, DrawNear, ReadCell, ReadTail};
-use crate::invariant::{SharedTable, TicketSeat, SharedValue, ValueSeat};
 
 /// What `draw_near` did.
 #[derive(Clone, Copy, Debug, PartialEq, Eq)]
@@ -93,14 +93,16 @@ pub fn draw_near(table: &SharedTable, seat: &mut TicketSeat) -> DrawNearResult
     ensures turn { SameTurn (view_of seat.old) (view_of seat.new) }
     ensures at_turn { IfNearAtTurn result (λ ticket. InTime seat.new (IsAtTurn ticket)) }
     ensures overtaken { IfNearAtTurn result (λ _. InTime seat.new IsOvertakenInBounds) }
-    ensures queued { IfNearQueued result (λ ticket rounds. (0 < rounds) × (rounds ≤ 15)
+    ensures queued { IfNearQueued result (λ ticket rounds. (0 < rounds)
+        × (rounds ≤ withdrawal_window)
         × InTime seat.new (IsQueuedWithin rounds ticket)) }
     ensures rounds { IfNearQueued result (λ ticket rounds.
         FoundBefore (cell_at ticket) (λ n. to_go n ticket ≡ rounds) seat.new) }
     ensures order { IfDrawn result (InTimeFrom seat.old seat.new DrawsAfter) }
     ensures steps { IfDrawn result (StepsLater 3 seat.old seat.new) }
     ensures idle { IfNotDrawn result (InTime seat.new IsIdle) }
-    ensures far { IfNearFar result (λ rounds. (15 < rounds) × StepsLater 2 seat.old seat.new
+    ensures far { IfNearFar result (λ rounds. (withdrawal_window < rounds)
+        × StepsLater 2 seat.old seat.new
         × FoundNext (λ n. n ≡ rounds) seat.new) }
     ensures changed { IfNearChanged result (StepsLater 3 seat.old seat.new
         × FoundTailMoved seat.new) }
@@ -133,7 +135,7 @@ pub fn draw_within<T>(
     window: u64,
 ) -> DrawWithinResult
     requires table { HasLockWords table.now.table_id }
-    requires window { window ≤ 134217728 }
+    requires window { window ≤ max_window }
     requires seat { IsSeatOf table.now.table_id table.now.key seat.old }
     requires idle { InTime seat.old IsIdle }
     ensures seat { IsSeatOf table.now.table_id table.now.key seat.new }
@@ -150,7 +152,7 @@ pub fn draw_within<T>(
     ensures changed { IfWithinChanged result (StepsLater 3 seat.old seat.new
         × FoundTailMoved seat.new) }
     ensures spent { IfWithinSpent result (StepsLater 1 seat.old seat.new
-        × Found tail_at (λ n. 9223372036854775808 ≤ n) seat.new) }
+        × Found tail_at (λ n. max_tickets ≤ n) seat.new) }
 {
     let ticket = table.load::<ReadTail>(seat, TAIL);
     if ticket >= MAX_TICKETS {

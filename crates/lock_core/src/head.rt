@@ -6,9 +6,9 @@ ghost use Rattle.lock_core.specs.Looks.{StepsLater, Found, Changes, IsSeenHeld, 
 ghost use Rattle.lock_core.specs.Answers.{IfSeenHeld, IfSeenFree, IfSeenForHead, IfTakenOpen, IfTakenShut, IfTaken, IfNotTaken, IfHeld, IfTakeChanged, IfHeadAsleep, IfNotHeld, IfHeadChanged};
 
 use crate::barging::is_no_entry;
-use crate::layout::{HANDOFF, HEAD_ASLEEP, HELD, NEWCOMER, LOCK_WORD, SHUT, is_shut, state};
-use crate::plays::{AnnounceHeadSleep, ReadLockWord, RequestHandoff, TakeLockWord};
 use crate::invariant::{SharedValue, ValueSeat};
+use crate::layout::{HANDOFF, HEAD_ASLEEP, HELD, LOCK_WORD, NEWCOMER, SHUT, is_shut, state};
+use crate::plays::{AnnounceHeadSleep, ReadLockWord, RequestHandoff, TakeLockWord};
 
 /// What the lock word says to the queue head.
 #[derive(Clone, Copy, Debug, PartialEq, Eq)]
@@ -143,7 +143,8 @@ pub fn request_handoff<T>(table: &SharedValue<T>, seat: &mut ValueSeat<T>) -> bo
     if lock_word % 2 == 1 {
         return true;
     }
-    table.compare_exchange::<RequestHandoff>(seat, LOCK_WORD, lock_word, lock_word + HANDOFF) == lock_word
+    table.compare_exchange::<RequestHandoff>(seat, LOCK_WORD, lock_word, lock_word + HANDOFF)
+        == lock_word
 }
 
 /// Notes in the lock word that the queue head sleeps there, while the word is held: at most two atomic steps. Then the

@@ -17,9 +17,7 @@ mod waiting;
 mod withdrawing;
 
 pub use barging::{BargeResult, barge, barge_if};
-pub use drawing::{
-    DrawNearResult, DrawWithinResult, draw, draw_near, draw_within, try_draw,
-};
+pub use drawing::{DrawNearResult, DrawWithinResult, draw, draw_near, draw_within, try_draw};
 pub use head::{
     HeadSleepResult, LockWordState, TakeResult, announce_head_sleep, read_lock_word,
     request_handoff, take_lock_word,
@@ -34,9 +32,7 @@ pub use meets::{
 pub use opening::{
     LockKind, OpenError, OpenValueError, WORDS, check_kind, new_seat, open, open_value,
 };
-pub use releasing::{
-    LeaveResult, ReleaseResult, leave_lock_word, leave_lock_word_if, release,
-};
+pub use releasing::{LeaveResult, ReleaseResult, leave_lock_word, leave_lock_word_if, release};
 pub use shutting::{check_open, reopen, shut};
 pub use view::{Looks, Phase, View};
 pub use waiting::{SleepResult, announce_sleep, poll, retract_sleep};

@@ -7,8 +7,8 @@ ghost use Rattle.lock_core.specs.Layout.{HasLockWords, IsLockTable};
 ghost use Rattle.lock_core.specs.Views.{view_of, InTime, NeverInTime, LoadGrows, KeepsValue, IsSeatOf, IsIdle, IsOutside, HasTurn, HasTurnAwake, IsNotServed, KnowsShut, LeftQuietly, ServedOpen, SleepsAtLockWord};
 ghost use Rattle.lock_core.specs.Meets.{Served, IsWaiting, IsWaitingOpen, IsWaitingShut, IsStillAsleep, GrantedToNobodyAsleepAt, HadPlaceOf, HasHeard, HasLearnedEnded, told_of};
 
-use crate::plays::{Learn, LearnEnded, Meet, Tell, TellOrder};
 use crate::invariant::{SharedTable, SharedValue, TicketSeat, ValueSeat};
+use crate::plays::{Learn, LearnEnded, Meet, Tell, TellOrder};
 
 /// Exclusion: no two callers are served at one time. In a strict lock the caller at its turn is served; in a barging
 /// lock the caller inside.

@@ -1,12 +1,12 @@
 //! A lock is opened, and callers come.
 ghost use Rattle.std.specs.Prelude.{◌≡◌, ◌≢◌, ◌≤◌, IfOk, IfErr, length};
-ghost use Rattle.lock_core.specs.Layout.{HasLockWords, IsLockTable, IsValueTable};
+ghost use Rattle.lock_core.specs.Layout.{max_barging_limit, HasLockWords, IsLockTable, IsValueTable};
 ghost use Rattle.lock_core.specs.Views.{view_of, IsSeatOf, IsOutside};
 ghost use Rattle.lock_core.specs.Answers.{barging_limit_of, HasValidLimit, IsOpenErrorOf};
 
+use crate::invariant::{SharedValue, TicketTable, ValueSeat, ValueTable};
 use crate::layout::{MIN_BARGING_LIMIT, UNWRITTEN};
 use crate::plays::Come;
-use crate::invariant::{SharedValue, TicketTable, ValueSeat, ValueTable};
 use atomic_table::Refused;
 use std::alloc::Global;
 use thiserror::Error;
@@ -27,7 +27,7 @@ impl LockKind {
     #[inline]
     pub fn barging_limit(self) -> u64
         ensures barging_limit { result ≡ barging_limit_of self }
-        ensures max { result ≤ 65535 }
+        ensures max { result ≤ max_barging_limit }
     {
         match self {
             LockKind::Strict => 1,

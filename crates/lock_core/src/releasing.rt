@@ -1,13 +1,16 @@
 //! A turn of the queue is released, and the lock word is left.
 ghost use Rattle.std.specs.Prelude.{◌≡◌, ◌+◌, ◌%◌, ◌^◌, ◌≤◌, true, false, ◌≢◌, ◌/◌, ◌<◌};
-ghost use Rattle.lock_core.specs.Layout.{HasLockWords, cell_at, count_of, lock_word_at, state_of, asleep_of};
+ghost use Rattle.lock_core.specs.Layout.{max_passed, HasLockWords, cell_at, count_of, lock_word_at, state_of, asleep_of};
 ghost use Rattle.lock_core.specs.Views.{view_of, InTime, InTimeFrom, LoadGrows, IsSeatOf, IsIdle, IsAtTurn, IsPassing, HasTurnOf, HasGrantedNext, HasNextTicket, HasEnded, IsNotServed, SameRequest, SameNewcomersSeen, SameOvertaking, GrantedAfter, GrantedToNobodyAsleep, SameTurn, IsInside, IsOutside, LeftQuietly, SameNewcomer, SameKnown, LeavesSameTake, SameDoor};
 ghost use Rattle.lock_core.specs.Looks.{StepsLater, StepsAtMost, Found, LooksOnce, Changes, IsLeftClean, FoundChanged, Leaves, LeavesAsFound, IsLeftAs};
 ghost use Rattle.lock_core.specs.Answers.{IfGranted, IfUnfinished, IfLeft, IfNotLeft};
 
-use crate::layout::{MAX_PASSED, ROUND, bit, cell_word, is_withdrawn, sleepers, HEAD_ASLEEP, NEWCOMER, LOCK_WORD, RESERVED, SHUT};
-use crate::plays::{ClearWithdrawn, Grant, Leave, ReadLockWord};
 use crate::invariant::{SharedValue, ValueSeat};
+use crate::layout::{
+    HEAD_ASLEEP, LOCK_WORD, MAX_PASSED, NEWCOMER, RESERVED, ROUND, SHUT, bit, cell_word,
+    is_withdrawn, sleepers,
+};
+use crate::plays::{ClearWithdrawn, Grant, Leave, ReadLockWord};
 
 /// What `release` did.
 #[derive(Clone, Copy, Debug, PartialEq, Eq)]
@@ -94,7 +97,7 @@ pub fn release<T>(
         Found (cell_at (ticket.new + 1)) (λ n. count_of n ≡ sleepers) seat.new) }
     ensures has { IfUnfinished result (InTime seat.new (HasTurnOf ticket.new)) }
     ensures passed { IfUnfinished result (StepsLater 128 seat.old seat.new
-        × (ticket.new ≡ (ticket.old + 64) % 2 ^ 64)) }
+        × (ticket.new ≡ (ticket.old + max_passed) % 2 ^ 64)) }
     ensures later { InTimeFrom seat.old seat.new (λ v w. v.ticket ≤ w.ticket) }
     ensures overtaking { InTimeFrom seat.old seat.new SameOvertaking }
     ensures strict { IfGranted result (λ _. table.now.key ≤ 1 → InTime seat.new IsNotServed) }
@@ -210,7 +213,11 @@ pub fn leave_lock_word_if<T>(
 
 /// Leaves the lock word as `leave_lock_word_if` does, whatever it is: two atomic steps.
 #[inline(always)]
-pub fn leave_lock_word<T>(table: &SharedValue<T>, seat: &mut ValueSeat<T>, barging_limit: u64) -> LeaveResult
+pub fn leave_lock_word<T>(
+    table: &SharedValue<T>,
+    seat: &mut ValueSeat<T>,
+    barging_limit: u64,
+) -> LeaveResult
     requires table { HasLockWords table.now.table_id }
     requires barging_limit { barging_limit ≤ table.now.key }
     requires seat { IsSeatOf table.now.table_id table.now.key seat.old }

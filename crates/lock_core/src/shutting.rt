@@ -4,9 +4,9 @@ ghost use Rattle.lock_core.specs.Layout.{HasLockWords, tail_at};
 ghost use Rattle.lock_core.specs.Views.{view_of, InTime, InTimeFrom, LoadGrows, IsSeatOf, IsAtTurn, HasTurnOf, Kept, KnowsShut, ServedOpen, ServedShut, SameKnown, SameNewcomersSeen, SameSleepAtLockWord, IsLaterEpoch, KeepsValue};
 ghost use Rattle.lock_core.specs.Looks.{StepsLater, Found};
 
+use crate::invariant::{SharedValue, ValueSeat};
 use crate::layout::{LOCK_WORD, SHUT, TAIL, is_shut};
 use crate::plays::{CheckOpen, ReadTail, Reopen, Shut};
-use crate::invariant::{SharedValue, ValueSeat};
 
 /// Returns, for the caller at its turn in a strict lock, whether the lock is open: then the caller is served. One atomic
 /// step. If the lock is shut, the caller passes its turn on by `release`, or reopens the lock.

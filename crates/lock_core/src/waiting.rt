@@ -1,13 +1,13 @@
 //! A waiter polls, and announces and retracts its sleep.
 ghost use Rattle.std.specs.Prelude.{◌≡◌, ◌<◌, ◌⊎◌};
-ghost use Rattle.lock_core.specs.Layout.{HasLockWords, cell_at, count_of, to_go};
+ghost use Rattle.lock_core.specs.Layout.{max_sleepers, HasLockWords, cell_at, count_of, to_go};
 ghost use Rattle.lock_core.specs.Views.{view_of, InTime, InTimeFrom, LoadGrows, IsSeatOf, IsQueued, IsQueuedWithin, IsAsleep, IsAtTurn, IsOvertakenInBounds, SameRequest, SameTurn};
 ghost use Rattle.lock_core.specs.Looks.{StepsLater, Found, FoundChanged, Leaves};
 ghost use Rattle.lock_core.specs.Answers.{IfSleepAtTurn, IfSleepAnnounced, IfSleepFull, IfSleepChanged, IfSleepRefused};
 
+use crate::invariant::{SharedValue, ValueSeat};
 use crate::layout::{MAX_SLEEPERS, SLEEPER, cell_word, rounds_to_go, sleepers};
 use crate::plays::{AnnounceSleep, Look};
-use crate::invariant::{SharedValue, ValueSeat};
 
 /// What `announce_sleep` did.
 #[derive(Clone, Copy, Debug, PartialEq, Eq)]
@@ -65,7 +65,8 @@ pub fn announce_sleep<T>(
     ensures word { IfSleepAnnounced result (λ rounds cell. (0 < rounds)
         × (to_go cell ticket ≡ rounds) × Leaves (cell_at ticket) (λ n. n ≡ cell) seat.new) }
     ensures full { IfSleepFull result (λ rounds. (0 < rounds)
-        × Found (cell_at ticket) (λ n. (count_of n ≡ 65535) × (to_go n ticket ≡ rounds)) seat.new) }
+        × Found (cell_at ticket)
+        (λ n. (count_of n ≡ max_sleepers) × (to_go n ticket ≡ rounds)) seat.new) }
     ensures changed { IfSleepChanged result (λ rounds. (0 < rounds)
         × FoundChanged (cell_at ticket) seat.new) }
     ensures found { IfSleepChanged result (λ rounds.

@@ -1,13 +1,13 @@
 //! A waiter withdraws its request.
 ghost use Rattle.std.specs.Prelude.{◌≡◌, ◌<◌, ◌≤◌, true, false};
-ghost use Rattle.lock_core.specs.Layout.{HasLockWords};
+ghost use Rattle.lock_core.specs.Layout.{withdrawal_window, HasLockWords};
 ghost use Rattle.lock_core.specs.Views.{view_of, InTime, InTimeFrom, LoadGrows, IsSeatOf, IsIdle, IsQueuedWithin, IsAtTurn, IsOvertakenInBounds, SameRequest, SameTurn};
 ghost use Rattle.lock_core.specs.Looks.{StepsLater};
 
-use crate::releasing::clear_withdrawn;
+use crate::invariant::{SharedValue, ValueSeat};
 use crate::layout::{bit, cell_word, is_round_of};
 use crate::plays::SetWithdrawn;
-use crate::invariant::{SharedValue, ValueSeat};
+use crate::releasing::clear_withdrawn;
 
 /// Withdraws a request that was found within the window of withdrawal: one atomic step, which is the last access to the
 /// lock's memory. `false`: the ticket had been granted, which takes two atomic steps.
@@ -20,7 +20,7 @@ pub fn withdraw<T>(
 ) -> bool
     requires table { HasLockWords table.now.table_id }
     requires seat { IsSeatOf table.now.table_id table.now.key seat.old }
-    requires near { rounds ≤ 15 }
+    requires near { rounds ≤ withdrawal_window }
     requires queued { InTime seat.old (IsQueuedWithin rounds ticket) }
     ensures seat { IsSeatOf table.now.table_id table.now.key seat.new }
     ensures load { LoadGrows seat.old seat.new }

@@ -1,5 +1,6 @@
 //! A turn of the queue is released, and the lock word is left.
 ghost use Rattle.std.specs.Prelude.{◌≡◌, ◌+◌, ◌%◌, ◌^◌, true, false};
+ghost use Rattle.lock_core.specs.Layout.{max_passed};
 ghost use Rattle.lock_core.specs.Views.{HasEnded, HasTurnOf, IsIdle};
 ghost use Rattle.qolb_locks.specs.declared.answer.Answer.{Answer};
 ghost use Rattle.qolb_locks.specs.declared.ticket.State.{State};
@@ -27,7 +28,8 @@ fn release_turn(lock: &Lock, ticket: &mut Ticket) -> bool
         Knows lock.now ticket.old (Says State.HeadInsideShut ticket.old.number ticket.old.rounds) →
         Knows lock.now ticket.new (Says State.InsideShut ticket.new.number ticket.new.rounds) }
     ensures ends { result ≡ false → Knows lock.now ticket.new (HasTurnOf ticket.new.number) }
-    ensures passed { result ≡ false → ticket.new.number ≡ (ticket.old.number + 64) % 2 ^ 64 }
+    ensures passed { result ≡ false →
+        ticket.new.number ≡ (ticket.old.number + max_passed) % 2 ^ 64 }
     ensures head { result ≡ false →
         Knows lock.now ticket.old (Says State.HeadInside ticket.old.number ticket.old.rounds) →
         Knows lock.now ticket.new (Says State.HeadInside ticket.new.number ticket.new.rounds) }
@@ -121,7 +123,12 @@ pub fn leave_lock_word(lock: &Lock, ticket: &mut Ticket) -> Answer
     }
     let guess = ticket.lock_word;
     let mut seat = ticket.claim.take();
-    let left = lock_core::leave_lock_word_if(&lock.table.shared, &mut seat, lock.barging_limit, guess);
+    let left = lock_core::leave_lock_word_if(
+        &lock.table.shared,
+        &mut seat,
+        lock.barging_limit,
+        guess,
+    );
     ticket.claim.put(seat);
     match left {
         LeaveResult::Outside { head_asleep } => {

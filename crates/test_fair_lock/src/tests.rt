@@ -1,8 +1,8 @@
 //! The tests, and the threads that they run.
 mod answers;
-mod timeouts;
 mod order;
 mod threads;
+mod timeouts;
 
 use fair_lock::{EnterError, FairLock, TryEnterError};
 use std::alloc::Global;

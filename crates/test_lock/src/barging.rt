@@ -5,8 +5,8 @@ ghost use Rattle.lock_core.specs.Views.{view_of, InTime, IsSeatOf, IsIdle, IsAtT
 use crate::dice::Dice;
 use crate::field::Field;
 use lock_core::{
-    HeadSleepResult, LeaveResult, TakeResult, TicketSeat, announce_head_sleep, barge, leave_lock_word,
-    new_seat, request_handoff, take_lock_word,
+    HeadSleepResult, LeaveResult, TakeResult, TicketSeat, announce_head_sleep, barge,
+    leave_lock_word, new_seat, request_handoff, take_lock_word,
 };
 use std::hint::spin_loop;
 use std::sync::Wait;

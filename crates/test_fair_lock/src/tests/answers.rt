@@ -9,7 +9,7 @@ use std::time::{Duration, Instant};
 fn a_barging_limit_of_one_is_refused_and_the_value_comes_back(rt: HostRuntime) {
     let refused = FairLock::with_barging(rt.alloc(), 1, 7u64);
     let Err(NewError { error, value }) = refused else {
-        panic!(&rt; "made with barging of one turn")
+        panic!(&rt; "made with a barging limit of one")
     };
     assert_eq!(&rt; error, OpenError::BadBargingLimit(1));
     assert_eq!(&rt; value, 7);
@@ -21,7 +21,11 @@ fn a_free_lock_is_entered_at_once(rt: HostRuntime) {
         let lock = lock_of(rt.alloc(), barging_limit, 0).expect(&rt, "memory");
         assert_eq!(&rt; add(&rt, &lock, 2), 2, "at {barging_limit}");
         assert_eq!(&rt; try_add(&rt, &lock, 3), 3, "at {barging_limit}");
-        assert_eq!(&rt; add_within(&rt, &lock, 4, Duration::ZERO), 4, "at {barging_limit}");
+        assert_eq!(&rt;
+            add_within(&rt, &lock, 4, Duration::ZERO),
+            4,
+            "at {barging_limit}"
+        );
         assert_eq!(&rt; lock.into_inner(), 9, "at {barging_limit}");
     }
 }
@@ -54,7 +58,11 @@ fn a_call_that_times_out_waits_as_long_as_it_may(rt: HostRuntime) {
         let waited = begun.elapsed(&rt).ok().expect(&rt, "clock");
         guard.leave(&rt);
         let is_in_time = waited >= timeout && waited < Duration::from_secs(20);
-        assert_eq!(&rt; (answer, is_in_time), (Answer::TimedOut, true), "at {barging_limit}");
+        assert_eq!(&rt;
+            (answer, is_in_time),
+            (Answer::TimedOut, true),
+            "at {barging_limit}"
+        );
     }
 }
 
@@ -95,7 +103,11 @@ fn a_withdrawn_request_is_passed(rt: HostRuntime) {
     for barging_limit in [1, 2] {
         let lock = lock_of(rt.alloc(), barging_limit, 0).expect(&rt, "memory");
         for _ in 0..40 {
-            assert_eq!(&rt; hold_while_five_time_out(&rt, &lock), 0, "at {barging_limit}");
+            assert_eq!(&rt;
+                hold_while_five_time_out(&rt, &lock),
+                0,
+                "at {barging_limit}"
+            );
         }
         let had = add(&rt, &lock, 10);
         assert_eq!(&rt; (had, lock.into_inner()), (10, 10), "at {barging_limit}");

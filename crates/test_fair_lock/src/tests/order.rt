@@ -225,7 +225,13 @@ fn take_again<R: Wait + Clock>(rt: &R, lock: &FairLock<u64>, stage: &AtomicU64) 
 /// The queue head sleeps while a newcomer is inside, which then barges again and again: at most as often as the barging limit allows.
 #[test]
 fn a_queue_head_that_sleeps_is_served_after_the_barging_limit(rt: HostRuntime) {
-    for (barging_limit, has_timeout) in [(2, false), (8, false), (8, true), (64, false), (64, true)] {
+    for (barging_limit, has_timeout) in [
+        (2, false),
+        (8, false),
+        (8, true),
+        (64, false),
+        (64, true),
+    ] {
         let mut within = 0u64;
         for _ in 0..10 {
             let lock = lock_of(rt.alloc(), barging_limit, 0).expect(&rt, "memory");

@@ -45,7 +45,12 @@ impl<R> Clock for Ticking<'_, R> {
 }
 
 /// Whether a call times out, with this timeout in nanoseconds, and how often it read the clock.
-fn call_that_times_out<R: Wait>(rt: &R, lock: &FairLock<u64>, can_be_read: bool, nanos: u64) -> (bool, u64) {
+fn call_that_times_out<R: Wait>(
+    rt: &R,
+    lock: &FairLock<u64>,
+    can_be_read: bool,
+    nanos: u64,
+) -> (bool, u64) {
     let clock = Ticking::new(rt, can_be_read);
     let answer = enter_within(rt, lock, &clock, Duration::from_nanos(nanos));
     (answer == Answer::TimedOut, clock.readings.load(SeqCst))

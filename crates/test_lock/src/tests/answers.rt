@@ -4,7 +4,7 @@ ghost use Rattle.lock_core.specs.Layout.{IsLockTable};
 
 use lock_core::{
     DrawNearResult, LockKind, ReleaseResult, SharedTable, SleepResult, TicketSeat, TicketTable,
-    announce_sleep, draw, draw_near, check_open, learn, new_seat, open, poll, release, reopen,
+    announce_sleep, check_open, draw, draw_near, learn, new_seat, open, poll, release, reopen,
     retract_sleep, shut, tell, try_draw, withdraw,
 };
 use std::alloc::Global;

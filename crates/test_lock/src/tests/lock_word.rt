@@ -4,8 +4,8 @@ ghost use Rattle.lock_core.specs.Layout.{IsLockTable};
 
 use lock_core::{
     BargeResult, HeadSleepResult, LeaveResult, LockKind, ReleaseResult, SharedTable, TakeResult,
-    TicketTable, announce_head_sleep, draw, barge, barge_if, leave_lock_word, leave_lock_word_if, new_seat, open, poll,
-    release, request_handoff, take_lock_word,
+    TicketTable, announce_head_sleep, barge, barge_if, draw, leave_lock_word, leave_lock_word_if,
+    new_seat, open, poll, release, request_handoff, take_lock_word,
 };
 use std::alloc::Global;
 use std::test::Fail;

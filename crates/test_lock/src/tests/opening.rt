@@ -22,7 +22,7 @@ fn errors_say_what_is_wrong(rt: HostRuntime) -> Result<(), Fail> {
     let short = format!(in rt.alloc(); "{}", OpenError::BadBargingLimit(1))?;
     assert_eq!(rt;
         short.as_str(),
-        "barging of 1: a barging_limit has from 2 to 65,535 turns"
+        "barging limit 1: it must be from 2 to 65,535"
     );
     let memory = format!(in rt.alloc(); "{}", OpenError::Memory)?;
     assert_eq!(rt; memory.as_str(), "out of memory");

@@ -55,12 +55,12 @@ fn run_barging<R: Threads + Wait + Sync + Abort>(
     assert_eq!(rt;
         field.counts.faults(),
         0,
-        "{threads} threads, barging of {barging_limit}"
+        "{threads} threads, barging limit {barging_limit}"
     );
     assert_eq!(rt;
         field.counts.turns(),
         sum,
-        "{threads} threads, barging of {barging_limit}"
+        "{threads} threads, barging limit {barging_limit}"
     );
     Ok(())
 }
