@@ -5,7 +5,7 @@ ghost use Rattle.lock_core.specs.Views.{view_of, IsSeatOf, IsOutside};
 ghost use Rattle.lock_core.specs.Answers.{barging_limit_of, HasValidLimit, IsOpenErrorOf};
 
 use crate::invariant::{SharedValue, TicketTable, ValueSeat, ValueTable};
-use crate::layout::{MIN_BARGING_LIMIT, UNWRITTEN};
+use crate::layout::{MIN_BARGING_LIMIT, ROUND, UNWRITTEN};
 use crate::plays::Come;
 use atomic_table::Refused;
 use std::alloc::Global;
@@ -51,27 +51,7 @@ pub const WORDS: usize = FIRST_WORDS.len();
 
 /// The words of a new lock: the first ticket is granted.
 const FIRST_WORDS: [u64; 21] = [
-    0,
-    0,
-    0,
-    0,
-    0,
-    0,
-    0,
-    0,
-    0,
-    0,
-    0,
-    0,
-    0,
-    0,
-    0,
-    0,
-    0,
-    17179869184,
-    0,
-    0,
-    0,
+    0, 0, 0, 0, 0, 0, 0, 0, 0, 0, 0, 0, 0, 0, 0, 0, 0, ROUND, 0, 0, 0,
 ];
 
 /// Refuses a barging limit of less than two, as opening does.
