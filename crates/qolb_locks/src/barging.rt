@@ -1,7 +1,6 @@
 //! Barging: a thread takes the lock word without a number of the queue, and overtakes the queue.
 //!
 //! A thread that barges is a *newcomer* (`lock_core`).
-ghost use Rattle.std.specs.Prelude.{◌+◌};
 ghost use Rattle.qolb_locks.specs.declared.answer.Answer.{Answer};
 ghost use Rattle.qolb_locks.specs.declared.ticket.State.{State};
 ghost use Rattle.qolb_locks.specs.Calls.{IsMisuse, OnlyEntry, StepsUpTo, StepsFirst, Barges};
