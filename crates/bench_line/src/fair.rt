@@ -32,16 +32,16 @@ impl<R: Wait> ScopedTask<R, FairLock<Line64>, ()> for FairRounds {
     }
 }
 
-/// Runs `rounds` rounds by each of `threads` threads: in the order of requests, or with bursts of `burst` turns. Returns the line's last bytes.
+/// Runs `rounds` rounds of each of `threads` threads, in the order of requests, or with this barging limit. Returns the line's last bytes.
 pub fn run_fair<R: Threads + Wait + Sync>(
     rt: &R,
     alloc: Global,
     threads: usize,
     rounds: u64,
-    burst: Option<u16>,
+    barging_limit: Option<u16>,
 ) -> Result<Line64, RunError> {
-    let made = match burst {
-        Some(turns) => FairLock::with_bursts(alloc, turns, Line64::zero()),
+    let made = match barging_limit {
+        Some(limit) => FairLock::with_barging(alloc, limit, Line64::zero()),
         None => FairLock::new(alloc, Line64::zero()),
     };
     let Ok(shared) = made else {

@@ -38,8 +38,8 @@ static THREADS: [u64; 5] = [1, 2, 3, 4, 8];
 
 static STRESSED: [u64; 3] = [4, 8, 32];
 
-/// The turns of a burst.
-const BURST: u16 = 1024;
+/// The barging limit of a barging lock.
+const BARGING_LIMIT: u16 = 1024;
 
 /// The rounds of each thread if `--rounds` is not given: enough to show that no addition is lost.
 const FEW_ROUNDS: u64 = 100;
@@ -62,8 +62,8 @@ enum Way {
     Ports,
     /// The threads enter a fair lock, in the order of requests. There is no line.
     Fair,
-    /// They enter one with bursts.
-    Burst,
+    /// The threads enter a fair lock with barging. There is no line.
+    Barging,
     /// They lock the toolchain's mutex.
     Mutex,
 }
@@ -121,8 +121,8 @@ static WAYS: [(&str, &str); 3] = [
         "Rounds of a fair lock in the order of requests, in place of a line",
     ),
     (
-        "burst",
-        "Rounds of a fair lock with bursts of 1024 turns, in place of a line",
+        "barging",
+        "Rounds of a fair lock with a barging limit of 1024, in place of a line",
     ),
     (
         "mutex",
@@ -197,14 +197,14 @@ fn with_way<'a>(
     command.arg(way)
 }
 
-/// What the timed rounds are of; of ports if none of `--fair`, `--burst` and `--mutex` is given.
+/// What the timed rounds are of; of ports if none of `--fair`, `--barging` and `--mutex` is given.
 fn way_of(matches: &ArgMatches) -> Way {
     if matches.get_flag("mutex") {
         Way::Mutex
     } else if matches.get_flag("fair") {
         Way::Fair
-    } else if matches.get_flag("burst") {
-        Way::Burst
+    } else if matches.get_flag("barging") {
+        Way::Barging
     } else {
         Way::Ports
     }
@@ -262,7 +262,9 @@ fn bench_at_once<
 >(rt: &R, alloc: Global, threads: u64, wanted: Wanted) -> anyhow::Result<()> {
     match wanted {
         Wanted::Times(Way::Fair, rounds) => measure_fair(rt, alloc, threads, rounds, None),
-        Wanted::Times(Way::Burst, rounds) => measure_fair(rt, alloc, threads, rounds, Some(BURST)),
+        Wanted::Times(Way::Barging, rounds) => {
+            measure_fair(rt, alloc, threads, rounds, Some(BARGING_LIMIT))
+        }
         Wanted::Times(Way::Mutex, rounds) => measure_mutex(rt, alloc, threads, rounds),
         _ => bench::<R, AtOnce, Line<NonDecreasing, Q>>(rt, alloc, AtOnce, threads, wanted),
     }
@@ -331,10 +333,10 @@ fn measure_fair<R: Threads + Wait + Clock + Print + Sync>(
     alloc: Global,
     threads: u64,
     rounds: u64,
-    burst: Option<u16>,
+    barging_limit: Option<u16>,
 ) -> anyhow::Result<()> {
     let start = Instant::now(rt)?;
-    let last = run_fair(rt, alloc, threads as usize, rounds, burst)?;
+    let last = run_fair(rt, alloc, threads as usize, rounds, barging_limit)?;
     show_pace(rt, threads, rounds, start.elapsed(rt)?, &last)
 }
 

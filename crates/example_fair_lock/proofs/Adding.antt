@@ -7,7 +7,7 @@ use prog.Atomic.{either}
 use Rattle.logbook.specs.Pages.{Cell, cell, keeps, no_nib, step, Moves, Goes}
 use Rattle.example_fair_lock.specs.declared.turn.Turn.{Turn}
 use Rattle.example_fair_lock.specs.Turns.{IsChain, last_left}
-use Rattle.example_fair_lock.specs.Rules.{IsKept, Adds}
+use Rattle.example_fair_lock.specs.Books.{IsKept, Adds}
 use Rattle.example_fair_lock.proofs.Fronts.{prefix_whole}
 use Rattle.example_fair_lock.proofs.Chains.{chain_after}
 

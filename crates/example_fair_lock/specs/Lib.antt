@@ -1,2 +1,2 @@
 pub mod Turns
-pub mod Rules
+pub mod Books

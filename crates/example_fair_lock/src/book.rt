@@ -2,19 +2,19 @@
 ghost use Rattle.std.specs.Prelude.{◌≡◌, ◌+◌, ◌==◌, ◌<◌, ◌≤◌, ◌^◌, ◌++◌, ◌∷◌, ◌⊎◌, [], length, MatchBool};
 ghost use mathlib.Core.List.{IsPrefix};
 ghost use Rattle.example_fair_lock.specs.Turns.{IsChain, IsLonger, last_left};
-ghost use Rattle.example_fair_lock.specs.Rules.{head_of};
+ghost use Rattle.example_fair_lock.specs.Books.{head_of};
 
 use crate::turn::Turn;
 use logbook::{Gain, Offer, Plain, Play, Rule, Seen, Start, Word};
 use std::marker::{Brand, Model, PhantomData};
 
-/// The rule of the book.
-pub struct Law;
+/// The invariant of the book.
+pub struct BookInvariant;
 
-impl Rule<Turn, u64> for Law {
+impl Rule<Turn, u64> for BookInvariant {
     ghost use Rattle.std.specs.Prelude.{[]};
     ghost use base.Fml.{ftrue};
-    ghost use Rattle.example_fair_lock.specs.Rules.{IsKept};
+    ghost use Rattle.example_fair_lock.specs.Books.{IsKept};
 
     ghost holds = { λ cells log. IsKept cells log };
 
@@ -26,7 +26,7 @@ impl Rule<Turn, u64> for Law {
 
     ghost keeps = { λ names log. ftrue };
 
-    ghost moves = { λ ask before after answer. Unit {0} };
+    ghost moves = { λ draw before after answer. Unit {0} };
 }
 
 /// Callers trade nothing.
@@ -42,7 +42,7 @@ impl Gain<Turn, u64> for Nothing {
 pub struct Add;
 
 impl Play<Turn, u64> for Add {
-    ghost use Rattle.example_fair_lock.specs.Rules.{Adds};
+    ghost use Rattle.example_fair_lock.specs.Books.{Adds};
 
     ghost then = { Adds };
 }
@@ -51,7 +51,7 @@ impl Play<Turn, u64> for Add {
 impl Plain<Turn, Turn, u64> for Add {
     ghost use Rattle.std.specs.Prelude.{None};
 
-    ghost ask = { λ turn. turn };
+    ghost draw = { λ turn. turn };
 
     ghost state = { λ turn. None };
 }
@@ -69,8 +69,8 @@ impl Naming for Brand {
 
 /// A book with an empty history, which has no name yet.
 pub struct Opened {
-    head: Word<Turn, u64, Law>,
-    seen: Seen<Turn, u64, Law>,
+    head: Word<Turn, u64, BookInvariant>,
+    seen: Seen<Turn, u64, BookInvariant>,
     pub ghost empty: { seen.log ≡ [] },
     pub ghost head_is: { head ≡ head_of seen.book },
 }
@@ -107,7 +107,7 @@ impl Opened {
 /// The word that all threads share: the length of the history.
 #[derive(Drop)]
 pub struct Book<J: Naming> {
-    head: Word<Turn, u64, Law>,
+    head: Word<Turn, u64, BookInvariant>,
     of: PhantomData<J>,
     ghost head_is: { head ≡ head_of J.book },
 }
@@ -116,7 +116,7 @@ pub struct Book<J: Naming> {
 #[derive(Drop)]
 pub struct Front<J: Naming> {
     turns: u64,
-    seen: Seen<Turn, u64, Law>,
+    seen: Seen<Turn, u64, BookInvariant>,
     of: PhantomData<J>,
 }
 
@@ -175,7 +175,7 @@ impl<J: Naming> Front<J> {
         requires next { turn.found ≡ last_left self.old }
         ensures { MatchBool result (self.new ≡ self.old ++ turn ∷ []) (IsLonger self.old self.new) }
     {
-        let mut offer: Offer<Turn, u64, Law, Nothing> = self
+        let mut offer: Offer<Turn, u64, BookInvariant, Nothing> = self
             .seen
             .plain::<Nothing, Turn, Add>(&turn);
         let mut pen = self.seen.no_pen();

@@ -1,7 +1,7 @@
-//! A count of turns, whose total over all threads is proved.
+//! A count of acquisitions, whose total over all threads is proved.
 //!
-//! Each thread has tickets, one for each turn that it is to have. The value under the lock has the book of all tickets
-//! that are left: so the count and they make up the number of turns.
+//! Each thread has tickets, one for each time that it enters. The value under the lock has the book of all tickets that
+//! are left. So the count and the tickets make up the number of acquisitions.
 ghost use Rattle.std.specs.Prelude.{◌≡◌, ℕ, ◌+◌, ◌*◌, ◌^◌, ◌<◌, ◌≤◌, IfSome};
 
 use fair_lock::FairLock;
@@ -12,7 +12,7 @@ use std::sync::ledger::{Blank, Book, Ledger, Share};
 use std::thread;
 use std::thread::Threads;
 
-/// The turns that all threads are to have.
+/// How often all threads enter.
 pub trait Turns: Ledger {
     ghost turns: { ℕ };
 }
@@ -30,7 +30,7 @@ struct Counter<N: Turns> {
     ghost fits: { N.turns < 2 ^ 64 },
 }
 
-/// The tickets of one thread before its turns, and after.
+/// The tickets of one thread before it enters, and after.
 #[derive(Drop)]
 struct Before<N: Turns> {
     tickets: Share<N>,
@@ -47,7 +47,7 @@ struct After<N: Turns> {
 }
 
 impl<N: Turns> Counter<N> {
-    /// Counts a turn, for a ticket.
+    /// Counts an acquisition, for a ticket.
     fn turn(&mut self, tickets: &mut Share<N>)
         requires { 0 < tickets.old.amount }
         ensures amount { tickets.new.amount + 1 ≡ tickets.old.amount }
@@ -69,7 +69,7 @@ impl<N: Turns> Counter<N> {
     }
 }
 
-/// A thread has one turn. It enters, counts, and leaves.
+/// A thread enters once: it counts, and leaves.
 fn have_turn<N: Turns, R: Wait>(rt: &R, lock: &FairLock<Counter<N>>, tickets: &mut Share<N>)
     requires { 0 < tickets.old.amount }
     ensures amount { tickets.new.amount + 1 ≡ tickets.old.amount }
@@ -86,7 +86,7 @@ fn have_turn<N: Turns, R: Wait>(rt: &R, lock: &FairLock<Counter<N>>, tickets: &m
     unreachable!()
 }
 
-/// A thread has its turns: it enters, counts, and leaves, for each ticket.
+/// A thread enters, counts, and leaves, for each ticket.
 fn have_turns<N: Turns, R: Wait>(
     rt: &R,
     lock: &FairLock<Counter<N>>,
@@ -99,11 +99,11 @@ fn have_turns<N: Turns, R: Wait>(
     After { tickets }
 }
 
-/// Has each of `threads` threads count `each` turns. Returns the count at the end, or `None` without memory.
+/// Has each of `threads` threads enter and count `each` times. Returns the count at the end, or `None` without memory.
 fn run<N: Turns + Send + Sync, R: Threads + Wait + Sync>(
     rt: &R,
     alloc: Global,
-    burst: u16,
+    barging_limit: u16,
     blank: Blank,
     threads: u16,
     each: u32,
@@ -116,7 +116,7 @@ fn run<N: Turns + Send + Sync, R: Threads + Wait + Sync>(
 {
     let (mut left, mut all) = blank.open::<N>();
     left.add(&mut all, threads as u64 * each as u64);
-    let lock = make(alloc, burst, Counter { so_far: 0, left })?;
+    let lock = make(alloc, barging_limit, Counter { so_far: 0, left })?;
     let mut jobs = Vec::new(alloc);
     for _i in 0..threads {
         let tickets = all.split_off(1, each as u64);
@@ -133,28 +133,29 @@ fn run<N: Turns + Send + Sync, R: Threads + Wait + Sync>(
     Some(lock.into_inner().total(&mut all))
 }
 
-/// A lock with bursts of at most `burst` turns, or a strict one if they are fewer than two. `None` without memory.
-fn make<T: Drop>(alloc: Global, burst: u16, value: T) -> Option<FairLock<T>>
-    ensures strict { burst < 2 → IfSome result (λ lock. lock.burst ≡ 1) }
-    ensures bursts { 2 ≤ burst → IfSome result (λ lock. lock.burst ≡ burst) }
+/// A barging lock with this limit, or a strict lock if the limit is less than two. `None` without memory.
+fn make<T: Drop>(alloc: Global, barging_limit: u16, value: T) -> Option<FairLock<T>>
+    ensures strict { barging_limit < 2 → IfSome result (λ lock. lock.barging_limit ≡ 1) }
+    ensures barging { 2 ≤ barging_limit →
+        IfSome result (λ lock. lock.barging_limit ≡ barging_limit) }
 {
-    if burst < 2 {
+    if barging_limit < 2 {
         FairLock::new(alloc, value).ok()
     } else {
-        FairLock::with_bursts(alloc, burst, value).ok()
+        FairLock::with_barging(alloc, barging_limit, value).ok()
     }
 }
 
-/// Has each of `threads` threads count `each` turns. Returns the count at the end, or `None` without memory.
+/// Has each of `threads` threads enter and count `each` times. Returns the count at the end, or `None` without memory.
 pub fn count<R: Threads + Wait + Sync>(
     rt: &R,
     alloc: Global,
-    burst: u16,
+    barging_limit: u16,
     threads: u16,
     each: u32,
 ) -> Option<u64>
     ensures { IfSome result (λ n. n ≡ threads * each) }
 {
     let blank = Blank::new(threads as u64 + 1);
-    run::<Brand, R>(rt, alloc, burst, blank, threads, each)
+    run::<Brand, R>(rt, alloc, barging_limit, blank, threads, each)
 }

@@ -1,4 +1,5 @@
-//! A number, and the history of all turns at it: each turn begins with what the last one left, whichever thread had it.
+//! A number, and the history of all turns at it: each turn, which is one critical section, begins with what the last one
+//! left, whichever thread had it.
 ghost use Rattle.std.specs.Prelude.{◌≡◌, [], ◌∷◌, ◌++◌, length, Some, IfSome, IfNone, slice_get};
 ghost use Rattle.example_fair_lock.specs.Turns.{BeginsWithTheLast, HasAdded, last_left};
 
@@ -130,7 +131,7 @@ fn turns_of<J: Naming + Send + Sync, R: Threads + Wait + Sync>(
     Some((one.turn, two.turn))
 }
 
-/// The same, of a new history.
+/// Does the same with a new history.
 pub fn found_and_left<R: Threads + Wait + Sync>(
     rt: &R,
     alloc: Global,

@@ -1,4 +1,4 @@
-//! Two purses under one lock: whoever is served sees as many coins as there were, however they are moved.
+//! Two purses under one lock: a thread that is served sees as many coins as there were, however they are moved.
 ghost use Rattle.std.specs.Prelude.{◌≡◌, ◌+◌, ◌<◌, ◌≤◌, IfSome};
 
 use fair_lock::FairLock;

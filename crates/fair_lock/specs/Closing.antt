@@ -1,18 +1,18 @@
--- What a thread knows that has no turn.
+-- What a thread knows that is not served.
 use Rattle.std.specs.Prelude.{◌≡◌, ℕ, ◌≤◌}
 use Rattle.atomic_table.specs.declared.shared.Seat.{Seat}
 use Rattle.lock_core.specs.declared.view.View.{View}
 use Rattle.std.specs.declared.time.Duration.{Duration}
 use Rattle.lock_core.specs.Views.{view_of, IsSeatOf, IsIdle, IsOutside, IsNotServed, KnowsShut}
 use Rattle.fair_lock.specs.declared.lock.FairLock.{FairLock}
-use Rattle.fair_lock.specs.declared.closed.Closed.{Closed}
-use Rattle.fair_lock.specs.declared.closed.Busy.{Busy}
-use Rattle.fair_lock.specs.declared.closed.Late.{Late}
-use Rattle.fair_lock.specs.declared.closed.Left.{Left}
-use Rattle.fair_lock.specs.declared.closed.TryEnterError.{TryEnterError}
-use Rattle.fair_lock.specs.declared.closed.TryEnterError.TheVariants as tried
-use Rattle.fair_lock.specs.declared.closed.EnterError.{EnterError}
-use Rattle.fair_lock.specs.declared.closed.EnterError.TheVariants as entered
+use Rattle.fair_lock.specs.declared.outcomes.Closed.{Closed}
+use Rattle.fair_lock.specs.declared.outcomes.Busy.{Busy}
+use Rattle.fair_lock.specs.declared.outcomes.TimedOut.{TimedOut}
+use Rattle.fair_lock.specs.declared.outcomes.Left.{Left}
+use Rattle.fair_lock.specs.declared.outcomes.TryEnterError.{TryEnterError}
+use Rattle.fair_lock.specs.declared.outcomes.TryEnterError.TheVariants as tried
+use Rattle.fair_lock.specs.declared.outcomes.EnterError.{EnterError}
+use Rattle.fair_lock.specs.declared.outcomes.EnterError.TheVariants as entered
 
 -- it is not inside
 abbrev pub IsOut : View → Type 0
@@ -20,16 +20,16 @@ IsOut v = v.inside ≡ 0
 
 module _ {T : Type 0} where
   -- it has no request at this lock, and is outside
-  abbrev pub AsksNothing : FairLock T → Seat T View → Type 0
-  AsksNothing lock seat = (seat.table_id ≡ lock.table.shared.table_id) × IsOutside (view_of seat)
+  abbrev pub HasNoRequest : FairLock T → Seat T View → Type 0
+  HasNoRequest lock seat = (seat.table_id ≡ lock.table.shared.table_id) × IsOutside (view_of seat)
 
-  -- the span of this length was over, and it asks nothing
-  abbrev pub IsLateAt : FairLock T → Duration → Late T → Type 0
-  IsLateAt lock at_most late = AsksNothing lock late.seat × (late.over.at_most ≡ at_most)
+  -- the span of this length was over, and it has no request
+  abbrev pub IsTimedOutAt : FairLock T → Duration → TimedOut T → Type 0
+  IsTimedOutAt lock at_most timed_out = HasNoRequest lock timed_out.seat × (timed_out.over.at_most ≡ at_most)
 
-  -- it was told that this lock is shut, and has no turn
+  -- it was told that this lock is shut, and is not served
   abbrev pub IsToldShut : FairLock T → Closed T → Type 0
-  IsToldShut lock c = AsksNothing lock c.seat × IsNotServed (view_of c.seat) × KnowsShut (view_of c.seat)
+  IsToldShut lock c = HasNoRequest lock c.seat × IsNotServed (view_of c.seat) × KnowsShut (view_of c.seat)
 
   abbrev pub IfTryClosed : (Closed T → Type 0) → TryEnterError T → Type 0
   IfTryClosed P (tried.Busy b) = Unit {0}
@@ -41,15 +41,15 @@ module _ {T : Type 0} where
 
   abbrev pub IfEnterClosed : (Closed T → Type 0) → EnterError T → Type 0
   IfEnterClosed P (entered.Closed c) = P c
-  IfEnterClosed P (entered.Late l) = Unit {0}
+  IfEnterClosed P (entered.TimedOut l) = Unit {0}
 
-  abbrev pub IfEnterLate : (Late T → Type 0) → EnterError T → Type 0
-  IfEnterLate P (entered.Closed c) = Unit {0}
-  IfEnterLate P (entered.Late l) = P l
+  abbrev pub IfEnterTimedOut : (TimedOut T → Type 0) → EnterError T → Type 0
+  IfEnterTimedOut P (entered.Closed c) = Unit {0}
+  IfEnterTimedOut P (entered.TimedOut l) = P l
 
   -- it has left this lock: its request has ended, it is outside, and is not served
   abbrev pub HasLeft : FairLock T → Left T → Type 0
-  HasLeft lock l = IsSeatOf lock.table.shared.table_id lock.table.shared.key l.seat × IsIdle (view_of l.seat) × IsNotServed (view_of l.seat) × (2 ≤ lock.burst → IsOutside (view_of l.seat))
+  HasLeft lock l = IsSeatOf lock.table.shared.table_id lock.table.shared.key l.seat × IsIdle (view_of l.seat) × IsNotServed (view_of l.seat) × (2 ≤ lock.barging_limit → IsOutside (view_of l.seat))
 
   -- the requests of smaller numbers than this have ended, as far as it knows
   abbrev pub ended_by : Left T → ℕ

@@ -3,5 +3,5 @@ pub mod Wakes
 pub mod Turns
 pub mod Found
 pub mod Spans
-pub mod Limits
+pub mod Timeouts
 pub mod Closing

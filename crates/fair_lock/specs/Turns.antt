@@ -1,4 +1,4 @@
--- A turn at a lock, in the words of the clauses.
+-- A critical section at a lock, in the words of the clauses.
 use Rattle.std.specs.Prelude.{◌≡◌, ◌≢◌, ℕ, ◌+◌, ◌-◌, ◌*◌, ◌%◌, ◌≤◌, ◌⊎◌, []}
 use Rattle.std.specs.Borrow.{Lends, MutBor, Fml}
 use mir.Syntax.{named}
@@ -6,31 +6,32 @@ use denote.RattleType.{RattleType}
 use Rattle.atomic_table.specs.declared.shared.Seat.{Seat}
 use Rattle.atomic_table.specs.Lent.{seat_with}
 use Rattle.lock_core.specs.declared.view.View.{View}
-use Rattle.lock_core.specs.Views.{view_of, IsSeatOf, IsAtTurn, IsInside, IsNewcomersTurn, ServedOpen}
+use Rattle.lock_core.specs.Views.{view_of, IsSeatOf, IsAtTurn, IsInside, IsNewcomer, ServedOpen}
 use Rattle.fair_lock.specs.declared.guard.Guard.{Guard}
 use Rattle.fair_lock.specs.contracts.guard.Guard.{the_row}
 
--- a turn at a lock with this bound of bursts: in a strict lock its ticket is granted, and all requests before have ended; with bursts it is inside.
+-- It is served at a lock with this barging limit: in a strict lock its ticket is granted, and all requests before have ended; in a barging lock it is
+-- inside.
 abbrev pub IsServed : ℕ → ℕ → View → Type 0
-IsServed burst ticket v = (burst ≤ 1 → IsAtTurn ticket v) × (2 ≤ burst → IsInside v) × (v.door ≢ 0)
+IsServed barging_limit ticket v = (barging_limit ≤ 1 → IsAtTurn ticket v) × (2 ≤ barging_limit → IsInside v) × (v.door ≢ 0)
 
--- It came by a ticket, of the number t: since it drew that, at most burst - 1 newcomers went in before each turn of the queue, from the first that was not
--- over then up to its own. With p requests before it those are (p + 1) * (burst - 1), and nobody in a strict lock.
+-- It came by a ticket, of the number t: since it drew that, at most barging_limit - 1 newcomers went in before each turn of the queue, from the first that
+-- was not over then up to its own. With p requests before it those are (p + 1) * (barging_limit - 1), and nobody in a strict lock.
 abbrev pub CameByTicket : ℕ → ℕ → View → Type 0
-CameByTicket burst ticket v = (t : ℕ) × (ticket ≡ t % 18446744073709551616) × (t ≤ v.ticket) × (v.newcomers_seen ≤ v.newcomers_at_ask + (burst - 1) * (t + 1 - v.first_pending))
+CameByTicket barging_limit ticket v = (t : ℕ) × (ticket ≡ t % 18446744073709551616) × (t ≤ v.ticket) × (v.newcomers_seen ≤ v.newcomers_at_draw + (barging_limit - 1) * (t + 1 - v.first_pending))
 
--- or it is a newcomer of a lock with bursts, one of at most burst - 1 since the last queue head
+-- or it is a newcomer, which is a thread that barged: one of at most barging_limit - 1 since the last queue head
 abbrev pub CameInOrder : ℕ → ℕ → View → Type 0
-CameInOrder burst ticket v = CameByTicket burst ticket v ⊎ IsNewcomersTurn v
+CameInOrder barging_limit ticket v = CameByTicket barging_limit ticket v ⊎ IsNewcomer v
 
 module _ {T : Type 0} where
-  -- its call has taken at most k word steps
+  -- its call has taken at most k atomic steps
   abbrev pub TookAtMost : ℕ → Seat T View → Type 0
   TookAtMost k seat = (view_of seat).looks.steps ≤ k
 
-  -- its turn came in order, with at most as many newcomers before it as the bound allows
+  -- it came in order, overtaken by at most as many newcomers as the bound allows
   abbrev pub IsInOrder : Guard T → Type 0
-  IsInOrder g = CameInOrder g.lock.now.burst g.ticket (view_of g.seat)
+  IsInOrder g = CameInOrder g.lock.now.barging_limit g.ticket (view_of g.seat)
 
   -- the number of its request, among all at a strict lock
   abbrev pub number_of : Guard T → ℕ
@@ -38,7 +39,7 @@ module _ {T : Type 0} where
 
   -- a guard of its lock
   unfoldable pub IsGuard : Guard T → Type 0
-  IsGuard g = IsSeatOf g.lock.now.table.shared.table_id g.lock.now.table.shared.key g.seat × IsServed g.lock.now.burst g.ticket (view_of g.seat)
+  IsGuard g = IsSeatOf g.lock.now.table.shared.table_id g.lock.now.table.shared.key g.seat × IsServed g.lock.now.barging_limit g.ticket (view_of g.seat)
 
   -- it was told that the lock is open
   abbrev pub IsOpen : Guard T → Type 0

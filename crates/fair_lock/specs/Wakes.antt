@@ -4,7 +4,7 @@ use Rattle.atomic_table.specs.declared.shared.Seat.{Seat}
 use Rattle.lock_core.specs.declared.view.View.{View}
 use Rattle.lock_core.specs.Layout.{count_of, asleep_of}
 use Rattle.lock_core.specs.Views.{GrantedToNobodyAsleep, LeftQuietly}
-use Rattle.fair_lock.specs.declared.duty.ToWake.{ToWake}
+use Rattle.fair_lock.specs.declared.releasing.ToWake.{ToWake}
 use Rattle.fair_lock.specs.declared.wake.Look.{Look}
 use Rattle.fair_lock.specs.declared.wake.Seen.{Seen}
 use Rattle.fair_lock.specs.declared.wake.Counted.{Counted}
@@ -36,12 +36,13 @@ IfNotAnnounced announced.Not P = P
 abbrev pub IsAtWordOf : Seen → Counted → Type 0
 IsAtWordOf seen counted = (counted.place ≡ seen.place) × (counted.low ≡ seen.low)
 
--- Who granted a ticket is to wake the sleepers at that ticket's wake word: where it is to wake any, its step found some counted there. Where it is to wake
--- nobody, nobody slept for the ticket.
+-- The thread that granted a ticket must wake the sleepers at that ticket's wake word: where it must wake any, its step found some counted there. Where it
+-- must wake nobody, nobody slept for the ticket.
 abbrev pub IsToldOf : ToWake → View → Type 0
 IsToldOf told v = (told.place ≡ v.granted % 32) × (told.asleep ≡ true → 0 < count_of v.looks.found) × (told.asleep ≡ false → GrantedToNobodyAsleep v)
 
--- Who left the outer word is to wake the queue head at its wake word, where its step found that asleep. Where it is to wake nobody, no queue head slept there.
+-- The thread that left the lock word must wake the queue head at its wake word, where its step found the queue head asleep. Where it must wake nobody,
+-- no queue head slept there.
 abbrev pub IsToldOfHead : ToWake → View → Type 0
 IsToldOfHead told v = (told.place ≡ 32) × (told.asleep ≡ true → asleep_of v.looks.found ≡ 1) × (told.asleep ≡ false → LeftQuietly v)
 

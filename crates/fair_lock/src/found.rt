@@ -6,12 +6,12 @@ ghost use Rattle.fair_lock.specs.Found.{ShowsTaken};
 
 use lock_core::ValueSeat;
 
-/// The lock was taken: another thread was served, waited, or asked at that moment. The caller was outside.
+/// The lock was taken: another thread was served, waited, or drew a ticket at that moment. The caller was outside.
 #[derive(Drop)]
 pub(crate) struct FoundTaken(());
 
 impl FoundTaken {
-    /// By the last steps of the seat.
+    /// Makes the token by the last steps of the seat.
     pub(crate) fn by<T>(seat: &ValueSeat<T>) -> FoundTaken
         requires taken { ShowsTaken seat.now }
         requires out { InTime seat.now IsOut }

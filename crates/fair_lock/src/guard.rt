@@ -1,4 +1,4 @@
-//! A turn at a lock, with the right to its value.
+//! A critical section at a lock, with the right to its value.
 ghost use Rattle.std.specs.Prelude.{◌≡◌, ◌<◌, ◌≤◌, ◌∷◌, [], IsTrue};
 ghost use Rattle.std.specs.Borrow.{sem, Lends};
 ghost use Rattle.lock_core.specs.Views.{view_of, InTime, IsSeatOf, KnowsShut, SameKnown};
@@ -6,13 +6,13 @@ ghost use Rattle.lock_core.specs.Looks.{StepsLater, LeavesAsFound};
 ghost use Rattle.fair_lock.specs.Closing.{HasLeft, ended_by};
 ghost use Rattle.fair_lock.specs.Turns.{IsServed, CameInOrder, IsGuard, IsInOrder, IsOpen, LendsValue, SameValue, number_of, with_value};
 
-use crate::closed::Left;
+use crate::drawing::Turn;
 use crate::lock::FairLock;
-use crate::queue::Turn;
+use crate::outcomes::Left;
 use lock_core::ValueSeat;
 use std::sync::Wait;
 
-/// A turn at a lock. It lends the lock's value, and its thread has to leave: the type is not `Drop`.
+/// A critical section at a lock. The guard lends the lock's value, and its thread must leave: the type is not `Drop`.
 pub struct Guard<'a, T> {
     pub(crate) lock: &'a FairLock<T>,
     pub(crate) seat: ValueSeat<T>,
@@ -21,12 +21,12 @@ pub struct Guard<'a, T> {
 }
 
 impl<T> FairLock<T> {
-    /// The guard of a thread that is served, and came in its order.
+    /// Returns the guard of a thread that is served, and came in its order.
     #[tactic(auto, unfolding(crate::specs::Turns::IsGuard))]
     pub(crate) fn guard(&self, seat: ValueSeat<T>, turn: Turn) -> Guard<'_, T>
         requires seat { IsSeatOf self.now.table.shared.table_id self.now.table.shared.key seat }
-        requires served { InTime seat (IsServed self.now.burst turn.ticket) }
-        requires order { InTime seat (CameInOrder self.now.burst turn.ticket) }
+        requires served { InTime seat (IsServed self.now.barging_limit turn.ticket) }
+        requires order { InTime seat (CameInOrder self.now.barging_limit turn.ticket) }
         ensures guard { IsGuard result }
         ensures order { IsInOrder result }
         ensures lock { result.lock.now ≡ self.now }
@@ -53,8 +53,8 @@ impl<T> Guard<'_, T> {
         self.seat.slot_mut(&lock.table.shared, 0)
     }
 
-    /// Shuts the lock: there are no turns after this one, and who waits for one learns that. One word step. Until this
-    /// turn ends `try_enter` is busy.
+    /// Shuts the lock: nobody is served after this thread, and each waiter learns that the lock is shut. One atomic step.
+    /// Until this thread leaves, `try_enter` is busy.
     #[tactic(auto, unfolding(crate::specs::Turns::IsGuard))]
     pub fn shut(&mut self)
         requires guard { IsGuard self.old }
@@ -68,16 +68,17 @@ impl<T> Guard<'_, T> {
         lock_core::shut(&self.lock.table.shared, &mut self.seat);
     }
 
-    /// Ends the turn: grants the next ticket, or with bursts leaves the outer word, and wakes who sleeps for that. Does not
-    /// block. A lock that was shut stays shut.
+    /// Ends the critical section: grants the next ticket, or leaves the lock word of a barging lock, and wakes the threads
+    /// that sleep for that. Does not block. A lock that was shut stays shut.
     #[tactic(auto, unfolding(crate::specs::Turns::IsGuard))]
     pub fn leave<R: Wait>(self, rt: &R) -> Left<T>
         requires guard { IsGuard self }
         ensures left { HasLeft self.entry.lock.now result }
-        ensures over { self.entry.lock.now.burst ≤ 1 → number_of self.entry < ended_by result }
+        ensures over { self.entry.lock.now.barging_limit ≤ 1
+            → number_of self.entry < ended_by result }
         ensures known { SameKnown (view_of self.entry.seat) (view_of result.seat) }
-        ensures bursts { 2 ≤ self.entry.lock.now.burst
-            → LeavesAsFound self.entry.lock.now.burst result.seat }
+        ensures barging { 2 ≤ self.entry.lock.now.barging_limit
+            → LeavesAsFound self.entry.lock.now.barging_limit result.seat }
     {
         let Guard {
             lock,
@@ -85,23 +86,23 @@ impl<T> Guard<'_, T> {
             ticket,
             slept,
         } = self;
-        if lock.burst < 2 {
+        if lock.barging_limit < 2 {
             lock.wakes
-                .wake(lock.pass_on(rt, &mut seat, Turn { ticket, slept }));
+                .wake(lock.release(rt, &mut seat, Turn { ticket, slept }));
         } else {
-            lock.wakes.wake(lock.leave_outer(rt, &mut seat));
+            lock.wakes.wake(lock.leave_lock_word(rt, &mut seat));
         }
         Left { seat }
     }
 
-    /// Shows in a proof that the turns of a strict lock are in the order of requests: each request that `left` knows to
+    /// Shows in a proof that a strict lock serves its callers in the order of requests: each request that `left` knows to
     /// have ended is before the guard's own. One load.
     ///
-    /// So of two guards of one lock, the turn of the one with the smaller number ended before that of the other began.
+    /// So of two guards of one lock, the one with the smaller number left before the other was served.
     #[tactic(auto, unfolding(crate::specs::Turns::IsGuard))]
     pub fn learn_order(&mut self, left: Left<T>)
         requires guard { IsGuard self.old }
-        requires strict { self.old.lock.now.burst ≤ 1 }
+        requires strict { self.old.lock.now.barging_limit ≤ 1 }
         requires left { HasLeft self.old.lock.now left }
         ensures guard { IsGuard self.new }
         ensures number { number_of self.new ≡ number_of self.old }

@@ -1,22 +1,23 @@
-//! A lock of a value for threads that come and go: in strict order, or with bursts.
+//! A lock of a value for threads that come and go, in strict order or with barging.
 #![tactic(auto)]
 
-mod closed;
-mod duty;
+mod drawing;
+mod entering;
+mod entering_within;
 mod found;
 mod guard;
 mod head;
 mod lock;
-mod nap;
-mod queue;
+mod outcomes;
+mod policy;
 mod reading;
+mod releasing;
 mod span;
-mod timed;
-mod turns;
+mod waiting;
 mod wake;
 mod watch;
 
-pub use closed::{Busy, Closed, EnterError, Late, Left, TryEnterError};
 pub use guard::Guard;
 pub use lock::{FairLock, NewError};
 pub use lock_core::{LockKind, OpenError};
+pub use outcomes::{Busy, Closed, EnterError, Left, TimedOut, TryEnterError};

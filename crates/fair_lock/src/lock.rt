@@ -1,23 +1,23 @@
 //! A lock of a value: how it is made, and taken apart.
 ghost use Rattle.std.specs.Prelude.{◌≡◌, ◌≤◌, IfOk, IfErr};
 ghost use Rattle.lock_core.specs.Layout.{IsValueTable};
-ghost use Rattle.lock_core.specs.Answers.{max_burst_of, HasLongBursts, IsOpenErrorOf};
+ghost use Rattle.lock_core.specs.Answers.{barging_limit_of, HasValidLimit, IsOpenErrorOf};
 
 use crate::wake::WakeWords;
 use lock_core::{LockKind, OpenError, OpenValueError, ValueTable, check_kind, open_value};
 use std::alloc::{AllocFailed, Global};
 
-/// A lock of a value, for threads that come and go: in strict order, or with bursts.
+/// A lock of a value for threads that come and go, in strict order or with barging.
 ///
 /// It owns the value. A thread enters, and has a guard that lends the value until it leaves.
 #[derive(Drop)]
 pub struct FairLock<T> {
     pub(crate) table: ValueTable<T>,
     pub(crate) wakes: WakeWords,
-    /// The most turns from one queue head's to the next: 1 in a strict lock.
-    pub burst: u64,
+    /// The most acquisitions from one queue head's to the next, which is 1 in a strict lock.
+    pub barging_limit: u64,
     ghost sized: { IsValueTable table.shared.table_id },
-    ghost bound: { table.shared.key ≡ burst },
+    ghost bound: { table.shared.key ≡ barging_limit },
 }
 
 /// Why a lock was not made, with the value.
@@ -28,35 +28,41 @@ pub struct NewError<T> {
 }
 
 impl<T> FairLock<T> {
-    /// Makes a strict lock: turns are in the order of requests. Allocates.
+    /// Makes a strict lock, which serves its callers in the order of requests. Allocates.
     ///
     /// # Errors
     ///
     /// `OpenError::Memory` where memory is short. The value is returned.
     pub fn new(alloc: Global, value: T) -> Result<FairLock<T>, NewError<T>>
-        ensures strict { IfOk result (λ lock. lock.burst ≡ 1) }
+        ensures strict { IfOk result (λ lock. lock.barging_limit ≡ 1) }
         ensures err { IfErr result (λ e. (e.value ≡ value) × (e.error ≡ OpenError.Memory)) }
     {
         FairLock::of_kind(alloc, LockKind::Strict, value)
     }
 
-    /// Makes a lock with bursts of at most `turns` turns, from 2 to 65,535: a newcomer may overtake the queue, by at most
-    /// `turns` - 1 turns from one queue head's to the next. Allocates.
+    /// Makes a barging lock, in which newly arriving threads may overtake the queue: at most `barging_limit` - 1 of them
+    /// from one queue head to the next. The limit is from 2 to 65,535. Allocates.
     ///
     /// # Errors
     ///
-    /// `OpenError::ShortBurst` for fewer than two turns, `OpenError::Memory` where memory is short. The value is returned.
-    pub fn with_bursts(alloc: Global, turns: u16, value: T) -> Result<FairLock<T>, NewError<T>>
-        ensures bursts { IfOk result (λ lock. (lock.burst ≡ turns) × (2 ≤ turns)) }
+    /// `OpenError::BadBargingLimit` for a limit of less than two, `OpenError::Memory` where memory is short. The value is
+    /// returned.
+    pub fn with_barging(
+        alloc: Global,
+        barging_limit: u16,
+        value: T,
+    ) -> Result<FairLock<T>, NewError<T>>
+        ensures barging { IfOk result (λ lock. (lock.barging_limit ≡ barging_limit)
+            × (2 ≤ barging_limit)) }
         ensures err { IfErr result (λ e. (e.value ≡ value)
-            × IsOpenErrorOf (LockKind.Bursts turns) e.error) }
+            × IsOpenErrorOf (LockKind.Barging barging_limit) e.error) }
     {
-        FairLock::of_kind(alloc, LockKind::Bursts(turns), value)
+        FairLock::of_kind(alloc, LockKind::Barging(barging_limit), value)
     }
 
     fn of_kind(alloc: Global, kind: LockKind, value: T) -> Result<FairLock<T>, NewError<T>>
-        ensures burst { IfOk result (λ lock. lock.burst ≡ max_burst_of kind) }
-        ensures long { IfOk result (λ _. HasLongBursts kind) }
+        ensures barging_limit { IfOk result (λ lock. lock.barging_limit ≡ barging_limit_of kind) }
+        ensures long { IfOk result (λ _. HasValidLimit kind) }
         ensures err { IfErr result (λ e. (e.value ≡ value) × IsOpenErrorOf kind e.error) }
     {
         if let Err(error) = check_kind(kind) {
@@ -81,7 +87,7 @@ impl<T> FairLock<T> {
             Ok(table) => Ok(FairLock {
                 table,
                 wakes,
-                burst: kind.max_burst(),
+                barging_limit: kind.barging_limit(),
             }),
             Err(OpenValueError { error, mut values }) => {
                 let Some(value) = values.pop() else {
@@ -98,7 +104,7 @@ impl<T> FairLock<T> {
         let FairLock {
             table,
             wakes: _,
-            burst: _,
+            barging_limit: _,
         } = self;
         let mut closed = table.close();
         let value = closed.take(0);

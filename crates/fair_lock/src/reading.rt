@@ -1,4 +1,5 @@
-//! A reading of the clock. Only the function here makes one, and none can be copied: who shows one has read the clock.
+//! A reading of the clock. Only the function here makes one, and none can be copied: a caller that shows one has read
+//! the clock.
 ghost use Rattle.std.specs.Prelude.{◌≡◌};
 
 use std::rt::Clock;

@@ -35,7 +35,7 @@ pub(crate) struct Rest {
 }
 
 impl Span {
-    ghost use Rattle.fair_lock.specs.Limits.{IsRestOf};
+    ghost use Rattle.fair_lock.specs.Timeouts.{IsRestOf};
 
     /// Begins a span, by a reading of the clock.
     pub(crate) fn begin<R: Clock>(rt: &R, at_most: Duration) -> Span
@@ -47,7 +47,7 @@ impl Span {
         }
     }
 
-    /// What is left of the span, unless it is over.
+    /// Returns what is left of the span, unless it is over.
     pub(crate) fn left<R: Clock>(&self, rt: &R) -> Result<Rest, Over>
         ensures over { IfErr result (λ over. over.at_most ≡ self.now.at_most) }
         ensures since { IfErr result (λ over. over.since ≡ self.now.since.at) }
@@ -69,7 +69,7 @@ impl Span {
 }
 
 impl Rest {
-    /// How long it is.
+    /// Returns how long it is.
     pub(crate) fn left(&self) -> Duration
         ensures { result ≡ self.now.left }
     {
@@ -77,7 +77,7 @@ impl Rest {
     }
 }
 
-/// What is left of `at_most` since the one reading, by the other: nothing if either failed.
+/// Returns what is left of `at_most` since the one reading, by the other: nothing if either failed.
 #[tactic(auto, unfolding(crate::specs::Spans::nanos_left))]
 fn left_at(since: Option<Instant>, at_most: Duration, now: Option<Instant>) -> Duration
     ensures { as_nanos result ≡ nanos_left since at_most now }

@@ -2,12 +2,13 @@
 //!
 //! The kernel compares the low half of a word before it puts a thread to sleep, and a grant changes the high half of a
 //! cell. So waiters sleep at words of their own, 32 by their tickets and one for the queue head. A waiter reads that word,
-//! announces its sleep by the proved call, and sleeps while the word is what it read. Who is told of sleepers adds one to
-//! the word of the ticket that it granted, and then wakes all there. So between the announcement and the sleep no wake is
-//! lost, and 32 waiters in a row have a word each. Who slept wakes the waiter behind that ticket, too.
+//! announces its sleep by the proved call, and sleeps while the word is what it read. A thread that is told of sleepers
+//! adds one to the word of the ticket that it granted, and then wakes all that sleep there. So no wake is lost between the
+//! announcement and the sleep, and 32 waiters in a row have a word each. A thread that slept also wakes the waiter behind
+//! that ticket.
 ghost use Rattle.std.specs.Prelude.{◌≡◌, ◌<◌, ◌≤◌, ◌%◌, IfSome, IfNone};
-ghost use Rattle.lock_core.specs.Layout.{HasLockWords, cell_at, outer_at, handoff_of, to_go};
-ghost use Rattle.lock_core.specs.Views.{view_of, InTime, InTimeFrom, LoadGrows, IsSeatOf, IsQueued, IsQueuedWithin, IsAsleep, IsAtTurn, IsOvertakenInBounds, SameInside, SleepsAtOuter, SleepsInTake, Kept};
+ghost use Rattle.lock_core.specs.Layout.{HasLockWords, cell_at, lock_word_at, handoff_of, to_go};
+ghost use Rattle.lock_core.specs.Views.{view_of, InTime, InTimeFrom, LoadGrows, IsSeatOf, IsQueued, IsQueuedWithin, IsAsleep, IsAtTurn, IsOvertakenInBounds, SameInside, SleepsAtLockWord, SleepsInTake, Kept};
 ghost use Rattle.lock_core.specs.Looks.{StepsLater, Found, Leaves, Changes, IsNotedAsleep};
 ghost use Rattle.fair_lock.specs.Found.{FoundWaiting, FoundNoPlace, FoundNotHeld};
 ghost use Rattle.fair_lock.specs.WakeSteps as steps;
@@ -38,10 +39,10 @@ pub(crate) struct Look {
 /// Shows in proofs what the last step on a wake word was. It has no bytes.
 pub(crate) type WordSeat = Seat<u64, Look>;
 
-/// The rule of the wake words: none.
-pub(crate) struct WakeRule;
+/// The invariant of the wake words: none.
+pub(crate) struct WakeInvariant;
 
-impl TableRule<u64, Look, u64> for WakeRule {
+impl TableRule<u64, Look, u64> for WakeInvariant {
     ghost holds = { λ _ _. Unit {0} };
 
     ghost first = { λ _. steps.nothing_shown };
@@ -64,7 +65,7 @@ impl Play<u64, Look> for Add {
 /// The wake words of a lock.
 #[derive(Drop)]
 pub(crate) struct WakeWords {
-    table: Table<u64, Look, u64, WakeRule, Global>,
+    table: Table<u64, Look, u64, WakeInvariant, Global>,
     ghost sized: { table.shared.table_id.words ≡ 40 },
 }
 
@@ -142,7 +143,7 @@ impl WakeWords {
         self.sleep_at(rt, counted.place, counted.low, counted);
     }
 
-    /// The same, for no longer than is left.
+    /// Sleeps in the same way, for no longer than is left.
     pub(crate) fn park_timeout<R: Wait>(&self, rt: &R, counted: &Counted, rest: &Rest) {
         self.sleep_at_within(rt, counted.place, counted.low, counted, rest.left(), rest);
     }
@@ -156,7 +157,7 @@ impl WakeWords {
         self.table.shared.park(rt, place, low);
     }
 
-    /// The same, for at most `at_most`.
+    /// Does the same, for at most `at_most`.
     fn sleep_at_within<R: Wait>(
         &self,
         rt: &R,
@@ -168,7 +169,7 @@ impl WakeWords {
     )
         requires place { place ≡ counted.now.place }
         requires low { low ≡ counted.now.low }
-        requires limit { at_most ≡ rest.now.left }
+        requires timeout { at_most ≡ rest.now.left }
     {
         let _ = counted;
         let _ = rest;
@@ -246,8 +247,8 @@ impl Seen {
         }
     }
 
-    /// Announces the sleep of the queue head that has requested a handoff and read its wake word. What it answers is noted
-    /// by a step of this call.
+    /// Announces the sleep of the queue head that has requested a handoff and read its wake word. A step of this call notes
+    /// what it answers.
     pub(crate) fn announce_head<T>(
         self,
         table: &SharedValue<T>,
@@ -256,14 +257,14 @@ impl Seen {
         requires table { HasLockWords table.now.table_id }
         requires place { self.place ≡ 32 }
         requires seat { IsSeatOf table.now.table_id table.now.key seat.old }
-        requires requested { Leaves outer_at (λ n. handoff_of n ≡ 1) seat.old }
+        requires requested { Leaves lock_word_at (λ n. handoff_of n ≡ 1) seat.old }
         ensures seat { IsSeatOf table.now.table_id table.now.key seat.new }
         ensures load { LoadGrows seat.old seat.new }
         ensures kept { Kept (view_of seat.old) (view_of seat.new) }
-        ensures asleep { IfSome result (λ _. SleepsAtOuter (view_of seat.new)) }
+        ensures asleep { IfSome result (λ _. SleepsAtLockWord (view_of seat.new)) }
         ensures in_take { IfSome result (λ _. InTimeFrom seat.old seat.new SleepsInTake) }
         ensures steps { IfSome result (λ _. StepsLater 2 seat.old seat.new) }
-        ensures noted { IfSome result (λ _. Changes outer_at IsNotedAsleep seat.new) }
+        ensures noted { IfSome result (λ _. Changes lock_word_at IsNotedAsleep seat.new) }
         ensures word { IfSome result (IsAtWordOf self) }
         ensures place { IfSome result (λ counted. counted.place ≡ 32) }
         ensures not_held { IfNone result (FoundNotHeld seat.new) }
@@ -274,7 +275,7 @@ impl Seen {
             step: _,
         } = self;
         match announce_head_sleep(table, seat) {
-            HeadSleepResult::Asleep { outer: _ } => Some(Counted { place, low }),
+            HeadSleepResult::Asleep { lock_word: _ } => Some(Counted { place, low }),
             HeadSleepResult::NotHeld | HeadSleepResult::Changed => None,
         }
     }
@@ -303,7 +304,7 @@ impl Counted {
         retract_sleep(table, seat, ticket)
     }
 
-    /// The queue head has slept, and looks at the outer word again: its note there is taken off by whoever leaves.
+    /// The queue head has slept, and looks at the lock word again: the thread that leaves takes its note off there.
     pub(crate) fn woken(self) {
         let Counted { place: _, low: _ } = self;
     }

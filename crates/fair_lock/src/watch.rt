@@ -1,23 +1,14 @@
-//! How the queue head of a lock with bursts watches the outer word, so that newcomers have their burst.
+//! How the queue head of a barging lock watches the lock word, so that threads may barge for a while.
 ghost use Rattle.std.specs.Prelude.{◌≡◌, ◌≢◌, ◌+◌, ◌≤◌, Some, false};
 ghost use Rattle.lock_core.specs.Answers.{IfSeenHeld, IfSeenFree, IfSeenForHead};
 
-use crate::queue::pause;
-use lock_core::OuterState;
-
-/// So often the queue head looks at the outer word before it requests a handoff and sleeps.
-const LOOKS: u32 = 100;
-
-/// The pauses between two of its looks, of some 120 ns each: a look takes the word's cache line from who is inside.
-const PAUSES: u32 = 3;
-
-/// It requests a handoff after this part of a burst, if it does not sleep before.
-const PART: u64 = 16;
+use crate::policy::{HEAD_LOOKS, REQUEST_PART, pause_as_head};
+use lock_core::LockWordState;
 
 /// What the queue head does after a look.
 #[derive(Clone, Copy, Debug, PartialEq, Eq)]
 pub(crate) enum Next {
-    /// It takes the outer word, if that is as it was seen.
+    /// It takes the lock word, if the word is as it was seen.
     Take,
     /// It pauses, and looks again.
     Look,
@@ -27,12 +18,12 @@ pub(crate) enum Next {
     Sleep,
 }
 
-/// What the queue head has seen of the outer word.
+/// What the queue head has seen of the lock word.
 #[derive(Drop)]
 pub(crate) struct Watch {
-    /// The newcomers that may go in before it requests a handoff.
+    /// The number of threads that may barge before the queue head requests a handoff.
     patience: u64,
-    /// The newcomers since the last queue head, when it first saw the word held.
+    /// The newcomers, which are threads that barged, since the last queue head, when it first saw the word held.
     first: Option<u64>,
     /// The same at its last look.
     last: Option<u64>,
@@ -41,10 +32,10 @@ pub(crate) struct Watch {
 }
 
 impl Watch {
-    /// Nothing is seen yet of a lock whose bursts have this number of turns.
-    pub(crate) fn new(burst: u64) -> Watch {
+    /// The queue head has seen nothing yet of a lock with this barging limit.
+    pub(crate) fn new(barging_limit: u64) -> Watch {
         Watch {
-            patience: burst / PART,
+            patience: barging_limit / REQUEST_PART,
             first: None,
             last: None,
             looks: 0,
@@ -52,9 +43,9 @@ impl Watch {
         }
     }
 
-    /// What to do after this look. The queue head takes a word that is reserved for it, or that it sees free with no
-    /// turn since its last look.
-    pub(crate) fn next(&mut self, seen: OuterState) -> Next
+    /// Returns what to do after this look. The queue head takes a word that is reserved for it, or that it sees free with no
+    /// acquisition since its last look.
+    pub(crate) fn next(&mut self, seen: LockWordState) -> Next
         ensures for_head { IfSeenForHead seen (result ≡ Next.Take) }
         ensures free { IfSeenFree seen (λ n. result ≡ Next.Take → self.old.last ≡ Some n) }
         ensures takes { IfSeenFree seen (λ n. self.old.last ≡ Some n → result ≡ Next.Take) }
@@ -66,15 +57,15 @@ impl Watch {
         ensures sleeps { 100 ≤ self.old.looks → result ≢ Next.Look }
     {
         match seen {
-            OuterState::ForHead => Next::Take,
-            OuterState::Free { newcomers } => {
+            LockWordState::ForHead => Next::Take,
+            LockWordState::Free { newcomers } => {
                 if self.last.replace(newcomers) == Some(newcomers) {
                     Next::Take
                 } else {
                     self.look_or_sleep()
                 }
             }
-            OuterState::Held {
+            LockWordState::Held {
                 newcomers,
                 requested,
             } => {
@@ -98,7 +89,7 @@ impl Watch {
         ensures sleeps { 100 ≤ self.old.looks → result ≡ Next.Sleep }
         ensures counts { result ≡ Next.Look → self.new.looks ≡ self.old.looks + 1 }
     {
-        if self.looks >= LOOKS {
+        if self.looks >= HEAD_LOOKS {
             return Next::Sleep;
         }
         self.looks += 1;
@@ -107,11 +98,6 @@ impl Watch {
 
     /// Pauses before the next look: shorter once a handoff is requested.
     pub(crate) fn pause(&self) {
-        pause();
-        if !self.requested {
-            for _ in 1..PAUSES {
-                pause();
-            }
-        }
+        pause_as_head(self.requested);
     }
 }

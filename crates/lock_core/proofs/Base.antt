@@ -11,8 +11,8 @@ use Rattle.lock_core.specs.declared.view.View.{View}
 use Rattle.lock_core.specs.declared.view.Phase.{Phase}
 use Rattle.lock_core.specs.declared.view.Phase.TheVariants.{Idle, Queued, Asleep, AtTurn, Passing, HeadInside, Impossible}
 use Rattle.lock_core.specs.Layout.{cell_at, bit_of, rounds_of, count_of}
-use Rattle.lock_core.specs.Views.{limit, Awaits, HasTurn}
-use Rattle.lock_core.specs.Invariant.{tally, share, Ghost, Place, AtDoor, Door, Asks, Fits, Cell, Tickets}
+use Rattle.lock_core.specs.Views.{max_open, Awaits, HasTurn}
+use Rattle.lock_core.specs.Invariant.{tally, share, Ghost, Place, AtDoor, Door, AtDraw, Fits, Cell, Tickets}
 use Rattle.lock_core.proofs.Words.{same_mask}
 use Rattle.lock_core.proofs.Tally.{share_here, share_else, tally_set}
 
@@ -75,7 +75,7 @@ tally_none s id n v w at a b = let e = tally_set n s.views id v w at in let x : 
     none : (u : View) → u.counted ≡ 0 → share n u ≡ 0
     none u z = dite (ℕ_discrete (u.ticket % 4) n) (λ e. share_here n u e ∙ z) (λ ne. share_else n u ne)
 
--- an open request of the seat, in good time: what the rule says of it
+-- an open request of the seat, in good time: what the invariant says of it
 module _ {fl : ℕ} (s : State ℕ View) (r : Tickets fl s) (id : ℕ) (v : View) (at : get_elem? s.views id ≡ some v) where
   pub known : v.most_open ≤ r.most_open
   known = r.seen id v at
@@ -83,18 +83,18 @@ module _ {fl : ℕ} (s : State ℕ View) (r : Tickets fl s) (id : ℕ) (v : View
   pub heard : v.newcomers_seen ≤ r.g.newcomers
   heard = r.heard id v at
 
-  pub fits : (le : r.most_open ≤ limit) → Fits fl r.asked r.owner r.who r.g id v
+  pub fits : (le : r.most_open ≤ max_open) → Fits fl r.drawn r.owner r.who r.g id v
   fits le = (r.granted le).each id v at
 
   -- another seat with an open request has another ticket
-  pub other : (le : r.most_open ≤ limit) (j : ℕ) (b : View) → j ≢ id → v.phase ≢ Idle → b.phase ≢ Idle → get_elem? s.views j ≡ some b → b.ticket ≢ v.ticket
+  pub other : (le : r.most_open ≤ max_open) (j : ℕ) (b : View) → j ≢ id → v.phase ≢ Idle → b.phase ≢ Idle → get_elem? s.views j ≡ some b → b.ticket ≢ v.ticket
   other le j b ne busy busy' there e = ne (sym (((r.granted le).each j b there).mine busy').2 ∙ ap r.owner e ∙ ((fits le).mine busy).2)
 
-  pub place_of : (le : r.most_open ≤ limit) (p : Phase) → v.phase ≡ p → Place fl r.g v p
+  pub place_of : (le : r.most_open ≤ max_open) (p : Phase) → v.phase ≡ p → Place fl r.g v p
   place_of le p e = subst (Place fl r.g v) e (fits le).place
 
   -- two seats at the door are one
-  pub door_apart : (le : r.most_open ≤ limit) (j : ℕ) (b : View) → j ≢ id → AtDoor fl v.inside v.phase → get_elem? s.views j ≡ some b → AtDoor fl b.inside b.phase → ⊥
+  pub door_apart : (le : r.most_open ≤ max_open) (j : ℕ) (b : View) → j ≢ id → AtDoor fl v.inside v.phase → get_elem? s.views j ≡ some b → AtDoor fl b.inside b.phase → ⊥
   door_apart le j b ne here there_at there =
       let f = fits le in
       let h = (r.granted le).each j b there_at in
@@ -104,9 +104,9 @@ module _ {fl : ℕ} (s : State ℕ View) (r : Tickets fl s) (id : ℕ) (v : View
       let p : Place fl r.g v AtTurn = subst (Place fl r.g v) a.1 f.place in
       let q : Place fl r.g b AtTurn = subst (Place fl r.g b) d.1 h.place in
       other le j b ne (λ e. let z = a.1 in cc) (λ e. let z = d.1 in cc) there_at (q.0.turn ∙ sym p.0.turn))
-      (λ d. let z = (h.outer.guest d).0 in let y = a.0 in omega arith)
+      (λ d. let z = (h.lock_word.occupant d).0 in let y = a.0 in omega arith)
       there)
-      (λ a. ⊎_elim (λ d. let z = (f.outer.guest a).0 in let y = d.0 in omega arith) (λ d. ne (sym (h.outer.guest d).2 ∙ (f.outer.guest a).2)) there)
+      (λ a. ⊎_elim (λ d. let z = (f.lock_word.occupant a).0 in let y = d.0 in omega arith) (λ d. ne (sym (h.lock_word.occupant d).2 ∙ (f.lock_word.occupant a).2)) there)
       here
 
 -- the ticket of who has the turn
@@ -120,7 +120,7 @@ busy_of v served idle = ⊎_elim (λ e. cc) (λ e. cc) served
 pub door_on : {fl : ℕ} (g : Ghost) (v : View) (p q : Phase) → p ≢ AtTurn → Door fl g v p → Door fl g v q
 door_on g v p q ne d some_ = let k = d some_ in (k.0, k.1, ⊎_elim (λ h. absurd (ne h.1)) (λ h. inr h) k.2)
 
--- the same after its turn by a ticket: it stays told if it holds the outer word
+-- the same after its turn by a ticket: it stays told if it holds the lock word
 abbrev pub told_in : View → ℕ
 told_in v = either (eqb v.inside 1) v.door 0
 
@@ -132,8 +132,8 @@ door_left g v p q d some_ = dite (ℕ_discrete v.inside 1)
     (λ one. let k = d (λ e. some_ (told_in_same v one ∙ e)) in (told_in_same v one ∙ k.0, k.1, inr one))
     (λ ne. absurd (some_ (ap (λ b. either b v.door 0) (ne_eqb v.inside 1 ne))))
 
--- what holds of the request does not depend on what the seat knows of the outer word
-pub place_told : (fl : ℕ) (g : Ghost) (v : View) (most told barred era holds nap naps probe ripe alone : ℕ) (p : Phase) → Place fl g v p → Place fl g (record v { most_open = most; door = told; knows_shut = barred; epoch = era; takes_seen = holds; slept_in_take = nap; sleeps_at_outer = naps; tail_seen = probe; next_is_at_turn = ripe; nobody_behind = alone }) p
+-- what holds of the request does not depend on what the seat knows of the lock word
+pub place_told : (fl : ℕ) (g : Ghost) (v : View) (most told barred era holds nap naps probe ripe alone : ℕ) (p : Phase) → Place fl g v p → Place fl g (record v { most_open = most; door = told; knows_shut = barred; epoch = era; takes_seen = holds; slept_in_take = nap; sleeps_at_lock_word = naps; tail_seen = probe; next_is_at_turn = ripe; nobody_behind = alone }) p
 place_told fl g v most told barred era holds nap naps probe ripe alone Idle k = k
 place_told fl g v most told barred era holds nap naps probe ripe alone Queued k = k
 place_told fl g v most told barred era holds nap naps probe ripe alone Asleep k = k
@@ -143,14 +143,14 @@ place_told fl g v most told barred era holds nap naps probe ripe alone HeadInsid
 place_told fl g v most told barred era holds nap naps probe ripe alone Impossible k = k
 
 -- what holds of the request of a seat that has none, and of one that goes on
-pub idle_asks : (asked : ℕ) (g : Ghost) (v : View) → v.asked_in_epoch ≤ g.epoch → v.nobody_behind ≡ 0 → Asks asked g v Idle
-idle_asks asked g v early none_ = record { stamped = λ ne. absurd (ne refl); early = early; open_then = λ waits. absurd (⊎_elim (λ e. cc) (λ e. cc) waits); shut_then = λ waits. absurd (⊎_elim (λ e. cc) (λ e. cc) waits); nobody_behind = λ one. absurd (omega arith) }
+pub idle_at_draw : (drawn : ℕ) (g : Ghost) (v : View) → v.drawn_in_epoch ≤ g.epoch → v.nobody_behind ≡ 0 → AtDraw drawn g v Idle
+idle_at_draw drawn g v early none_ = record { stamped = λ ne. absurd (ne refl); early = early; open_then = λ waits. absurd (⊎_elim (λ e. cc) (λ e. cc) waits); shut_then = λ waits. absurd (⊎_elim (λ e. cc) (λ e. cc) waits); nobody_behind = λ one. absurd (omega arith) }
 
-pub asks_on : (asked : ℕ) (g : Ghost) (v : View) (p q : Phase) → p ≢ Idle → (Awaits q → Awaits p) → Asks asked g v p → Asks asked g (record v { nobody_behind = 0 }) q
-asks_on asked g v p q busy waits k = record { stamped = λ _. k.stamped busy; early = k.early; open_then = λ w. k.open_then (waits w); shut_then = λ w. k.shut_then (waits w); nobody_behind = λ one. absurd (omega arith) }
+pub at_draw_on : (drawn : ℕ) (g : Ghost) (v : View) (p q : Phase) → p ≢ Idle → (Awaits q → Awaits p) → AtDraw drawn g v p → AtDraw drawn g (record v { nobody_behind = 0 }) q
+at_draw_on drawn g v p q busy waits k = record { stamped = λ _. k.stamped busy; early = k.early; open_then = λ w. k.open_then (waits w); shut_then = λ w. k.shut_then (waits w); nobody_behind = λ one. absurd (omega arith) }
 
 -- tickets that are stamped change nothing of the requests
-pub place_stamped : (fl : ℕ) (g : Ghost) (stamp : ℕ → ℕ) (v : View) (p : Phase) → Place fl g v p → Place fl (record g { asked_open = stamp }) v p
+pub place_stamped : (fl : ℕ) (g : Ghost) (stamp : ℕ → ℕ) (v : View) (p : Phase) → Place fl g v p → Place fl (record g { drawn_open = stamp }) v p
 place_stamped fl g stamp v Idle k = k
 place_stamped fl g stamp v Queued k = k
 place_stamped fl g stamp v Asleep k = k
@@ -159,23 +159,23 @@ place_stamped fl g stamp v Passing k = k
 place_stamped fl g stamp v HeadInside k = k
 place_stamped fl g stamp v Impossible k = k
 
--- the bound of bursts, d the number of tickets
+-- the most newcomers between two queue heads, d the number of tickets
 pub in_bounds : (fl fellows total since number first by d : ℕ) → fellows ≡ fl → d + first ≡ number + 1 → total + fl * first ≤ since + fl * number + by → by ≤ fl → total ≤ since + fellows * d
-in_bounds fl fellows total since number first by d same_ sum_ late few =
+in_bounds fl fellows total since number first by d same_ sum_ overtaking few =
     let e : fl * (d + first) ≡ fl * (number + 1) = ap (λ z. fl * z) sum_ in
     subst (λ z. total ≤ since + z * d) (sym same_) (omega arith)
 
 -- a step that changes no word, and of the views at most the seat's own
 module _ {fl : ℕ} (s : State ℕ View) (r : Tickets fl s) (id : ℕ) (v : View) (at : get_elem? s.views id ≡ some v) (i x : ℕ) (low : i < 21) (x_is : x ≡ slice_index s.words i) (w : View) where
-  pub unchanged : w.most_open ≡ r.most_open → w.newcomers_seen ≤ r.g.newcomers → (r.most_open ≤ limit → v.counted ≡ 0) → (r.most_open ≤ limit → w.counted ≡ 0) → (r.most_open ≤ limit → Fits fl r.asked r.owner r.who r.g id w) → Tickets fl record { words = set s.words i x; homes = s.homes; views = set s.views id w }
+  pub unchanged : w.most_open ≡ r.most_open → w.newcomers_seen ≤ r.g.newcomers → (r.most_open ≤ max_open → v.counted ≡ 0) → (r.most_open ≤ max_open → w.counted ≡ 0) → (r.most_open ≤ max_open → Fits fl r.drawn r.owner r.who r.g id w) → Tickets fl record { words = set s.words i x; homes = s.homes; views = set s.views id w }
   unchanged same_most begun none_before none_after fit = record {
-    asked = r.asked;
+    drawn = r.drawn;
     most_open = r.most_open;
     owner = r.owner;
     who = r.who;
     g = r.g;
     tail = old 16 ∙ r.tail;
-    outer = old 0 ∙ r.outer;
+    lock_word = old 0 ∙ r.lock_word;
     wide = length-set s.words i x ∙ r.wide;
     guard = r.guard;
     seen = each_after (λ j b. b.most_open ≤ r.most_open) s.views id w (omega arith) (λ j b ne there. r.seen j b there);
@@ -190,7 +190,7 @@ module _ {fl : ℕ} (s : State ℕ View) (r : Tickets fl s) (id : ℕ) (v : View
           crowd = λ k. let e = all k in let q = o.crowd k in omega arith;
           cells = λ t. subst (λ z. Cell r.g (tally (t % 4) (set s.views id w)) z t) (sym (old (cell_at t))) (subst (λ z. Cell r.g z (slice_index s.words (cell_at t)) t) (sym (all (t % 4))) (o.cells t));
           idle = o.idle;
-          each = each_after (Fits fl r.asked r.owner r.who r.g) s.views id w (fit le) (λ j b ne there. o.each j b there);
+          each = each_after (Fits fl r.drawn r.owner r.who r.g) s.views id w (fit le) (λ j b ne there. o.each j b there);
         };
   }
     where

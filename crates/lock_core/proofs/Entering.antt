@@ -11,7 +11,7 @@ use Rattle.lock_core.specs.Looks.{looked}
 use Rattle.lock_core.specs.Views.{initial_view}
 use Rattle.lock_core.specs.Invariant.{tally, share, Fits, Cell, Tickets}
 use Rattle.lock_core.specs.Steps.{comes}
-use Rattle.lock_core.proofs.Base.{idle_asks}
+use Rattle.lock_core.proofs.Base.{idle_at_draw}
 use Rattle.lock_core.proofs.Tally.{tally_snoc, share_here, share_else}
 
 pub none_of : (c : ℕ) (w : View) → w.counted ≡ 0 → share c w ≡ 0
@@ -21,13 +21,13 @@ pub come_enters : {fl : ℕ} (slots : ℕ) → Enters (Tickets fl) slots 8 (λ n
 come_enters {fl} slots s r sized low = (
   w,
   record {
-    asked = r.asked;
+    drawn = r.drawn;
     most_open = r.most_open;
     owner = r.owner;
     who = r.who;
     g = r.g;
     tail = r.tail;
-    outer = r.outer;
+    lock_word = r.lock_word;
     wide = r.wide;
     guard = r.guard;
     seen = λ j b at. ⊎_elim (λ t. r.seen j b t) (λ t. subst (λ (x : View). x.most_open ≤ r.most_open) t (omega arith)) (at_snoc s.views w b j at);
@@ -43,7 +43,7 @@ come_enters {fl} slots s r sized low = (
           cells = λ t. subst (λ z. Cell r.g z (slice_index s.words (cell_at t)) t) (sym (all (t % 4))) (o.cells t);
           idle = o.idle;
           each = λ j b at. ⊎_elim (λ t. o.each j b t)
-              (λ t. subst (Fits fl r.asked r.owner r.who r.g j) t record { knows = omega arith; lowest = omega arith; mine = λ ne. absurd (ne refl); place = tt; told_nobody = λ e. absurd (omega arith); outer = record { turn_of = λ e. absurd (omega arith); guest = λ e. absurd (omega arith); rests = record { takes_seen = omega arith; held = λ e. absurd (omega arith); lulls = λ e. absurd (omega arith); sleeps_at_outer = λ e. absurd (omega arith) }; dated = omega arith; barrier = λ e. absurd (omega arith) }; door = λ ne. absurd (ne refl); tail_seen = record { probed = omega arith; next_is_at_turn = λ e. absurd (omega arith) }; asks = idle_asks r.asked r.g w (omega arith) refl }) (at_snoc s.views w b j at);
+              (λ t. subst (Fits fl r.drawn r.owner r.who r.g j) t record { knows = omega arith; lowest = omega arith; mine = λ ne. absurd (ne refl); place = tt; told_nobody = λ e. absurd (omega arith); lock_word = record { turn_of = λ e. absurd (omega arith); occupant = λ e. absurd (omega arith); rests = record { takes_seen = omega arith; held = λ e. absurd (omega arith); lulls = λ e. absurd (omega arith); sleeps_at_lock_word = λ e. absurd (omega arith) }; dated = omega arith; barrier = λ e. absurd (omega arith) }; door = λ ne. absurd (ne refl); tail_seen = record { probed = omega arith; next_is_at_turn = λ e. absurd (omega arith) }; at_draw = idle_at_draw r.drawn r.g w (omega arith) refl }) (at_snoc s.views w b j at);
         };
   },
   refl,

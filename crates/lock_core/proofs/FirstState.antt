@@ -1,4 +1,4 @@
--- The first words keep the rule.
+-- The first words keep the invariant.
 use Rattle.std.proofs.Common.{◌≡◌, ℕ, zero, suc, ◌+◌, ◌-◌, ◌/◌, ◌%◌, ◌<◌, ◌≤◌, List, [], ◌∷◌, slice_index, sym, refl, ◌∙◌, subst, arith, ⊎_elim}
 use Rattle.std.specs.Int.{bit_at}
 use mathlib.Core.Option.{Option, some, some-ne-none}
@@ -10,7 +10,7 @@ use Rattle.lock_core.specs.Layout.{cell_at, bit_of, count_of}
 use Rattle.lock_core.specs.Views.{initial_view}
 use Rattle.lock_core.specs.Invariant.{tally, Ghost, Fits, Tickets}
 use Rattle.lock_core.proofs.Words.{low_bit}
-use Rattle.lock_core.proofs.Base.{idle_asks}
+use Rattle.lock_core.proofs.Base.{idle_at_draw}
 use Rattle.lock_core.proofs.Entering.{none_of}
 
 abbrev pub first_words : List ℕ
@@ -27,20 +27,20 @@ no_bits : (i : ℕ) → i < 16 → (t : ℕ) → bit_at (slice_index first_words
 no_bits i low t = cells (λ k z. bit_at z i ≡ 0) (low_bit 17179869184 i (omega arith) ∙ bit_at-zero i) (bit_at-zero i) (bit_at-zero i) (bit_at-zero i) (t % 4) (omega arith)
 
 abbrev pub first_ghost : Ghost
-first_ghost = record { turn = 0; head_inside = 0; heads = 0; since_head = 0; newcomers = 0; outer = 0; who_is_inside = 0; epoch = 0; withdrawn = λ _. 0; nobody_asleep = λ _. 0; newcomers_before = λ _. 0; left_quietly = λ _. 0; asked_open = λ _. 0 }
+first_ghost = record { turn = 0; head_inside = 0; heads = 0; since_head = 0; newcomers = 0; lock_word = 0; who_is_inside = 0; epoch = 0; withdrawn = λ _. 0; nobody_asleep = λ _. 0; newcomers_before = λ _. 0; left_quietly = λ _. 0; drawn_open = λ _. 0 }
 
 none_first : (fl c : ℕ) → tally c ((initial_view fl) ∷ []) ≡ 0
 none_first fl c = let z = none_of c (initial_view fl) refl in omega arith
 
 pub first_state : (fl : ℕ) (homes : List (Option ℕ)) → fl < 1073741824 → Tickets fl record { words = first_words; homes = homes; views = initial_view fl ∷ [] }
 first_state fl homes small = record {
-  asked = 0;
+  drawn = 0;
   most_open = 0;
   owner = λ _. 0;
   who = λ _. 0;
   g = first_ghost;
   tail = refl;
-  outer = refl;
+  lock_word = refl;
   wide = refl;
   guard = λ _. (omega arith, omega arith);
   seen = λ j b at. only (λ j b. b.most_open ≤ 0) (λ j. omega arith) j b at;
@@ -58,7 +58,7 @@ first_state fl homes small = record {
       count = cells (λ k z. count_of z ≡ 0) refl refl refl refl (t % 4) (omega arith) ∙ sym (none_first fl (t % 4));
     };
     idle = λ _. refl;
-    each = only (λ j b. Fits fl 0 (λ _. 0) (λ _. 0) first_ghost j b) (λ j. record { knows = omega arith; lowest = omega arith; mine = λ ne. absurd (ne refl); place = tt; told_nobody = λ e. absurd (omega arith); outer = record { turn_of = λ e. absurd (omega arith); guest = λ e. absurd (omega arith); rests = record { takes_seen = omega arith; held = λ e. absurd (omega arith); lulls = λ e. absurd (omega arith); sleeps_at_outer = λ e. absurd (omega arith) }; dated = omega arith; barrier = λ e. absurd (omega arith) }; door = λ ne. absurd (ne refl); tail_seen = record { probed = omega arith; next_is_at_turn = λ e. absurd (omega arith) }; asks = idle_asks 0 first_ghost (initial_view fl) (omega arith) refl });
+    each = only (λ j b. Fits fl 0 (λ _. 0) (λ _. 0) first_ghost j b) (λ j. record { knows = omega arith; lowest = omega arith; mine = λ ne. absurd (ne refl); place = tt; told_nobody = λ e. absurd (omega arith); lock_word = record { turn_of = λ e. absurd (omega arith); occupant = λ e. absurd (omega arith); rests = record { takes_seen = omega arith; held = λ e. absurd (omega arith); lulls = λ e. absurd (omega arith); sleeps_at_lock_word = λ e. absurd (omega arith) }; dated = omega arith; barrier = λ e. absurd (omega arith) }; door = λ ne. absurd (ne refl); tail_seen = record { probed = omega arith; next_is_at_turn = λ e. absurd (omega arith) }; at_draw = idle_at_draw 0 first_ghost (initial_view fl) (omega arith) refl });
   };
 }
   where

@@ -3,12 +3,12 @@ mod Tally
 mod Base
 mod Looking
 mod Entering
-mod Asking
+mod DrawingSteps
 mod FirstState
 mod Marks
 mod NextGrant
-mod OuterWord
-mod ClosingSteps
+mod LockWord
+mod ShuttingSteps
 mod Meeting
 mod Noting
 mod Slots

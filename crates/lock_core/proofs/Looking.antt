@@ -10,10 +10,10 @@ use Rattle.lock_core.specs.declared.view.View.{View}
 use Rattle.lock_core.specs.declared.view.Phase.{Phase}
 use Rattle.lock_core.specs.declared.view.Phase.TheVariants.{Idle, Queued, Asleep, AtTurn}
 use Rattle.lock_core.specs.Layout.{cell_at, rounds, rounds_of, count_of, to_go}
-use Rattle.lock_core.specs.Views.{limit, Timely, Awaits, IsQueued, IsAsleep}
+use Rattle.lock_core.specs.Views.{max_open, Timely, Awaits, IsQueued, IsAsleep}
 use Rattle.lock_core.specs.Invariant.{tally, share, Waiter, Place, Fits, Cell, Tickets}
 use Rattle.lock_core.specs.Steps.{finds, same, looks, announces_sleep}
-use Rattle.lock_core.proofs.Base.{each_after, cells_after, Recounted, recount, tally_else, tally_here, known, heard, fits, place_of, door_on, asks_on, in_bounds}
+use Rattle.lock_core.proofs.Base.{each_after, cells_after, Recounted, recount, tally_else, tally_here, known, heard, fits, place_of, door_on, at_draw_on, in_bounds}
 use Rattle.lock_core.proofs.Tally.{share_here, tally_has}
 
 -- The seat's view and the count in its cell change, and nothing else.
@@ -27,16 +27,16 @@ module _ {fl : ℕ} (s : State ℕ View) (r : Tickets fl s) (id : ℕ) (v : View
     word : Recounted was x c d
     room : tally (v.ticket % 4) s.views + d ≤ 65535 + c
 
-  recounted : (w : View) → w.most_open ≡ most → w.newcomers_seen ≤ r.g.newcomers → (most ≤ limit → Counts) → (most ≤ limit → w.ticket ≡ v.ticket) → (most ≤ limit → w.counted ≡ d) → (most ≤ limit → Fits fl r.asked r.owner r.who r.g id w)
+  recounted : (w : View) → w.most_open ≡ most → w.newcomers_seen ≤ r.g.newcomers → (most ≤ max_open → Counts) → (most ≤ max_open → w.ticket ≡ v.ticket) → (most ≤ max_open → w.counted ≡ d) → (most ≤ max_open → Fits fl r.drawn r.owner r.who r.g id w)
       → Tickets fl record { words = set s.words i x; homes = s.homes; views = set s.views id w }
   recounted w is_most begun counts number after fit = record {
-    asked = r.asked;
+    drawn = r.drawn;
     most_open = most;
     owner = r.owner;
     who = r.who;
     g = r.g;
     tail = get_or-set_other s.words i 16 x 0 (λ e. omega arith) ∙ r.tail;
-    outer = get_or-set_other s.words i 0 x 0 (λ e. omega arith) ∙ r.outer;
+    lock_word = get_or-set_other s.words i 0 x 0 (λ e. omega arith) ∙ r.lock_word;
     wide = length-set s.words i x ∙ r.wide;
     guard = λ one. let k = r.guard one in ((let m = k.0 in omega arith), k.1);
     seen = each_after (λ j b. b.most_open ≤ most) s.views id w (omega arith) (λ j b ne there. let k = r.seen j b there in omega arith);
@@ -60,7 +60,7 @@ module _ {fl : ℕ} (s : State ℕ View) (r : Tickets fl s) (id : ℕ) (v : View
               (λ t e. recount r.g (tally (t % 4) s.views) (tally (t % 4) (set s.views id w)) c d was x t (here t e) k.word (subst (λ z'. Cell r.g (tally (t % 4) s.views) z' t) (ap (slice_index s.words) (let m = k.mine in omega arith)) (o.cells t)))
               (λ t ne. subst (λ z'. Cell r.g z' (slice_index s.words (cell_at t)) t) (sym (else (t % 4) ne)) (o.cells t));
           idle = o.idle;
-          each = each_after (Fits fl r.asked r.owner r.who r.g) s.views id w (fit le) (λ j b ne there. o.each j b there);
+          each = each_after (Fits fl r.drawn r.owner r.who r.g) s.views id w (fit le) (λ j b ne there. o.each j b there);
         };
   }
 
@@ -79,7 +79,7 @@ module _ {fl : ℕ} (s : State ℕ View) (r : Tickets fl s) (id slots i x ticket
     awaits : Awaits v.phase
     waits : Waiter fl r.g v
 
-  waited : (most ≤ limit → Waiting) → ((w : View) → w.phase ≡ p → Waiter fl r.g w → w.counted ≡ d → r.g.nobody_asleep w.ticket ≡ 0 → Place fl r.g w w.phase)
+  waited : (most ≤ max_open → Waiting) → ((w : View) → w.phase ≡ p → Waiter fl r.g w → w.counted ≡ d → r.g.nobody_asleep w.ticket ≡ 0 → Place fl r.g w w.phase)
       → (w : View) × (a : Act ℕ) × Valid s.homes me.1 a × Tickets fl (stepped s i x id me.1 w a) × (same me (w, carried_after me.1 a) × (Timely w → finds d p d v found w))
   waited waits placed = dite (ℕ_discrete go 0) granted waiting
     where
@@ -89,14 +89,14 @@ module _ {fl : ℕ} (s : State ℕ View) (r : Tickets fl s) (id slots i x ticket
       Goal : Type 0
       Goal = (w : View) × (a : Act ℕ) × Valid s.homes me.1 a × Tickets fl (stepped s i x id me.1 w a) × (same me (w, carried_after me.1 a) × (Timely w → finds d p d v found w))
 
-      open_fits : (le : most ≤ limit) → (r.g.turn ≤ v.ticket) × (v.ticket < r.asked) × (r.owner v.ticket ≡ id)
+      open_fits : (le : most ≤ max_open) → (r.g.turn ≤ v.ticket) × (v.ticket < r.drawn) × (r.owner v.ticket ≡ id)
       open_fits le = (fits s r id v at (omega arith)).mine (waits le).busy
 
-      cell : (le : most ≤ limit) → Cell r.g (tally (v.ticket % 4) s.views) found v.ticket
+      cell : (le : most ≤ max_open) → Cell r.g (tally (v.ticket % 4) s.views) found v.ticket
       cell le = subst (λ z. Cell r.g (tally (v.ticket % 4) s.views) z v.ticket) (ap (slice_index s.words) (let m = (waits le).counts.mine in omega arith)) ((r.granted (omega arith)).cells v.ticket)
 
       -- the rounds to go, in good time
-      going : (le : most ≤ limit) → rounds r.g.turn v.ticket + go ≡ v.ticket / 4 + 1
+      going : (le : most ≤ max_open) → rounds r.g.turn v.ticket + go ≡ v.ticket / 4 + 1
       going le =
           let m = open_fits le in
           let a = m.0 in
@@ -108,7 +108,7 @@ module _ {fl : ℕ} (s : State ℕ View) (r : Tickets fl s) (id slots i x ticket
       granted : go ≡ 0 → Goal
       granted is_granted =
           let w : View = record v { most_open = most; ended = v.ticket; phase = AtTurn; counted = d; newcomers_seen = r.g.newcomers; nobody_behind = 0 } in
-          let turn : (le : most ≤ limit) → v.ticket ≡ r.g.turn = λ le. let e = going le in let a = (open_fits le).0 in omega arith in (
+          let turn : (le : most ≤ max_open) → v.ticket ≡ r.g.turn = λ le. let e = going le in let a = (open_fits le).0 in omega arith in (
             w,
             keeps,
             tt,
@@ -121,16 +121,16 @@ module _ {fl : ℕ} (s : State ℕ View) (r : Tickets fl s) (id slots i x ticket
                   knows = omega arith;
                   lowest = f.lowest;
                   mine = λ _. open_fits le;
-                  place = (record { turn = t; mark = q.unmarked; late = q.late }, calm);
+                  place = (record { turn = t; mark = q.unmarked; overtaking = q.overtaking }, calm);
                   told_nobody = f.told_nobody;
-                  outer = f.outer;
+                  lock_word = f.lock_word;
                   door = door_on r.g v v.phase AtTurn (waits le).away f.door;
                   tail_seen = f.tail_seen;
-                  asks = asks_on r.asked r.g v v.phase AtTurn (waits le).busy (λ w. absurd (⊎_elim (λ e. cc) (λ e. cc) w)) f.asks;
+                  at_draw = at_draw_on r.drawn r.g v v.phase AtTurn (waits le).busy (λ w. absurd (⊎_elim (λ e. cc) (λ e. cc) w)) f.at_draw;
                 }),
             (
               ((refl, refl, (let k = known s r id v at in omega arith), (let k = heard s r id v at in omega arith)), ((refl, refl, refl), refl, (refl, refl), (refl, refl), (refl, refl), (λ _. refl))),
-              (λ timely. (refl, refl, refl, (λ _. (refl, refl, refl, (let q = (waits timely).waits in let t = turn timely in let o = q.late.came in let e : fl * (r.g.turn + r.g.head_inside) ≡ fl * v.ticket = ap (λ z. fl * z) (let c0 = q.at_turn t in omega arith) in let k = q.late.overtaken in in_bounds fl v.max_newcomers r.g.newcomers v.newcomers_at_ask v.ticket v.first_pending r.g.since_head (v.ticket + 1 - v.first_pending) same_newcomers (let c0 = q.at_turn t in omega arith) (omega arith) (r.granted (omega arith)).counts.bounded))), (λ some_. absurd (omega arith)))),
+              (λ timely. (refl, refl, refl, (λ _. (refl, refl, refl, (let q = (waits timely).waits in let t = turn timely in let o = q.overtaking.came in let e : fl * (r.g.turn + r.g.head_inside) ≡ fl * v.ticket = ap (λ z. fl * z) (let c0 = q.at_turn t in omega arith) in let k = q.overtaking.overtaken in in_bounds fl v.max_newcomers r.g.newcomers v.newcomers_at_draw v.ticket v.first_pending r.g.since_head (v.ticket + 1 - v.first_pending) same_newcomers (let c0 = q.at_turn t in omega arith) (omega arith) (r.granted (omega arith)).counts.bounded))), (λ some_. absurd (omega arith)))),
             ),
           )
 
@@ -147,12 +147,12 @@ module _ {fl : ℕ} (s : State ℕ View) (r : Tickets fl s) (id slots i x ticket
                   knows = f.knows;
                   lowest = omega arith;
                   mine = λ _. open_fits le;
-                  place = placed w refl record { unmarked = q.unmarked; late = q.late; at_turn = q.at_turn } refl ((r.granted (omega arith)).marks.unheard v.ticket (let a = (open_fits le).0 in omega arith));
+                  place = placed w refl record { unmarked = q.unmarked; overtaking = q.overtaking; at_turn = q.at_turn } refl ((r.granted (omega arith)).marks.unheard v.ticket (let a = (open_fits le).0 in omega arith));
                   told_nobody = f.told_nobody;
-                  outer = f.outer;
+                  lock_word = f.lock_word;
                   door = door_on r.g v v.phase p (waits le).away f.door;
                   tail_seen = f.tail_seen;
-                  asks = asks_on r.asked r.g v v.phase p (waits le).busy (λ _. (waits le).awaits) f.asks;
+                  at_draw = at_draw_on r.drawn r.g v v.phase p (waits le).busy (λ _. (waits le).awaits) f.at_draw;
                 }),
             (((refl, refl, (let k = known s r id v at in omega arith), (let k = heard s r id v at in omega arith)), ((refl, refl, refl), refl, (refl, refl), (refl, refl), (refl, refl), (λ _. refl))), (λ timely. (refl, refl, refl, (λ is_. absurd (ne is_)), (λ _. (refl, refl, omega arith))))),
           )

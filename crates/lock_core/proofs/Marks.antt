@@ -11,10 +11,10 @@ use Rattle.lock_core.specs.declared.view.View.{View}
 use Rattle.lock_core.specs.declared.view.Phase.{Phase}
 use Rattle.lock_core.specs.declared.view.Phase.TheVariants.{Idle, Queued, Asleep, AtTurn, Passing, HeadInside, Impossible}
 use Rattle.lock_core.specs.Layout.{cell_at, bit_of, rounds, rounds_of}
-use Rattle.lock_core.specs.Views.{limit, Timely, IsQueuedWithin, IsPassing}
+use Rattle.lock_core.specs.Views.{max_open, Timely, IsQueuedWithin, IsPassing}
 use Rattle.lock_core.specs.Invariant.{tally, Ghost, Waiter, Holder, Place, Fits, Cell, Tickets}
 use Rattle.lock_core.specs.Steps.{sets_withdrawn, clears_withdrawn}
-use Rattle.lock_core.proofs.Base.{put, put_here, put_else, each_after, cells_after, tally_none, known, heard, fits, place_of, other, door_on, idle_asks, asks_on, in_bounds}
+use Rattle.lock_core.proofs.Base.{put, put_here, put_else, each_after, cells_after, tally_none, known, heard, fits, place_of, other, door_on, idle_at_draw, at_draw_on, in_bounds}
 use Rattle.lock_core.proofs.Words.{or_high, xor_high, or_same, or_other, xor_same, xor_other, or_is_sum, xor_is_less}
 
 abbrev remark : Ghost → ℕ → ℕ → Ghost
@@ -22,10 +22,10 @@ remark g n y = record g { withdrawn = put g.withdrawn n y }
 
 module _ (fl : ℕ) (g : Ghost) (n y : ℕ) (b : View) where
   waiter : b.ticket ≢ n → Waiter fl g b → Waiter fl (remark g n y) b
-  waiter ne k = record { unmarked = put_else g.withdrawn n y b.ticket ne ∙ k.unmarked; late = k.late; at_turn = k.at_turn }
+  waiter ne k = record { unmarked = put_else g.withdrawn n y b.ticket ne ∙ k.unmarked; overtaking = k.overtaking; at_turn = k.at_turn }
 
   holder : (m : ℕ) → b.ticket ≢ n → Holder fl g b m → Holder fl (remark g n y) b m
-  holder m ne k = record { turn = k.turn; mark = put_else g.withdrawn n y b.ticket ne ∙ k.mark; late = k.late }
+  holder m ne k = record { turn = k.turn; mark = put_else g.withdrawn n y b.ticket ne ∙ k.mark; overtaking = k.overtaking }
 
   elsewhere : (p : Phase) → (p ≢ Idle → b.ticket ≢ n) → Place fl g b p → Place fl (remark g n y) b p
   elsewhere Idle ne k = tt
@@ -51,16 +51,16 @@ module _ {fl : ℕ} (s : State ℕ View) (r : Tickets fl s) (id : ℕ) (v : View
     own_bit : bit_at new (bit_of v.ticket) ≡ y
     other_bit : (k : ℕ) → k ≢ bit_of v.ticket → bit_at new k ≡ bit_at was k
 
-  flipped : (w : View) → w.most_open ≡ r.most_open → w.newcomers_seen ≤ r.g.newcomers → w.counted ≡ 0 → (r.most_open ≤ limit → Flips) → (r.most_open ≤ limit → Fits fl r.asked r.owner r.who (remark r.g v.ticket y) id w)
+  flipped : (w : View) → w.most_open ≡ r.most_open → w.newcomers_seen ≤ r.g.newcomers → w.counted ≡ 0 → (r.most_open ≤ max_open → Flips) → (r.most_open ≤ max_open → Fits fl r.drawn r.owner r.who (remark r.g v.ticket y) id w)
       → Tickets fl record { words = set s.words i new; homes = s.homes; views = set s.views id w }
   flipped w same_most begun none_counted_ flips fit = record {
-    asked = r.asked;
+    drawn = r.drawn;
     most_open = r.most_open;
     owner = r.owner;
     who = r.who;
     g = g;
     tail = get_or-set_other s.words i 16 new 0 (λ e. omega arith) ∙ r.tail;
-    outer = get_or-set_other s.words i 0 new 0 (λ e. omega arith) ∙ r.outer;
+    lock_word = get_or-set_other s.words i 0 new 0 (λ e. omega arith) ∙ r.lock_word;
     wide = length-set s.words i new ∙ r.wide;
     guard = r.guard;
     seen = each_after (λ j b. b.most_open ≤ r.most_open) s.views id w (omega arith) (λ j b ne there. r.seen j b there);
@@ -97,16 +97,16 @@ module _ {fl : ℕ} (s : State ℕ View) (r : Tickets fl s) (id : ℕ) (v : View
                 count = k.count ∙ sym (all (t % 4));
               });
           idle = λ e. absurd (omega arith);
-          each = each_after (Fits fl r.asked r.owner r.who g) s.views id w (fit le) (λ j b ne there. let f = o.each j b there in record {
+          each = each_after (Fits fl r.drawn r.owner r.who g) s.views id w (fit le) (λ j b ne there. let f = o.each j b there in record {
             knows = f.knows;
             lowest = f.lowest;
             mine = f.mine;
             place = elsewhere fl r.g v.ticket y b b.phase (λ busy. other s r id v at le j b ne c.busy busy there) f.place;
             told_nobody = f.told_nobody;
-            outer = f.outer;
+            lock_word = f.lock_word;
             door = f.door;
             tail_seen = f.tail_seen;
-            asks = f.asks;
+            at_draw = f.at_draw;
           });
         };
   }
@@ -124,20 +124,20 @@ withdraw_allowed {fl} id slots i ticket k x me same_newcomers is mask near waits
     found : ℕ
     found = slice_index s.words i
 
-    queued : (le : r.most_open ≤ limit) → IsQueuedWithin k ticket v
+    queued : (le : r.most_open ≤ max_open) → IsQueuedWithin k ticket v
     queued le = waits (let k = known s r id v at in omega arith)
 
-    open_fits : (le : r.most_open ≤ limit) → (r.g.turn ≤ v.ticket) × (v.ticket < r.asked) × (r.owner v.ticket ≡ id)
+    open_fits : (le : r.most_open ≤ max_open) → (r.g.turn ≤ v.ticket) × (v.ticket < r.drawn) × (r.owner v.ticket ≡ id)
     open_fits le = (fits s r id v at le).mine (λ e. let p = (queued le).0.0 in cc)
 
-    placed : (le : r.most_open ≤ limit) → Waiter fl r.g v
+    placed : (le : r.most_open ≤ max_open) → Waiter fl r.g v
     placed le = place_of s r id v at le Queued (queued le).0.0
 
     -- its cell, in good time
-    cell : (le : r.most_open ≤ limit) → Cell r.g (tally (v.ticket % 4) s.views) found v.ticket
+    cell : (le : r.most_open ≤ max_open) → Cell r.g (tally (v.ticket % 4) s.views) found v.ticket
     cell le = subst (λ z. Cell r.g (tally (v.ticket % 4) s.views) z v.ticket) (ap (slice_index s.words) (let m = (queued le).0.1 in omega arith)) ((r.granted le).cells v.ticket)
 
-    flips : (le : r.most_open ≤ limit) → Flips s r id v at i ticket ((found + x) % 18446744073709551616) 1 is
+    flips : (le : r.most_open ≤ max_open) → Flips s r id v at i ticket ((found + x) % 18446744073709551616) 1 is
     flips le =
         let q = (queued le).0.1 in
         let p = (queued le).0.0 in
@@ -157,7 +157,7 @@ withdraw_allowed {fl} id slots i ticket k x me same_newcomers is mask near waits
         }
 
     -- granted before, it was overtaken within the bound
-    overtaken : (le : r.most_open ≤ limit) → rounds_of found ≡ (v.ticket / 4 + 1) % 1073741824 → r.g.newcomers ≤ v.newcomers_at_ask + v.max_newcomers * (v.ticket + 1 - v.first_pending)
+    overtaken : (le : r.most_open ≤ max_open) → rounds_of found ≡ (v.ticket / 4 + 1) % 1073741824 → r.g.newcomers ≤ v.newcomers_at_draw + v.max_newcomers * (v.ticket + 1 - v.first_pending)
     overtaken le is_ =
         let m = open_fits le in
         let a = m.0 in
@@ -166,11 +166,11 @@ withdraw_allowed {fl} id slots i ticket k x me same_newcomers is mask near waits
         let h = (cell le).high in
         let turn : v.ticket ≡ r.g.turn = omega arith in
         let q = placed le in
-        let o = q.late.came in
+        let o = q.overtaking.came in
         let c0 = q.at_turn turn in
         let e : fl * (r.g.turn + r.g.head_inside) ≡ fl * v.ticket = ap (λ z. fl * z) (omega arith) in
-        let k = q.late.overtaken in
-        in_bounds fl v.max_newcomers r.g.newcomers v.newcomers_at_ask v.ticket v.first_pending r.g.since_head (v.ticket + 1 - v.first_pending) same_newcomers (omega arith) (omega arith) (r.granted le).counts.bounded
+        let k = q.overtaking.overtaken in
+        in_bounds fl v.max_newcomers r.g.newcomers v.newcomers_at_draw v.ticket v.first_pending r.g.since_head (v.ticket + 1 - v.first_pending) same_newcomers (omega arith) (omega arith) (r.granted le).counts.bounded
 
     Goal : Type 0
     Goal = (w : View) × (a : Act ℕ) × Valid s.homes me.1 a × Tickets fl (stepped s i ((found + x) % 18446744073709551616) id me.1 w a) × sets_withdrawn (step slots i x 0 none) me found (w, carried_after me.1 a)
@@ -193,23 +193,23 @@ withdraw_allowed {fl} id slots i ticket k x me same_newcomers is mask near waits
                 knows = omega arith;
                 lowest = omega arith;
                 mine = λ _. m;
-                place = (record { turn = turn; mark = put_here r.g.withdrawn v.ticket 1 v.ticket refl; late = (placed le).late }, now);
+                place = (record { turn = turn; mark = put_here r.g.withdrawn v.ticket 1 v.ticket refl; overtaking = (placed le).overtaking }, now);
                 told_nobody = (fits s r id v at le).told_nobody;
-                outer = (fits s r id v at le).outer;
+                lock_word = (fits s r id v at le).lock_word;
                 door = door_on r.g v v.phase Passing (λ e. let z = (queued le).0.0 in cc) (fits s r id v at le).door;
                 tail_seen = (fits s r id v at le).tail_seen;
-                asks = asks_on r.asked r.g v v.phase Passing (λ e. let z = (queued le).0.0 in cc) (λ w. absurd (⊎_elim (λ e. cc) (λ e. cc) w)) (fits s r id v at le).asks;
+                at_draw = at_draw_on r.drawn r.g v v.phase Passing (λ e. let z = (queued le).0.0 in cc) (λ w. absurd (⊎_elim (λ e. cc) (λ e. cc) w)) (fits s r id v at le).at_draw;
               }),
           (((refl, refl, known s r id v at, (let k = heard s r id v at in omega arith)), ((refl, refl, refl), refl, (refl, refl), (refl, refl), (refl, refl), (λ _. refl))), (λ timely. (refl, refl, (λ _. (refl, (refl, refl, refl), overtaken timely is_)), (λ ne. absurd (ne is_))))),
         )
 
     withdrawn : rounds_of found ≢ (v.ticket / 4 + 1) % 1073741824 → Goal
     withdrawn ne =
-        let w : View = record v { most_open = r.most_open; rounds_seen = 0; phase = Idle; counted = 0; newcomers_at_ask = 0; first_pending = 0; nobody_behind = 0 } in (
+        let w : View = record v { most_open = r.most_open; rounds_seen = 0; phase = Idle; counted = 0; newcomers_at_draw = 0; first_pending = 0; nobody_behind = 0 } in (
           w,
           keeps,
           tt,
-          flipped s r id v at i ticket ((found + x) % 18446744073709551616) 1 is w refl (let k = heard s r id v at in omega arith) refl flips (λ le. let f = fits s r id v at le in record { knows = f.knows; lowest = omega arith; mine = λ busy. absurd (busy refl); place = tt; told_nobody = f.told_nobody; outer = f.outer; door = door_on r.g v v.phase Idle (λ e. let z = (queued le).0.0 in cc) f.door; tail_seen = f.tail_seen; asks = idle_asks r.asked r.g w f.asks.early refl }),
+          flipped s r id v at i ticket ((found + x) % 18446744073709551616) 1 is w refl (let k = heard s r id v at in omega arith) refl flips (λ le. let f = fits s r id v at le in record { knows = f.knows; lowest = omega arith; mine = λ busy. absurd (busy refl); place = tt; told_nobody = f.told_nobody; lock_word = f.lock_word; door = door_on r.g v v.phase Idle (λ e. let z = (queued le).0.0 in cc) f.door; tail_seen = f.tail_seen; at_draw = idle_at_draw r.drawn r.g w f.at_draw.early refl }),
           (((refl, refl, known s r id v at, (let k = heard s r id v at in omega arith)), ((refl, refl, refl), refl, (refl, refl), (refl, refl), (refl, refl), (λ _. refl))), (λ timely. (refl, refl, (λ is_. absurd (ne is_)), (λ _. refl)))),
         )
 
@@ -228,12 +228,12 @@ clear_allowed {fl} id slots i ticket x me is mask passes s r sized at low =
             knows = let t = k.0.turn in omega arith;
             lowest = omega arith;
             mine = λ _. f.mine (λ e. let z = p.0 in cc);
-            place = (record { turn = k.0.turn; mark = put_here r.g.withdrawn v.ticket 0 v.ticket refl; late = k.0.late }, now);
+            place = (record { turn = k.0.turn; mark = put_here r.g.withdrawn v.ticket 0 v.ticket refl; overtaking = k.0.overtaking }, now);
             told_nobody = f.told_nobody;
-            outer = f.outer;
+            lock_word = f.lock_word;
             door = door_on r.g v v.phase AtTurn (λ e. let z = p.0 in cc) f.door;
             tail_seen = f.tail_seen;
-            asks = asks_on r.asked r.g v v.phase AtTurn (λ e. let z = p.0 in cc) (λ w. absurd (⊎_elim (λ e. cc) (λ e. cc) w)) f.asks;
+            at_draw = at_draw_on r.drawn r.g v v.phase AtTurn (λ e. let z = p.0 in cc) (λ w. absurd (⊎_elim (λ e. cc) (λ e. cc) w)) f.at_draw;
           }),
       (((refl, refl, known s r id v at, (let k = heard s r id v at in omega arith)), ((refl, refl, refl), refl, (refl, refl), (refl, refl), (refl, refl), (λ _. refl))), (λ timely. (refl, refl, refl, refl, (refl, refl, refl), refl))),
     )
@@ -244,13 +244,13 @@ clear_allowed {fl} id slots i ticket x me is mask passes s r sized at low =
     found : ℕ
     found = slice_index s.words i
 
-    passing : (le : r.most_open ≤ limit) → IsPassing ticket v
+    passing : (le : r.most_open ≤ max_open) → IsPassing ticket v
     passing le = passes (let k = known s r id v at in omega arith)
 
-    placed : (le : r.most_open ≤ limit) → Place fl r.g v Passing
+    placed : (le : r.most_open ≤ max_open) → Place fl r.g v Passing
     placed le = place_of s r id v at le Passing (passing le).0
 
-    flips : (le : r.most_open ≤ limit) → Flips s r id v at i ticket ((found + (18446744073709551616 - x)) % 18446744073709551616) 0 is
+    flips : (le : r.most_open ≤ max_open) → Flips s r id v at i ticket ((found + (18446744073709551616 - x)) % 18446744073709551616) 0 is
     flips le =
         let p = passing le in
         let q = p.1 in

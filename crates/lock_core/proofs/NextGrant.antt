@@ -13,10 +13,10 @@ use Rattle.lock_core.specs.declared.view.View.{View}
 use Rattle.lock_core.specs.declared.view.Phase.{Phase}
 use Rattle.lock_core.specs.declared.view.Phase.TheVariants.{Idle, Queued, Asleep, AtTurn, Passing, HeadInside, Impossible}
 use Rattle.lock_core.specs.Layout.{cell_at, bit_of, rounds, rounds_of, count_of}
-use Rattle.lock_core.specs.Views.{limit, Timely, HasTurnOf, SameOvertaking, IsNotServed}
-use Rattle.lock_core.specs.Invariant.{tally, share, Ghost, Late, Waiter, Holder, Place, Probe, Fits, Cell, Tickets}
+use Rattle.lock_core.specs.Views.{max_open, Timely, HasTurnOf, SameOvertaking, IsNotServed}
+use Rattle.lock_core.specs.Invariant.{tally, share, Ghost, Overtaking, Waiter, Holder, Place, Probe, Fits, Cell, Tickets}
 use Rattle.lock_core.specs.Steps.{same, grants, grants_to}
-use Rattle.lock_core.proofs.Base.{put, put_here, put_else, each_after, cells_after, tally_none, known, heard, fits, place_of, other, told_in, told_in_same, door_left, idle_asks}
+use Rattle.lock_core.proofs.Base.{put, put_here, put_else, each_after, cells_after, tally_none, known, heard, fits, place_of, other, told_in, told_in_same, door_left, idle_at_draw}
 use Rattle.lock_core.proofs.Tally.{share_here, tally_has}
 use Rattle.lock_core.proofs.Words.{same_mask}
 
@@ -36,7 +36,7 @@ next_turn g quiet = record g { turn = g.turn + 1; head_inside = 0; nobody_asleep
 
 module _ (fl : ℕ) (g : Ghost) (q : ℕ) (b : View) (single : g.head_inside ≤ 1) where
   waiter : Waiter fl g b → Waiter fl (next_turn g q) b
-  waiter k = record { unmarked = k.unmarked; late = record { came = let c = k.late.came in omega arith; overtaken = let o = k.late.overtaken in let m = mul-le fl g.head_inside fl 1 (omega arith) single in omega arith }; at_turn = λ e. refl }
+  waiter k = record { unmarked = k.unmarked; overtaking = record { came = let c = k.overtaking.came in omega arith; overtaken = let o = k.overtaking.overtaken in let m = mul-le fl g.head_inside fl 1 (omega arith) single in omega arith }; at_turn = λ e. refl }
 
   -- the others wait on
   waits_on : (p : Phase) → (p ≢ Idle → b.ticket ≢ g.turn) → (p ≡ Asleep → b.ticket ≡ g.turn + 1 → q ≡ 0) → Place fl g b p → Place fl (next_turn g q) b p
@@ -78,7 +78,7 @@ module _ {fl : ℕ} (s : State ℕ View) (r : Tickets fl s) (id slots i x ticket
     pub mask : x % 65536 ≡ found % 65536
     pub count : count_of x ≡ count_of found
 
-  pub granted_next : v.max_newcomers ≡ fl → (r.most_open ≤ limit → Granting) → (w : View) × (a : Act ℕ) × Valid s.homes me.1 a × Tickets fl (stepped s i x id me.1 w a) × (same me (w, carried_after me.1 a) × (Timely w → grants_to v found w) × SameOvertaking v w × (v.max_newcomers ≡ 0 → Timely w → IsNotServed w))
+  pub granted_next : v.max_newcomers ≡ fl → (r.most_open ≤ max_open → Granting) → (w : View) × (a : Act ℕ) × Valid s.homes me.1 a × Tickets fl (stepped s i x id me.1 w a) × (same me (w, carried_after me.1 a) × (Timely w → grants_to v found w) × SameOvertaking v w × (v.max_newcomers ≡ 0 → Timely w → IsNotServed w))
   granted_next same_newcomers granting = dite (ℕ_discrete bit 0) left passes
     where
       bit : ℕ
@@ -90,17 +90,17 @@ module _ {fl : ℕ} (s : State ℕ View) (r : Tickets fl s) (id slots i x ticket
       g : Ghost
       g = next_turn r.g q
 
-      open_fits : (le : r.most_open ≤ limit) → (r.g.turn ≤ v.ticket) × (v.ticket < r.asked) × (r.owner v.ticket ≡ id)
+      open_fits : (le : r.most_open ≤ max_open) → (r.g.turn ≤ v.ticket) × (v.ticket < r.drawn) × (r.owner v.ticket ≡ id)
       open_fits le = (fits s r id v at le).mine (granting le).busy
 
-      is_next : (le : r.most_open ≤ limit) → i ≡ cell_at n1
+      is_next : (le : r.most_open ≤ max_open) → i ≡ cell_at n1
       is_next le = let t = (granting le).mine in is ∙ (let b = behind in omega arith)
 
-      mark : (le : r.most_open ≤ limit) → bit ≡ r.g.withdrawn n1
+      mark : (le : r.most_open ≤ max_open) → bit ≡ r.g.withdrawn n1
       mark le = let t = (granting le).holder.turn in ap (λ z. bit_at z (bit_of n1)) (ap (slice_index s.words) (is_next le)) ∙ ((r.granted le).cells n1).bits (omega arith) (omega arith)
 
       -- a sleeper of the next ticket is counted
-      counted_there : (le : r.most_open ≤ limit) (j : ℕ) (b : View) → get_elem? s.views j ≡ some b → b.phase ≡ Asleep → b.ticket ≡ n1 → q ≡ 0
+      counted_there : (le : r.most_open ≤ max_open) (j : ℕ) (b : View) → get_elem? s.views j ≡ some b → b.phase ≡ Asleep → b.ticket ≡ n1 → q ≡ 0
       counted_there le j b there dozing e =
           let f = (r.granted le).each j b there in
           let p : Place fl r.g b Asleep = subst (Place fl r.g b) dozing f.place in
@@ -112,17 +112,17 @@ module _ {fl : ℕ} (s : State ℕ View) (r : Tickets fl s) (id slots i x ticket
           let c' : count_of found ≡ tally (b.ticket % 4) s.views = ap count_of (sym here) ∙ c in
           somebody_is found (λ z. let z' : tally (b.ticket % 4) s.views ≡ 0 = sym c' ∙ z in omega arith)
 
-      after : (owner : ℕ → ℕ) (w : View) → w.most_open ≡ r.most_open → w.newcomers_seen ≤ r.g.newcomers → w.counted ≡ 0 → (r.most_open ≤ limit → Fits fl r.asked owner r.who g id w)
-          → (r.most_open ≤ limit → (j : ℕ) (b : View) → j ≢ id → get_elem? s.views j ≡ some b → b.phase ≢ Idle → owner b.ticket ≡ r.owner b.ticket)
+      after : (owner : ℕ → ℕ) (w : View) → w.most_open ≡ r.most_open → w.newcomers_seen ≤ r.g.newcomers → w.counted ≡ 0 → (r.most_open ≤ max_open → Fits fl r.drawn owner r.who g id w)
+          → (r.most_open ≤ max_open → (j : ℕ) (b : View) → j ≢ id → get_elem? s.views j ≡ some b → b.phase ≢ Idle → owner b.ticket ≡ r.owner b.ticket)
           → Tickets fl record { words = set s.words i x; homes = s.homes; views = set s.views id w }
       after owner w same_most begun none_ fit keep = record {
-        asked = r.asked;
+        drawn = r.drawn;
         most_open = r.most_open;
         owner = owner;
         who = r.who;
         g = g;
         tail = get_or-set_other s.words i 16 x 0 (λ e. omega arith) ∙ r.tail;
-        outer = get_or-set_other s.words i 0 x 0 (λ e. omega arith) ∙ r.outer;
+        lock_word = get_or-set_other s.words i 0 x 0 (λ e. omega arith) ∙ r.lock_word;
         wide = length-set s.words i x ∙ r.wide;
         guard = r.guard;
         seen = each_after (λ j b. b.most_open ≤ r.most_open) s.views id w (omega arith) (λ j b ne there. r.seen j b there);
@@ -163,16 +163,16 @@ module _ {fl : ℕ} (s : State ℕ View) (r : Tickets fl s) (id slots i x ticket
                     count = c.count ∙ sym (all (t % 4));
                   });
               idle = λ e. refl;
-              each = each_after (Fits fl r.asked owner r.who g) s.views id w (fit le) (λ j b ne there. let f = o.each j b there in
+              each = each_after (Fits fl r.drawn owner r.who g) s.views id w (fit le) (λ j b ne there. let f = o.each j b there in
                   let apart : b.phase ≢ Idle → b.ticket ≢ v.ticket = λ busy. other s r id v at le j b ne k.busy busy there in record {
                     knows = let y = f.knows in omega arith;
                     lowest = let y = f.lowest in omega arith;
                     mine = λ busy. let y = f.mine busy in let b' = apart busy in ((let c = y.0 in omega arith), y.1, keep le j b ne there busy ∙ y.2);
                     place = waits_on fl r.g q b o.counts.single b.phase (λ busy e. apart busy (e ∙ sym t0)) (λ dozing e. counted_there le j b there dozing (omega arith)) f.place;
                     told_nobody = λ one. let y = f.told_nobody one in let y1 = y.1 in (put_else r.g.nobody_asleep (r.g.turn + 1) q b.granted (λ e. omega arith) ∙ y.0, omega arith);
-                    outer = f.outer;
+                    lock_word = f.lock_word;
                     door = f.door;
-                    asks = f.asks;
+                    at_draw = f.at_draw;
                     tail_seen = record { probed = f.tail_seen.probed; next_is_at_turn = λ one e. let q = f.tail_seen.next_is_at_turn one e in absurd (omega arith) };
                   });
             };
@@ -181,20 +181,20 @@ module _ {fl : ℕ} (s : State ℕ View) (r : Tickets fl s) (id slots i x ticket
       Goal : Type 0
       Goal = (w : View) × (a : Act ℕ) × Valid s.homes me.1 a × Tickets fl (stepped s i x id me.1 w a) × (same me (w, carried_after me.1 a) × (Timely w → grants_to v found w) × SameOvertaking v w × (v.max_newcomers ≡ 0 → Timely w → IsNotServed w))
 
-      probe_on : (le : r.most_open ≤ limit) → Probe r.asked g v
+      probe_on : (le : r.most_open ≤ max_open) → Probe r.drawn g v
       probe_on le =
           let f = (fits s r id v at le).tail_seen in
           let t0 = (granting le).holder.turn in
           let z = (open_fits le).1 in record { probed = f.probed; next_is_at_turn = λ one e. let q = f.next_is_at_turn one e in absurd (omega arith) }
 
       -- in a strict lock nobody is inside, so its turn ends its service
-      home : r.most_open ≤ limit → v.max_newcomers ≡ 0 → told_in v ≡ 0
-      home le none_ = ap (λ b. either b v.door 0) (ne_eqb v.inside 1 (λ one. let few = ((fits s r id v at le).outer.guest one).0 in omega arith))
+      home : r.most_open ≤ max_open → v.max_newcomers ≡ 0 → told_in v ≡ 0
+      home le none_ = ap (λ b. either b v.door 0) (ne_eqb v.inside 1 (λ one. let few = ((fits s r id v at le).lock_word.occupant one).0 in omega arith))
 
       -- it is overtaken as much as before
-      late_on : r.most_open ≤ limit → Late fl g v
+      late_on : r.most_open ≤ max_open → Overtaking fl g v
       late_on le =
-          let l = (granting le).holder.late in
+          let l = (granting le).holder.overtaking in
           let single = (r.granted le).counts.single in record { came = let c = l.came in omega arith; overtaken = let o = l.overtaken in let m = mul-le fl r.g.head_inside fl 1 (omega arith) single in omega arith }
 
       left : bit ≡ 0 → Goal
@@ -203,13 +203,13 @@ module _ {fl : ℕ} (s : State ℕ View) (r : Tickets fl s) (id slots i x ticket
             w,
             keeps,
             tt,
-            after r.owner w refl (let k = heard s r id v at in omega arith) refl (λ le. let t = (granting le).holder.turn in record { knows = omega arith; lowest = omega arith; mine = λ busy. absurd (busy refl); place = tt; told_nobody = λ e. (put_here r.g.nobody_asleep (r.g.turn + 1) q n1 (omega arith) ∙ e, (omega arith)); outer = (fits s r id v at le).outer; door = door_left r.g v v.phase Idle (fits s r id v at le).door; tail_seen = probe_on le; asks = idle_asks r.asked g w (fits s r id v at le).asks.early refl }) (λ le j b ne there busy. refl),
+            after r.owner w refl (let k = heard s r id v at in omega arith) refl (λ le. let t = (granting le).holder.turn in record { knows = omega arith; lowest = omega arith; mine = λ busy. absurd (busy refl); place = tt; told_nobody = λ e. (put_here r.g.nobody_asleep (r.g.turn + 1) q n1 (omega arith) ∙ e, (omega arith)); lock_word = (fits s r id v at le).lock_word; door = door_left r.g v v.phase Idle (fits s r id v at le).door; tail_seen = probe_on le; at_draw = idle_at_draw r.drawn g w (fits s r id v at le).at_draw.early refl }) (λ le j b ne there busy. refl),
             (((refl, refl, known s r id v at, (let k = heard s r id v at in omega arith)), ((refl, refl, refl), refl, (refl, refl), (refl, refl), (refl, refl), told_in_same v)), (λ timely. ((λ _. (((refl, refl), refl, refl, refl), nobody_is found)), (λ one. absurd (omega arith)))), (refl, refl, refl), (λ none_ timely. home timely none_)),
           )
 
       passes : bit ≢ 0 → Goal
       passes ne =
-          let w : View = record v { most_open = r.most_open; ended = n1; rounds_seen = 0; ticket = n1; phase = Passing; counted = 0; granted = n1; told_nobody = 0; door = told_in v; asked_open = r.g.asked_open n1; nobody_behind = 0 } in
+          let w : View = record v { most_open = r.most_open; ended = n1; rounds_seen = 0; ticket = n1; phase = Passing; counted = 0; granted = n1; told_nobody = 0; door = told_in v; drawn_open = r.g.drawn_open n1; nobody_behind = 0 } in
           let one : bit ≡ 1 = (let lt = bit_at-lt found (bit_of n1) in omega arith) in (
             w,
             keeps,
@@ -218,20 +218,20 @@ module _ {fl : ℕ} (s : State ℕ View) (r : Tickets fl s) (id slots i x ticket
                 (λ le. let t = (granting le).holder.turn in let m : r.g.withdrawn n1 ≡ 1 = sym (mark le) ∙ one in record {
                   knows = omega arith;
                   lowest = omega arith;
-                  mine = λ _. (omega arith, (dite (dec_le r.asked n1) (λ late. absurd (let z = (r.granted le).marks.future n1 late in omega arith)) (λ soon. omega arith)), put_here r.owner n1 id n1 refl);
-                  place = (record { turn = omega arith; mark = m; late = late_on le }, refl);
+                  mine = λ _. (omega arith, (dite (dec_le r.drawn n1) (λ overtaking. absurd (let z = (r.granted le).marks.future n1 overtaking in omega arith)) (λ soon. omega arith)), put_here r.owner n1 id n1 refl);
+                  place = (record { turn = omega arith; mark = m; overtaking = late_on le }, refl);
                   told_nobody = λ e. absurd (omega arith);
-                  outer = (fits s r id v at le).outer;
+                  lock_word = (fits s r id v at le).lock_word;
                   door = door_left r.g v v.phase Passing (fits s r id v at le).door;
                   tail_seen = probe_on le;
-                  asks = record { stamped = λ _. refl; early = (fits s r id v at le).asks.early; open_then = λ q. absurd (⊎_elim (λ e. cc) (λ e. cc) q); shut_then = λ q. absurd (⊎_elim (λ e. cc) (λ e. cc) q); nobody_behind = λ e. absurd (omega arith) };
+                  at_draw = record { stamped = λ _. refl; early = (fits s r id v at le).at_draw.early; open_then = λ q. absurd (⊎_elim (λ e. cc) (λ e. cc) q); shut_then = λ q. absurd (⊎_elim (λ e. cc) (λ e. cc) q); nobody_behind = λ e. absurd (omega arith) };
                 })
                 (λ le j b ne' there busy. put_else r.owner n1 id b.ticket (λ e. owned le j b there busy ne' e)),
             (((refl, refl, known s r id v at, (let k = heard s r id v at in omega arith)), ((refl, refl, refl), refl, (refl, refl), (refl, refl), (refl, refl), told_in_same v)), (λ timely. ((λ zero_. absurd (ne zero_)), (λ _. (refl, refl, refl)))), (refl, refl, refl), (λ none_ timely. home timely none_)),
           )
         where
           -- no other open request has the marked ticket
-          owned : (le : r.most_open ≤ limit) (j : ℕ) (b : View) → get_elem? s.views j ≡ some b → b.phase ≢ Idle → j ≢ id → b.ticket ≢ n1
+          owned : (le : r.most_open ≤ max_open) (j : ℕ) (b : View) → get_elem? s.views j ≡ some b → b.phase ≢ Idle → j ≢ id → b.ticket ≢ n1
           owned le j b there busy ne' e =
               let f = (r.granted le).each j b there in
               let m : r.g.withdrawn b.ticket ≢ 0 = λ z. ne (mark le ∙ ap r.g.withdrawn (sym e) ∙ z) in

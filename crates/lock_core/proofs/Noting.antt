@@ -1,4 +1,4 @@
--- What a step finds is noted in the view of its seat, and the rule does not depend on that.
+-- What a step finds is noted in the view of its seat, and the invariant does not depend on that.
 use Rattle.std.proofs.Common.{◌≡◌, ◌≢◌, ℕ, zero, suc, ◌+◌, ◌*◌, ◌-◌, ◌/◌, ◌%◌, ◌^◌, ◌<◌, ◌≤◌, List, [], ◌∷◌, set, slice_index, sym, refl, subst, arith, eqb}
 use mathlib.Core.Option.{none, some, some-ne-none}
 use lib.ListN.{get_elem?}
@@ -13,15 +13,15 @@ use Rattle.lock_core.specs.Layout.{cell_at, bit_of, count_of, state_of, came_of,
 use Rattle.lock_core.specs.Views.{Timely, IsIdle, IsQueued, IsQueuedWithin, IsAsleep, IsAtTurn, IsPassing, HasTurn, HasTurnOf, IsInside, ServedOpen, ServedShut}
 use Rattle.lock_core.specs.Looks.{looked}
 use Rattle.lock_core.specs.Invariant.{tally, Ghost, Place, Fits, Cell, Tickets}
-use Rattle.lock_core.specs.Steps.{noting, kept_word, added_word, subtracted_word, exchanged_word, reads_outer, draws, reads, reads_cell, draws_granted, draws_near, looks, announces_sleep, sets_withdrawn, grants, clears_withdrawn, goes_in, takes_outer, leaves, checks_open, shuts, reopens, announces_head_sleep, requests_handoff}
+use Rattle.lock_core.specs.Steps.{noting, kept_word, added_word, subtracted_word, exchanged_word, reads_lock_word, draws, reads, reads_cell, draws_granted, draws_near, looks, announces_sleep, sets_withdrawn, grants, clears_withdrawn, barges, takes_lock_word, leaves, checks_open, shuts, reopens, announces_head_sleep, requests_handoff}
 use Rattle.lock_core.proofs.Base.{each_after}
 use Rattle.lock_core.proofs.Tally.{tally_set}
-use Rattle.lock_core.proofs.Asking.{IsFew, ask_allowed, read_tail_allowed, read_cell_allowed, try_ask_allowed, ask_near_allowed}
+use Rattle.lock_core.proofs.DrawingSteps.{IsFew, draw_allowed, read_tail_allowed, read_cell_allowed, try_draw_allowed, draw_near_allowed}
 use Rattle.lock_core.proofs.Looking.{look_allowed, announce_sleep_allowed, retract_sleep_allowed}
 use Rattle.lock_core.proofs.Marks.{withdraw_allowed, clear_allowed}
 use Rattle.lock_core.proofs.NextGrant.{grant_allowed}
-use Rattle.lock_core.proofs.OuterWord.{request_handoff_allowed, go_in_allowed, take_outer_allowed, leave_allowed}
-use Rattle.lock_core.proofs.ClosingSteps.{shut_allowed, reopen_allowed, check_open_allowed, announce_head_sleep_allowed}
+use Rattle.lock_core.proofs.LockWord.{request_handoff_allowed, barge_allowed, take_lock_word_allowed, leave_allowed}
+use Rattle.lock_core.proofs.ShuttingSteps.{shut_allowed, reopen_allowed, check_open_allowed, announce_head_sleep_allowed}
 
 pub set_there : {A : Type 0} (l : List A) (i : ℕ) (v w : A) → get_elem? l i ≡ some v → get_elem? (set l i w) i ≡ some w
 set_there [] i v w at = absurd (some-ne-none v (sym at))
@@ -49,13 +49,13 @@ module _ {fl : ℕ} (s : State ℕ View) (r : Tickets fl s) (id : ℕ) (v : View
 
   noted : Tickets fl record { words = s.words; homes = s.homes; views = set s.views id noted_view }
   noted = record {
-    asked = r.asked;
+    drawn = r.drawn;
     most_open = r.most_open;
     owner = r.owner;
     who = r.who;
     g = r.g;
     tail = r.tail;
-    outer = r.outer;
+    lock_word = r.lock_word;
     wide = r.wide;
     guard = r.guard;
     seen = each_after (λ j b. b.most_open ≤ r.most_open) s.views id noted_view (r.seen id v at) (λ j b ne there. r.seen j b there);
@@ -71,16 +71,16 @@ module _ {fl : ℕ} (s : State ℕ View) (r : Tickets fl s) (id : ℕ) (v : View
           counts = o.counts;
           crowd = λ k. let e = all k in let q = o.crowd k in omega arith;
           cells = λ t. subst (λ z. Cell r.g z (slice_index s.words (cell_at t)) t) (sym (all (t % 4))) (o.cells t);
-          each = each_after (Fits fl r.asked r.owner r.who r.g) s.views id noted_view record {
+          each = each_after (Fits fl r.drawn r.owner r.who r.g) s.views id noted_view record {
             knows = f.knows;
             lowest = f.lowest;
             mine = f.mine;
             place = place_noted fl r.g v l v.phase f.place;
             told_nobody = f.told_nobody;
-            outer = f.outer;
+            lock_word = f.lock_word;
             door = f.door;
             tail_seen = f.tail_seen;
-            asks = f.asks;
+            at_draw = f.at_draw;
           } (λ j b ne there. o.each j b there);
         };
   }
@@ -103,9 +103,9 @@ notes {fl} id i me f st left tells carries allowed s r sized at low =
       (refl, carries n w (carried_after me.1 a) l made.4),
     )
 
--- the outer word is read
-pub read_outer_allowed : {fl : ℕ} (id slots : ℕ) (me : Me ℕ View) → Allows (Tickets fl) slots id me 0 (λ n. n) (noting kept_word reads_outer (step slots 0 0 0 none) me)
-read_outer_allowed {fl} id slots me = notes id 0 me (λ n. n) (step slots 0 0 0 none) kept_word reads_outer (λ n w c l told. (told.0, λ k. record (told.1 k) { looks = l })) (λ s r sized at low. (
+-- the lock word is read
+pub read_lock_word_allowed : {fl : ℕ} (id slots : ℕ) (me : Me ℕ View) → Allows (Tickets fl) slots id me 0 (λ n. n) (noting kept_word reads_lock_word (step slots 0 0 0 none) me)
+read_lock_word_allowed {fl} id slots me = notes id 0 me (λ n. n) (step slots 0 0 0 none) kept_word reads_lock_word (λ n w c l told. (told.0, λ k. record (told.1 k) { looks = l })) (λ s r sized at low. (
   me.0,
   keeps,
   tt,
@@ -118,8 +118,8 @@ read_outer_allowed {fl} id slots me = notes id 0 me (λ n. n) (step slots 0 0 0 
     same_word (x ∷ xs) = refl
 
 -- each step, noted
-pub ask_noted : {fl : ℕ} (id slots : ℕ) (me : Me ℕ View) → slots ≡ 0 → (Timely me.0 → IsIdle me.0) → Allows (Tickets fl) slots id me 16 (λ n. (n + 1) % 18446744073709551616) (noting added_word draws (step slots 16 1 0 none) me)
-ask_noted {fl} id slots me no_slot fresh = notes id 16 me (λ n. (n + 1) % 18446744073709551616) (step slots 16 1 0 none) added_word draws (λ n w c l told. told) (ask_allowed id slots me no_slot fresh)
+pub draw_noted : {fl : ℕ} (id slots : ℕ) (me : Me ℕ View) → slots ≡ 0 → (Timely me.0 → IsIdle me.0) → Allows (Tickets fl) slots id me 16 (λ n. (n + 1) % 18446744073709551616) (noting added_word draws (step slots 16 1 0 none) me)
+draw_noted {fl} id slots me no_slot fresh = notes id 16 me (λ n. (n + 1) % 18446744073709551616) (step slots 16 1 0 none) added_word draws (λ n w c l told. told) (draw_allowed id slots me no_slot fresh)
 
 pub read_tail_noted : {fl : ℕ} (id slots : ℕ) (me : Me ℕ View) → (Timely me.0 → me.0.counted ≡ 0) → Allows (Tickets fl) slots id me 16 (λ n. n) (noting kept_word reads (step slots 16 0 0 none) me)
 read_tail_noted {fl} id slots me none_counted = notes id 16 me (λ n. n) (step slots 16 0 0 none) kept_word reads (λ n w c l told. told) (read_tail_allowed id slots me none_counted)
@@ -127,11 +127,11 @@ read_tail_noted {fl} id slots me none_counted = notes id 16 me (λ n. n) (step s
 pub read_cell_noted : {fl : ℕ} (id slots i ticket : ℕ) (me : Me ℕ View) → i ≡ cell_at ticket → (Timely me.0 → IsIdle me.0 × (ticket ≡ me.0.tail_seen % 18446744073709551616)) → Allows (Tickets fl) slots id me i (λ n. n) (noting kept_word reads_cell (step slots i 0 0 none) me)
 read_cell_noted {fl} id slots i ticket me is has = notes id i me (λ n. n) (step slots i 0 0 none) kept_word reads_cell (λ n w c l told. told) (read_cell_allowed id slots i ticket me is has)
 
-pub try_ask_noted : {fl : ℕ} (id slots old new : ℕ) (me : Me ℕ View) → slots ≡ 0 → new ≡ (old + 1) % 18446744073709551616 → (Timely me.0 → IsIdle me.0 × (old ≡ me.0.tail_seen % 18446744073709551616) × (me.0.next_is_at_turn ≡ 1)) → Allows (Tickets fl) slots id me 16 (λ n. either (eqb n old) new n) (noting exchanged_word draws_granted (step slots 16 old new none) me)
-try_ask_noted {fl} id slots old new me no_slot new_is has = notes id 16 me (λ n. either (eqb n old) new n) (step slots 16 old new none) exchanged_word draws_granted (λ n w c l told. told) (try_ask_allowed id slots old new me no_slot new_is has)
+pub try_draw_noted : {fl : ℕ} (id slots old new : ℕ) (me : Me ℕ View) → slots ≡ 0 → new ≡ (old + 1) % 18446744073709551616 → (Timely me.0 → IsIdle me.0 × (old ≡ me.0.tail_seen % 18446744073709551616) × (me.0.next_is_at_turn ≡ 1)) → Allows (Tickets fl) slots id me 16 (λ n. either (eqb n old) new n) (noting exchanged_word draws_granted (step slots 16 old new none) me)
+try_draw_noted {fl} id slots old new me no_slot new_is has = notes id 16 me (λ n. either (eqb n old) new n) (step slots 16 old new none) exchanged_word draws_granted (λ n w c l told. told) (try_draw_allowed id slots old new me no_slot new_is has)
 
-pub ask_near_noted : {fl : ℕ} (id slots old new : ℕ) (me : Me ℕ View) → (slots ≡ 1 → IsFew old me.0) → new ≡ (old + 1) % 18446744073709551616 → (Timely me.0 → IsIdle me.0 × (old ≡ me.0.tail_seen % 18446744073709551616) × (me.0.ticket ≡ me.0.tail_seen)) → Allows (Tickets fl) slots id me 16 (λ n. either (eqb n old) new n) (noting exchanged_word draws_near (step slots 16 old new none) me)
-ask_near_noted {fl} id slots old new me few_ new_is has = notes id 16 me (λ n. either (eqb n old) new n) (step slots 16 old new none) exchanged_word draws_near (λ n w c l told. told) (ask_near_allowed id slots old new me few_ new_is has)
+pub draw_near_noted : {fl : ℕ} (id slots old new : ℕ) (me : Me ℕ View) → (slots ≡ 1 → IsFew old me.0) → new ≡ (old + 1) % 18446744073709551616 → (Timely me.0 → IsIdle me.0 × (old ≡ me.0.tail_seen % 18446744073709551616) × (me.0.ticket ≡ me.0.tail_seen)) → Allows (Tickets fl) slots id me 16 (λ n. either (eqb n old) new n) (noting exchanged_word draws_near (step slots 16 old new none) me)
+draw_near_noted {fl} id slots old new me few_ new_is has = notes id 16 me (λ n. either (eqb n old) new n) (step slots 16 old new none) exchanged_word draws_near (λ n w c l told. told) (draw_near_allowed id slots old new me few_ new_is has)
 
 pub look_noted : {fl : ℕ} (id slots i ticket : ℕ) (me : Me ℕ View) → me.0.max_newcomers ≡ fl → i ≡ cell_at ticket → (Timely me.0 → IsQueued ticket me.0) → Allows (Tickets fl) slots id me i (λ n. n) (noting subtracted_word looks (step slots i 0 0 none) me)
 look_noted {fl} id slots i ticket me same_newcomers is waits = notes id i me (λ n. n) (step slots i 0 0 none) subtracted_word looks (λ n w c l told. told) (look_allowed id slots i ticket me same_newcomers is waits)
@@ -139,11 +139,11 @@ look_noted {fl} id slots i ticket me same_newcomers is waits = notes id i me (λ
 pub request_handoff_noted : {fl : ℕ} (id slots old new : ℕ) (me : Me ℕ View) → new / 2 ≡ old / 2 → Allows (Tickets fl) slots id me 0 (λ n. either (eqb n old) new n) (noting exchanged_word requests_handoff (step slots 0 old new none) me)
 request_handoff_noted {fl} id slots old new me half = notes id 0 me (λ n. either (eqb n old) new n) (step slots 0 old new none) exchanged_word requests_handoff (λ n w c l told. (told.0, λ k. record (told.1 k) { looks = l })) (request_handoff_allowed id slots old new me half)
 
-pub go_in_noted : {fl : ℕ} (id slots old new : ℕ) (me : Me ℕ View) → 0 < fl → me.0.max_newcomers ≡ fl → old / 4 % 8 ≡ 0 → new ≡ (old + 36) % 18446744073709551616 → (Timely me.0 → IsIdle me.0) → Allows (Tickets fl) slots id me 0 (λ n. either (eqb n old) new n) (noting exchanged_word goes_in (step slots 0 old new none) me)
-go_in_noted {fl} id slots old new me bursts same_newcomers free new_is fresh = notes id 0 me (λ n. either (eqb n old) new n) (step slots 0 old new none) exchanged_word goes_in (λ n w c l told. told) (go_in_allowed id slots old new me bursts same_newcomers free new_is fresh)
+pub barge_noted : {fl : ℕ} (id slots old new : ℕ) (me : Me ℕ View) → 0 < fl → me.0.max_newcomers ≡ fl → old / 4 % 8 ≡ 0 → new ≡ (old + 36) % 18446744073709551616 → (Timely me.0 → IsIdle me.0) → Allows (Tickets fl) slots id me 0 (λ n. either (eqb n old) new n) (noting exchanged_word barges (step slots 0 old new none) me)
+barge_noted {fl} id slots old new me barging same_newcomers free new_is fresh = notes id 0 me (λ n. either (eqb n old) new n) (step slots 0 old new none) exchanged_word barges (λ n w c l told. told) (barge_allowed id slots old new me barging same_newcomers free new_is fresh)
 
-pub take_outer_noted : {fl : ℕ} (id slots ticket old new : ℕ) (me : Me ℕ View) → 0 < fl → me.0.max_newcomers ≡ fl → state_of old ≢ 1 → new ≡ old / 16 % 2 * 16 + 4 → (Timely me.0 → IsAtTurn ticket me.0) → Allows (Tickets fl) slots id me 0 (λ n. either (eqb n old) new n) (noting exchanged_word takes_outer (step slots 0 old new none) me)
-take_outer_noted {fl} id slots ticket old new me bursts same_newcomers free new_is has = notes id 0 me (λ n. either (eqb n old) new n) (step slots 0 old new none) exchanged_word takes_outer (λ n w c l told. told) (take_outer_allowed id slots ticket old new me bursts same_newcomers free new_is has)
+pub take_lock_word_noted : {fl : ℕ} (id slots ticket old new : ℕ) (me : Me ℕ View) → 0 < fl → me.0.max_newcomers ≡ fl → state_of old ≢ 1 → new ≡ old / 16 % 2 * 16 + 4 → (Timely me.0 → IsAtTurn ticket me.0) → Allows (Tickets fl) slots id me 0 (λ n. either (eqb n old) new n) (noting exchanged_word takes_lock_word (step slots 0 old new none) me)
+take_lock_word_noted {fl} id slots ticket old new me barging same_newcomers free new_is has = notes id 0 me (λ n. either (eqb n old) new n) (step slots 0 old new none) exchanged_word takes_lock_word (λ n w c l told. told) (take_lock_word_allowed id slots ticket old new me barging same_newcomers free new_is has)
 
 pub leave_noted : {fl : ℕ} (id slots old new : ℕ) (me : Me ℕ View) → came_of new ≡ came_of old → state_of new ≢ 1 → (state_of new ≡ 0 → came_of old + 1 ≤ fl) → shut_of new ≡ shut_of old → (Timely me.0 → IsInside me.0) → Allows (Tickets fl) slots id me 0 (λ n. either (eqb n old) new n) (noting exchanged_word leaves (step slots 0 old new none) me)
 leave_noted {fl} id slots old new me same_ free few still_shut has = notes id 0 me (λ n. either (eqb n old) new n) (step slots 0 old new none) exchanged_word leaves (λ n w c l told. told) (leave_allowed id slots old new me same_ free few still_shut has)

@@ -11,18 +11,18 @@ use Rattle.atomic_table.proofs.Lists.{set_here, set_else, set_again, at_longer}
 use Rattle.lock_core.specs.declared.view.View.{View}
 use Rattle.lock_core.specs.declared.view.Phase.TheVariants.{Impossible}
 use Rattle.lock_core.specs.Layout.{asleep_of, bit_of, came_of, cell_at, count_of, shut_of, state_of}
-use Rattle.lock_core.specs.Views.{limit, Timely, Carries, initial_view, HasTurn, HasTurnAwake, HasTurnOf, IsNotServed, IsAsleep, IsAtTurn, IsIdle, IsInside, IsOutside, IsPassing, IsQueued, IsQueuedWithin, ServedOpen, ServedShut}
+use Rattle.lock_core.specs.Views.{max_open, Timely, Carries, initial_view, HasTurn, HasTurnAwake, HasTurnOf, IsNotServed, IsAsleep, IsAtTurn, IsIdle, IsInside, IsOutside, IsPassing, IsQueued, IsQueuedWithin, ServedOpen, ServedShut}
 use Rattle.lock_core.specs.Looks.{looked}
 use Rattle.lock_core.specs.Invariant.{Tickets}
 use Rattle.lock_core.specs.Slots.{bare, bare_step, blanks, Slotted, with_slot}
-use Rattle.lock_core.specs.Steps.{noting, kept_word, added_word, subtracted_word, exchanged_word, comes, reads_outer, draws, reads, reads_cell, draws_granted, draws_near, looks, announces_sleep, sets_withdrawn, grants, clears_withdrawn, goes_in, takes_outer, leaves, checks_open, shuts, reopens, announces_head_sleep, requests_handoff}
+use Rattle.lock_core.specs.Steps.{noting, kept_word, added_word, subtracted_word, exchanged_word, comes, reads_lock_word, draws, reads, reads_cell, draws_granted, draws_near, looks, announces_sleep, sets_withdrawn, grants, clears_withdrawn, barges, takes_lock_word, leaves, checks_open, shuts, reopens, announces_head_sleep, requests_handoff}
 use Rattle.lock_core.specs.Meets.{meet, tells_of_two, told_of, learns, learns_ended, tells_order}
 use Rattle.lock_core.proofs.Base.{fits, door_apart}
 use Rattle.lock_core.proofs.Entering.{come_enters}
 use Rattle.lock_core.proofs.FirstState.{first_words, first_state}
-use Rattle.lock_core.proofs.Asking.{IsFew}
+use Rattle.lock_core.proofs.DrawingSteps.{IsFew}
 use Rattle.lock_core.proofs.Meeting.{meet_tells, tell_splits, learn_joins, learn_ended_joins, order_tells}
-use Rattle.lock_core.proofs.Noting.{set_there, read_outer_allowed, ask_noted, read_tail_noted, read_cell_noted, try_ask_noted, ask_near_noted, look_noted, request_handoff_noted, go_in_noted, take_outer_noted, leave_noted, shut_noted, reopen_noted, check_open_noted, announce_head_sleep_noted, grant_noted, announce_sleep_noted, retract_sleep_noted, withdraw_noted, clear_noted}
+use Rattle.lock_core.proofs.Noting.{set_there, read_lock_word_allowed, draw_noted, read_tail_noted, read_cell_noted, try_draw_noted, draw_near_noted, look_noted, request_handoff_noted, barge_noted, take_lock_word_noted, leave_noted, shut_noted, reopen_noted, check_open_noted, announce_head_sleep_noted, grant_noted, announce_sleep_noted, retract_sleep_noted, withdraw_noted, clear_noted}
 
 -- an act leaves the number of slots
 length_after : {S : Type 0} (hs : List (Option S)) (c : List (ℕ × S)) (a : Act S) → length (homes_after hs c a) ≡ length hs
@@ -35,13 +35,13 @@ length_after hs c (chain a b) = length_after (homes_after hs c a) (carried_after
 -- what lies in the slots is nothing to the lock
 rehomed : {fl : ℕ} (words : List ℕ) (hs ks : List (Option ℕ)) (views : List View) → length ks ≡ length hs → Tickets fl record { words = words; homes = hs; views = views } → Tickets fl record { words = words; homes = ks; views = views }
 rehomed words hs ks views same_ r = record {
-  asked = r.asked;
+  drawn = r.drawn;
   most_open = r.most_open;
   owner = r.owner;
   who = r.who;
   g = r.g;
   tail = r.tail;
-  outer = r.outer;
+  lock_word = r.lock_word;
   wide = r.wide;
   seen = r.seen;
   heard = r.heard;
@@ -61,7 +61,7 @@ pub carries_learned : {T : Type 0} (slots : ℕ) (v w : View) (c : List (ℕ × 
 carries_learned slots v w c k = record { nothing = k.nothing; at_home = k.at_home; carries = k.carries; timely = k.timely }
 
 -- who is outside, and has no request, is not served
-outside_door : {fl : ℕ} (s : State ℕ View) (r : Tickets fl s) (id : ℕ) (v : View) (at : get_elem? s.views id ≡ some v) → r.most_open ≤ limit → IsOutside v → v.door ≡ 0
+outside_door : {fl : ℕ} (s : State ℕ View) (r : Tickets fl s) (id : ℕ) (v : View) (at : get_elem? s.views id ≡ some v) → r.most_open ≤ max_open → IsOutside v → v.door ≡ 0
 outside_door s r id v at le out = dite (ℕ_discrete v.door 0) (λ e. e) (λ ne. absurd (⊎_elim (λ a. let p = a.1 in let q = out.1.0 in cc) (λ a. let z = out.0 in omega arith) ((fits s r id v at le).door ne).2))
 
 module _ {T : Type 0} {fl : ℕ} where
@@ -105,7 +105,7 @@ module _ {T : Type 0} {fl : ℕ} where
         (told, record { nothing = has.nothing; at_home = λ one. absurd (ne one); carries = λ one. absurd (ne one); timely = λ one. absurd (ne one) }, (λ a b. refl)),
       )
 
-      in_time : st.slots ≡ 1 → made.3.most_open ≤ limit
+      in_time : st.slots ≡ 1 → made.3.most_open ≤ max_open
       in_time one = (made.3.guard (length_after (bare s).homes [] made.1 ∙ bare_length s.homes ∙ sized ∙ one)).0
 
       timely : st.slots ≡ 1 → Timely w
@@ -171,11 +171,11 @@ module _ {T : Type 0} {fl : ℕ} where
             (told, record { nothing = λ none_. absurd (omega arith); at_home = λ _ _. ap rest y.1; carries = λ _ ne. absurd (ne out'); timely = λ _. timely one }, (λ a ne. absurd (ne out'))),
           )
 
-  pub read_outer_slotted : (id slots : ℕ) (me : Me T View) → Carries slots me → Allows (Slotted {T = T} fl) slots id me 0 (λ n. n) (with_slot (noting kept_word reads_outer) (step slots 0 0 0 none) me)
-  read_outer_slotted id slots me has = lifts id 0 me (λ n. n) (step slots 0 0 0 none) (noting kept_word reads_outer) (λ n w c told. told.1.0) has (read_outer_allowed id slots (me.0, []))
+  pub read_lock_word_slotted : (id slots : ℕ) (me : Me T View) → Carries slots me → Allows (Slotted {T = T} fl) slots id me 0 (λ n. n) (with_slot (noting kept_word reads_lock_word) (step slots 0 0 0 none) me)
+  read_lock_word_slotted id slots me has = lifts id 0 me (λ n. n) (step slots 0 0 0 none) (noting kept_word reads_lock_word) (λ n w c told. told.1.0) has (read_lock_word_allowed id slots (me.0, []))
 
-  pub ask_slotted : (id slots : ℕ) (me : Me T View) → Carries slots me → slots ≡ 0 → (Timely me.0 → IsIdle me.0) → Allows (Slotted {T = T} fl) slots id me 16 (λ n. (n + 1) % 18446744073709551616) (with_slot (noting added_word draws) (step slots 16 1 0 none) me)
-  ask_slotted id slots me has_ no_slot fresh = lifts id 16 me (λ n. (n + 1) % 18446744073709551616) (step slots 16 1 0 none) (noting added_word draws) (λ n w c told. told.1.0.0.0) has_ (ask_noted id slots (me.0, []) no_slot fresh)
+  pub draw_slotted : (id slots : ℕ) (me : Me T View) → Carries slots me → slots ≡ 0 → (Timely me.0 → IsIdle me.0) → Allows (Slotted {T = T} fl) slots id me 16 (λ n. (n + 1) % 18446744073709551616) (with_slot (noting added_word draws) (step slots 16 1 0 none) me)
+  draw_slotted id slots me has_ no_slot fresh = lifts id 16 me (λ n. (n + 1) % 18446744073709551616) (step slots 16 1 0 none) (noting added_word draws) (λ n w c told. told.1.0.0.0) has_ (draw_noted id slots (me.0, []) no_slot fresh)
 
   pub read_tail_slotted : (id slots : ℕ) (me : Me T View) → Carries slots me → (Timely me.0 → me.0.counted ≡ 0) → Allows (Slotted {T = T} fl) slots id me 16 (λ n. n) (with_slot (noting kept_word reads) (step slots 16 0 0 none) me)
   read_tail_slotted id slots me has_ none_counted = lifts id 16 me (λ n. n) (step slots 16 0 0 none) (noting kept_word reads) (λ n w c told. told.1.0.0.0) has_ (read_tail_noted id slots (me.0, []) none_counted)
@@ -183,11 +183,11 @@ module _ {T : Type 0} {fl : ℕ} where
   pub read_cell_slotted : (id slots i ticket : ℕ) (me : Me T View) → Carries slots me → i ≡ cell_at ticket → (Timely me.0 → IsIdle me.0 × (ticket ≡ me.0.tail_seen % 18446744073709551616)) → Allows (Slotted {T = T} fl) slots id me i (λ n. n) (with_slot (noting kept_word reads_cell) (step slots i 0 0 none) me)
   read_cell_slotted id slots i ticket me has_ is has = lifts id i me (λ n. n) (step slots i 0 0 none) (noting kept_word reads_cell) (λ n w c told. told.1.0.0.0) has_ (read_cell_noted id slots i ticket (me.0, []) is has)
 
-  pub try_ask_slotted : (id slots old new : ℕ) (me : Me T View) → Carries slots me → slots ≡ 0 → new ≡ (old + 1) % 18446744073709551616 → (Timely me.0 → IsIdle me.0 × (old ≡ me.0.tail_seen % 18446744073709551616) × (me.0.next_is_at_turn ≡ 1)) → Allows (Slotted {T = T} fl) slots id me 16 (λ n. either (eqb n old) new n) (with_slot (noting exchanged_word draws_granted) (step slots 16 old new none) me)
-  try_ask_slotted id slots old new me has_ no_slot new_is has = lifts id 16 me (λ n. either (eqb n old) new n) (step slots 16 old new none) (noting exchanged_word draws_granted) (λ n w c told. told.1.0.0.0) has_ (try_ask_noted id slots old new (me.0, []) no_slot new_is has)
+  pub try_draw_slotted : (id slots old new : ℕ) (me : Me T View) → Carries slots me → slots ≡ 0 → new ≡ (old + 1) % 18446744073709551616 → (Timely me.0 → IsIdle me.0 × (old ≡ me.0.tail_seen % 18446744073709551616) × (me.0.next_is_at_turn ≡ 1)) → Allows (Slotted {T = T} fl) slots id me 16 (λ n. either (eqb n old) new n) (with_slot (noting exchanged_word draws_granted) (step slots 16 old new none) me)
+  try_draw_slotted id slots old new me has_ no_slot new_is has = lifts id 16 me (λ n. either (eqb n old) new n) (step slots 16 old new none) (noting exchanged_word draws_granted) (λ n w c told. told.1.0.0.0) has_ (try_draw_noted id slots old new (me.0, []) no_slot new_is has)
 
-  pub ask_near_slotted : (id slots old new : ℕ) (me : Me T View) → Carries slots me → (slots ≡ 1 → IsFew old me.0) → new ≡ (old + 1) % 18446744073709551616 → (Timely me.0 → IsIdle me.0 × (old ≡ me.0.tail_seen % 18446744073709551616) × (me.0.ticket ≡ me.0.tail_seen)) → Allows (Slotted {T = T} fl) slots id me 16 (λ n. either (eqb n old) new n) (with_slot (noting exchanged_word draws_near) (step slots 16 old new none) me)
-  ask_near_slotted id slots old new me has_ few_ new_is has = lifts id 16 me (λ n. either (eqb n old) new n) (step slots 16 old new none) (noting exchanged_word draws_near) (λ n w c told. told.1.0.0.0) has_ (ask_near_noted id slots old new (me.0, []) few_ new_is has)
+  pub draw_near_slotted : (id slots old new : ℕ) (me : Me T View) → Carries slots me → (slots ≡ 1 → IsFew old me.0) → new ≡ (old + 1) % 18446744073709551616 → (Timely me.0 → IsIdle me.0 × (old ≡ me.0.tail_seen % 18446744073709551616) × (me.0.ticket ≡ me.0.tail_seen)) → Allows (Slotted {T = T} fl) slots id me 16 (λ n. either (eqb n old) new n) (with_slot (noting exchanged_word draws_near) (step slots 16 old new none) me)
+  draw_near_slotted id slots old new me has_ few_ new_is has = lifts id 16 me (λ n. either (eqb n old) new n) (step slots 16 old new none) (noting exchanged_word draws_near) (λ n w c told. told.1.0.0.0) has_ (draw_near_noted id slots old new (me.0, []) few_ new_is has)
 
   pub look_slotted : (id slots i ticket : ℕ) (me : Me T View) → Carries slots me → me.0.max_newcomers ≡ fl → i ≡ cell_at ticket → (Timely me.0 → IsQueued ticket me.0) → Allows (Slotted {T = T} fl) slots id me i (λ n. n) (with_slot (noting subtracted_word looks) (step slots i 0 0 none) me)
   look_slotted id slots i ticket me has_ same_newcomers is waits = lifts id i me (λ n. n) (step slots i 0 0 none) (noting subtracted_word looks) (λ n w c told. told.1.0.0.0) has_ (look_noted id slots i ticket (me.0, []) same_newcomers is waits)
@@ -195,11 +195,11 @@ module _ {T : Type 0} {fl : ℕ} where
   pub request_handoff_slotted : (id slots old new : ℕ) (me : Me T View) → Carries slots me → new / 2 ≡ old / 2 → Allows (Slotted {T = T} fl) slots id me 0 (λ n. either (eqb n old) new n) (with_slot (noting exchanged_word requests_handoff) (step slots 0 old new none) me)
   request_handoff_slotted id slots old new me has_ half = lifts id 0 me (λ n. either (eqb n old) new n) (step slots 0 old new none) (noting exchanged_word requests_handoff) (λ n w c told. told.1.0) has_ (request_handoff_noted id slots old new (me.0, []) half)
 
-  pub go_in_slotted : (id slots old new : ℕ) (me : Me T View) → Carries slots me → 0 < fl → me.0.max_newcomers ≡ fl → old / 4 % 8 ≡ 0 → new ≡ (old + 36) % 18446744073709551616 → (Timely me.0 → IsIdle me.0) → Allows (Slotted {T = T} fl) slots id me 0 (λ n. either (eqb n old) new n) (with_slot (noting exchanged_word goes_in) (step slots 0 old new none) me)
-  go_in_slotted id slots old new me has_ bursts same_newcomers free new_is fresh = lifts id 0 me (λ n. either (eqb n old) new n) (step slots 0 old new none) (noting exchanged_word goes_in) (λ n w c told. told.1.0.0) has_ (go_in_noted id slots old new (me.0, []) bursts same_newcomers free new_is fresh)
+  pub barge_slotted : (id slots old new : ℕ) (me : Me T View) → Carries slots me → 0 < fl → me.0.max_newcomers ≡ fl → old / 4 % 8 ≡ 0 → new ≡ (old + 36) % 18446744073709551616 → (Timely me.0 → IsIdle me.0) → Allows (Slotted {T = T} fl) slots id me 0 (λ n. either (eqb n old) new n) (with_slot (noting exchanged_word barges) (step slots 0 old new none) me)
+  barge_slotted id slots old new me has_ barging same_newcomers free new_is fresh = lifts id 0 me (λ n. either (eqb n old) new n) (step slots 0 old new none) (noting exchanged_word barges) (λ n w c told. told.1.0.0) has_ (barge_noted id slots old new (me.0, []) barging same_newcomers free new_is fresh)
 
-  pub take_outer_slotted : (id slots ticket old new : ℕ) (me : Me T View) → Carries slots me → 0 < fl → me.0.max_newcomers ≡ fl → state_of old ≢ 1 → new ≡ old / 16 % 2 * 16 + 4 → (Timely me.0 → IsAtTurn ticket me.0) → Allows (Slotted {T = T} fl) slots id me 0 (λ n. either (eqb n old) new n) (with_slot (noting exchanged_word takes_outer) (step slots 0 old new none) me)
-  take_outer_slotted id slots ticket old new me has_ bursts same_newcomers free new_is has = lifts id 0 me (λ n. either (eqb n old) new n) (step slots 0 old new none) (noting exchanged_word takes_outer) (λ n w c told. told.1.0.0) has_ (take_outer_noted id slots ticket old new (me.0, []) bursts same_newcomers free new_is has)
+  pub take_lock_word_slotted : (id slots ticket old new : ℕ) (me : Me T View) → Carries slots me → 0 < fl → me.0.max_newcomers ≡ fl → state_of old ≢ 1 → new ≡ old / 16 % 2 * 16 + 4 → (Timely me.0 → IsAtTurn ticket me.0) → Allows (Slotted {T = T} fl) slots id me 0 (λ n. either (eqb n old) new n) (with_slot (noting exchanged_word takes_lock_word) (step slots 0 old new none) me)
+  take_lock_word_slotted id slots ticket old new me has_ barging same_newcomers free new_is has = lifts id 0 me (λ n. either (eqb n old) new n) (step slots 0 old new none) (noting exchanged_word takes_lock_word) (λ n w c told. told.1.0.0) has_ (take_lock_word_noted id slots ticket old new (me.0, []) barging same_newcomers free new_is has)
 
   pub leave_slotted : (id slots old new : ℕ) (me : Me T View) → Carries slots me → came_of new ≡ came_of old → state_of new ≢ 1 → (state_of new ≡ 0 → came_of old + 1 ≤ fl) → shut_of new ≡ shut_of old → (Timely me.0 → IsInside me.0) → Allows (Slotted {T = T} fl) slots id me 0 (λ n. either (eqb n old) new n) (with_slot (noting exchanged_word leaves) (step slots 0 old new none) me)
   leave_slotted id slots old new me has_ same_ free few still_shut has = lifts id 0 me (λ n. either (eqb n old) new n) (step slots 0 old new none) (noting exchanged_word leaves) (λ n w c told. told.1.0.0) has_ (leave_noted id slots old new (me.0, []) same_ free few still_shut has)

@@ -4,121 +4,121 @@ use Rattle.lock_core.specs.declared.opening.LockKind.{LockKind}
 use Rattle.lock_core.specs.declared.opening.LockKind.TheVariants as kind
 use Rattle.lock_core.specs.declared.opening.OpenError.{OpenError}
 use Rattle.lock_core.specs.declared.opening.OpenError.TheVariants as error
-use Rattle.lock_core.specs.declared.tickets.AskNearResult.{AskNearResult}
-use Rattle.lock_core.specs.declared.tickets.AskNearResult.TheVariants as near
-use Rattle.lock_core.specs.declared.guarded.AskWithinResult.{AskWithinResult}
-use Rattle.lock_core.specs.declared.guarded.AskWithinResult.TheVariants as within
-use Rattle.lock_core.specs.declared.wait.SleepResult.{SleepResult}
-use Rattle.lock_core.specs.declared.wait.SleepResult.TheVariants as sleep
-use Rattle.lock_core.specs.declared.handoff.ReleaseResult.{ReleaseResult}
-use Rattle.lock_core.specs.declared.handoff.ReleaseResult.TheVariants as release
-use Rattle.lock_core.specs.declared.outer.GoInResult.{GoInResult}
-use Rattle.lock_core.specs.declared.outer.GoInResult.TheVariants as went
-use Rattle.lock_core.specs.declared.outer.OuterState.{OuterState}
-use Rattle.lock_core.specs.declared.outer.OuterState.TheVariants as seen
-use Rattle.lock_core.specs.declared.outer.TakeResult.{TakeResult}
-use Rattle.lock_core.specs.declared.outer.TakeResult.TheVariants as taken
-use Rattle.lock_core.specs.declared.outer.LeaveResult.{LeaveResult}
-use Rattle.lock_core.specs.declared.outer.LeaveResult.TheVariants as leave
-use Rattle.lock_core.specs.declared.outer.HeadSleepResult.{HeadSleepResult}
-use Rattle.lock_core.specs.declared.outer.HeadSleepResult.TheVariants as head
+use Rattle.lock_core.specs.declared.drawing.DrawNearResult.{DrawNearResult}
+use Rattle.lock_core.specs.declared.drawing.DrawNearResult.TheVariants as near
+use Rattle.lock_core.specs.declared.drawing.DrawWithinResult.{DrawWithinResult}
+use Rattle.lock_core.specs.declared.drawing.DrawWithinResult.TheVariants as within
+use Rattle.lock_core.specs.declared.waiting.SleepResult.{SleepResult}
+use Rattle.lock_core.specs.declared.waiting.SleepResult.TheVariants as sleep
+use Rattle.lock_core.specs.declared.releasing.ReleaseResult.{ReleaseResult}
+use Rattle.lock_core.specs.declared.releasing.ReleaseResult.TheVariants as release
+use Rattle.lock_core.specs.declared.barging.BargeResult.{BargeResult}
+use Rattle.lock_core.specs.declared.barging.BargeResult.TheVariants as went
+use Rattle.lock_core.specs.declared.head.LockWordState.{LockWordState}
+use Rattle.lock_core.specs.declared.head.LockWordState.TheVariants as seen
+use Rattle.lock_core.specs.declared.head.TakeResult.{TakeResult}
+use Rattle.lock_core.specs.declared.head.TakeResult.TheVariants as taken
+use Rattle.lock_core.specs.declared.releasing.LeaveResult.{LeaveResult}
+use Rattle.lock_core.specs.declared.releasing.LeaveResult.TheVariants as leave
+use Rattle.lock_core.specs.declared.head.HeadSleepResult.{HeadSleepResult}
+use Rattle.lock_core.specs.declared.head.HeadSleepResult.TheVariants as head
 
--- the most turns from one queue head's to the next
-abbrev pub max_burst_of : LockKind → ℕ
-max_burst_of kind.Strict = 1
-max_burst_of (kind.Bursts turns) = turns
+-- the most acquisitions from one queue head's to the next
+abbrev pub barging_limit_of : LockKind → ℕ
+barging_limit_of kind.Strict = 1
+barging_limit_of (kind.Barging turns) = turns
 
--- a burst has at least two turns
-abbrev pub HasLongBursts : LockKind → Type 0
-HasLongBursts kind.Strict = Unit {0}
-HasLongBursts (kind.Bursts turns) = 2 ≤ turns
+-- a barging limit is at least two
+abbrev pub HasValidLimit : LockKind → Type 0
+HasValidLimit kind.Strict = Unit {0}
+HasValidLimit (kind.Barging turns) = 2 ≤ turns
 
 -- the error fits the kind that was asked for
 abbrev pub IsOpenErrorOf : LockKind → OpenError → Type 0
-IsOpenErrorOf k error.Memory = HasLongBursts k
-IsOpenErrorOf k (error.ShortBurst turns) = (k ≡ kind.Bursts turns) × (turns < 2)
+IsOpenErrorOf k error.Memory = HasValidLimit k
+IsOpenErrorOf k (error.BadBargingLimit turns) = (k ≡ kind.Barging turns) × (turns < 2)
 
--- `ask_near` drew a ticket, or none
-abbrev pub IfDrawn : AskNearResult → Type 0 → Type 0
+-- `draw_near` drew a ticket, or none
+abbrev pub IfDrawn : DrawNearResult → Type 0 → Type 0
 IfDrawn (near.AtTurn ticket) P = P
 IfDrawn (near.Queued ticket rounds) P = P
 IfDrawn (near.Far rounds) P = Unit {0}
 IfDrawn near.Changed P = Unit {0}
 
-abbrev pub IfNotDrawn : AskNearResult → Type 0 → Type 0
+abbrev pub IfNotDrawn : DrawNearResult → Type 0 → Type 0
 IfNotDrawn (near.AtTurn ticket) P = Unit {0}
 IfNotDrawn (near.Queued ticket rounds) P = Unit {0}
 IfNotDrawn (near.Far rounds) P = P
 IfNotDrawn near.Changed P = P
 
-abbrev pub IfNearAtTurn : AskNearResult → (ℕ → Type 0) → Type 0
+abbrev pub IfNearAtTurn : DrawNearResult → (ℕ → Type 0) → Type 0
 IfNearAtTurn (near.AtTurn ticket) P = P ticket
 IfNearAtTurn (near.Queued ticket rounds) P = Unit {0}
 IfNearAtTurn (near.Far rounds) P = Unit {0}
 IfNearAtTurn near.Changed P = Unit {0}
 
-abbrev pub IfNearQueued : AskNearResult → (ℕ → ℕ → Type 0) → Type 0
+abbrev pub IfNearQueued : DrawNearResult → (ℕ → ℕ → Type 0) → Type 0
 IfNearQueued (near.AtTurn ticket) P = Unit {0}
 IfNearQueued (near.Queued ticket rounds) P = P ticket rounds
 IfNearQueued (near.Far rounds) P = Unit {0}
 IfNearQueued near.Changed P = Unit {0}
 
-abbrev pub IfNearFar : AskNearResult → (ℕ → Type 0) → Type 0
+abbrev pub IfNearFar : DrawNearResult → (ℕ → Type 0) → Type 0
 IfNearFar (near.AtTurn ticket) P = Unit {0}
 IfNearFar (near.Queued ticket rounds) P = Unit {0}
 IfNearFar (near.Far rounds) P = P rounds
 IfNearFar near.Changed P = Unit {0}
 
-abbrev pub IfNearChanged : AskNearResult → Type 0 → Type 0
+abbrev pub IfNearChanged : DrawNearResult → Type 0 → Type 0
 IfNearChanged (near.AtTurn ticket) P = Unit {0}
 IfNearChanged (near.Queued ticket rounds) P = Unit {0}
 IfNearChanged (near.Far rounds) P = Unit {0}
 IfNearChanged near.Changed P = P
 
--- `ask_within` drew a ticket, or none
-abbrev pub IfWithinDrawn : AskWithinResult → Type 0 → Type 0
+-- `draw_within` drew a ticket, or none
+abbrev pub IfWithinDrawn : DrawWithinResult → Type 0 → Type 0
 IfWithinDrawn (within.AtTurn ticket) P = P
 IfWithinDrawn (within.Queued ticket rounds) P = P
 IfWithinDrawn (within.Far rounds) P = Unit {0}
 IfWithinDrawn within.Changed P = Unit {0}
 IfWithinDrawn within.Spent P = Unit {0}
 
-abbrev pub IfWithinNotDrawn : AskWithinResult → Type 0 → Type 0
+abbrev pub IfWithinNotDrawn : DrawWithinResult → Type 0 → Type 0
 IfWithinNotDrawn (within.AtTurn ticket) P = Unit {0}
 IfWithinNotDrawn (within.Queued ticket rounds) P = Unit {0}
 IfWithinNotDrawn (within.Far rounds) P = P
 IfWithinNotDrawn within.Changed P = P
 IfWithinNotDrawn within.Spent P = P
 
-abbrev pub IfWithinAtTurn : AskWithinResult → (ℕ → Type 0) → Type 0
+abbrev pub IfWithinAtTurn : DrawWithinResult → (ℕ → Type 0) → Type 0
 IfWithinAtTurn (within.AtTurn ticket) P = P ticket
 IfWithinAtTurn (within.Queued ticket rounds) P = Unit {0}
 IfWithinAtTurn (within.Far rounds) P = Unit {0}
 IfWithinAtTurn within.Changed P = Unit {0}
 IfWithinAtTurn within.Spent P = Unit {0}
 
-abbrev pub IfWithinQueued : AskWithinResult → (ℕ → ℕ → Type 0) → Type 0
+abbrev pub IfWithinQueued : DrawWithinResult → (ℕ → ℕ → Type 0) → Type 0
 IfWithinQueued (within.AtTurn ticket) P = Unit {0}
 IfWithinQueued (within.Queued ticket rounds) P = P ticket rounds
 IfWithinQueued (within.Far rounds) P = Unit {0}
 IfWithinQueued within.Changed P = Unit {0}
 IfWithinQueued within.Spent P = Unit {0}
 
-abbrev pub IfWithinFar : AskWithinResult → (ℕ → Type 0) → Type 0
+abbrev pub IfWithinFar : DrawWithinResult → (ℕ → Type 0) → Type 0
 IfWithinFar (within.AtTurn ticket) P = Unit {0}
 IfWithinFar (within.Queued ticket rounds) P = Unit {0}
 IfWithinFar (within.Far rounds) P = P rounds
 IfWithinFar within.Changed P = Unit {0}
 IfWithinFar within.Spent P = Unit {0}
 
-abbrev pub IfWithinChanged : AskWithinResult → Type 0 → Type 0
+abbrev pub IfWithinChanged : DrawWithinResult → Type 0 → Type 0
 IfWithinChanged (within.AtTurn ticket) P = Unit {0}
 IfWithinChanged (within.Queued ticket rounds) P = Unit {0}
 IfWithinChanged (within.Far rounds) P = Unit {0}
 IfWithinChanged within.Changed P = P
 IfWithinChanged within.Spent P = Unit {0}
 
-abbrev pub IfWithinSpent : AskWithinResult → Type 0 → Type 0
+abbrev pub IfWithinSpent : DrawWithinResult → Type 0 → Type 0
 IfWithinSpent (within.AtTurn ticket) P = Unit {0}
 IfWithinSpent (within.Queued ticket rounds) P = Unit {0}
 IfWithinSpent (within.Far rounds) P = Unit {0}
@@ -156,7 +156,7 @@ IfSleepRefused (sleep.Asleep rounds cell) P = Unit {0}
 IfSleepRefused (sleep.Full rounds) P = P rounds
 IfSleepRefused (sleep.Changed rounds) P = P rounds
 
--- `release` granted the next ticket, or is to be called again
+-- `release` granted the next ticket, or must be called again
 abbrev pub IfGranted : ReleaseResult → (ℕ → Type 0) → Type 0
 IfGranted (release.Granted sleepers) P = P sleepers
 IfGranted release.Unfinished P = Unit {0}
@@ -165,89 +165,89 @@ abbrev pub IfUnfinished : ReleaseResult → Type 0 → Type 0
 IfUnfinished (release.Granted sleepers) P = Unit {0}
 IfUnfinished release.Unfinished P = P
 
--- `go_in_if` went in, or found a word by which it did not
-abbrev pub IfIn : GoInResult → Type 0 → Type 0
+-- `barge_if` took the lock word, or found a word by which it did not
+abbrev pub IfIn : BargeResult → Type 0 → Type 0
 IfIn went.Inside P = P
-IfIn (went.Outside outer) P = Unit {0}
+IfIn (went.Outside lock_word) P = Unit {0}
 
-abbrev pub IfNotIn : GoInResult → (ℕ → Type 0) → Type 0
+abbrev pub IfNotIn : BargeResult → (ℕ → Type 0) → Type 0
 IfNotIn went.Inside P = Unit {0}
-IfNotIn (went.Outside outer) P = P outer
+IfNotIn (went.Outside lock_word) P = P lock_word
 
--- a look found the outer word held, free for newcomers, or for the queue head alone
-abbrev pub IfSeenHeld : OuterState → (ℕ → Bool → Type 0) → Type 0
+-- a look found the lock word held, free for barging threads, or free for the queue head alone
+abbrev pub IfSeenHeld : LockWordState → (ℕ → Bool → Type 0) → Type 0
 IfSeenHeld (seen.Held newcomers requested) P = P newcomers requested
 IfSeenHeld (seen.Free newcomers) P = Unit {0}
 IfSeenHeld seen.ForHead P = Unit {0}
 
-abbrev pub IfSeenFree : OuterState → (ℕ → Type 0) → Type 0
+abbrev pub IfSeenFree : LockWordState → (ℕ → Type 0) → Type 0
 IfSeenFree (seen.Held newcomers requested) P = Unit {0}
 IfSeenFree (seen.Free newcomers) P = P newcomers
 IfSeenFree seen.ForHead P = Unit {0}
 
-abbrev pub IfSeenForHead : OuterState → Type 0 → Type 0
+abbrev pub IfSeenForHead : LockWordState → Type 0 → Type 0
 IfSeenForHead (seen.Held newcomers requested) P = Unit {0}
 IfSeenForHead (seen.Free newcomers) P = Unit {0}
 IfSeenForHead seen.ForHead P = P
 
--- `take_outer` took the outer word, of an open lock or of a shut one, or not
+-- `take_lock_word` took the lock word, of an open lock or of a shut one, or not
 abbrev pub IfTaken : TakeResult → Type 0 → Type 0
 IfTaken taken.Open P = P
 IfTaken taken.Shut P = P
-IfTaken (taken.Held outer) P = Unit {0}
-IfTaken (taken.Changed outer) P = Unit {0}
+IfTaken (taken.Held lock_word) P = Unit {0}
+IfTaken (taken.Changed lock_word) P = Unit {0}
 
 abbrev pub IfTakenOpen : TakeResult → Type 0 → Type 0
 IfTakenOpen taken.Open P = P
 IfTakenOpen taken.Shut P = Unit {0}
-IfTakenOpen (taken.Held outer) P = Unit {0}
-IfTakenOpen (taken.Changed outer) P = Unit {0}
+IfTakenOpen (taken.Held lock_word) P = Unit {0}
+IfTakenOpen (taken.Changed lock_word) P = Unit {0}
 
 abbrev pub IfTakenShut : TakeResult → Type 0 → Type 0
 IfTakenShut taken.Open P = Unit {0}
 IfTakenShut taken.Shut P = P
-IfTakenShut (taken.Held outer) P = Unit {0}
-IfTakenShut (taken.Changed outer) P = Unit {0}
+IfTakenShut (taken.Held lock_word) P = Unit {0}
+IfTakenShut (taken.Changed lock_word) P = Unit {0}
 
 abbrev pub IfNotTaken : TakeResult → (ℕ → Type 0) → Type 0
 IfNotTaken taken.Open P = Unit {0}
 IfNotTaken taken.Shut P = Unit {0}
-IfNotTaken (taken.Held outer) P = P outer
-IfNotTaken (taken.Changed outer) P = P outer
+IfNotTaken (taken.Held lock_word) P = P lock_word
+IfNotTaken (taken.Changed lock_word) P = P lock_word
 
 abbrev pub IfHeld : TakeResult → (ℕ → Type 0) → Type 0
 IfHeld taken.Open P = Unit {0}
 IfHeld taken.Shut P = Unit {0}
-IfHeld (taken.Held outer) P = P outer
-IfHeld (taken.Changed outer) P = Unit {0}
+IfHeld (taken.Held lock_word) P = P lock_word
+IfHeld (taken.Changed lock_word) P = Unit {0}
 
 abbrev pub IfTakeChanged : TakeResult → Type 0 → Type 0
 IfTakeChanged taken.Open P = Unit {0}
 IfTakeChanged taken.Shut P = Unit {0}
-IfTakeChanged (taken.Held outer) P = Unit {0}
-IfTakeChanged (taken.Changed outer) P = P
+IfTakeChanged (taken.Held lock_word) P = Unit {0}
+IfTakeChanged (taken.Changed lock_word) P = P
 
--- `leave` left, and says whether the queue head is asleep at the outer word, or is to be called again
+-- `leave_lock_word` left, and says whether the queue head is asleep at the lock word, or must be called again
 abbrev pub IfLeft : LeaveResult → (Bool → Type 0) → Type 0
 IfLeft (leave.Outside head_asleep) P = P head_asleep
-IfLeft (leave.Changed outer) P = Unit {0}
+IfLeft (leave.Changed lock_word) P = Unit {0}
 
 abbrev pub IfNotLeft : LeaveResult → (ℕ → Type 0) → Type 0
 IfNotLeft (leave.Outside head_asleep) P = Unit {0}
-IfNotLeft (leave.Changed outer) P = P outer
+IfNotLeft (leave.Changed lock_word) P = P lock_word
 
 -- `announce_head_sleep` noted the sleep, or not
 abbrev pub IfHeadAsleep : HeadSleepResult → (ℕ → Type 0) → Type 0
-IfHeadAsleep (head.Asleep outer) P = P outer
+IfHeadAsleep (head.Asleep lock_word) P = P lock_word
 IfHeadAsleep head.NotHeld P = Unit {0}
 IfHeadAsleep head.Changed P = Unit {0}
 
 abbrev pub IfNotHeld : HeadSleepResult → Type 0 → Type 0
-IfNotHeld (head.Asleep outer) P = Unit {0}
+IfNotHeld (head.Asleep lock_word) P = Unit {0}
 IfNotHeld head.NotHeld P = P
 IfNotHeld head.Changed P = Unit {0}
 
 abbrev pub IfHeadChanged : HeadSleepResult → Type 0 → Type 0
-IfHeadChanged (head.Asleep outer) P = Unit {0}
+IfHeadChanged (head.Asleep lock_word) P = Unit {0}
 IfHeadChanged head.NotHeld P = Unit {0}
 IfHeadChanged head.Changed P = P

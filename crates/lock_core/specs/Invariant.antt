@@ -1,4 +1,4 @@
--- The rule that the words and the views keep.
+-- The invariant that the words and the views keep.
 use Rattle.std.specs.Prelude.{◌≡◌, ◌≢◌, ℕ, ◌+◌, ◌*◌, ◌/◌, ◌%◌, ◌<◌, ◌≤◌, ◌⊎◌, List, [], ◌∷◌, length, slice_index, ◌==◌}
 use Rattle.std.specs.Int.{bit_at}
 use mathlib.Core.Option.{some}
@@ -8,8 +8,8 @@ use Rattle.atomic_table.specs.Table.{State}
 use Rattle.lock_core.specs.declared.view.View.{View}
 use Rattle.lock_core.specs.declared.view.Phase.{Phase}
 use Rattle.lock_core.specs.declared.view.Phase.TheVariants.{Idle, Queued, Asleep, AtTurn, Passing, HeadInside, Impossible}
-use Rattle.lock_core.specs.Layout.{asleep_of, bit_of, came_of, cell_at, count_of, outer_at, rounds, rounds_of, shut_of, state_of, tail_at}
-use Rattle.lock_core.specs.Views.{Awaits, limit}
+use Rattle.lock_core.specs.Layout.{max_sleepers, max_tickets, withdrawal_window, asleep_of, bit_of, came_of, cell_at, count_of, lock_word_at, rounds, rounds_of, shut_of, state_of, tail_at}
+use Rattle.lock_core.specs.Views.{Awaits, max_open}
 
 -- the sleepers of a cell: the counted seats whose ticket is of it
 abbrev pub share : ℕ → View → ℕ
@@ -19,42 +19,42 @@ abbrev pub tally : ℕ → List View → ℕ
 tally c [] = 0
 tally c (v ∷ vs) = share c v + tally c vs
 
--- What the rule knows. Of the queue: the ticket at its turn; 1 if that is inside, as the queue head. Of the outer word: how often queue heads took it,
+-- What the invariant knows. Of the queue: the ticket at its turn; 1 if that is inside, as the queue head. Of the lock word: how often queue heads took it,
 -- the newcomers since the last of them and in all, the word, the seat that is inside, and how often the lock was reopened. Of each ticket:
 -- 1 if it is withdrawn; if it was drawn while the lock was open; if its grant found nobody asleep. Of each queue head: the newcomers before
--- it. Of each take of the outer word, by newcomers and heads: 1 if who left it then was told that no queue head sleeps.
+-- it. Of each take of the lock word, by newcomers and heads: 1 if the caller that left it then was told that no queue head sleeps.
 pub record Ghost : Type 0 where
   pub turn : ℕ
   pub head_inside : ℕ
   pub heads : ℕ
   pub since_head : ℕ
   pub newcomers : ℕ
-  pub outer : ℕ
+  pub lock_word : ℕ
   pub who_is_inside : ℕ
   pub epoch : ℕ
   pub withdrawn : ℕ → ℕ
-  pub asked_open : ℕ → ℕ
+  pub drawn_open : ℕ → ℕ
   pub nobody_asleep : ℕ → ℕ
   pub newcomers_before : ℕ → ℕ
   pub left_quietly : ℕ → ℕ
 
--- overtaken by at most c newcomers for each ticket whose turn ended since it asked, and by those since the last queue head
-abbrev pub Late : ℕ → Ghost → View → Type 0
-Late c g v = record { came : v.first_pending ≤ g.turn + g.head_inside; overtaken : g.newcomers + c * v.first_pending ≤ v.newcomers_at_ask + c * (g.turn + g.head_inside) + g.since_head }
+-- overtaken by at most c newcomers for each ticket whose turn ended since it drew its own, and by those since the last queue head
+abbrev pub Overtaking : ℕ → Ghost → View → Type 0
+Overtaking c g v = record { came : v.first_pending ≤ g.turn + g.head_inside; overtaken : g.newcomers + c * v.first_pending ≤ v.newcomers_at_draw + c * (g.turn + g.head_inside) + g.since_head }
 
 -- it waits: not withdrawn, and if it is at its turn, it is not inside
 abbrev pub Waiter : ℕ → Ghost → View → Type 0
-Waiter c g v = record { unmarked : g.withdrawn v.ticket ≡ 0; late : Late c g v; at_turn : v.ticket ≡ g.turn → g.head_inside ≡ 0 }
+Waiter c g v = record { unmarked : g.withdrawn v.ticket ≡ 0; overtaking : Overtaking c g v; at_turn : v.ticket ≡ g.turn → g.head_inside ≡ 0 }
 
 -- it is at its turn, and withdrawn or not
 abbrev pub Holder : ℕ → Ghost → View → ℕ → Type 0
-Holder c g v bit = record { turn : v.ticket ≡ g.turn; mark : g.withdrawn v.ticket ≡ bit; late : Late c g v }
+Holder c g v bit = record { turn : v.ticket ≡ g.turn; mark : g.withdrawn v.ticket ≡ bit; overtaking : Overtaking c g v }
 
 -- it is inside
-abbrev pub Guest : ℕ → Ghost → ℕ → Type 0
-Guest c g id = (0 < c) × (state_of g.outer ≡ 1) × (g.who_is_inside ≡ id)
+abbrev pub Occupant : ℕ → Ghost → ℕ → Type 0
+Occupant c g id = (0 < c) × (state_of g.lock_word ≡ 1) × (g.who_is_inside ≡ id)
 
--- the number of the last take of the outer word
+-- the number of the last take of the lock word
 abbrev pub takes_of : Ghost → ℕ
 takes_of g = g.newcomers + g.heads
 
@@ -68,114 +68,115 @@ Place c g v Passing = Holder c g v 1 × (g.head_inside ≡ 0)
 Place c g v HeadInside = Holder c g v 0 × (g.head_inside ≡ 1)
 Place c g v Impossible = ⊥
 
--- of its takes of the outer word: how many it knows of; its own last one; whether it left that quietly; and that its sleep there is noted in the word
+-- of its takes of the lock word: how many it knows of; its own last one; whether it left that quietly; and that its sleep there is noted in the word
 abbrev pub Rests : Ghost → View → Type 0
 Rests g v = record {
   takes_seen : v.takes_seen ≤ takes_of g;
   held : v.inside ≡ 1 → v.last_take ≡ takes_of g;
   lulls : v.left_quietly ≡ 1 → g.left_quietly v.last_take ≡ 1;
-  sleeps_at_outer : v.sleeps_at_outer ≡ 1 → (v.slept_in_take ≤ takes_of g) × (g.left_quietly v.slept_in_take ≡ 0) × (v.slept_in_take ≡ takes_of g → state_of g.outer ≡ 1 → asleep_of g.outer ≡ 1);
+  sleeps_at_lock_word : v.sleeps_at_lock_word ≡ 1 → (v.slept_in_take ≤ takes_of g) × (g.left_quietly v.slept_in_take ≡ 0) × (v.slept_in_take ≡ takes_of g → state_of g.lock_word ≡ 1 → asleep_of g.lock_word ≡ 1);
 }
 
--- of the outer word: its last turn as a newcomer is its own; whether it is inside; its takes; and what it knows of a shut lock is so until a
+-- of the lock word: its last acquisition as a newcomer is its own; whether it is inside; its takes; and what it knows of a shut lock is so until a
 -- reopening
-abbrev pub AtOuter : ℕ → (ℕ → ℕ) → Ghost → ℕ → View → Type 0
-AtOuter c who g id v = record {
-  turn_of : 0 < v.newcomer_turn → (v.newcomer_turn ≤ g.newcomers) × (who v.newcomer_turn ≡ id) × (v.newcomer_turn ≡ g.newcomers_before v.heads_before + v.place_after_head) × (v.heads_before ≤ g.heads);
-  guest : v.inside ≡ 1 → Guest c g id;
+abbrev pub AtLockWord : ℕ → (ℕ → ℕ) → Ghost → ℕ → View → Type 0
+AtLockWord c who g id v = record {
+  turn_of : 0 < v.newcomer_number → (v.newcomer_number ≤ g.newcomers) × (who v.newcomer_number ≡ id) × (v.newcomer_number ≡ g.newcomers_before v.heads_before + v.place_after_head) × (v.heads_before ≤ g.heads);
+  occupant : v.inside ≡ 1 → Occupant c g id;
   rests : Rests g v;
   dated : v.epoch ≤ g.epoch;
-  barrier : v.knows_shut ≡ 1 → v.epoch ≡ g.epoch → shut_of g.outer ≡ 1;
+  barrier : v.knows_shut ≡ 1 → v.epoch ≡ g.epoch → shut_of g.lock_word ≡ 1;
 }
 
 -- it is at its turn in a strict lock, or inside
 abbrev pub AtDoor : ℕ → ℕ → Phase → Type 0
 AtDoor c inside p = ((c ≡ 0) × (p ≡ AtTurn)) ⊎ (inside ≡ 1)
 
--- it was told there whether the lock is open (1) or shut (2), and that is so yet, as nobody else may change it
+-- it was told there whether the lock is open (1) or shut (2), and this is still so, because nobody else may change it
 abbrev pub Door : ℕ → Ghost → View → Phase → Type 0
-Door c g v p = v.door ≢ 0 → (v.door ≡ 1 + shut_of g.outer) × (v.epoch ≡ g.epoch) × AtDoor c v.inside p
+Door c g v p = v.door ≢ 0 → (v.door ≡ 1 + shut_of g.lock_word) × (v.epoch ≡ g.epoch) × AtDoor c v.inside p
 
 -- what it read of the tail, and that the next ticket is at its turn, if none was drawn since
 abbrev pub Probe : ℕ → Ghost → View → Type 0
-Probe asked g v = record { probed : v.tail_seen ≤ asked; next_is_at_turn : v.next_is_at_turn ≡ 1 → asked ≡ v.tail_seen → g.turn ≡ asked }
+Probe drawn g v = record { probed : v.tail_seen ≤ drawn; next_is_at_turn : v.next_is_at_turn ≡ 1 → drawn ≡ v.tail_seen → g.turn ≡ drawn }
 
--- Of its request: whether the lock was open when it asked, and in which epoch. One that asked while it was open, and waits, is of this epoch.
+-- Of its request: whether the lock was open when it drew its ticket, and in which epoch. A ticket that was drawn while the lock was open, and waits, is
+-- of this epoch.
 -- If it was told that the lock is shut, and read that nobody is behind, each ticket behind was drawn while it was shut.
-abbrev pub Asks : ℕ → Ghost → View → Phase → Type 0
-Asks asked g v p = record {
-  stamped : p ≢ Idle → v.asked_open ≡ g.asked_open v.ticket;
-  early : v.asked_in_epoch ≤ g.epoch;
-  open_then : Awaits p → v.asked_open ≡ 1 → v.asked_in_epoch ≡ g.epoch;
-  shut_then : Awaits p → v.asked_open ≢ 1 → v.asked_in_epoch ≡ g.epoch → shut_of g.outer ≡ 1;
-  nobody_behind : v.nobody_behind ≡ 1 → v.door ≡ 2 → (t : ℕ) → v.ticket < t → t < asked → g.asked_open t ≡ 0;
+abbrev pub AtDraw : ℕ → Ghost → View → Phase → Type 0
+AtDraw drawn g v p = record {
+  stamped : p ≢ Idle → v.drawn_open ≡ g.drawn_open v.ticket;
+  early : v.drawn_in_epoch ≤ g.epoch;
+  open_then : Awaits p → v.drawn_open ≡ 1 → v.drawn_in_epoch ≡ g.epoch;
+  shut_then : Awaits p → v.drawn_open ≢ 1 → v.drawn_in_epoch ≡ g.epoch → shut_of g.lock_word ≡ 1;
+  nobody_behind : v.nobody_behind ≡ 1 → v.door ≡ 2 → (t : ℕ) → v.ticket < t → t < drawn → g.drawn_open t ≡ 0;
 }
 
 -- what holds of a seat's view
-pub record Fits (c asked : ℕ) (owner who : ℕ → ℕ) (g : Ghost) (id : ℕ) (v : View) : Type 0 where
+pub record Fits (c drawn : ℕ) (owner who : ℕ → ℕ) (g : Ghost) (id : ℕ) (v : View) : Type 0 where
   pub knows : v.ended ≤ g.turn
   pub lowest : v.rounds_seen ≤ rounds g.turn v.ticket
-  pub mine : v.phase ≢ Idle → (g.turn ≤ v.ticket) × (v.ticket < asked) × (owner v.ticket ≡ id)
+  pub mine : v.phase ≢ Idle → (g.turn ≤ v.ticket) × (v.ticket < drawn) × (owner v.ticket ≡ id)
   pub place : Place c g v v.phase
   pub told_nobody : v.told_nobody ≡ 1 → (g.nobody_asleep v.granted ≡ 1) × (v.granted ≤ g.turn)
-  pub outer : AtOuter c who g id v
+  pub lock_word : AtLockWord c who g id v
   pub door : Door c g v v.phase
-  pub tail_seen : Probe asked g v
-  pub asks : Asks asked g v v.phase
+  pub tail_seen : Probe drawn g v
+  pub at_draw : AtDraw drawn g v v.phase
 
 -- What the word of a ticket's cell says. Its bits are those of the withdrawn requests of the next fifteen rounds.
 abbrev pub Cell : Ghost → ℕ → ℕ → ℕ → Type 0
 Cell g sleepers word t = record {
   high : rounds_of word ≡ rounds g.turn t % 1073741824;
-  bits : g.turn ≤ t → t / 4 < rounds g.turn t + 15 → bit_at word (bit_of t) ≡ g.withdrawn t;
-  spare : t / 4 ≡ rounds g.turn t + 15 → t % 4 ≢ g.turn % 4 → bit_at word (bit_of t) ≡ 0;
+  bits : g.turn ≤ t → t / 4 < rounds g.turn t + withdrawal_window → bit_at word (bit_of t) ≡ g.withdrawn t;
+  spare : t / 4 ≡ rounds g.turn t + withdrawal_window → t % 4 ≢ g.turn % 4 → bit_at word (bit_of t) ≡ 0;
   count : count_of word ≡ sleepers;
 }
 
 -- of tickets: none is withdrawn beyond the window, or before it is drawn
 abbrev pub Marks : ℕ → Ghost → Type 0
-Marks asked g = record {
-  far : (t : ℕ) → rounds g.turn t + 15 ≤ t / 4 → g.withdrawn t ≡ 0;
-  future : (t : ℕ) → asked ≤ t → g.withdrawn t ≡ 0;
+Marks drawn g = record {
+  far : (t : ℕ) → rounds g.turn t + withdrawal_window ≤ t / 4 → g.withdrawn t ≡ 0;
+  future : (t : ℕ) → drawn ≤ t → g.withdrawn t ≡ 0;
   unheard : (t : ℕ) → g.turn < t → g.nobody_asleep t ≡ 0;
 }
 
--- of the outer word: newcomers since the last queue head are at most c, and it counts them
+-- of the lock word: newcomers since the last queue head are at most c, and it counts them
 abbrev pub Counts : ℕ → Ghost → Type 0
 Counts c g = record {
   bounded : g.since_head ≤ c;
   all : g.newcomers ≡ g.newcomers_before g.heads + g.since_head;
-  tallied : g.since_head ≡ came_of g.outer;
+  tallied : g.since_head ≡ came_of g.lock_word;
   single : g.head_inside ≤ 1;
   small : c < 1073741824;
-  room : 0 < c → state_of g.outer ≡ 0 → g.since_head + 1 ≤ c;
-  awake : state_of g.outer ≡ 1 → g.left_quietly (takes_of g) ≡ 0;
+  room : 0 < c → state_of g.lock_word ≡ 0 → g.since_head + 1 ≤ c;
+  awake : state_of g.lock_word ≡ 1 → g.left_quietly (takes_of g) ≡ 0;
   later : (n : ℕ) → takes_of g < n → g.left_quietly n ≡ 0;
 }
 
 -- what holds of a lock that is timely
-pub record Granted (c asked most : ℕ) (owner who : ℕ → ℕ) (g : Ghost) (words : List ℕ) (views : List View) : Type 0 where
-  pub within : g.turn ≤ asked
-  pub few : asked ≤ g.turn + most
-  pub idle : asked ≤ g.turn → g.head_inside ≡ 0
-  pub marks : Marks asked g
+pub record Granted (c drawn most : ℕ) (owner who : ℕ → ℕ) (g : Ghost) (words : List ℕ) (views : List View) : Type 0 where
+  pub within : g.turn ≤ drawn
+  pub few : drawn ≤ g.turn + most
+  pub idle : drawn ≤ g.turn → g.head_inside ≡ 0
+  pub marks : Marks drawn g
   pub counts : Counts c g
-  pub crowd : (k : ℕ) → tally k views ≤ 65535
+  pub crowd : (k : ℕ) → tally k views ≤ max_sleepers
   pub cells : (t : ℕ) → Cell g (tally (t % 4) views) (slice_index words (cell_at t)) t
-  pub each : (id : ℕ) (v : View) → get_elem? views id ≡ some v → Fits c asked owner who g id v
+  pub each : (id : ℕ) (v : View) → get_elem? views id ≡ some v → Fits c drawn owner who g id v
 
--- The rule of a lock with at most c newcomers between two queue heads: the tickets drawn, the most requests open at a time, who has each ticket and
--- each newcomer's turn, and what the words and the views say. Where the table has a slot, no more requests are ever open than the limit.
+-- The invariant of a lock with at most c newcomers between two queue heads: the tickets drawn, the most requests open at a time, who has each ticket and
+-- each newcomer's number, and what the words and the views say. Where the table has a slot, no more requests are ever open than `max_open`.
 pub record Tickets (c : ℕ) (s : State ℕ View) : Type 0 where
-  pub asked : ℕ
+  pub drawn : ℕ
   pub most_open : ℕ
   pub owner : ℕ → ℕ
   pub who : ℕ → ℕ
   pub g : Ghost
-  pub tail : slice_index s.words tail_at ≡ asked % 18446744073709551616
-  pub outer : slice_index s.words outer_at ≡ g.outer
+  pub tail : slice_index s.words tail_at ≡ drawn % 18446744073709551616
+  pub lock_word : slice_index s.words lock_word_at ≡ g.lock_word
   pub wide : length s.words ≡ 21
   pub seen : (id : ℕ) (v : View) → get_elem? s.views id ≡ some v → v.most_open ≤ most_open
   pub heard : (id : ℕ) (v : View) → get_elem? s.views id ≡ some v → v.newcomers_seen ≤ g.newcomers
-  pub granted : most_open ≤ limit → Granted c asked most_open owner who g s.words s.views
-  pub guard : length s.homes ≡ 1 → (most_open ≤ limit) × (asked ≤ 9223372036854775808)
+  pub granted : most_open ≤ max_open → Granted c drawn most_open owner who g s.words s.views
+  pub guard : length s.homes ≡ 1 → (most_open ≤ max_open) × (drawn ≤ max_tickets)

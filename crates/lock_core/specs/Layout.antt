@@ -2,7 +2,7 @@
 use Rattle.std.specs.Prelude.{◌≡◌, ℕ, ◌+◌, ◌-◌, ◌/◌, ◌%◌}
 use Rattle.atomic_table.specs.Seated.{TableId}
 
--- the words of a lock's table: the outer word, fifteen words that are never written, the tail, four cells
+-- the words of a lock's table: the lock word, fifteen words that are never written, the tail, four cells
 abbrev pub HasLockWords : TableId → Type 0
 HasLockWords table = table.words ≡ 21
 
@@ -13,8 +13,8 @@ IsLockTable table = HasLockWords table × (table.slots ≡ 0)
 abbrev pub IsValueTable : TableId → Type 0
 IsValueTable table = HasLockWords table × (table.slots ≡ 1)
 
-abbrev pub outer_at : ℕ
-outer_at = 0
+abbrev pub lock_word_at : ℕ
+lock_word_at = 0
 
 abbrev pub tail_at : ℕ
 tail_at = 16
@@ -33,24 +33,24 @@ rounds_of cell = cell / 17179869184
 abbrev pub count_of : ℕ → ℕ
 count_of cell = cell / 65536 % 65536
 
--- the outer word: whether a handoff is requested, and whether the queue head sleeps there
+-- the lock word: whether a handoff is requested, and whether the queue head sleeps there
 abbrev pub handoff_of : ℕ → ℕ
-handoff_of outer = outer % 2
+handoff_of lock_word = lock_word % 2
 
 abbrev pub asleep_of : ℕ → ℕ
-asleep_of outer = outer / 2 % 2
+asleep_of lock_word = lock_word / 2 % 2
 
 -- 0 free, 1 held, 2 reserved for the queue head
 abbrev pub state_of : ℕ → ℕ
-state_of outer = outer / 4 % 4
+state_of lock_word = lock_word / 4 % 4
 
 -- whether the lock is shut
 abbrev pub shut_of : ℕ → ℕ
-shut_of outer = outer / 16 % 2
+shut_of lock_word = lock_word / 16 % 2
 
 -- the newcomers since the last queue head
 abbrev pub came_of : ℕ → ℕ
-came_of outer = outer / 32
+came_of lock_word = lock_word / 32
 
 -- the rounds that are granted in a ticket's cell while the tickets up to `turn` are granted
 abbrev pub rounds : ℕ → ℕ → ℕ
@@ -59,3 +59,23 @@ rounds turn ticket = (turn + 4 - ticket % 4) / 4
 -- the rounds to be granted until the ticket's own is, by the word of its cell
 abbrev pub to_go : ℕ → ℕ → ℕ
 to_go cell ticket = (ticket / 4 + 1 + 1073741824 - rounds_of cell) % 1073741824
+
+-- The limits of a lock, as src/layout.rt has them: the most sleepers that a cell counts; the most rounds to be granted before a request that can be
+-- withdrawn; the most requests that one release passes; the greatest barging limit; the widest window of `draw_within`, and the most tickets that it draws
+abbrev pub max_sleepers : ℕ
+max_sleepers = 65535
+
+abbrev pub withdrawal_window : ℕ
+withdrawal_window = 15
+
+abbrev pub max_passed : ℕ
+max_passed = 64
+
+abbrev pub max_barging_limit : ℕ
+max_barging_limit = 65535
+
+abbrev pub max_window : ℕ
+max_window = 134217728
+
+abbrev pub max_tickets : ℕ
+max_tickets = 9223372036854775808

@@ -1,25 +1,25 @@
--- What a caller's last word steps found: so an answer that gives up says what the word showed.
+-- What a caller's last atomic steps found: so an answer that gives up says what the word showed.
 use Rattle.std.specs.Prelude.{◌≡◌, ◌≢◌, ℕ, Bool, true, false, ◌+◌, ◌*◌, ◌/◌, ◌%◌, ◌<◌, ◌≤◌, ◌⊎◌}
 use Rattle.atomic_table.specs.Table.{Step}
 use Rattle.atomic_table.specs.declared.shared.Seat.{Seat}
 use Rattle.lock_core.specs.declared.view.View.{View}
 use Rattle.lock_core.specs.declared.view.Looks.{Looks}
-use Rattle.lock_core.specs.Layout.{cell_at, tail_at, outer_at, to_go, state_of, shut_of, asleep_of, handoff_of, came_of}
+use Rattle.lock_core.specs.Layout.{cell_at, tail_at, lock_word_at, to_go, state_of, shut_of, asleep_of, handoff_of, came_of}
 use Rattle.lock_core.specs.Views.{Timely, view_of}
 
 -- after a step that found `found` in its word, and left `left` there
 abbrev pub looked : Step ℕ → ℕ → ℕ → Looks → Looks
 looked st found left l = record { steps = l.steps + 1; word = st.word; found = found; left = left; word_before = l.word; found_before = l.found }
 
--- k word steps later
+-- k atomic steps later
 abbrev pub StepsLater : {T : Type 0} → ℕ → Seat T View → Seat T View → Type 0
 StepsLater k old new = (view_of new).looks.steps ≡ (view_of old).looks.steps + k
 
--- one word step later, behind what was the last
+-- one atomic step later, behind what was the last
 abbrev pub LooksOnce : {T : Type 0} → Seat T View → Seat T View → Type 0
 LooksOnce old new = StepsLater 1 old new × ((view_of new).looks.word_before ≡ (view_of old).looks.word) × ((view_of new).looks.found_before ≡ (view_of old).looks.found)
 
--- at most k word steps later
+-- at most k atomic steps later
 abbrev pub StepsAtMost : {T : Type 0} → ℕ → Seat T View → Seat T View → Type 0
 StepsAtMost k old new = (view_of new).looks.steps ≤ (view_of old).looks.steps + k
 
@@ -55,50 +55,50 @@ FoundTailMoved seat = ((view_of seat).looks.word ≡ tail_at) × (Timely (view_o
 abbrev pub FoundBusy : {T : Type 0} → Seat T View → Seat T View → Type 0
 FoundBusy old new = (StepsLater 2 old new × FoundNext (λ rounds. 0 < rounds) new) ⊎ (StepsLater 3 old new × FoundTailMoved new)
 
--- the outer word is not free for a newcomer: held, reserved, or shut
+-- no thread may barge by this lock word: it is held, reserved, or shut
 abbrev pub IsNoEntry : ℕ → Type 0
-IsNoEntry outer = 0 < state_of outer + shut_of outer
+IsNoEntry lock_word = 0 < state_of lock_word + shut_of lock_word
 
--- the outer word is held, after this number of newcomers, and with a handoff requested or not
+-- the lock word is held, after this number of newcomers, and with a handoff requested or not
 abbrev pub IsSeenHeld : ℕ → Bool → ℕ → Type 0
-IsSeenHeld newcomers requested outer = (state_of outer ≡ 1) × (came_of outer ≡ newcomers) × (requested ≡ true → handoff_of outer ≡ 1) × (requested ≡ false → handoff_of outer ≡ 0)
+IsSeenHeld newcomers requested lock_word = (state_of lock_word ≡ 1) × (came_of lock_word ≡ newcomers) × (requested ≡ true → handoff_of lock_word ≡ 1) × (requested ≡ false → handoff_of lock_word ≡ 0)
 
--- the outer word is free for a newcomer, after this number
+-- the lock word is free for barging threads, after this number of newcomers
 abbrev pub IsSeenFree : ℕ → ℕ → Type 0
-IsSeenFree newcomers outer = (state_of outer ≡ 0) × (shut_of outer ≡ 0) × (came_of outer ≡ newcomers)
+IsSeenFree newcomers lock_word = (state_of lock_word ≡ 0) × (shut_of lock_word ≡ 0) × (came_of lock_word ≡ newcomers)
 
--- nobody is inside, and the outer word is no entry for a newcomer
+-- nobody is inside, and no thread may barge by this lock word
 abbrev pub IsForHead : ℕ → Type 0
-IsForHead outer = (state_of outer ≢ 1) × IsNoEntry outer
+IsForHead lock_word = (state_of lock_word ≢ 1) × IsNoEntry lock_word
 
--- the outer word is no entry, or has changed
+-- no thread may barge by the lock word, or it has changed
 abbrev pub FoundNotFree : {T : Type 0} → Seat T View → Seat T View → Type 0
-FoundNotFree old new = (StepsLater 1 old new × Found outer_at IsNoEntry new) ⊎ (StepsLater 2 old new × FoundChanged outer_at new)
+FoundNotFree old new = (StepsLater 1 old new × Found lock_word_at IsNoEntry new) ⊎ (StepsLater 2 old new × FoundChanged lock_word_at new)
 
--- the outer word as a newcomer takes it: held, with one newcomer more
+-- the lock word as a barging thread takes it: held, with one newcomer more
 abbrev pub IsHeldByNewcomer : ℕ → ℕ → Type 0
 IsHeldByNewcomer found left = left ≡ (found + 36) % 18446744073709551616
 
--- the outer word as the queue head takes it: held, with no newcomer since and nothing requested, and shut if it was
+-- the lock word as the queue head takes it: held, with no newcomer since and nothing requested, and shut if it was
 abbrev pub IsHeldAnew : ℕ → ℕ → Type 0
 IsHeldAnew found left = left ≡ shut_of found * 16 + 4
 
--- the outer word as it is left: nothing is requested and nobody asleep; shut, if it was, and with as many newcomers
+-- the lock word as it is left: nothing is requested and nobody asleep; shut, if it was, and with as many newcomers
 abbrev pub IsLeftClean : ℕ → ℕ → Type 0
 IsLeftClean found left = (handoff_of left ≡ 0) × (asleep_of left ≡ 0) × (shut_of left ≡ shut_of found) × (came_of left ≡ came_of found)
 
--- the outer word with the handoff requested, and else as it was
+-- the lock word with the handoff requested, and else as it was
 abbrev pub IsRequested : ℕ → ℕ → Type 0
 IsRequested found left = left ≡ found / 2 * 2 + 1
 
--- the outer word with the queue head's sleep noted, and else as it was
+-- the lock word with the queue head's sleep noted, and else as it was
 abbrev pub IsNotedAsleep : ℕ → ℕ → Type 0
 IsNotedAsleep found left = left ≡ found / 4 * 4 + 2 + found % 2
 
--- the outer word as it is left: reserved where a handoff is requested and after the last turn of a burst, else free
+-- the lock word as it is left: reserved where a handoff is requested, or as many callers were inside as the barging limit allows; else free
 abbrev pub IsLeftAs : ℕ → ℕ → ℕ → Type 0
-IsLeftAs burst found left = (handoff_of found ≡ 1 → state_of left ≡ 2) × (burst ≤ came_of found + 1 → state_of left ≡ 2) × (handoff_of found ≡ 0 → came_of found + 1 < burst → state_of left ≡ 0)
+IsLeftAs barging_limit found left = (handoff_of found ≡ 1 → state_of left ≡ 2) × (barging_limit ≤ came_of found + 1 → state_of left ≡ 2) × (handoff_of found ≡ 0 → came_of found + 1 < barging_limit → state_of left ≡ 0)
 
--- its last step left the outer word as that says, by the word that it found there
+-- its last step left the lock word as that says, by the word that it found there
 abbrev pub LeavesAsFound : {T : Type 0} → ℕ → Seat T View → Type 0
-LeavesAsFound burst seat = Leaves outer_at (IsLeftAs burst (view_of seat).looks.found) seat
+LeavesAsFound barging_limit seat = Leaves lock_word_at (IsLeftAs barging_limit (view_of seat).looks.found) seat

@@ -1,4 +1,4 @@
--- The value in the slot of a lock's table: the rule, and what each step tells of it.
+-- The value in the slot of a lock's table: the invariant, and what each step tells of it.
 use Rattle.std.specs.Prelude.{◌≡◌, ◌≢◌, ℕ, List, [], map, length}
 use mathlib.Core.Option.{Option, none, some}
 use lib.ListN.{get_elem?}
@@ -23,6 +23,6 @@ module _ {T : Type 0} where
     pub lock : Tickets c (bare s)
     pub home : length s.homes ≡ 1 → ((id : ℕ) (v : View) → get_elem? s.views id ≡ some v → v.door ≡ 0) → (y : T) × (get_elem? s.homes 0 ≡ some (some y))
 
-  -- a step tells the same as at a table without a slot, and who is served has the value
+  -- a step tells the same as at a table without a slot, and the caller that is served has the value
   abbrev pub with_slot : (Step ℕ → Me ℕ View → ℕ → Me ℕ View → Type 0) → Step T → Me T View → ℕ → Me T View → Type 0
   with_slot tells st m n m' = tells (bare_step st) (m.0, []) n (m'.0, []) × Carries st.slots m' × (m.0.door ≢ 0 → m'.0.door ≢ 0 → m'.1 ≡ m.1)

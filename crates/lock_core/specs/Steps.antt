@@ -1,4 +1,4 @@
--- What each word step tells.
+-- What each atomic step tells.
 use Rattle.std.specs.Prelude.{◌==◌, ◌≡◌, ◌≢◌, ℕ, ◌+◌, ◌-◌, ◌/◌, ◌%◌, ◌<◌, ◌≤◌}
 use Rattle.std.specs.Int.{bit_at}
 use prog.Atomic.{either}
@@ -8,7 +8,7 @@ use Rattle.lock_core.specs.declared.view.Phase.{Phase}
 use Rattle.lock_core.specs.declared.view.Phase.TheVariants.{Idle, Queued, Asleep, AtTurn, Passing, HeadInside}
 use Rattle.lock_core.specs.Layout.{asleep_of, bit_of, count_of, rounds_of, shut_of, to_go}
 use Rattle.lock_core.specs.Looks.{looked}
-use Rattle.lock_core.specs.Views.{OnlyLooks, AsksAfter, IsAtTurn, GrantedToNobodyAsleep, HasGrantedNext, HasTurn, IsIdle, IsInside, IsNewcomersTurn, IsNotServed, IsOutside, IsOvertakenInBounds, IsQueued, Kept, KnowsShut, LeftQuietly, SameInside, SameKnown, SameNewcomersSeen, SameNewcomerTurn, SameOvertaking, SameRequest, SameSleepAtOuter, SameTurn, ServedOpen, ServedShut, SleepsAtOuter, TakesOuter, Timely}
+use Rattle.lock_core.specs.Views.{OnlyLooks, DrawsAfter, IsAtTurn, GrantedToNobodyAsleep, HasGrantedNext, HasTurn, IsIdle, IsInside, IsNewcomer, IsNotServed, IsOutside, IsOvertakenInBounds, IsQueued, Kept, KnowsShut, LeftQuietly, SameInside, SameKnown, SameNewcomersSeen, SameNewcomer, SameOvertaking, SameRequest, SameSleepAtLockWord, SameTurn, ServedOpen, ServedShut, SleepsAtLockWord, TakesLockWord, Timely}
 
 -- the word that a step leaves: after a load, a sum, a difference (of 0 too), an exchange where the word was the expected
 abbrev pub kept_word : Step ℕ → ℕ → ℕ
@@ -38,27 +38,27 @@ abbrev pub same : Me ℕ View → Me ℕ View → Type 0
 same m m' = more m m' × SameTurn m.0 m'.0
 
 abbrev pub draws : Step ℕ → Me ℕ View → ℕ → Me ℕ View → Type 0
-draws st m n m' = same m m' × (Timely m'.0 → IsQueued n m'.0 × AsksAfter m.0 m'.0)
+draws st m n m' = same m m' × (Timely m'.0 → IsQueued n m'.0 × DrawsAfter m.0 m'.0)
 
--- it reads how many tickets were taken; at its turn it so learns whether no request came after its own
+-- it reads how many tickets were drawn; a caller at its turn learns by this whether no request came after its own
 abbrev pub reads : Step ℕ → Me ℕ View → ℕ → Me ℕ View → Type 0
 reads st m n m' = same m m' × Kept m.0 m'.0 × (m'.0.door ≡ m.0.door) × (Timely m'.0 → (n ≡ m'.0.tail_seen % 18446744073709551616) × (HasTurn m.0 → n ≡ (m.0.ticket + 1) % 18446744073709551616 → m'.0.nobody_behind ≡ 1))
 
--- One that tries for a ticket has read the tail, and reads its cell: whether it is at its turn, and how many rounds are to be granted yet if
--- not. Then it takes the ticket, if it is the next one yet.
+-- A caller that tries for a ticket has read the tail, and reads its cell: whether it is at its turn, and how many rounds are to be granted yet if
+-- not. Then it draws the ticket, if that is still the next one.
 abbrev pub reads_cell : Step ℕ → Me ℕ View → ℕ → Me ℕ View → Type 0
 reads_cell st m n m' = same m m' × (Timely m'.0 → IsIdle m'.0 × (m'.0.tail_seen ≡ m.0.tail_seen) × (to_go n m.0.tail_seen ≡ 0 → m'.0.next_is_at_turn ≡ 1) × (0 < to_go n m.0.tail_seen → m'.0.next_is_at_turn ≡ 0) × (m'.0.ticket ≡ m.0.tail_seen) × (m.0.tail_seen / 4 + 1 ≤ m'.0.rounds_seen + to_go n m.0.tail_seen) × (m'.0.ended ≡ m.0.ended))
 
 abbrev pub draws_granted : Step ℕ → Me ℕ View → ℕ → Me ℕ View → Type 0
-draws_granted st m n m' = same m m' × (Timely m'.0 → (n ≡ st.first → IsAtTurn n m'.0 × AsksAfter m.0 m'.0) × (n ≢ st.first → IsIdle m'.0 × (m'.0.tail_seen ≡ m.0.tail_seen)))
+draws_granted st m n m' = same m m' × (Timely m'.0 → (n ≡ st.first → IsAtTurn n m'.0 × DrawsAfter m.0 m'.0) × (n ≢ st.first → IsIdle m'.0 × (m'.0.tail_seen ≡ m.0.tail_seen)))
 
 -- the same, if it was found near its turn: it waits, or is at its turn already
 abbrev pub draws_near : Step ℕ → Me ℕ View → ℕ → Me ℕ View → Type 0
-draws_near st m n m' = same m m' × (Timely m'.0 → (n ≡ st.first → (n ≡ m'.0.ticket % 18446744073709551616) × (m'.0.ticket ≡ m.0.tail_seen) × (m'.0.rounds_seen ≡ m.0.rounds_seen) × (m'.0.counted ≡ 0) × AsksAfter m.0 m'.0 × (m.0.next_is_at_turn ≡ 1 → (m'.0.phase ≡ AtTurn) × (m'.0.ended ≡ m'.0.ticket)) × (m.0.next_is_at_turn ≡ 0 → m'.0.phase ≡ Queued)) × (n ≢ st.first → IsIdle m'.0 × (m'.0.tail_seen ≡ m.0.tail_seen)))
+draws_near st m n m' = same m m' × (Timely m'.0 → (n ≡ st.first → (n ≡ m'.0.ticket % 18446744073709551616) × (m'.0.ticket ≡ m.0.tail_seen) × (m'.0.rounds_seen ≡ m.0.rounds_seen) × (m'.0.counted ≡ 0) × DrawsAfter m.0 m'.0 × (m.0.next_is_at_turn ≡ 1 → (m'.0.phase ≡ AtTurn) × (m'.0.ended ≡ m'.0.ticket)) × (m.0.next_is_at_turn ≡ 0 → m'.0.phase ≡ Queued)) × (n ≢ st.first → IsIdle m'.0 × (m'.0.tail_seen ≡ m.0.tail_seen)))
 
 -- a waiter's view after a look: at its turn, counted so often, or it waits on in the phase p
 abbrev pub finds : ℕ → Phase → ℕ → View → ℕ → View → Type 0
-finds counted p waiting v n w = (w.ticket ≡ v.ticket) × (w.newcomers_at_ask ≡ v.newcomers_at_ask) × (w.first_pending ≡ v.first_pending)
+finds counted p waiting v n w = (w.ticket ≡ v.ticket) × (w.newcomers_at_draw ≡ v.newcomers_at_draw) × (w.first_pending ≡ v.first_pending)
     × (to_go n v.ticket ≡ 0 → (w.phase ≡ AtTurn) × (w.ended ≡ w.ticket) × (w.counted ≡ counted) × IsOvertakenInBounds w)
     × (0 < to_go n v.ticket → (w.phase ≡ p) × (w.counted ≡ waiting) × (v.ticket / 4 + 1 ≤ w.rounds_seen + to_go n v.ticket))
 
@@ -82,34 +82,34 @@ grants st m n m' = same m m' × (Timely m'.0 → grants_to m.0 n m'.0) × SameOv
 abbrev pub clears_withdrawn : Step ℕ → Me ℕ View → ℕ → Me ℕ View → Type 0
 clears_withdrawn st m n m' = same m m' × (Timely m'.0 → (m'.0.ticket ≡ m.0.ticket) × (m'.0.phase ≡ AtTurn) × (m'.0.ended ≡ m'.0.ticket) × (m'.0.counted ≡ 0) × SameRequest m.0 m'.0 × (m'.0.newcomers_seen ≡ m.0.newcomers_seen))
 
--- by the outer word's word, in no earlier epoch
+-- told by the lock word, in no earlier epoch
 abbrev pub Told : ℕ → View → View → Type 0
-Told outer v w = (w.door ≡ 1 + shut_of outer) × (w.knows_shut ≡ shut_of outer) × (v.epoch ≤ w.epoch)
+Told lock_word v w = (w.door ≡ 1 + shut_of lock_word) × (w.knows_shut ≡ shut_of lock_word) × (v.epoch ≤ w.epoch)
 
-abbrev pub goes_in : Step ℕ → Me ℕ View → ℕ → Me ℕ View → Type 0
-goes_in st m n m' = more m m' × (Timely m'.0 → (n ≡ st.first → IsInside m'.0 × IsNewcomersTurn m'.0 × (m.0.newcomers_seen < m'.0.newcomer_turn) × ServedOpen m'.0 × (m.0.epoch ≤ m'.0.epoch) × TakesOuter m.0 m'.0) × (n ≢ st.first → IsIdle m'.0 × SameInside m.0 m'.0))
+abbrev pub barges : Step ℕ → Me ℕ View → ℕ → Me ℕ View → Type 0
+barges st m n m' = more m m' × (Timely m'.0 → (n ≡ st.first → IsInside m'.0 × IsNewcomer m'.0 × (m.0.newcomers_seen < m'.0.newcomer_number) × ServedOpen m'.0 × (m.0.epoch ≤ m'.0.epoch) × TakesLockWord m.0 m'.0) × (n ≢ st.first → IsIdle m'.0 × SameInside m.0 m'.0))
 
-abbrev pub takes_outer : Step ℕ → Me ℕ View → ℕ → Me ℕ View → Type 0
-takes_outer st m n m' = more m m' × SameNewcomerTurn m.0 m'.0 × (Timely m'.0 → (m'.0.ticket ≡ m.0.ticket) × (m'.0.newcomers_at_ask ≡ m.0.newcomers_at_ask) × (m'.0.first_pending ≡ m.0.first_pending) × (m'.0.ended ≡ m.0.ended) × (m'.0.counted ≡ 0) × (n ≡ st.first → (m'.0.phase ≡ HeadInside) × (m'.0.inside ≡ 1) × IsOvertakenInBounds m'.0 × Told n m.0 m'.0 × TakesOuter m.0 m'.0) × (n ≢ st.first → (m'.0.phase ≡ AtTurn) × SameSleepAtOuter m.0 m'.0 × SameInside m.0 m'.0))
+abbrev pub takes_lock_word : Step ℕ → Me ℕ View → ℕ → Me ℕ View → Type 0
+takes_lock_word st m n m' = more m m' × SameNewcomer m.0 m'.0 × (Timely m'.0 → (m'.0.ticket ≡ m.0.ticket) × (m'.0.newcomers_at_draw ≡ m.0.newcomers_at_draw) × (m'.0.first_pending ≡ m.0.first_pending) × (m'.0.ended ≡ m.0.ended) × (m'.0.counted ≡ 0) × (n ≡ st.first → (m'.0.phase ≡ HeadInside) × (m'.0.inside ≡ 1) × IsOvertakenInBounds m'.0 × Told n m.0 m'.0 × TakesLockWord m.0 m'.0) × (n ≢ st.first → (m'.0.phase ≡ AtTurn) × SameSleepAtLockWord m.0 m'.0 × SameInside m.0 m'.0))
 
 abbrev pub leaves : Step ℕ → Me ℕ View → ℕ → Me ℕ View → Type 0
-leaves st m n m' = more m m' × SameNewcomerTurn m.0 m'.0 × SameKnown m.0 m'.0 × (m'.0.last_take ≡ m.0.last_take) × (Timely m'.0 → (m.0.takes_seen ≤ m'.0.last_take) × (n ≡ st.first → IsOutside m'.0 × (asleep_of n ≡ 0 → LeftQuietly m'.0) × IsNotServed m'.0) × (n ≢ st.first → IsInside m'.0 × (m'.0.door ≡ m.0.door)))
+leaves st m n m' = more m m' × SameNewcomer m.0 m'.0 × SameKnown m.0 m'.0 × (m'.0.last_take ≡ m.0.last_take) × (Timely m'.0 → (m.0.takes_seen ≤ m'.0.last_take) × (n ≡ st.first → IsOutside m'.0 × (asleep_of n ≡ 0 → LeftQuietly m'.0) × IsNotServed m'.0) × (n ≢ st.first → IsInside m'.0 × (m'.0.door ≡ m.0.door)))
 
 abbrev pub checks_open : Step ℕ → Me ℕ View → ℕ → Me ℕ View → Type 0
-checks_open st m n m' = more m m' × Kept m.0 m'.0 × SameSleepAtOuter m.0 m'.0 × (Timely m'.0 → Told n m.0 m'.0) × SameNewcomersSeen m.0 m'.0
+checks_open st m n m' = more m m' × Kept m.0 m'.0 × SameSleepAtLockWord m.0 m'.0 × (Timely m'.0 → Told n m.0 m'.0) × SameNewcomersSeen m.0 m'.0
 
 abbrev pub shuts : Step ℕ → Me ℕ View → ℕ → Me ℕ View → Type 0
-shuts st m n m' = more m m' × Kept m.0 m'.0 × SameSleepAtOuter m.0 m'.0 × ServedShut m'.0 × KnowsShut m'.0 × (m'.0.epoch ≡ m.0.epoch) × SameNewcomersSeen m.0 m'.0
+shuts st m n m' = more m m' × Kept m.0 m'.0 × SameSleepAtLockWord m.0 m'.0 × ServedShut m'.0 × KnowsShut m'.0 × (m'.0.epoch ≡ m.0.epoch) × SameNewcomersSeen m.0 m'.0
 
 abbrev pub reopens : Step ℕ → Me ℕ View → ℕ → Me ℕ View → Type 0
-reopens st m n m' = more m m' × Kept m.0 m'.0 × SameSleepAtOuter m.0 m'.0 × ServedOpen m'.0 × (m'.0.epoch ≡ m.0.epoch + 1)
+reopens st m n m' = more m m' × Kept m.0 m'.0 × SameSleepAtLockWord m.0 m'.0 × ServedOpen m'.0 × (m'.0.epoch ≡ m.0.epoch + 1)
 
 abbrev pub announces_head_sleep : Step ℕ → Me ℕ View → ℕ → Me ℕ View → Type 0
-announces_head_sleep st m n m' = more m m' × Kept m.0 m'.0 × SameKnown m.0 m'.0 × (m'.0.door ≡ m.0.door) × (n ≡ st.first → SleepsAtOuter m'.0) × (Timely m'.0 → n ≡ st.first → (m.0.takes_seen ≤ m'.0.slept_in_take) × (m'.0.takes_seen ≡ m'.0.slept_in_take))
+announces_head_sleep st m n m' = more m m' × Kept m.0 m'.0 × SameKnown m.0 m'.0 × (m'.0.door ≡ m.0.door) × (n ≡ st.first → SleepsAtLockWord m'.0) × (Timely m'.0 → n ≡ st.first → (m.0.takes_seen ≤ m'.0.slept_in_take) × (m'.0.takes_seen ≡ m'.0.slept_in_take))
 
 -- nothing but what it found
-abbrev pub reads_outer : Step ℕ → Me ℕ View → ℕ → Me ℕ View → Type 0
-reads_outer st m n m' = (m'.1 ≡ m.1) × OnlyLooks m.0 m'.0
+abbrev pub reads_lock_word : Step ℕ → Me ℕ View → ℕ → Me ℕ View → Type 0
+reads_lock_word st m n m' = (m'.1 ≡ m.1) × OnlyLooks m.0 m'.0
 
 abbrev pub requests_handoff : Step ℕ → Me ℕ View → ℕ → Me ℕ View → Type 0
 requests_handoff st m n m' = (m'.1 ≡ m.1) × OnlyLooks m.0 m'.0

@@ -9,11 +9,11 @@ use Rattle.lock_core.specs.declared.view.Phase.TheVariants.{Idle, Queued, Asleep
 
 -- The one premise of all claims, trusted by counting: at no time 2 ^ 30 requests are open at the lock. (Nor are 2 ^ 64 tickets drawn in the course of
 -- one call: that counts as such a load.)
-abbrev pub limit : ℕ
-limit = 1073741823
+abbrev pub max_open : ℕ
+max_open = 1073741823
 
 abbrev pub Timely : View → Type 0
-Timely v = v.most_open ≤ limit
+Timely v = v.most_open ≤ max_open
 
 abbrev pub view_of : {T : Type 0} → Seat T View → View
 view_of seat = seat.me.0
@@ -26,7 +26,7 @@ InTime seat P = Timely (view_of seat) → P (view_of seat)
 abbrev pub NeverInTime : {T : Type 0} → Seat T View → Type 0
 NeverInTime seat = Timely (view_of seat) → ⊥
 
--- what holds of a caller before and after a call, at a lock that is timely yet
+-- what holds of a caller before and after a call, at a lock that is still timely
 abbrev pub InTimeFrom : {T : Type 0} → Seat T View → Seat T View → (View → View → Type 0) → Type 0
 InTimeFrom old new R = Timely (view_of new) → R (view_of old) (view_of new)
 
@@ -34,12 +34,12 @@ InTimeFrom old new R = Timely (view_of new) → R (view_of old) (view_of new)
 abbrev pub LoadGrows : {T : Type 0} → Seat T View → Seat T View → Type 0
 LoadGrows old new = (view_of old).most_open ≤ (view_of new).most_open
 
--- Of the most turns from one queue head's to the next all but the head's are newcomers'. In a strict lock there are none.
+-- Of the most acquisitions from one queue head's to the next, all but the head's are newcomers'. In a strict lock there are none.
 abbrev pub max_newcomers_of : ℕ → ℕ
-max_newcomers_of burst = burst - 1
+max_newcomers_of barging_limit = barging_limit - 1
 
 -- The value in a table's slot, of a table that has one: a caller has it while it is served, told at the door that the lock is open or shut. No more
--- requests are open at such a lock than the limit.
+-- requests are open at such a lock than `max_open`.
 abbrev pub Carries : {T : Type 0} → ℕ → Me T View → Type 0
 Carries {T} slots me = record {
   nothing : slots ≡ 0 → me.1 ≡ [];
@@ -54,19 +54,19 @@ KeepsValue old new = (view_of old).door ≢ 0 → (view_of new).door ≢ 0 → n
 
 -- a caller of this lock
 abbrev pub IsSeatOf : {T : Type 0} → TableId → ℕ → Seat T View → Type 0
-IsSeatOf table burst seat = (seat.table_id ≡ table) × Carries table.slots seat.me × (seat.me.0.max_newcomers ≡ max_newcomers_of burst)
+IsSeatOf table barging_limit seat = (seat.table_id ≡ table) × Carries table.slots seat.me × (seat.me.0.max_newcomers ≡ max_newcomers_of barging_limit)
 
 -- a caller that knows nothing
 abbrev pub initial_view : ℕ → View
-initial_view c = record { max_newcomers = c; most_open = 0; ended = 0; rounds_seen = 0; ticket = 0; phase = Idle; counted = 0; granted = 0; told_nobody = 0; newcomers_at_ask = 0; first_pending = 0; newcomers_seen = 0; newcomer_turn = 0; heads_before = 0; place_after_head = 0; inside = 0; door = 0; knows_shut = 0; epoch = 0; takes_seen = 0; last_take = 0; left_quietly = 0; slept_in_take = 0; sleeps_at_outer = 0; tail_seen = 0; next_is_at_turn = 0; asked_open = 0; asked_in_epoch = 0; nobody_behind = 0; looks = record { steps = 0; word = 0; found = 0; left = 0; word_before = 0; found_before = 0 } }
+initial_view c = record { max_newcomers = c; most_open = 0; ended = 0; rounds_seen = 0; ticket = 0; phase = Idle; counted = 0; granted = 0; told_nobody = 0; newcomers_at_draw = 0; first_pending = 0; newcomers_seen = 0; newcomer_number = 0; heads_before = 0; place_after_head = 0; inside = 0; door = 0; knows_shut = 0; epoch = 0; takes_seen = 0; last_take = 0; left_quietly = 0; slept_in_take = 0; sleeps_at_lock_word = 0; tail_seen = 0; next_is_at_turn = 0; drawn_open = 0; drawn_in_epoch = 0; nobody_behind = 0; looks = record { steps = 0; word = 0; found = 0; left = 0; word_before = 0; found_before = 0 } }
 
 -- A request. The caller has none
 abbrev pub IsIdle : View → Type 0
 IsIdle v = (v.phase ≡ Idle) × (v.counted ≡ 0)
 
--- it asks behind each request that it knew of, and in no earlier epoch
-abbrev pub AsksAfter : View → View → Type 0
-AsksAfter v w = (v.ended ≤ w.first_pending) × (w.first_pending ≤ w.ticket) × (v.newcomers_seen ≤ w.newcomers_at_ask) × (w.newcomers_at_ask ≡ w.newcomers_seen) × (v.epoch ≤ w.asked_in_epoch)
+-- it draws its ticket behind each request that it knew of, and in no earlier epoch
+abbrev pub DrawsAfter : View → View → Type 0
+DrawsAfter v w = (v.ended ≤ w.first_pending) × (w.first_pending ≤ w.ticket) × (v.newcomers_seen ≤ w.newcomers_at_draw) × (w.newcomers_at_draw ≡ w.newcomers_seen) × (v.epoch ≤ w.drawn_in_epoch)
 
 -- it waits with this ticket, and is not counted as a sleeper
 abbrev pub IsQueued : ℕ → View → Type 0
@@ -88,25 +88,25 @@ Awaits p = (p ≡ Queued) ⊎ (p ≡ Asleep)
 abbrev pub IsAtTurn : ℕ → View → Type 0
 IsAtTurn ticket v = (v.phase ≡ AtTurn) × (ticket ≡ v.ticket % 18446744073709551616) × (v.ended ≡ v.ticket) × (v.counted ≡ 0)
 
--- it has the turn of a withdrawn request, whose bit is set yet
+-- it has the turn of a withdrawn request, whose bit is still set
 abbrev pub IsPassing : ℕ → View → Type 0
 IsPassing ticket v = (v.phase ≡ Passing) × (ticket ≡ v.ticket % 18446744073709551616) × (v.counted ≡ 0)
 
--- it has a turn of the queue: it is at its turn, and with bursts the queue head, maybe inside already
+-- it has a turn of the queue: it is at its turn, and in a barging lock the queue head, maybe inside already
 abbrev pub HasTurn : View → Type 0
 HasTurn v = (v.phase ≡ AtTurn) ⊎ (v.phase ≡ HeadInside)
 
 abbrev pub HasTurnOf : ℕ → View → Type 0
 HasTurnOf ticket v = HasTurn v × (ticket ≡ v.ticket % 18446744073709551616) × (v.counted ≡ 0)
 
--- its request is the same, and what it knew when it asked
+-- its request is the same, and what it knew when it drew its ticket
 abbrev pub SameRequest : View → View → Type 0
-SameRequest v w = (w.ticket ≡ v.ticket) × (w.newcomers_at_ask ≡ v.newcomers_at_ask) × (w.first_pending ≡ v.first_pending)
+SameRequest v w = (w.ticket ≡ v.ticket) × (w.newcomers_at_draw ≡ v.newcomers_at_draw) × (w.first_pending ≡ v.first_pending)
 
--- The barging bound. Since it asked at most `max_newcomers` newcomers went in before each queue head, from the first whose turn was pending when it
--- asked up to itself: (p + 1) (B - 1) of them with p requests before it, and none in a strict lock.
+-- The bound on overtaking. Since it drew its ticket, at most `max_newcomers` newcomers went in before each queue head, from the first whose turn was
+-- pending then up to itself: (p + 1) (B - 1) of them with p requests before it, and none in a strict lock.
 abbrev pub IsOvertakenInBounds : View → Type 0
-IsOvertakenInBounds v = v.newcomers_seen ≤ v.newcomers_at_ask + v.max_newcomers * (v.ticket + 1 - v.first_pending)
+IsOvertakenInBounds v = v.newcomers_seen ≤ v.newcomers_at_draw + v.max_newcomers * (v.ticket + 1 - v.first_pending)
 
 -- its turn has ended, and the next ticket is granted
 abbrev pub HasGrantedNext : View → View → Type 0
@@ -119,35 +119,36 @@ GrantedAfter ticket v = (ticket + 1) % 18446744073709551616 ≡ v.granted % 1844
 abbrev pub GrantedToNobodyAsleep : View → Type 0
 GrantedToNobodyAsleep v = v.told_nobody ≡ 1
 
--- The outer word. A newcomer is inside, or outside
+-- The lock word. A caller without a turn of the queue is inside, or outside
 abbrev pub IsInside : View → Type 0
 IsInside v = (v.inside ≡ 1) × IsIdle v
 
 abbrev pub IsOutside : View → Type 0
 IsOutside v = (v.inside ≡ 0) × IsIdle v
 
--- the queue head is inside, and has its turn of the queue yet
+-- the queue head is inside, and still has its turn of the queue
 abbrev pub IsHeadInside : ℕ → View → Type 0
 IsHeadInside ticket v = (v.phase ≡ HeadInside) × (ticket ≡ v.ticket % 18446744073709551616) × (v.ended ≡ v.ticket) × (v.counted ≡ 0) × (v.inside ≡ 1)
 
--- a newcomer's turn has one of the `max_newcomers` places behind the last queue head, and is the last that it knows of
-abbrev pub IsNewcomersTurn : View → Type 0
-IsNewcomersTurn v = (0 < v.newcomer_turn) × (1 ≤ v.place_after_head) × (v.place_after_head ≤ v.max_newcomers) × (v.newcomers_seen ≡ v.newcomer_turn)
+-- a newcomer, which is a thread that barged: its acquisition has one of the `max_newcomers` places behind the last queue head, and is the last that it
+-- knows of
+abbrev pub IsNewcomer : View → Type 0
+IsNewcomer v = (0 < v.newcomer_number) × (1 ≤ v.place_after_head) × (v.place_after_head ≤ v.max_newcomers) × (v.newcomers_seen ≡ v.newcomer_number)
 
 -- it is inside, or outside, as before
 abbrev pub SameInside : View → View → Type 0
 SameInside v w = w.inside ≡ v.inside
 
-abbrev pub SameNewcomerTurn : View → View → Type 0
-SameNewcomerTurn v w = (w.newcomer_turn ≡ v.newcomer_turn) × (w.heads_before ≡ v.heads_before) × (w.place_after_head ≡ v.place_after_head)
+abbrev pub SameNewcomer : View → View → Type 0
+SameNewcomer v w = (w.newcomer_number ≡ v.newcomer_number) × (w.heads_before ≡ v.heads_before) × (w.place_after_head ≡ v.place_after_head)
 
--- its take of the outer word is behind each that it knew of
-abbrev pub TakesOuter : View → View → Type 0
-TakesOuter v w = (v.takes_seen < w.last_take) × (w.takes_seen ≡ w.last_take)
+-- its take of the lock word is behind each that it knew of
+abbrev pub TakesLockWord : View → View → Type 0
+TakesLockWord v w = (v.takes_seen < w.last_take) × (w.takes_seen ≡ w.last_take)
 
--- it goes in behind each newcomer and each take that it knew of, and in no earlier epoch
-abbrev pub GoesInAfter : View → View → Type 0
-GoesInAfter v w = (v.newcomers_seen < w.newcomer_turn) × TakesOuter v w × (v.epoch ≤ w.epoch)
+-- it barges behind each newcomer and each take that it knew of, and in no earlier epoch
+abbrev pub BargesAfter : View → View → Type 0
+BargesAfter v w = (v.newcomers_seen < w.newcomer_number) × TakesLockWord v w × (v.epoch ≤ w.epoch)
 
 abbrev pub SameTake : View → View → Type 0
 SameTake v w = (w.last_take ≡ v.last_take) × (w.left_quietly ≡ v.left_quietly)
@@ -156,16 +157,16 @@ SameTake v w = (w.last_take ≡ v.last_take) × (w.left_quietly ≡ v.left_quiet
 abbrev pub LeavesSameTake : {T : Type 0} → Seat T View → Seat T View → Type 0
 LeavesSameTake old new = ((view_of new).last_take ≡ (view_of old).last_take) × InTimeFrom old new (λ v w. v.takes_seen ≤ w.last_take)
 
--- as it left it was told that no queue head sleeps at the outer word
+-- as it left it was told that no queue head sleeps at the lock word
 abbrev pub LeftQuietly : View → Type 0
 LeftQuietly v = v.left_quietly ≡ 1
 
--- it has announced its sleep at the outer word
-abbrev pub SleepsAtOuter : View → Type 0
-SleepsAtOuter v = v.sleeps_at_outer ≡ 1
+-- it has announced its sleep at the lock word
+abbrev pub SleepsAtLockWord : View → Type 0
+SleepsAtLockWord v = v.sleeps_at_lock_word ≡ 1
 
-abbrev pub SameSleepAtOuter : View → View → Type 0
-SameSleepAtOuter v w = (w.slept_in_take ≡ v.slept_in_take) × (w.sleeps_at_outer ≡ v.sleeps_at_outer)
+abbrev pub SameSleepAtLockWord : View → View → Type 0
+SameSleepAtLockWord v w = (w.slept_in_take ≡ v.slept_in_take) × (w.sleeps_at_lock_word ≡ v.sleeps_at_lock_word)
 
 -- it announced its sleep in the last take that it knows of, which is none earlier
 abbrev pub SleepsInTake : View → View → Type 0
@@ -192,13 +193,13 @@ SameKnown v w = (w.knows_shut ≡ v.knows_shut) × (w.epoch ≡ v.epoch)
 abbrev pub IsLaterEpoch : View → View → Type 0
 IsLaterEpoch v w = v.epoch ≤ w.epoch
 
--- What a call leaves as it was: a call of the queue leaves what concerns the outer word
+-- What a call leaves as it was: a call of the queue leaves what concerns the lock word
 abbrev pub SameTurn : View → View → Type 0
-SameTurn v w = SameNewcomerTurn v w × (w.inside ≡ v.inside) × SameKnown v w × SameTake v w × SameSleepAtOuter v w × (v.inside ≡ 1 → w.door ≡ v.door)
+SameTurn v w = SameNewcomer v w × (w.inside ≡ v.inside) × SameKnown v w × SameTake v w × SameSleepAtLockWord v w × (v.inside ≡ 1 → w.door ≡ v.door)
 
 -- a call of closing leaves the request and the turn
 abbrev pub Kept : View → View → Type 0
-Kept v w = (w.phase ≡ v.phase) × (w.ticket ≡ v.ticket) × (w.ended ≡ v.ended) × (w.counted ≡ v.counted) × (w.newcomers_at_ask ≡ v.newcomers_at_ask) × (w.first_pending ≡ v.first_pending) × (w.inside ≡ v.inside) × SameNewcomerTurn v w × SameTake v w
+Kept v w = (w.phase ≡ v.phase) × (w.ticket ≡ v.ticket) × (w.ended ≡ v.ended) × (w.counted ≡ v.counted) × (w.newcomers_at_draw ≡ v.newcomers_at_draw) × (w.first_pending ≡ v.first_pending) × (w.inside ≡ v.inside) × SameNewcomer v w × SameTake v w
 
 -- all but what its steps found is the same
 abbrev pub OnlyLooks : View → View → Type 0
@@ -216,9 +217,9 @@ HasEnded v w = v.ticket < w.ended
 abbrev pub SameNewcomersSeen : View → View → Type 0
 SameNewcomersSeen v w = w.newcomers_seen ≡ v.newcomers_seen
 
--- it knows of as many newcomers, and of the request that it made what it knew when it asked
+-- it knows of as many newcomers, and of its request what it knew when it drew the ticket
 abbrev pub SameOvertaking : View → View → Type 0
-SameOvertaking v w = SameNewcomersSeen v w × (w.newcomers_at_ask ≡ v.newcomers_at_ask) × (w.first_pending ≡ v.first_pending)
+SameOvertaking v w = SameNewcomersSeen v w × (w.newcomers_at_draw ≡ v.newcomers_at_draw) × (w.first_pending ≡ v.first_pending)
 
 -- it is not served
 abbrev pub IsNotServed : View → Type 0

@@ -1,24 +1,27 @@
-//! The words of a lock, and what each packs.
+//! The words of a lock, what each packs, and the limits of a lock. Each of these numbers has its name here alone.
 //!
-//! Word 0 is the outer word: bit 0 handoff requested, bit 1 the queue head sleeps there, bits 2 and 3 its state
-//! (0 free, 1 held, 2 reserved for the queue head), bit 4 shut, and from bit 5 on the newcomers since the last
-//! queue head. Words 1 to 15 are never written. Word 16 is the tail, the next ticket. Words 17 to 20 are cells:
-//! ticket t has cell t mod 4, in round t div 4. A cell has from bit 34 on its granted rounds modulo 2^30, in bits
-//! 16 to 31 a count of sleepers, and in bits 0 to 15 the withdrawn requests, by their round modulo 16.
+//! - Word 0 is the lock word. Bit 0: a handoff is requested. Bit 1: the queue head sleeps there. Bits 2 and 3: its state
+//!   (0 free, 1 held, 2 reserved for the queue head). Bit 4: the lock is shut. From bit 5 on: the *newcomers*, which are
+//!   the threads that barged, since the last queue head.
+//! - Words 1 to 15 are never written.
+//! - Word 16 is the tail, the number of the next ticket.
+//! - Words 17 to 20 are cells. Ticket t has cell t mod 4, in round t div 4. Bits 0 to 15 of a cell: the withdrawn
+//!   requests, by their round modulo 16. Bits 16 to 31: a count of sleepers. From bit 34 on: the granted rounds modulo
+//!   2^30.
 ghost use Rattle.std.specs.Prelude.{◌≡◌, ◌≢◌, ◌+◌, ◌/◌, ◌%◌, ◌^◌, true, false};
 ghost use Rattle.std.specs.Int.{bit_at};
 ghost use Rattle.lock_core.specs.Layout.{cell_at, bit_of, count_of, rounds_of, shut_of, state_of, to_go};
 
-/// The outer word's number.
-pub const OUTER: usize = 0;
+/// The number of the lock word.
+pub const LOCK_WORD: usize = 0;
 
 /// The number of a word that is never written.
 pub(crate) const UNWRITTEN: usize = 8;
 
-/// The tail's number.
+/// The number of the tail.
 pub const TAIL: usize = 16;
 
-/// The first cell's number.
+/// The number of the first cell.
 pub const FIRST_CELL: usize = 17;
 
 /// The number of cells.
@@ -27,38 +30,59 @@ pub const CELLS: u64 = 4;
 /// A round, in a cell.
 pub const ROUND: u64 = 1 << 34;
 
-/// The number of rounds, until they begin anew.
+/// A cell counts its rounds modulo this number.
 const ROUNDS: u64 = 1 << 30;
 
 /// A sleeper, in a cell.
 pub const SLEEPER: u64 = 1 << 16;
 
+/// In the lock word: the queue head requests a handoff.
+pub const HANDOFF: u64 = 1;
+
+/// In the lock word: the queue head sleeps there.
+pub const HEAD_ASLEEP: u64 = 2;
+
+/// The state of the lock word: held.
+pub const HELD: u64 = 4;
+
+/// The state of the lock word: free for the queue head alone.
+pub const RESERVED: u64 = 8;
+
+/// In the lock word: the lock is shut.
+pub const SHUT: u64 = 16;
+
+/// A newcomer, in the lock word: a thread that barged.
+pub const NEWCOMER: u64 = 32;
+
+/// What barging adds to the lock word: it is held, after one newcomer more.
+pub const BARGED: u64 = HELD + NEWCOMER;
+
 /// The most sleepers that a cell can count.
 pub const MAX_SLEEPERS: u64 = 65535;
 
-/// The window of withdrawal: the most rounds to be granted until the request's own.
-pub const WINDOW: u64 = 15;
+/// The window of withdrawal: a request can be withdrawn while at most this number of rounds is to be granted before its
+/// own is.
+pub const WITHDRAWAL_WINDOW: u64 = 15;
 
 /// The most withdrawn requests that one release passes.
 pub const MAX_PASSED: u64 = 64;
 
-/// In the outer word: the queue head wants it.
-pub const HANDOFF: u64 = 1;
+/// The least barging limit. In a strict lock it is 1, which lets no thread barge.
+pub const MIN_BARGING_LIMIT: u64 = 2;
 
-/// In the outer word: the queue head sleeps there.
-pub const HEAD_ASLEEP: u64 = 2;
+/// The greatest barging limit.
+pub const MAX_BARGING_LIMIT: u64 = 65535;
 
-/// The outer word's state: held.
-pub const HELD: u64 = 4;
+/// The most requests that may be open at one time: the premise of each claim of this crate.
+pub const MAX_OPEN: u64 = ROUNDS - 1;
 
-/// The outer word's state: free for the queue head alone.
-pub const RESERVED: u64 = 8;
+/// The widest window of `draw_within`, in rounds of four tickets: then at most 2^29 requests and one are open.
+pub const MAX_WINDOW: u64 = 1 << 27;
 
-/// In the outer word: the lock is shut.
-pub const SHUT: u64 = 16;
+const _: () = prove!(MAX_WINDOW * CELLS + 1 <= MAX_OPEN);
 
-/// A newcomer, in the outer word.
-pub const NEWCOMER: u64 = 32;
+/// The most tickets that `draw_within` draws, in all.
+pub const MAX_TICKETS: u64 = 1 << 63;
 
 /// The number of the word of a ticket's cell.
 #[inline(always)]
@@ -76,7 +100,7 @@ pub(crate) fn bit(ticket: u64) -> u64
     1 << (ticket / CELLS % 16)
 }
 
-/// The rounds to be granted until the ticket's own is, by the word of its cell.
+/// The number of rounds to be granted until the ticket's own is, by the word of its cell.
 #[inline(always)]
 pub(crate) fn rounds_to_go(cell: u64, ticket: u64) -> u64
     ensures { result ≡ to_go cell ticket }
@@ -102,7 +126,7 @@ pub(crate) fn is_withdrawn(cell: u64, ticket: u64) -> bool
     (cell >> (ticket / CELLS % 16)) % 2 == 1
 }
 
-/// The sleepers that a cell's word counts.
+/// The number of sleepers that a cell's word counts.
 #[inline(always)]
 pub(crate) fn sleepers(cell: u64) -> u64
     ensures { result ≡ count_of cell }
@@ -110,19 +134,19 @@ pub(crate) fn sleepers(cell: u64) -> u64
     cell / SLEEPER % 65536
 }
 
-/// The outer word's state.
+/// The state of the lock word.
 #[inline(always)]
-pub(crate) fn state(outer: u64) -> u64
-    ensures { result ≡ state_of outer }
+pub(crate) fn state(lock_word: u64) -> u64
+    ensures { result ≡ state_of lock_word }
 {
-    outer / HELD % 4
+    lock_word / HELD % 4
 }
 
 /// Whether the lock is shut.
 #[inline(always)]
-pub(crate) fn is_shut(outer: u64) -> bool
-    ensures shut { result ≡ true → shut_of outer ≡ 1 }
-    ensures open { result ≡ false → shut_of outer ≡ 0 }
+pub(crate) fn is_shut(lock_word: u64) -> bool
+    ensures shut { result ≡ true → shut_of lock_word ≡ 1 }
+    ensures open { result ≡ false → shut_of lock_word ≡ 0 }
 {
-    outer / SHUT % 2 == 1
+    lock_word / SHUT % 2 == 1
 }

@@ -1,17 +1,17 @@
-//! What two callers know of one another.
+//! The theorems about two callers of a lock.
 //!
-//! A clause speaks of one caller's seat. So a fact about two is a function that is lent both, and ensures that they
-//! cannot meet. None of these is to be called: a caller's proof may.
+//! A clause speaks of the seat of one caller. A theorem about two callers is therefore a function that is lent both seats
+//! and ensures that the two cannot meet. No program calls these functions; the proof of a caller may.
 ghost use Rattle.std.specs.Prelude.{◌≡◌, ◌<◌, ◌≤◌, []};
 ghost use Rattle.lock_core.specs.Layout.{HasLockWords, IsLockTable};
-ghost use Rattle.lock_core.specs.Views.{view_of, InTime, NeverInTime, LoadGrows, KeepsValue, IsSeatOf, IsIdle, IsOutside, HasTurn, HasTurnAwake, IsNotServed, KnowsShut, LeftQuietly, ServedOpen, SleepsAtOuter};
-ghost use Rattle.lock_core.specs.Meets.{Served, IsWaiting, IsWaitingOpen, IsWaitingShut, IsStillAsleep, GrantedToNobodyAsleepAt, HadNewcomersTurn, HasHeard, HasLearnedEnded, told_of};
+ghost use Rattle.lock_core.specs.Views.{view_of, InTime, NeverInTime, LoadGrows, KeepsValue, IsSeatOf, IsIdle, IsOutside, HasTurn, HasTurnAwake, IsNotServed, KnowsShut, LeftQuietly, ServedOpen, SleepsAtLockWord};
+ghost use Rattle.lock_core.specs.Meets.{Served, IsWaiting, IsWaitingOpen, IsWaitingShut, IsStillAsleep, GrantedToNobodyAsleepAt, HadPlaceOf, HasHeard, HasLearnedEnded, told_of};
 
+use crate::invariant::{SharedTable, SharedValue, TicketSeat, ValueSeat};
 use crate::plays::{Learn, LearnEnded, Meet, Tell, TellOrder};
-use crate::rule::{SharedTable, SharedValue, TicketSeat, ValueSeat};
 
-/// Exclusion: no two callers are served at one time. In a strict lock who is at its turn is served, with bursts who is
-/// inside.
+/// Exclusion: no two callers are served at one time. In a strict lock the caller at its turn is served; in a barging
+/// lock the caller inside.
 pub fn never_two(table: &SharedTable, seat: &mut TicketSeat, other: TicketSeat)
     requires table { IsLockTable table.now.table_id }
     requires seat { IsSeatOf table.now.table_id table.now.key seat.old }
@@ -24,7 +24,7 @@ pub fn never_two(table: &SharedTable, seat: &mut TicketSeat, other: TicketSeat)
     table.load::<Meet>(seat, 0);
 }
 
-/// No two callers are at their turn by a ticket: with bursts there is one queue head.
+/// No two callers are at their turn by a ticket: a barging lock has at most one queue head.
 pub fn never_two_heads(table: &SharedTable, seat: &mut TicketSeat, other: TicketSeat)
     requires table { IsLockTable table.now.table_id }
     requires seat { IsSeatOf table.now.table_id table.now.key seat.old }
@@ -51,7 +51,7 @@ pub fn first_come(table: &SharedTable, seat: &mut TicketSeat, other: TicketSeat)
     table.load::<Meet>(seat, 0);
 }
 
-/// No lost wake-up: one that granted a ticket and was told that nobody sleeps for it, and one that has announced its
+/// No lost wake-up: no caller granted a ticket and was told that nobody sleeps for it, while another has announced its
 /// sleep for that ticket.
 pub fn no_lost_wake(table: &SharedTable, seat: &mut TicketSeat, other: TicketSeat)
     requires table { IsLockTable table.now.table_id }
@@ -65,14 +65,14 @@ pub fn no_lost_wake(table: &SharedTable, seat: &mut TicketSeat, other: TicketSea
     table.load::<Meet>(seat, 0);
 }
 
-/// No lost wake-up at the outer word: one that left it and was told that no queue head sleeps, and a queue head that
-/// announced its sleep while that one was inside.
-pub fn no_lost_wake_at_outer(table: &SharedTable, seat: &mut TicketSeat, other: TicketSeat)
+/// No lost wake-up at the lock word: no caller left it and was told that no queue head sleeps, while a queue head had
+/// announced its sleep when that caller was inside.
+pub fn no_lost_wake_at_lock_word(table: &SharedTable, seat: &mut TicketSeat, other: TicketSeat)
     requires table { IsLockTable table.now.table_id }
     requires seat { IsSeatOf table.now.table_id table.now.key seat.old }
     requires other { IsSeatOf table.now.table_id table.now.key other }
     requires left { InTime seat.old LeftQuietly }
-    requires sleeps { InTime other SleepsAtOuter }
+    requires sleeps { InTime other SleepsAtLockWord }
     requires take { InTime other (λ w. w.slept_in_take ≡ (view_of seat.old).last_take) }
     ensures never { NeverInTime seat.new }
 {
@@ -94,47 +94,48 @@ pub fn none_served_after_shut(table: &SharedTable, seat: &mut TicketSeat, other:
     table.load::<Meet>(seat, 0);
 }
 
-/// Once the lock is reopened nobody waits who asked before it was shut.
+/// Once the lock is reopened, nobody waits with a ticket that was drawn before the lock was shut.
 pub fn none_left_at_reopening(table: &SharedTable, seat: &mut TicketSeat, other: TicketSeat)
     requires table { IsLockTable table.now.table_id }
     requires seat { IsSeatOf table.now.table_id table.now.key seat.old }
     requires other { IsSeatOf table.now.table_id table.now.key other }
     requires waits { InTime other IsWaitingOpen }
-    requires reopened { InTime other (λ w. w.asked_in_epoch < (view_of seat.old).epoch) }
+    requires reopened { InTime other (λ w. w.drawn_in_epoch < (view_of seat.old).epoch) }
     ensures never { NeverInTime seat.new }
 {
     table.join_seat::<Meet>(seat, other);
     table.load::<Meet>(seat, 0);
 }
 
-/// While a caller is served, told that the lock is open, nobody waits who asked in this epoch while it was shut.
-pub fn asked_while_open(table: &SharedTable, seat: &mut TicketSeat, other: TicketSeat)
+/// While a caller is served, told that the lock is open, nobody waits with a ticket that was drawn in this epoch while the
+/// lock was shut.
+pub fn drawn_while_open(table: &SharedTable, seat: &mut TicketSeat, other: TicketSeat)
     requires table { IsLockTable table.now.table_id }
     requires seat { IsSeatOf table.now.table_id table.now.key seat.old }
     requires other { IsSeatOf table.now.table_id table.now.key other }
     requires served { InTime seat.old ServedOpen }
     requires waits { InTime other IsWaitingShut }
-    requires same { InTime other (λ w. w.asked_in_epoch ≡ (view_of seat.old).epoch) }
+    requires same { InTime other (λ w. w.drawn_in_epoch ≡ (view_of seat.old).epoch) }
     ensures never { NeverInTime seat.new }
 {
     table.join_seat::<Meet>(seat, other);
     table.load::<Meet>(seat, 0);
 }
 
-/// No two newcomers' turns have the same place between two queue heads: so there are at most `max_newcomers`.
-pub fn turns_differ(table: &SharedTable, seat: &mut TicketSeat, other: TicketSeat)
+/// No two acquisitions of newcomers have the same place between two queue heads: so there are at most `max_newcomers`.
+pub fn places_differ(table: &SharedTable, seat: &mut TicketSeat, other: TicketSeat)
     requires table { IsLockTable table.now.table_id }
     requires seat { IsSeatOf table.now.table_id table.now.key seat.old }
     requires other { IsSeatOf table.now.table_id table.now.key other }
-    requires one { InTime seat.old (HadNewcomersTurn (view_of seat.old)) }
-    requires two { InTime other (HadNewcomersTurn (view_of seat.old)) }
+    requires one { InTime seat.old (HadPlaceOf (view_of seat.old)) }
+    requires two { InTime other (HadPlaceOf (view_of seat.old)) }
     ensures never { NeverInTime seat.new }
 {
     table.join_seat::<Meet>(seat, other);
     table.load::<Meet>(seat, 0);
 }
 
-/// A seat for another caller, which knows what this one does of ended requests, turns and closing.
+/// Returns a seat for another caller, which knows what this one knows of ended requests, acquisitions and closing.
 pub fn tell(table: &SharedTable, seat: &mut TicketSeat) -> TicketSeat
     requires table { IsLockTable table.now.table_id }
     requires seat { IsSeatOf table.now.table_id table.now.key seat.old }
@@ -146,7 +147,7 @@ pub fn tell(table: &SharedTable, seat: &mut TicketSeat) -> TicketSeat
     table.split_seat::<Tell>(seat)
 }
 
-/// Before its request a caller learns what another knows: then its request is behind that one's last turn.
+/// Before its request a caller learns what another one knows: then its request is behind that one's last turn.
 pub fn learn(table: &SharedTable, seat: &mut TicketSeat, other: TicketSeat)
     requires table { IsLockTable table.now.table_id }
     requires seat { IsSeatOf table.now.table_id table.now.key seat.old }
@@ -161,7 +162,7 @@ pub fn learn(table: &SharedTable, seat: &mut TicketSeat, other: TicketSeat)
     table.join_seat::<Learn>(seat, other);
 }
 
-/// Order: each request that another knows to have ended is before the request of one at its turn. One load.
+/// Order: each request that another caller knows to have ended is before the request of a caller at its turn. One load.
 ///
 /// So turns end in the order of tickets. The caller at its turn may call it.
 pub fn learn_order<T>(table: &SharedValue<T>, seat: &mut ValueSeat<T>, other: ValueSeat<T>)

@@ -1,36 +1,37 @@
 //! A lock is opened, and callers come.
 ghost use Rattle.std.specs.Prelude.{◌≡◌, ◌≢◌, ◌≤◌, IfOk, IfErr, length};
-ghost use Rattle.lock_core.specs.Layout.{HasLockWords, IsLockTable, IsValueTable};
+ghost use Rattle.lock_core.specs.Layout.{max_barging_limit, HasLockWords, IsLockTable, IsValueTable};
 ghost use Rattle.lock_core.specs.Views.{view_of, IsSeatOf, IsOutside};
-ghost use Rattle.lock_core.specs.Answers.{max_burst_of, HasLongBursts, IsOpenErrorOf};
+ghost use Rattle.lock_core.specs.Answers.{barging_limit_of, HasValidLimit, IsOpenErrorOf};
 
-use crate::layout::UNWRITTEN;
+use crate::invariant::{SharedValue, TicketTable, ValueSeat, ValueTable};
+use crate::layout::{MIN_BARGING_LIMIT, ROUND, UNWRITTEN};
 use crate::plays::Come;
-use crate::rule::{SharedValue, TicketTable, ValueSeat, ValueTable};
 use atomic_table::Refused;
 use std::alloc::Global;
 use thiserror::Error;
 
-/// The order of a lock's turns.
+/// The order in which a lock serves its callers.
 #[derive(Clone, Copy, Debug, PartialEq, Eq)]
 pub enum LockKind {
     /// Strict: in the order of tickets.
     Strict,
-    /// In bursts: the most turns from one queue head's to the next, the head's and those of newcomers that overtake the
-    /// queue. From 2 to 65,535.
-    Bursts(u16),
+    /// With barging: threads without a ticket may overtake the queue. The number is the barging limit, from
+    /// `MIN_BARGING_LIMIT` to `MAX_BARGING_LIMIT`: the most acquisitions from one queue head's to the next, the head's
+    /// own among them.
+    Barging(u16),
 }
 
 impl LockKind {
-    /// The most turns from one queue head's to the next: 1 in a strict lock.
+    /// The most acquisitions from one queue head's to the next, which is 1 in a strict lock.
     #[inline]
-    pub fn max_burst(self) -> u64
-        ensures burst { result ≡ max_burst_of self }
-        ensures max { result ≤ 65535 }
+    pub fn barging_limit(self) -> u64
+        ensures barging_limit { result ≡ barging_limit_of self }
+        ensures max { result ≤ max_barging_limit }
     {
         match self {
             LockKind::Strict => 1,
-            LockKind::Bursts(turns) => turns.into(),
+            LockKind::Barging(limit) => limit.into(),
         }
     }
 }
@@ -40,9 +41,9 @@ impl LockKind {
 pub enum OpenError {
     #[error("out of memory")]
     Memory,
-    /// The bursts have fewer than 2 turns.
-    #[error("bursts of {0}: a burst has from 2 to 65,535 turns")]
-    ShortBurst(u16),
+    /// The barging limit is less than `MIN_BARGING_LIMIT`.
+    #[error("barging limit {0}: it must be from 2 to 65,535")]
+    BadBargingLimit(u16),
 }
 
 /// The number of a lock's words.
@@ -50,52 +51,32 @@ pub const WORDS: usize = FIRST_WORDS.len();
 
 /// The words of a new lock: the first ticket is granted.
 const FIRST_WORDS: [u64; 21] = [
-    0,
-    0,
-    0,
-    0,
-    0,
-    0,
-    0,
-    0,
-    0,
-    0,
-    0,
-    0,
-    0,
-    0,
-    0,
-    0,
-    0,
-    17179869184,
-    0,
-    0,
-    0,
+    0, 0, 0, 0, 0, 0, 0, 0, 0, 0, 0, 0, 0, 0, 0, 0, 0, ROUND, 0, 0, 0,
 ];
 
-/// Refuses bursts of fewer than two turns, as opening does.
+/// Refuses a barging limit of less than two, as opening does.
 pub fn check_kind(kind: LockKind) -> Result<(), OpenError>
-    ensures long { IfOk result (λ _. HasLongBursts kind) }
+    ensures long { IfOk result (λ _. HasValidLimit kind) }
     ensures err { IfErr result (λ e. (e ≢ OpenError.Memory) × IsOpenErrorOf kind e) }
 {
-    if let LockKind::Bursts(turns) = kind {
-        if turns < 2 {
-            return Err(OpenError::ShortBurst(turns));
+    if let LockKind::Barging(limit) = kind {
+        if u64::from(limit) < MIN_BARGING_LIMIT {
+            return Err(OpenError::BadBargingLimit(limit));
         }
     }
     Ok(())
 }
 
-/// Opens a lock: one block of 168 bytes, its words. Refused by name: bursts of fewer than two turns, and where memory is
-/// short. Nothing is kept then.
+/// Opens a lock: allocates one block of 168 bytes, its words. The error names a barging limit of less than two, or that
+/// memory is short. Nothing is kept then.
 pub fn open(alloc: Global, kind: LockKind) -> Result<TicketTable, OpenError>
     ensures table { IfOk result (λ lock. IsLockTable lock.shared.table_id) }
-    ensures kind { IfOk result (λ lock. lock.shared.key ≡ max_burst_of kind) }
-    ensures long { IfOk result (λ _. HasLongBursts kind) }
+    ensures kind { IfOk result (λ lock. lock.shared.key ≡ barging_limit_of kind) }
+    ensures long { IfOk result (λ _. HasValidLimit kind) }
     ensures err { IfErr result (IsOpenErrorOf kind) }
 {
     check_kind(kind)?;
-    match TicketTable::of_words(alloc, &FIRST_WORDS, &kind.max_burst()) {
+    match TicketTable::of_words(alloc, &FIRST_WORDS, &kind.barging_limit()) {
         Ok((table, _)) => Ok(table),
         Err(_) => Err(OpenError::Memory),
     }
@@ -108,8 +89,8 @@ pub struct OpenValueError<T> {
     pub values: Vec<T>,
 }
 
-/// Opens a lock with the one value in `values`: two blocks for the words and the value. Refused by name: bursts of fewer
-/// than two turns, and where memory is short. The value is returned then, and nothing is kept.
+/// Opens a lock with the one value in `values`: allocates two blocks, for the words and the value. The error names a
+/// barging limit of less than two, or that memory is short, and has the value. Nothing is kept then.
 pub fn open_value<T>(
     alloc: Global,
     kind: LockKind,
@@ -117,15 +98,15 @@ pub fn open_value<T>(
 ) -> Result<ValueTable<T>, OpenValueError<T>>
     requires one { length values.items ≡ 1 }
     ensures table { IfOk result (λ lock. IsValueTable lock.shared.table_id) }
-    ensures kind { IfOk result (λ lock. lock.shared.key ≡ max_burst_of kind) }
-    ensures long { IfOk result (λ _. HasLongBursts kind) }
+    ensures kind { IfOk result (λ lock. lock.shared.key ≡ barging_limit_of kind) }
+    ensures long { IfOk result (λ _. HasValidLimit kind) }
     ensures err { IfErr result (λ e. IsOpenErrorOf kind e.error) }
     ensures values { IfErr result (λ e. e.values.items ≡ values.items) }
 {
     if let Err(error) = check_kind(kind) {
         return Err(OpenValueError { error, values });
     }
-    match ValueTable::new(alloc, &FIRST_WORDS, values, &kind.max_burst()) {
+    match ValueTable::new(alloc, &FIRST_WORDS, values, &kind.barging_limit()) {
         Ok((table, _)) => Ok(table),
         Err(Refused { slots }) => Err(OpenValueError {
             error: OpenError::Memory,
@@ -134,7 +115,7 @@ pub fn open_value<T>(
     }
 }
 
-/// A seat for a new caller: one load, of a word that is never written.
+/// Returns a seat for a new caller: one load, of a word that is never written.
 #[inline(always)]
 pub fn new_seat<T>(table: &SharedValue<T>) -> ValueSeat<T>
     requires table { HasLockWords table.now.table_id }

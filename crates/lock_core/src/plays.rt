@@ -1,4 +1,4 @@
-//! The kinds of word steps, and what each tells its caller.
+//! The kinds of atomic steps, and what each tells its caller.
 ghost use Rattle.lock_core.specs.Views as views;
 ghost use Rattle.lock_core.specs.Slots as slots;
 ghost use Rattle.lock_core.specs.Steps as steps;
@@ -7,7 +7,7 @@ ghost use Rattle.lock_core.specs.Meets as meets;
 use crate::view::View;
 use atomic_table::{Join, Play, Split};
 
-/// A new caller.
+/// A new caller comes.
 pub(crate) struct Come;
 
 impl<T> Play<T, View> for Come {
@@ -28,21 +28,21 @@ impl<T> Play<T, View> for ReadTail {
     ghost then = { slots.with_slot (steps.noting steps.kept_word steps.reads) };
 }
 
-/// Then it reads the cell of the next ticket.
+/// A caller that has read the tail reads the cell of the next ticket.
 pub(crate) struct ReadCell;
 
 impl<T> Play<T, View> for ReadCell {
     ghost then = { slots.with_slot (steps.noting steps.kept_word steps.reads_cell) };
 }
 
-/// It draws that ticket, which is at its turn.
+/// A caller that has read that cell draws the ticket, which is at its turn.
 pub(crate) struct DrawGranted;
 
 impl<T> Play<T, View> for DrawGranted {
     ghost then = { slots.with_slot (steps.noting steps.exchanged_word steps.draws_granted) };
 }
 
-/// It draws that ticket, to wait with it or at its turn.
+/// A caller that has read that cell draws the ticket, which is near its turn or at it.
 pub(crate) struct DrawNear;
 
 impl<T> Play<T, View> for DrawNear {
@@ -70,70 +70,70 @@ impl<T> Play<T, View> for SetWithdrawn {
     ghost then = { slots.with_slot (steps.noting steps.added_word steps.sets_withdrawn) };
 }
 
-/// The one at its turn grants the next ticket.
+/// The caller at its turn grants the next ticket.
 pub(crate) struct Grant;
 
 impl<T> Play<T, View> for Grant {
     ghost then = { slots.with_slot (steps.noting steps.added_word steps.grants) };
 }
 
-/// Who has the turn of a withdrawn request clears its bit.
+/// The caller that has the turn of a withdrawn request clears its bit.
 pub(crate) struct ClearWithdrawn;
 
 impl<T> Play<T, View> for ClearWithdrawn {
     ghost then = { slots.with_slot (steps.noting steps.subtracted_word steps.clears_withdrawn) };
 }
 
-/// A caller reads the outer word.
-pub(crate) struct ReadOuter;
+/// A caller reads the lock word.
+pub(crate) struct ReadLockWord;
 
-impl<T> Play<T, View> for ReadOuter {
-    ghost then = { slots.with_slot (steps.noting steps.kept_word steps.reads_outer) };
+impl<T> Play<T, View> for ReadLockWord {
+    ghost then = { slots.with_slot (steps.noting steps.kept_word steps.reads_lock_word) };
 }
 
-/// A newcomer takes the outer word.
-pub(crate) struct GoIn;
+/// A thread barges: it takes the lock word without a ticket.
+pub(crate) struct Barge;
 
-impl<T> Play<T, View> for GoIn {
-    ghost then = { slots.with_slot (steps.noting steps.exchanged_word steps.goes_in) };
+impl<T> Play<T, View> for Barge {
+    ghost then = { slots.with_slot (steps.noting steps.exchanged_word steps.barges) };
 }
 
-/// The queue head takes the outer word.
-pub(crate) struct TakeOuter;
+/// The queue head takes the lock word.
+pub(crate) struct TakeLockWord;
 
-impl<T> Play<T, View> for TakeOuter {
-    ghost then = { slots.with_slot (steps.noting steps.exchanged_word steps.takes_outer) };
+impl<T> Play<T, View> for TakeLockWord {
+    ghost then = { slots.with_slot (steps.noting steps.exchanged_word steps.takes_lock_word) };
 }
 
-/// The one inside leaves the outer word.
+/// The caller inside leaves the lock word.
 pub(crate) struct Leave;
 
 impl<T> Play<T, View> for Leave {
     ghost then = { slots.with_slot (steps.noting steps.exchanged_word steps.leaves) };
 }
 
-/// The one at its turn in a strict lock reads whether the lock is open.
+/// The caller at its turn in a strict lock reads whether the lock is open.
 pub(crate) struct CheckOpen;
 
 impl<T> Play<T, View> for CheckOpen {
     ghost then = { slots.with_slot (steps.noting steps.kept_word steps.checks_open) };
 }
 
-/// The one that is served shuts the lock.
+/// The caller that is served shuts the lock.
 pub(crate) struct Shut;
 
 impl<T> Play<T, View> for Shut {
     ghost then = { slots.with_slot (steps.noting steps.added_word steps.shuts) };
 }
 
-/// The one at its turn reopens the lock.
+/// The caller at its turn reopens the lock.
 pub(crate) struct Reopen;
 
 impl<T> Play<T, View> for Reopen {
     ghost then = { slots.with_slot (steps.noting steps.subtracted_word steps.reopens) };
 }
 
-/// The queue head announces its sleep at the outer word.
+/// The queue head announces its sleep at the lock word.
 pub(crate) struct AnnounceHeadSleep;
 
 impl<T> Play<T, View> for AnnounceHeadSleep {
@@ -160,7 +160,7 @@ impl<T> Play<T, View> for Meet {
     ghost then = { slots.with_slot meets.tells_of_two };
 }
 
-/// A caller tells what it knows.
+/// A caller tells another one what it knows.
 pub(crate) struct Tell;
 
 impl Split<View> for Tell {
@@ -169,7 +169,7 @@ impl Split<View> for Tell {
     ghost right = { meets.told_of };
 }
 
-/// Another learns it.
+/// A caller learns what another one knows.
 pub(crate) struct Learn;
 
 impl Join<View> for Learn {
@@ -178,7 +178,7 @@ impl Join<View> for Learn {
     ghost spent = { views.initial_view 0 };
 }
 
-/// One at its turn learns which requests have ended.
+/// A caller at its turn learns which requests have ended.
 pub(crate) struct LearnEnded;
 
 impl Join<View> for LearnEnded {
@@ -187,7 +187,7 @@ impl Join<View> for LearnEnded {
     ghost spent = { views.initial_view 0 };
 }
 
-/// Those are before its own.
+/// These requests are before its own.
 pub(crate) struct TellOrder;
 
 impl<T> Play<T, View> for TellOrder {

@@ -5,8 +5,8 @@ ghost use Rattle.std.specs.Prelude.{◌≡◌, ◌≢◌, true};
 ghost use Rattle.lock_core.specs.Views.{SameRequest};
 ghost use Rattle.qolb_locks.specs.declared.answer.Answer.{Answer};
 ghost use Rattle.qolb_locks.specs.declared.ticket.State.{State};
-ghost use Rattle.qolb_locks.specs.Calls.{Opens, IsMisuse, OnlyState, OnlyRequest, OnlyRounds, OnlySleep, OnlyGrant, OnlyOuter, OnlyEntry, OnlyExit, StepsUpTo, StepsFirst, Learns, IfDrawn, IfGranted, IsBehind, Looks, AsksOpen, Tries, AsksNear, AnnouncesSleep, Withdraws, Releases, IsAtStrictTurn, ChecksOpen, GoesIn, IsHead, TakesOuterWord, Leaves, RequestsHandoff, SleepsAsHead, IsServed, Shuts, IsToldShut, Reopens};
-ghost use Rattle.qolb_locks.specs.Tickets.{HasBursts, Is, IsFree, IsKnown, IsNew, IsStrict, IsWithin};
+ghost use Rattle.qolb_locks.specs.Calls.{Opens, IsMisuse, OnlyState, OnlyRequest, OnlyRounds, OnlySleep, OnlyGrant, OnlyLockWord, OnlyEntry, OnlyExit, StepsUpTo, StepsFirst, Learns, IfDrawn, IfGranted, IsBehind, Looks, DrawsAndChecks, Tries, DrawsNear, AnnouncesSleep, Withdraws, Releases, IsAtStrictTurn, ChecksOpen, Barges, IsHead, TakesAsHead, Leaves, RequestsHandoff, SleepsAsHead, IsServed, Shuts, IsToldShut, Reopens};
+ghost use Rattle.qolb_locks.specs.Tickets.{IsBarging, Is, IsFree, IsKnown, IsNew, IsStrict, IsWithin};
 ghost use Rattle.qolb_c.specs.CoreCalls.{number_of, Of, Answers};
 
 use qolb_locks::{Answer, LockRef, Ticket};
@@ -20,25 +20,25 @@ fn number(answer: Answer) -> u32
     answer as u32
 }
 
-/// Opens a lock with a bound of bursts; at most 1 is a strict lock.
+/// Opens a lock with a barging limit; a limit of at most 1 makes a strict lock.
 ///
-/// `label` tells a ticket of it from one of another lock.
+/// By `label` a ticket of this lock is known from one of another lock.
 #[unsafe(no_mangle)]
 pub extern "C" fn qolb_core_open_proved_(
     alloc: Global,
-    burst: u64,
+    barging_limit: u64,
     label: u64,
     out: &mut LockRef,
 ) -> u32
-    ensures { (a : Answer) × (result ≡ number_of a) × Opens burst label out.new.lock a
+    ensures { (a : Answer) × (result ≡ number_of a) × Opens barging_limit label out.new.lock a
         × (a ≢ Answer.Done → out.new ≡ out.old) }
 {
-    number(qolb_locks::open(alloc, burst, label, out))
+    number(qolb_locks::open(alloc, barging_limit, label, out))
 }
 
-/// Requests the lock, and looks once. Many threads may call with one lock at a time.
+/// Requests the lock: draws a ticket, and polls once. Many threads may call with one lock at a time.
 #[unsafe(no_mangle)]
-pub extern "C" fn qolb_core_ask_proved_(lock: &LockRef, ticket: &mut Ticket) -> u32
+pub extern "C" fn qolb_core_draw_proved_(lock: &LockRef, ticket: &mut Ticket) -> u32
     requires { Of lock.now.lock (λ l. IsKnown l ticket.old) }
     ensures known { Of lock.now.lock (λ l. IsKnown l ticket.new) }
     ensures misuse { Answers lock.now.lock result
@@ -51,20 +51,20 @@ pub extern "C" fn qolb_core_ask_proved_(lock: &LockRef, ticket: &mut Ticket) -> 
     ensures first { Of lock.now.lock (λ l. IsNew l ticket.old → StepsFirst 3 ticket.new) }
     ensures kept { Answers lock.now.lock result (λ l a. OnlyRequest ticket.old ticket.new a) }
 {
-    number(qolb_locks::ask(lock.get(), ticket))
+    number(qolb_locks::draw(lock.get(), ticket))
 }
 
-/// Requests a strict lock, looks once, and at its turn looks whether the lock is open.
+/// Requests a strict lock, polls once, and at its turn checks whether the lock is open.
 #[unsafe(no_mangle)]
-pub extern "C" fn qolb_core_ask_open_proved_(lock: &LockRef, ticket: &mut Ticket) -> u32
+pub extern "C" fn qolb_core_draw_and_check_proved_(lock: &LockRef, ticket: &mut Ticket) -> u32
     requires { Of lock.now.lock (λ l. IsKnown l ticket.old) }
     ensures known { Of lock.now.lock (λ l. IsKnown l ticket.new) }
-    ensures bursts { Answers lock.now.lock result
+    ensures barging { Answers lock.now.lock result
         (λ l a. ¬ IsStrict l → IsMisuse ticket.old ticket.new a) }
     ensures misuse { Answers lock.now.lock result
         (λ l a. ¬ IsFree ticket.old → IsMisuse ticket.old ticket.new a) }
     ensures does { Answers lock.now.lock result
-        (λ l a. IsStrict l → IsFree ticket.old → AsksOpen l ticket.new a) }
+        (λ l a. IsStrict l → IsFree ticket.old → DrawsAndChecks l ticket.new a) }
     ensures after { Answers lock.now.lock result
         (λ l a. IsStrict l → Is State.Free l ticket.old →
         Learns ticket.old ticket.new IsBehind) }
@@ -74,18 +74,18 @@ pub extern "C" fn qolb_core_ask_open_proved_(lock: &LockRef, ticket: &mut Ticket
         → StepsFirst 4 ticket.new) }
     ensures kept { Answers lock.now.lock result (λ l a. OnlyRequest ticket.old ticket.new a) }
 {
-    number(qolb_locks::ask_open(lock.get(), ticket))
+    number(qolb_locks::draw_and_check(lock.get(), ticket))
 }
 
-/// Requests the lock if the request could be withdrawn. Else leaves nothing behind.
+/// Requests the lock if the request could be withdrawn. A call that does not request it leaves nothing behind.
 #[unsafe(no_mangle)]
-pub extern "C" fn qolb_core_ask_near_proved_(lock: &LockRef, ticket: &mut Ticket) -> u32
+pub extern "C" fn qolb_core_draw_near_proved_(lock: &LockRef, ticket: &mut Ticket) -> u32
     requires { Of lock.now.lock (λ l. IsKnown l ticket.old) }
     ensures known { Of lock.now.lock (λ l. IsKnown l ticket.new) }
     ensures misuse { Answers lock.now.lock result
         (λ l a. ¬ IsFree ticket.old → IsMisuse ticket.old ticket.new a) }
     ensures does { Answers lock.now.lock result
-        (λ l a. IsFree ticket.old → AsksNear l ticket.new a) }
+        (λ l a. IsFree ticket.old → DrawsNear l ticket.new a) }
     ensures after { Answers lock.now.lock result
         (λ l a. Is State.Free l ticket.old → IfDrawn a (Learns ticket.old ticket.new IsBehind)) }
     ensures steps { Of lock.now.lock (λ l. Is State.Free l ticket.old
@@ -93,12 +93,12 @@ pub extern "C" fn qolb_core_ask_near_proved_(lock: &LockRef, ticket: &mut Ticket
     ensures first { Of lock.now.lock (λ l. IsNew l ticket.old → StepsFirst 4 ticket.new) }
     ensures kept { Answers lock.now.lock result (λ l a. OnlyRequest ticket.old ticket.new a) }
 {
-    number(qolb_locks::ask_near(lock.get(), ticket))
+    number(qolb_locks::draw_near(lock.get(), ticket))
 }
 
-/// Requests the lock if nobody has it and nobody waits. Else leaves nothing behind.
+/// Requests the lock if nobody has it and nobody waits. A call that does not request it leaves nothing behind.
 #[unsafe(no_mangle)]
-pub extern "C" fn qolb_core_try_ask_proved_(lock: &LockRef, ticket: &mut Ticket) -> u32
+pub extern "C" fn qolb_core_try_draw_proved_(lock: &LockRef, ticket: &mut Ticket) -> u32
     requires { Of lock.now.lock (λ l. IsKnown l ticket.old) }
     ensures known { Of lock.now.lock (λ l. IsKnown l ticket.new) }
     ensures misuse { Answers lock.now.lock result
@@ -111,10 +111,10 @@ pub extern "C" fn qolb_core_try_ask_proved_(lock: &LockRef, ticket: &mut Ticket)
     ensures first { Of lock.now.lock (λ l. IsNew l ticket.old → StepsFirst 4 ticket.new) }
     ensures kept { Answers lock.now.lock result (λ l a. OnlyRequest ticket.old ticket.new a) }
 {
-    number(qolb_locks::try_ask(lock.get(), ticket))
+    number(qolb_locks::try_draw(lock.get(), ticket))
 }
 
-/// Looks whether the request is at its turn.
+/// Polls whether the request is at its turn.
 #[unsafe(no_mangle)]
 pub extern "C" fn qolb_core_poll_proved_(lock: &LockRef, ticket: &mut Ticket) -> u32
     requires { Of lock.now.lock (λ l. IsKnown l ticket.old) }
@@ -170,7 +170,7 @@ pub extern "C" fn qolb_core_retract_sleep_proved_(lock: &LockRef, ticket: &mut T
     number(qolb_locks::retract_sleep(lock.get(), ticket))
 }
 
-/// Withdraws a request that was at most 15 rounds away when it last looked.
+/// Withdraws a request that was within the window of withdrawal when it last looked.
 #[unsafe(no_mangle)]
 pub extern "C" fn qolb_core_withdraw_proved_(lock: &LockRef, ticket: &mut Ticket) -> u32
     requires { Of lock.now.lock (λ l. IsKnown l ticket.old) }
@@ -188,7 +188,7 @@ pub extern "C" fn qolb_core_withdraw_proved_(lock: &LockRef, ticket: &mut Ticket
     number(qolb_locks::withdraw(lock.get(), ticket))
 }
 
-/// Ends a turn of the queue, and grants the next ticket. A head that is in stays in.
+/// Ends a turn of the queue, and grants the next ticket. A queue head that is inside stays inside.
 #[unsafe(no_mangle)]
 pub extern "C" fn qolb_core_release_proved_(lock: &LockRef, ticket: &mut Ticket) -> u32
     requires { Of lock.now.lock (λ l. IsKnown l ticket.old) }
@@ -204,7 +204,7 @@ pub extern "C" fn qolb_core_release_proved_(lock: &LockRef, ticket: &mut Ticket)
     number(qolb_locks::release(lock.get(), ticket))
 }
 
-/// At the turn of a strict lock looks whether that is open: only then the caller is served.
+/// Checks, for a ticket at its turn in a strict lock, whether the lock is open: only then the caller is served.
 #[unsafe(no_mangle)]
 pub extern "C" fn qolb_core_check_open_proved_(lock: &LockRef, ticket: &mut Ticket) -> u32
     requires { Of lock.now.lock (λ l. IsKnown l ticket.old) }
@@ -220,53 +220,53 @@ pub extern "C" fn qolb_core_check_open_proved_(lock: &LockRef, ticket: &mut Tick
     number(qolb_locks::check_open(lock.get(), ticket))
 }
 
-/// A newcomer takes the outer word, if that is as the ticket guesses, free for anyone, and open.
+/// Takes the lock word without waiting, if it is as the ticket guesses, free for barging threads, and open.
 ///
 /// Else the ticket has the word that was found.
 #[unsafe(no_mangle)]
-pub extern "C" fn qolb_core_go_in_proved_(lock: &LockRef, ticket: &mut Ticket) -> u32
+pub extern "C" fn qolb_core_barge_proved_(lock: &LockRef, ticket: &mut Ticket) -> u32
     requires { Of lock.now.lock (λ l. IsKnown l ticket.old) }
     ensures known { Of lock.now.lock (λ l. IsKnown l ticket.new) }
     ensures strict { Answers lock.now.lock result
-        (λ l a. ¬ HasBursts l → IsMisuse ticket.old ticket.new a) }
+        (λ l a. ¬ IsBarging l → IsMisuse ticket.old ticket.new a) }
     ensures misuse { Answers lock.now.lock result
         (λ l a. ¬ IsFree ticket.old → IsMisuse ticket.old ticket.new a) }
     ensures does { Answers lock.now.lock result
-        (λ l a. HasBursts l → IsFree ticket.old → GoesIn l ticket.old.outer ticket.new a) }
-    ensures steps { Of lock.now.lock (λ l. HasBursts l → Is State.Free l ticket.old
+        (λ l a. IsBarging l → IsFree ticket.old → Barges l ticket.old.lock_word ticket.new a) }
+    ensures steps { Of lock.now.lock (λ l. IsBarging l → Is State.Free l ticket.old
         → StepsUpTo 1 ticket.old ticket.new) }
-    ensures first { Of lock.now.lock (λ l. HasBursts l → IsNew l ticket.old
+    ensures first { Of lock.now.lock (λ l. IsBarging l → IsNew l ticket.old
         → StepsFirst 2 ticket.new) }
     ensures kept { OnlyEntry ticket.old ticket.new }
 {
-    number(qolb_locks::go_in(lock.get(), ticket))
+    number(qolb_locks::barge(lock.get(), ticket))
 }
 
-/// The queue head takes the outer word, if that is free.
+/// Takes the lock word for the queue head, if the word is free.
 ///
-/// Then it is to release its turn of the queue, and is in.
+/// Then the queue head is inside, and must release its turn of the queue.
 #[unsafe(no_mangle)]
-pub extern "C" fn qolb_core_take_outer_proved_(lock: &LockRef, ticket: &mut Ticket) -> u32
+pub extern "C" fn qolb_core_take_lock_word_proved_(lock: &LockRef, ticket: &mut Ticket) -> u32
     requires { Of lock.now.lock (λ l. IsKnown l ticket.old) }
     ensures known { Of lock.now.lock (λ l. IsKnown l ticket.new) }
     ensures misuse { Answers lock.now.lock result
         (λ l a. ¬ IsHead l ticket.old → IsMisuse ticket.old ticket.new a) }
     ensures does { Answers lock.now.lock result
-        (λ l a. IsHead l ticket.old → TakesOuterWord l ticket.new a) }
+        (λ l a. IsHead l ticket.old → TakesAsHead l ticket.new a) }
     ensures same { Answers lock.now.lock result
         (λ l a. IsHead l ticket.old → Learns ticket.old ticket.new SameRequest) }
     ensures steps { Of lock.now.lock (λ l. IsHead l ticket.old
         → StepsUpTo 2 ticket.old ticket.new) }
-    ensures kept { OnlyOuter ticket.old ticket.new }
+    ensures kept { OnlyLockWord ticket.old ticket.new }
 {
-    number(qolb_locks::take_outer(lock.get(), ticket))
+    number(qolb_locks::take_lock_word(lock.get(), ticket))
 }
 
-/// Leaves the outer word, if that is as the ticket guesses.
+/// Leaves the lock word, if it is as the ticket guesses.
 ///
-/// Else the ticket has the word that was found, and the call is to be made again.
+/// Else the ticket has the word that was found, and the call must be made again.
 #[unsafe(no_mangle)]
-pub extern "C" fn qolb_core_leave_proved_(lock: &LockRef, ticket: &mut Ticket) -> u32
+pub extern "C" fn qolb_core_leave_lock_word_proved_(lock: &LockRef, ticket: &mut Ticket) -> u32
     requires { Of lock.now.lock (λ l. IsKnown l ticket.old) }
     ensures known { Of lock.now.lock (λ l. IsKnown l ticket.new) }
     ensures misuse { Answers lock.now.lock result
@@ -277,10 +277,10 @@ pub extern "C" fn qolb_core_leave_proved_(lock: &LockRef, ticket: &mut Ticket) -
         → StepsUpTo 1 ticket.old ticket.new) }
     ensures kept { Answers lock.now.lock result (λ l a. OnlyExit ticket.old ticket.new a) }
 {
-    number(qolb_locks::leave(lock.get(), ticket))
+    number(qolb_locks::leave_lock_word(lock.get(), ticket))
 }
 
-/// The queue head asks whoever is in to leave the outer word for the head alone.
+/// Requests for the queue head that the thread inside leaves the lock word for the queue head alone.
 #[unsafe(no_mangle)]
 pub extern "C" fn qolb_core_request_handoff_proved_(lock: &LockRef, ticket: &mut Ticket) -> u32
     requires { Of lock.now.lock (λ l. IsKnown l ticket.old) }
@@ -296,7 +296,7 @@ pub extern "C" fn qolb_core_request_handoff_proved_(lock: &LockRef, ticket: &mut
     number(qolb_locks::request_handoff(lock.get(), ticket))
 }
 
-/// The queue head notes at the outer word that it sleeps, while that is held.
+/// Notes in the lock word that the queue head sleeps there, while the word is held.
 ///
 /// The ticket has the word at which it may sleep then.
 #[unsafe(no_mangle)]
@@ -309,12 +309,12 @@ pub extern "C" fn qolb_core_announce_head_sleep_proved_(lock: &LockRef, ticket: 
         (λ l a. IsHead l ticket.old → SleepsAsHead l ticket.old ticket.new a) }
     ensures steps { Of lock.now.lock (λ l. IsHead l ticket.old
         → StepsUpTo 2 ticket.old ticket.new) }
-    ensures kept { OnlyOuter ticket.old ticket.new }
+    ensures kept { OnlyLockWord ticket.old ticket.new }
 {
     number(qolb_locks::announce_head_sleep(lock.get(), ticket))
 }
 
-/// Shuts the lock, for one that is served.
+/// Shuts the lock, for a ticket that is served.
 #[unsafe(no_mangle)]
 pub extern "C" fn qolb_core_shut_proved_(lock: &LockRef, ticket: &mut Ticket) -> u32
     requires { Of lock.now.lock (λ l. IsKnown l ticket.old) }
@@ -325,12 +325,12 @@ pub extern "C" fn qolb_core_shut_proved_(lock: &LockRef, ticket: &mut Ticket) ->
         (λ l a. IsServed l ticket.old → Shuts l ticket.old ticket.new a) }
     ensures steps { Of lock.now.lock (λ l. IsServed l ticket.old
         → StepsUpTo 1 ticket.old ticket.new) }
-    ensures kept { OnlyOuter ticket.old ticket.new }
+    ensures kept { OnlyLockWord ticket.old ticket.new }
 {
     number(qolb_locks::shut(lock.get(), ticket))
 }
 
-/// Opens the lock again, for one that was told at its turn that it is shut, if nobody asked after it.
+/// Reopens the lock, for a ticket whose caller was told at its turn that the lock is shut, if nobody drew a ticket after it.
 #[unsafe(no_mangle)]
 pub extern "C" fn qolb_core_reopen_proved_(lock: &LockRef, ticket: &mut Ticket) -> u32
     requires { Of lock.now.lock (λ l. IsKnown l ticket.old) }
@@ -341,7 +341,7 @@ pub extern "C" fn qolb_core_reopen_proved_(lock: &LockRef, ticket: &mut Ticket) 
         (λ l a. IsToldShut l ticket.old → Reopens l ticket.old ticket.new a) }
     ensures steps { Of lock.now.lock (λ l. IsToldShut l ticket.old
         → StepsUpTo 2 ticket.old ticket.new) }
-    ensures kept { OnlyOuter ticket.old ticket.new }
+    ensures kept { OnlyLockWord ticket.old ticket.new }
 {
     number(qolb_locks::reopen(lock.get(), ticket))
 }

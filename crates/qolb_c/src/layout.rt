@@ -7,10 +7,11 @@ use line_cells::STRIDE;
 use link_line::{ENTRY_STRIDE, GRANTED, LINK_UNIT};
 use lock_core::WORDS;
 use lock_core::layout::{
-    CELLS, FIRST_CELL, HANDOFF, HEAD_ASLEEP, HELD, MAX_PASSED, MAX_SLEEPERS, NEWCOMER, OUTER,
-    RESERVED, ROUND, SHUT, SLEEPER, TAIL, WINDOW,
+    CELLS, FIRST_CELL, HANDOFF, HEAD_ASLEEP, HELD, LOCK_WORD, MAX_BARGING_LIMIT, MAX_PASSED,
+    MAX_SLEEPERS, MIN_BARGING_LIMIT, NEWCOMER, RESERVED, ROUND, SHUT, SLEEPER, TAIL,
+    WITHDRAWAL_WINDOW,
 };
-use qolb_locks::{Answer, MAX_BURST, State, Ticket};
+use qolb_locks::{Answer, MAX_OPEN_WITH_TIMEOUT, State, Ticket};
 use qolb_model::MAX_NODES;
 
 /// The numbers, each in 64 bits. C reads them as an array.
@@ -29,8 +30,8 @@ pub struct Layout {
     pub ticket_bytes: u64,
     /// The words of a lock's core: all of them.
     pub core_words: u64,
-    /// The outer word.
-    pub outer_word: u64,
+    /// The lock word.
+    pub lock_word: u64,
     /// The tail: the next ticket's number.
     pub tail_word: u64,
     /// The first cell. Ticket t has the cell with number t modulo `cells`, in round t / `cells`.
@@ -43,22 +44,26 @@ pub struct Layout {
     pub sleepers_bit: u64,
     /// The most sleepers that a cell counts.
     pub max_sleepers: u64,
-    /// In the outer word: the queue head requests it.
+    /// In the lock word: the queue head requests it.
     pub handoff: u64,
-    /// In the outer word: the queue head sleeps there.
+    /// In the lock word: the queue head sleeps there.
     pub head_asleep: u64,
-    /// In the outer word: it is held.
+    /// In the lock word: it is held.
     pub held: u64,
-    /// In the outer word: it is free for the queue head alone.
+    /// In the lock word: it is free for the queue head alone.
     pub reserved: u64,
-    /// In the outer word: the lock is shut.
+    /// In the lock word: the lock is shut.
     pub shut: u64,
-    /// In the outer word: the unit of the number of newcomers since the last queue head.
+    /// In the lock word: the unit of the number of barging threads since the last queue head.
     pub newcomer: u64,
-    /// The greatest bound of bursts.
-    pub max_burst: u64,
-    /// The most rounds before a request that can be withdrawn.
-    pub max_rounds_near: u64,
+    /// The least barging limit of a barging lock. A lock with a smaller one is strict.
+    pub min_barging_limit: u64,
+    /// The greatest barging limit.
+    pub max_barging_limit: u64,
+    /// The window of withdrawal: the most rounds to be granted before a request that can be withdrawn.
+    pub withdrawal_window: u64,
+    /// The most requests that are open when a call with a timeout, or a task, draws a ticket.
+    pub max_open_with_timeout: u64,
     /// The most withdrawn requests that one release passes.
     pub max_passed: u64,
     /// A ticket without a request.
@@ -69,27 +74,27 @@ pub struct Layout {
     pub state_asleep: u64,
     /// A ticket at its turn.
     pub state_at_turn: u64,
-    /// A ticket at its turn in a strict lock, told that this is open.
+    /// A ticket at its turn in a strict lock, whose holder was told that the lock is open.
     pub state_served: u64,
-    /// The same, told that it is shut.
+    /// A ticket at its turn in a strict lock, whose holder was told that the lock is shut.
     pub state_served_shut: u64,
-    /// A ticket whose release goes on.
+    /// A ticket whose release is unfinished: the release must be called again.
     pub state_ending: u64,
-    /// The queue head's ticket, in by the outer word of an open lock.
+    /// The queue head's ticket, which has taken the lock word of an open lock.
     pub state_head_inside: u64,
-    /// The same, of a lock that is shut.
+    /// The queue head's ticket, which has taken the lock word of a lock that is shut.
     pub state_head_inside_shut: u64,
-    /// A ticket that is in by the outer word alone, of an open lock.
+    /// A ticket that has the lock word alone, of an open lock.
     pub state_inside: u64,
-    /// The same, of a lock that is shut.
+    /// A ticket that has the lock word alone, of a lock that is shut.
     pub state_inside_shut: u64,
-    /// The answer: too many rounds are before the request to withdraw it.
+    /// The answer: the request is beyond the window of withdrawal.
     pub answer_far: u64,
     /// The answer: the sleep is announced.
     pub answer_asleep: u64,
     /// The answer: the cell counts the most sleepers.
     pub answer_full: u64,
-    /// The answer: the turn is still the ticket's.
+    /// The answer: the release is unfinished, and the turn is still the ticket's.
     pub answer_unfinished: u64,
 }
 
@@ -101,7 +106,7 @@ const LAYOUT: Layout = Layout {
     entry_link: LINK_UNIT,
     ticket_bytes: size_of::<Ticket>() as u64,
     core_words: WORDS as u64,
-    outer_word: OUTER as u64,
+    lock_word: LOCK_WORD as u64,
     tail_word: TAIL as u64,
     first_cell: FIRST_CELL as u64,
     cells: CELLS,
@@ -114,8 +119,10 @@ const LAYOUT: Layout = Layout {
     reserved: RESERVED,
     shut: SHUT,
     newcomer: NEWCOMER,
-    max_burst: MAX_BURST,
-    max_rounds_near: WINDOW,
+    min_barging_limit: MIN_BARGING_LIMIT,
+    max_barging_limit: MAX_BARGING_LIMIT,
+    withdrawal_window: WITHDRAWAL_WINDOW,
+    max_open_with_timeout: MAX_OPEN_WITH_TIMEOUT,
     max_passed: MAX_PASSED,
     state_free: State::Free as u64,
     state_waiting: State::Waiting as u64,

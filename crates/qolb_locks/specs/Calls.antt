@@ -4,28 +4,28 @@ use Rattle.std.specs.declared.option.Option.{Option}
 use Rattle.std.specs.declared.option.Option.TheVariants.{Some}
 use Rattle.atomic_table.specs.declared.shared.Seat.{Seat}
 use Rattle.lock_core.specs.declared.view.View.{View}
-use Rattle.lock_core.specs.Layout.{outer_at, tail_at, cell_at, to_go, count_of, asleep_of, state_of}
+use Rattle.lock_core.specs.Layout.{lock_word_at, tail_at, cell_at, to_go, count_of, asleep_of, state_of, withdrawal_window, max_sleepers, max_passed, max_barging_limit}
 use Rattle.lock_core.specs.Looks.{Found, FoundChanged, FoundNext, FoundTailMoved, IsHeldAnew, IsLeftAs, IsNoEntry}
 use Rattle.lock_core.specs.Looks as looks
-use Rattle.lock_core.specs.Views.{Timely, view_of, HasEnded, IsNewcomersTurn, IsOvertakenInBounds, GrantedToNobodyAsleep, GrantedAfter, LeftQuietly, SleepsAtOuter}
+use Rattle.lock_core.specs.Views.{Timely, view_of, HasEnded, IsNewcomer, IsOvertakenInBounds, GrantedToNobodyAsleep, GrantedAfter, LeftQuietly, SleepsAtLockWord}
 use Rattle.qolb_locks.specs.declared.answer.Answer.{Answer}
 use Rattle.qolb_locks.specs.declared.answer.Answer.TheVariants as answer
 use Rattle.qolb_locks.specs.declared.lock.Lock.{Lock}
 use Rattle.qolb_locks.specs.declared.ticket.Ticket.{Ticket}
 use Rattle.qolb_locks.specs.declared.ticket.State.TheVariants as state
-use Rattle.qolb_locks.specs.Tickets.{Is, IsWithin, Has, Knows, IsStrict, HasBursts}
+use Rattle.qolb_locks.specs.Tickets.{Is, IsWithin, Has, Knows, IsStrict, IsBarging}
 
--- a lock with this bound of bursts, and this label
+-- a lock with this barging limit, and this label
 abbrev pub IsOpen : Option Lock → ℕ → ℕ → Type 0
-IsOpen lock burst label = (l : Lock) × (lock ≡ Some l) × (l.burst ≡ max burst 1) × (l.label ≡ label)
+IsOpen lock barging_limit label = (l : Lock) × (lock ≡ Some l) × (l.barging_limit ≡ max barging_limit 1) × (l.label ≡ label)
 
 -- `open`: by its answer
 abbrev pub Opens : ℕ → ℕ → Option Lock → Answer → Type 0
-Opens burst label lock answer.Done = IsOpen lock burst label × (burst ≤ 65535) × (label ≢ 0)
-Opens burst label lock answer.BadBurst = 65535 < burst
-Opens burst label lock answer.Misuse = label ≡ 0
-Opens burst label lock answer.NoMemory = (burst ≤ 65535) × (label ≢ 0)
-Opens burst label lock _ = ⊥
+Opens barging_limit label lock answer.Done = IsOpen lock barging_limit label × (barging_limit ≤ max_barging_limit) × (label ≢ 0)
+Opens barging_limit label lock answer.BadBargingLimit = max_barging_limit < barging_limit
+Opens barging_limit label lock answer.Misuse = label ≡ 0
+Opens barging_limit label lock answer.NoMemory = (barging_limit ≤ max_barging_limit) × (label ≢ 0)
+Opens barging_limit label lock _ = ⊥
 
 -- the call was not allowed, and nothing changed
 abbrev pub IsMisuse : Ticket → Ticket → Answer → Type 0
@@ -64,18 +64,18 @@ OnlyGrant was now answer.Done = now ≡ record was { number = now.number; sleepe
 OnlyGrant was now answer.Unfinished = now ≡ record was { number = now.number; state = now.state; claim = now.claim }
 OnlyGrant was now _ = now ≡ was
 
--- the outer word
-abbrev pub OnlyOuter : Ticket → Ticket → Type 0
-OnlyOuter was now = now ≡ record was { outer = now.outer; state = now.state; claim = now.claim }
+-- the lock word
+abbrev pub OnlyLockWord : Ticket → Ticket → Type 0
+OnlyLockWord was now = now ≡ record was { lock_word = now.lock_word; state = now.state; claim = now.claim }
 
--- the outer word, and the label of its lock
+-- the lock word, and the label of its lock
 abbrev pub OnlyEntry : Ticket → Ticket → Type 0
-OnlyEntry was now = now ≡ record was { outer = now.outer; label = now.label; state = now.state; claim = now.claim }
+OnlyEntry was now = now ≡ record was { lock_word = now.lock_word; label = now.label; state = now.state; claim = now.claim }
 
--- the outer word; whether the queue head sleeps there, where it left
+-- the lock word; whether the queue head sleeps there, where it left
 abbrev pub OnlyExit : Ticket → Ticket → Answer → Type 0
-OnlyExit was now answer.Done = now ≡ record was { outer = now.outer; state = now.state; head_sleeps = now.head_sleeps; claim = now.claim }
-OnlyExit was now answer.Busy = now ≡ record was { outer = now.outer; claim = now.claim }
+OnlyExit was now answer.Done = now ≡ record was { lock_word = now.lock_word; state = now.state; head_sleeps = now.head_sleeps; claim = now.claim }
+OnlyExit was now answer.Busy = now ≡ record was { lock_word = now.lock_word; claim = now.claim }
 OnlyExit was now _ = now ≡ was
 
 -- a new seat, and the label of its lock
@@ -92,7 +92,7 @@ Learns was now P = (v w : View) × (was.claim.views ≡ v ∷ []) × (now.claim.
 
 -- a request is behind the ticket's last turn, and all that it has heard of
 abbrev pub IsBehind : View → View → Type 0
-IsBehind v w = (v.ended ≤ w.first_pending) × (w.first_pending ≤ w.ticket) × (v.newcomers_seen ≤ w.newcomers_at_ask)
+IsBehind v w = (v.ended ≤ w.first_pending) × (w.first_pending ≤ w.ticket) × (v.newcomers_seen ≤ w.newcomers_at_draw)
 
 -- where a call drew a ticket; where a request is at its turn
 abbrev pub IfDrawn : Answer → Type 0 → Type 0
@@ -108,37 +108,37 @@ IfGranted _ P = Unit {0}
 abbrev pub InBounds : Lock → Ticket → Type 0
 InBounds lock t = Knows lock t IsOvertakenInBounds
 
--- `ask`, and `poll` and `retract_sleep` of a ticket that waits
+-- `draw`, and `poll` and `retract_sleep` of a ticket that waits
 abbrev pub Looks : Lock → Ticket → Answer → Type 0
 Looks lock now answer.Granted = Has state.AtTurn lock now × InBounds lock now
 Looks lock now answer.Waiting = Has state.Waiting lock now × (0 < now.rounds)
     × Shows now (Found (cell_at now.number) (λ n. to_go n now.number ≡ now.rounds))
 Looks lock now _ = ⊥
 
--- `ask_open`: at its turn at once, it is told of the outer word
-abbrev pub AsksOpen : Lock → Ticket → Answer → Type 0
-AsksOpen lock now answer.Granted = Has state.Served lock now × InBounds lock now
-AsksOpen lock now answer.Closed = Has state.ServedShut lock now × InBounds lock now
-AsksOpen lock now answer.Waiting = Has state.Waiting lock now × (0 < now.rounds)
+-- `draw_and_check`: at its turn at once, it is told of the lock word
+abbrev pub DrawsAndChecks : Lock → Ticket → Answer → Type 0
+DrawsAndChecks lock now answer.Granted = Has state.Served lock now × InBounds lock now
+DrawsAndChecks lock now answer.Closed = Has state.ServedShut lock now × InBounds lock now
+DrawsAndChecks lock now answer.Waiting = Has state.Waiting lock now × (0 < now.rounds)
     × Shows now (Found (cell_at now.number) (λ n. to_go n now.number ≡ now.rounds))
-AsksOpen lock now _ = ⊥
+DrawsAndChecks lock now _ = ⊥
 
--- `try_ask`
+-- `try_draw`
 abbrev pub Tries : Lock → Ticket → Answer → Type 0
 Tries lock now answer.Granted = Has state.AtTurn lock now × InBounds lock now
 Tries lock now answer.Busy = Has state.Free lock now
     × Shows now (λ seat. FoundNext (λ rounds. 0 < rounds) seat ⊎ FoundTailMoved seat)
 Tries lock now _ = ⊥
 
--- `ask_near`: what it draws could be withdrawn
-abbrev pub AsksNear : Lock → Ticket → Answer → Type 0
-AsksNear lock now answer.Granted = Has state.AtTurn lock now × InBounds lock now
-AsksNear lock now answer.Waiting = Has state.Waiting lock now × (0 < now.rounds) × (now.rounds ≤ 15)
+-- `draw_near`: what it draws could be withdrawn
+abbrev pub DrawsNear : Lock → Ticket → Answer → Type 0
+DrawsNear lock now answer.Granted = Has state.AtTurn lock now × InBounds lock now
+DrawsNear lock now answer.Waiting = Has state.Waiting lock now × (0 < now.rounds) × (now.rounds ≤ withdrawal_window)
     × Shows now (looks.FoundBefore (cell_at now.number) (λ n. to_go n now.number ≡ now.rounds))
-AsksNear lock now answer.Far = Has state.Free lock now × (15 < now.rounds)
+DrawsNear lock now answer.Far = Has state.Free lock now × (withdrawal_window < now.rounds)
     × Shows now (FoundNext (λ rounds. rounds ≡ now.rounds))
-AsksNear lock now answer.Busy = Has state.Free lock now × Shows now FoundTailMoved
-AsksNear lock now _ = ⊥
+DrawsNear lock now answer.Busy = Has state.Free lock now × Shows now FoundTailMoved
+DrawsNear lock now _ = ⊥
 
 -- `announce_sleep`: with the word at which to sleep
 abbrev pub AnnouncesSleep : Lock → Ticket → Answer → Type 0
@@ -149,14 +149,14 @@ AnnouncesSleep lock now answer.Waiting = Has state.Waiting lock now × (0 < now.
     × Shows now (FoundChanged (cell_at now.number))
     × Shows now (Found (cell_at now.number) (λ n. to_go n now.number ≡ now.rounds))
 AnnouncesSleep lock now answer.Full = Has state.Waiting lock now × (0 < now.rounds)
-    × Shows now (Found (cell_at now.number) (λ n. (count_of n ≡ 65535) × (to_go n now.number ≡ now.rounds)))
+    × Shows now (Found (cell_at now.number) (λ n. (count_of n ≡ max_sleepers) × (to_go n now.number ≡ now.rounds)))
 AnnouncesSleep lock now _ = ⊥
 
 -- `withdraw`: one that is too far away stays as it is
 abbrev pub Withdraws : Lock → Ticket → Ticket → Answer → Type 0
 Withdraws lock was now answer.Withdrawn = Has state.Free lock now
 Withdraws lock was now answer.Granted = Has state.AtTurn lock now × InBounds lock now
-Withdraws lock was now answer.Far = (15 < was.rounds) × (now ≡ was)
+Withdraws lock was now answer.Far = (withdrawal_window < was.rounds) × (now ≡ was)
 Withdraws lock was now _ = ⊥
 
 -- the ticket granted the one after its number; where the count of sleepers there was 0, nobody slept
@@ -164,7 +164,7 @@ abbrev pub GrantsNext : Lock → Ticket → Type 0
 GrantsNext lock now = Knows lock now (λ v. GrantedAfter now.number v × (now.sleepers ≡ 0 → GrantedToNobodyAsleep v))
     × Shows now (Found (cell_at (now.number + 1)) (λ n. count_of n ≡ now.sleepers))
 
--- `release`: the ticket's request has ended; a head that is in stays in
+-- `release`: the ticket's request has ended; a queue head that is inside stays inside
 abbrev pub Releases : Lock → Ticket → Ticket → Answer → Type 0
 Releases lock was now answer.Done = GrantsNext lock now × Learns was now HasEnded
     × (Is state.HeadInside lock was → Has state.Inside lock now)
@@ -173,10 +173,10 @@ Releases lock was now answer.Done = GrantsNext lock now × Learns was now HasEnd
 Releases lock was now answer.Unfinished = (Is state.HeadInside lock was → Has state.HeadInside lock now)
     × (Is state.HeadInsideShut lock was → Has state.HeadInsideShut lock now)
     × (was.state < 7 → Has state.Ending lock now)
-    × (now.number ≡ (was.number + 64) % 18446744073709551616)
+    × (now.number ≡ (was.number + max_passed) % 18446744073709551616)
 Releases lock was now _ = ⊥
 
--- a ticket at its turn in a strict lock, told of the outer word or not
+-- a ticket at its turn in a strict lock, told of the lock word or not
 abbrev pub IsAtStrictTurn : Lock → Ticket → Type 0
 IsAtStrictTurn lock t = IsStrict lock × IsWithin 3 5 lock t
 
@@ -186,44 +186,44 @@ ChecksOpen lock now answer.Granted = Has state.Served lock now
 ChecksOpen lock now answer.Closed = Has state.ServedShut lock now
 ChecksOpen lock now _ = ⊥
 
--- the last step found the outer word that the ticket has; or left that there
-abbrev pub HasFoundOuter : Ticket → Type 0
-HasFoundOuter t = Shows t (Found outer_at (λ n. n ≡ t.outer))
+-- the last step found the lock word that the ticket has; or left that there
+abbrev pub HasFoundLockWord : Ticket → Type 0
+HasFoundLockWord t = Shows t (Found lock_word_at (λ n. n ≡ t.lock_word))
 
-abbrev pub HasLeftOuter : Ticket → Type 0
-HasLeftOuter t = Shows t (looks.Leaves outer_at (λ n. n ≡ t.outer))
+abbrev pub HasLeftLockWord : Ticket → Type 0
+HasLeftLockWord t = Shows t (looks.Leaves lock_word_at (λ n. n ≡ t.lock_word))
 
--- `go_in`, with this guess of the outer word
-abbrev pub GoesIn : Lock → ℕ → Ticket → Answer → Type 0
-GoesIn lock guess now answer.Granted = Has state.Inside lock now × Knows lock now IsNewcomersTurn
-    × Shows now (looks.Changes outer_at looks.IsHeldByNewcomer)
-    × Shows now (Found outer_at (λ n. n ≡ guess)) × HasLeftOuter now
-GoesIn lock guess now answer.Busy = Has state.Free lock now
-    × (IsNoEntry guess ⊎ (now.outer ≢ guess)) × HasFoundOuter now
-GoesIn lock guess now _ = ⊥
+-- `barge`, with this guess of the lock word
+abbrev pub Barges : Lock → ℕ → Ticket → Answer → Type 0
+Barges lock guess now answer.Granted = Has state.Inside lock now × Knows lock now IsNewcomer
+    × Shows now (looks.Changes lock_word_at looks.IsHeldByNewcomer)
+    × Shows now (Found lock_word_at (λ n. n ≡ guess)) × HasLeftLockWord now
+Barges lock guess now answer.Busy = Has state.Free lock now
+    × (IsNoEntry guess ⊎ (now.lock_word ≢ guess)) × HasFoundLockWord now
+Barges lock guess now _ = ⊥
 
--- the queue head of a lock with bursts
+-- the queue head of a barging lock
 abbrev pub IsHead : Lock → Ticket → Type 0
-IsHead lock t = HasBursts lock × Is state.AtTurn lock t
+IsHead lock t = IsBarging lock × Is state.AtTurn lock t
 
--- `take_outer`: the head is in, and is to release its turn of the queue
-abbrev pub TakesOuterWord : Lock → Ticket → Answer → Type 0
-TakesOuterWord lock now answer.Granted = Has state.HeadInside lock now × InBounds lock now
-    × Shows now (looks.Changes outer_at IsHeldAnew) × HasLeftOuter now
-TakesOuterWord lock now answer.Closed = Has state.HeadInsideShut lock now × InBounds lock now
-    × Shows now (looks.Changes outer_at IsHeldAnew) × HasLeftOuter now
-TakesOuterWord lock now answer.Waiting = Has state.AtTurn lock now × HasFoundOuter now
-    × Shows now (λ seat. Found outer_at (λ n. state_of n ≡ 1) seat ⊎ FoundChanged outer_at seat)
-TakesOuterWord lock now _ = ⊥
+-- `take_lock_word`: the queue head is inside, and must release its turn of the queue
+abbrev pub TakesAsHead : Lock → Ticket → Answer → Type 0
+TakesAsHead lock now answer.Granted = Has state.HeadInside lock now × InBounds lock now
+    × Shows now (looks.Changes lock_word_at IsHeldAnew) × HasLeftLockWord now
+TakesAsHead lock now answer.Closed = Has state.HeadInsideShut lock now × InBounds lock now
+    × Shows now (looks.Changes lock_word_at IsHeldAnew) × HasLeftLockWord now
+TakesAsHead lock now answer.Waiting = Has state.AtTurn lock now × HasFoundLockWord now
+    × Shows now (λ seat. Found lock_word_at (λ n. state_of n ≡ 1) seat ⊎ FoundChanged lock_word_at seat)
+TakesAsHead lock now _ = ⊥
 
--- `leave`: where it says that no head sleeps, none does
+-- `leave_lock_word`: where it says that no queue head sleeps, none does
 abbrev pub Leaves : Lock → Ticket → Ticket → Answer → Type 0
 Leaves lock was now answer.Done = Has state.Free lock now × Knows lock now (λ v. (v.inside ≡ 0) × (now.head_sleeps ≡ false → LeftQuietly v))
-    × Shows now (Found outer_at (λ n. n ≡ was.outer)) × Shows now (looks.Leaves outer_at (IsLeftAs lock.burst was.outer))
-    × Shows now (looks.Changes outer_at looks.IsLeftClean) × (now.head_sleeps ≡ true → asleep_of was.outer ≡ 1)
-    × (now.outer ≡ was.outer / 16 * 16)
+    × Shows now (Found lock_word_at (λ n. n ≡ was.lock_word)) × Shows now (looks.Leaves lock_word_at (IsLeftAs lock.barging_limit was.lock_word))
+    × Shows now (looks.Changes lock_word_at looks.IsLeftClean) × (now.head_sleeps ≡ true → asleep_of was.lock_word ≡ 1)
+    × (now.lock_word ≡ was.lock_word / 16 * 16)
 Leaves lock was now answer.Busy = (Is state.Inside lock was → Has state.Inside lock now) × (Is state.InsideShut lock was → Has state.InsideShut lock now)
-    × (now.outer ≢ was.outer) × HasFoundOuter now
+    × (now.lock_word ≢ was.lock_word) × HasFoundLockWord now
 Leaves lock was now _ = ⊥
 
 -- `shut`: of a ticket that is served
@@ -231,7 +231,7 @@ abbrev pub IsServed : Lock → Ticket → Type 0
 IsServed lock t = Is state.Served lock t ⊎ Is state.HeadInside lock t ⊎ Is state.Inside lock t
 
 abbrev pub Shuts : Lock → Ticket → Ticket → Answer → Type 0
-Shuts lock was now answer.Done = (now.outer ≡ (was.outer + 16) % 18446744073709551616)
+Shuts lock was now answer.Done = (now.lock_word ≡ (was.lock_word + 16) % 18446744073709551616)
     × (Is state.Served lock was → Has state.ServedShut lock now)
     × (Is state.HeadInside lock was → Has state.HeadInsideShut lock now)
     × (Is state.Inside lock was → Has state.InsideShut lock now)
@@ -242,10 +242,10 @@ abbrev pub IsToldShut : Lock → Ticket → Type 0
 IsToldShut lock t = Is state.ServedShut lock t ⊎ Is state.HeadInsideShut lock t
 
 abbrev pub Reopens : Lock → Ticket → Ticket → Answer → Type 0
-Reopens lock was now answer.Granted = (now.outer ≡ (was.outer + 18446744073709551600) % 18446744073709551616)
+Reopens lock was now answer.Granted = (now.lock_word ≡ (was.lock_word + 18446744073709551600) % 18446744073709551616)
     × (Is state.ServedShut lock was → Has state.Served lock now)
     × (Is state.HeadInsideShut lock was → Has state.HeadInside lock now)
-Reopens lock was now answer.Busy = (now.outer ≡ was.outer)
+Reopens lock was now answer.Busy = (now.lock_word ≡ was.lock_word)
     × (Is state.ServedShut lock was → Has state.ServedShut lock now)
     × (Is state.HeadInsideShut lock was → Has state.HeadInsideShut lock now)
     × Shows now (Found tail_at (λ n. n ≢ (was.number + 1) % 18446744073709551616))
@@ -257,26 +257,26 @@ SameTicket was now = (now.number ≡ was.number) × (now.rounds ≡ was.rounds) 
 
 -- `request_handoff`
 abbrev pub RequestsHandoff : Lock → Ticket → Answer → Type 0
-RequestsHandoff lock now answer.Done = Has state.AtTurn lock now × Shows now (looks.Changes outer_at looks.IsRequested)
-RequestsHandoff lock now answer.Busy = Has state.AtTurn lock now × Shows now (FoundChanged outer_at)
+RequestsHandoff lock now answer.Done = Has state.AtTurn lock now × Shows now (looks.Changes lock_word_at looks.IsRequested)
+RequestsHandoff lock now answer.Busy = Has state.AtTurn lock now × Shows now (FoundChanged lock_word_at)
 RequestsHandoff lock now _ = ⊥
 
--- the outer word is held, and says that the head sleeps
+-- the lock word is held, and says that the head sleeps
 abbrev pub HeldWithSleeper : ℕ → Type 0
-HeldWithSleeper outer = (asleep_of outer ≡ 1) × (state_of outer ≡ 1)
+HeldWithSleeper lock_word = (asleep_of lock_word ≡ 1) × (state_of lock_word ≡ 1)
 
 -- `announce_head_sleep`: with the word at which to sleep
 abbrev pub SleepsAsHead : Lock → Ticket → Ticket → Answer → Type 0
-SleepsAsHead lock was now answer.Asleep = Has state.AtTurn lock now × Knows lock now SleepsAtOuter × HeldWithSleeper now.outer
-    × HasLeftOuter now × Shows now (looks.Changes outer_at looks.IsNotedAsleep)
-SleepsAsHead lock was now answer.Waiting = Has state.AtTurn lock now × (now.outer ≡ was.outer)
-    × Shows now (λ seat. Found outer_at (λ n. state_of n ≢ 1) seat ⊎ FoundChanged outer_at seat)
+SleepsAsHead lock was now answer.Asleep = Has state.AtTurn lock now × Knows lock now SleepsAtLockWord × HeldWithSleeper now.lock_word
+    × HasLeftLockWord now × Shows now (looks.Changes lock_word_at looks.IsNotedAsleep)
+SleepsAsHead lock was now answer.Waiting = Has state.AtTurn lock now × (now.lock_word ≡ was.lock_word)
+    × Shows now (λ seat. Found lock_word_at (λ n. state_of n ≢ 1) seat ⊎ FoundChanged lock_word_at seat)
 SleepsAsHead lock was now _ = ⊥
 
--- the ticket keeps its seat, and its caller makes at most k word steps, and has seen no less load after them
+-- the ticket keeps its seat, and its caller makes at most k atomic steps, and has seen no less load after them
 abbrev pub StepsUpTo : ℕ → Ticket → Ticket → Type 0
 StepsUpTo k was now = (v w : View) × (was.claim.views ≡ v ∷ []) × (now.claim.views ≡ w ∷ []) × (w.looks.steps ≤ v.looks.steps + k) × (v.most_open ≤ w.most_open)
 
--- the ticket has a new seat, whose caller has made at most k word steps in all
+-- the ticket has a new seat, whose caller has made at most k atomic steps in all
 abbrev pub StepsFirst : ℕ → Ticket → Type 0
 StepsFirst k now = (w : View) × (now.claim.views ≡ w ∷ []) × (w.looks.steps ≤ k)

@@ -12,6 +12,6 @@ Both lock t u P = (v w : View) × (t.claim.views ≡ v ∷ []) × (u.claim.views
     × (v.max_newcomers ≡ max_newcomers_of lock.table.shared.key) × (w.max_newcomers ≡ max_newcomers_of lock.table.shared.key)
     × P v w
 
--- by its state: in a strict lock at its turn and told of the outer word, or in by the outer word
+-- by its state: in a strict lock at its turn and told of the lock word, or in by the lock word
 abbrev pub IsInService : Lock → Ticket → Type 0
 IsInService lock t = (t.label ≡ lock.label) × ((t.state ≡ 4) ⊎ (t.state ≡ 5) ⊎ ((7 ≤ t.state) × (t.state ≤ 10)))

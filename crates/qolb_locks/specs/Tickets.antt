@@ -29,12 +29,12 @@ state_of n =
     else if n == 7 then state.HeadInside else if n == 8 then state.HeadInsideShut
     else if n == 9 then state.Inside else if n == 10 then state.InsideShut else state.Free
 
--- a strict lock; one with bursts
+-- a strict lock; a barging lock
 abbrev pub IsStrict : Lock → Type 0
-IsStrict lock = lock.burst ≤ 1
+IsStrict lock = lock.barging_limit ≤ 1
 
-abbrev pub HasBursts : Lock → Type 0
-HasBursts lock = 2 ≤ lock.burst
+abbrev pub IsBarging : Lock → Type 0
+IsBarging lock = 2 ≤ lock.barging_limit
 
 -- what the caller of a ticket knows, by the ticket's state, number and rounds to go
 abbrev pub Says : State → ℕ → ℕ → View → Type 0
@@ -50,7 +50,7 @@ Says state.HeadInsideShut number rounds v = HasTurnOf number v × (v.inside ≡ 
 Says state.Inside number rounds v = IsInside v × ServedOpen v
 Says state.InsideShut number rounds v = IsInside v × ServedShut v × KnowsShut v
 
--- the ticket has a seat of this lock, and this is so of its view, if no more load was on the lock than the rule allows
+-- the ticket has a seat of this lock, and this is so of its view, if no more load was on the lock than `Timely` allows
 abbrev pub Knows : Lock → Ticket → (View → Type 0) → Type 0
 Knows lock t P = (v : View) × (t.claim.views ≡ v ∷ []) × (t.claim.table_id ≡ lock.table.shared.table_id)
     × (v.max_newcomers ≡ max_newcomers_of lock.table.shared.key) × (Timely v → P v)
@@ -66,7 +66,7 @@ IsWithin low high lock t = (t.label ≡ lock.label) × (low ≤ t.state) × (t.s
 abbrev pub Has : State → Lock → Ticket → Type 0
 Has state lock t = Is state lock t × Knows lock t (Says state t.number t.rounds)
 
--- What a call asks of a ticket: if it has the lock's label, what its state says is so. A ticket of zeros has no lock's label.
+-- What a call requires of a ticket: if it has the lock's label, what its state says is so. A ticket of zeros has no lock's label.
 abbrev pub IsKnown : Lock → Ticket → Type 0
 IsKnown lock t = t.label ≡ lock.label → Knows lock t (Says (state_of t.state) t.number t.rounds)
 
@@ -74,6 +74,6 @@ IsKnown lock t = t.label ≡ lock.label → Knows lock t (Says (state_of t.state
 abbrev pub IsFree : Ticket → Type 0
 IsFree t = t.state ≡ 0
 
--- it has no request, and no seat of this lock: its next call that asks or goes in is its first at this lock
+-- it has no request, and no seat of this lock: its next call that draws or barges is its first at this lock
 abbrev pub IsNew : Lock → Ticket → Type 0
 IsNew lock t = (t.state ≡ 0) × (t.label ≢ lock.label)

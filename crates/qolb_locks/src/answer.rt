@@ -5,7 +5,7 @@
 pub enum Answer {
     /// The call is done.
     Done = 0,
-    /// The ticket is at its turn, or the caller is in.
+    /// The ticket is at its turn, or the caller is inside.
     Granted = 1,
     /// The request waits.
     Waiting = 3,
@@ -13,20 +13,20 @@ pub enum Answer {
     Withdrawn = 5,
     /// The lock is shut.
     Closed = 6,
-    /// Another has it, or changed it at that moment. What the ticket has did not change.
+    /// Another caller has the lock, or changed it at that moment. What the ticket has did not change.
     Busy = 7,
     /// The ticket does not allow the call. Nothing changed.
     Misuse = 8,
     /// No lock was opened: the allocator returned no memory.
     NoMemory = 9,
-    /// No lock was opened: the bound of bursts is above 65,535.
-    BadBurst = 10,
-    /// So many rounds are before the request that it could not be withdrawn.
+    /// No lock was opened: the barging limit is above `MAX_BARGING_LIMIT`.
+    BadBargingLimit = 10,
+    /// The request is, or would be, beyond the window of withdrawal.
     Far = 16,
     /// The sleep is announced.
     Asleep = 17,
-    /// The sleep is not announced: as many as can be counted sleep there.
+    /// The sleep is not announced: as many waiters as can be counted sleep there.
     Full = 18,
-    /// The turn is still the caller's, who is to call again.
+    /// The turn is still the caller's, which must call again.
     Unfinished = 19,
 }

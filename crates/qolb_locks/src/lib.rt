@@ -5,28 +5,40 @@
 #![tactic(auto)]
 
 mod answer;
-mod asking;
+mod barging;
 mod claim;
-mod closing;
+mod drawing;
+mod head;
 mod lock;
 mod lock_ref;
 mod meets;
 mod opening;
-mod outer;
+mod releasing;
+mod shutting;
 mod ticket;
 mod waiting;
+mod withdrawing;
+
+/// The most requests that are open when a call with a timeout, or a task, draws a ticket.
+///
+/// C abandons the ticket of such a call if the window of withdrawal does not reach it, and one release passes all abandoned tickets: this is the
+/// number of them that a release passes in some 2 ms.
+pub const MAX_OPEN_WITH_TIMEOUT: u64 = 12_288;
 
 pub use answer::Answer;
-pub use asking::{ask, ask_near, ask_open, try_ask};
+pub use barging::barge;
 pub use claim::Claim;
-pub use closing::{check_open, reopen, shut};
+pub use drawing::{draw, draw_and_check, draw_near, try_draw};
+pub use head::{announce_head_sleep, request_handoff, take_lock_word};
 pub use lock::Lock;
 pub use lock_ref::LockRef;
 pub use meets::{
-    asked_while_open, first_come, never_two, never_two_at_turn, no_lost_wake,
-    no_lost_wake_at_outer, none_left_at_reopening, none_served_after_shut, turns_differ,
+    drawn_while_open, first_come, never_two, never_two_at_turn, no_lost_wake,
+    no_lost_wake_at_lock_word, none_left_at_reopening, none_served_after_shut, places_differ,
 };
-pub use opening::{MAX_BURST, open};
-pub use outer::{announce_head_sleep, go_in, leave, release, request_handoff, take_outer};
+pub use opening::open;
+pub use releasing::{leave_lock_word, release};
+pub use shutting::{check_open, reopen, shut};
 pub use ticket::{State, Ticket};
-pub use waiting::{announce_sleep, poll, retract_sleep, withdraw};
+pub use waiting::{announce_sleep, poll, retract_sleep};
+pub use withdrawing::withdraw;

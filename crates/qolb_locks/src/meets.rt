@@ -1,10 +1,10 @@
-//! What two tickets of one lock know of one another.
+//! The theorems about two tickets of one lock.
 //!
 //! Each function says that two such tickets cannot meet: in the seat that has what both callers know, there was too much load on the lock.
-//! None is to be called: a proof about callers may.
+//! No program calls these functions; a proof about callers may.
 ghost use Rattle.std.specs.Prelude.{◌≡◌, ◌<◌, ◌≤◌};
-ghost use Rattle.lock_core.specs.Meets.{IsWaiting, IsWaitingOpen, IsWaitingShut, IsStillAsleep, GrantedToNobodyAsleepAt, HadNewcomersTurn};
-ghost use Rattle.lock_core.specs.Views.{Timely, NeverInTime, HasTurn, KnowsShut, LeftQuietly, ServedOpen, SleepsAtOuter};
+ghost use Rattle.lock_core.specs.Meets.{IsWaiting, IsWaitingOpen, IsWaitingShut, IsStillAsleep, GrantedToNobodyAsleepAt, HadPlaceOf};
+ghost use Rattle.lock_core.specs.Views.{Timely, NeverInTime, HasTurn, KnowsShut, LeftQuietly, ServedOpen, SleepsAtLockWord};
 ghost use Rattle.qolb_locks.specs.declared.ticket.State.{State};
 ghost use Rattle.qolb_locks.specs.Meets.{Both, IsInService};
 ghost use Rattle.qolb_locks.specs.Tickets.{IsKnown, IsWithin};
@@ -25,7 +25,7 @@ pub fn never_two(lock: &Lock, ticket: &mut Ticket, other: &mut Ticket) -> Ticket
     seat
 }
 
-/// No two tickets have a turn of the queue at one time, by their states: with bursts there is one head.
+/// No two tickets have a turn of the queue at one time, by their states: a barging lock has at most one queue head.
 pub fn never_two_at_turn(lock: &Lock, ticket: &mut Ticket, other: &mut Ticket) -> TicketSeat
     requires known { IsKnown lock.now ticket.old × IsKnown lock.now other.old }
     requires one { IsWithin 3 8 lock.now ticket.old }
@@ -59,18 +59,18 @@ pub fn no_lost_wake(lock: &Lock, ticket: &mut Ticket, other: &mut Ticket) -> Tic
     seat
 }
 
-/// Where a leave tells of no head that sleeps, none noted its sleep while that caller was in.
-pub fn no_lost_wake_at_outer(lock: &Lock, ticket: &mut Ticket, other: &mut Ticket) -> TicketSeat
+/// Where a leave tells of no queue head that sleeps, no queue head noted its sleep while that caller was inside.
+pub fn no_lost_wake_at_lock_word(lock: &Lock, ticket: &mut Ticket, other: &mut Ticket) -> TicketSeat
     requires { Both lock.now ticket.old other.old (λ v w. (Timely v → LeftQuietly v) × (Timely w →
-        SleepsAtOuter w) × (Timely w → w.slept_in_take ≡ v.last_take)) }
+        SleepsAtLockWord w) × (Timely w → w.slept_in_take ≡ v.last_take)) }
     ensures { NeverInTime result }
 {
     let mut seat = ticket.claim.take();
-    lock_core::no_lost_wake_at_outer(&lock.table.shared, &mut seat, other.claim.take());
+    lock_core::no_lost_wake_at_lock_word(&lock.table.shared, &mut seat, other.claim.take());
     seat
 }
 
-/// No ticket is served, told that the lock is open, after it was shut, until it is opened again.
+/// No ticket is served, told that the lock is open, after the lock was shut and until it is reopened.
 pub fn none_served_after_shut(lock: &Lock, ticket: &mut Ticket, other: &mut Ticket) -> TicketSeat
     requires { Both lock.now ticket.old other.old (λ v w. (Timely v → KnowsShut v) × (Timely w →
         ServedOpen w) × (Timely w → w.epoch ≤ v.epoch)) }
@@ -81,10 +81,10 @@ pub fn none_served_after_shut(lock: &Lock, ticket: &mut Ticket, other: &mut Tick
     seat
 }
 
-/// No ticket waits that asked while the lock was open, before it was shut and opened again.
+/// No ticket waits whose number was drawn while the lock was open, before the lock was shut and reopened.
 pub fn none_left_at_reopening(lock: &Lock, ticket: &mut Ticket, other: &mut Ticket) -> TicketSeat
     requires { Both lock.now ticket.old other.old (λ v w. (Timely w → IsWaitingOpen w) × (Timely w
-        → w.asked_in_epoch < v.epoch)) }
+        → w.drawn_in_epoch < v.epoch)) }
     ensures { NeverInTime result }
 {
     let mut seat = ticket.claim.take();
@@ -92,24 +92,24 @@ pub fn none_left_at_reopening(lock: &Lock, ticket: &mut Ticket, other: &mut Tick
     seat
 }
 
-/// No ticket waits that asked while the lock was shut, and one is served open in that epoch.
-pub fn asked_while_open(lock: &Lock, ticket: &mut Ticket, other: &mut Ticket) -> TicketSeat
+/// No ticket waits whose number was drawn while the lock was shut, while another is served open in that epoch.
+pub fn drawn_while_open(lock: &Lock, ticket: &mut Ticket, other: &mut Ticket) -> TicketSeat
     requires { Both lock.now ticket.old other.old (λ v w. (Timely v → ServedOpen v) × (Timely w →
-        IsWaitingShut w) × (Timely w → w.asked_in_epoch ≡ v.epoch)) }
+        IsWaitingShut w) × (Timely w → w.drawn_in_epoch ≡ v.epoch)) }
     ensures { NeverInTime result }
 {
     let mut seat = ticket.claim.take();
-    lock_core::asked_while_open(&lock.table.shared, &mut seat, other.claim.take());
+    lock_core::drawn_while_open(&lock.table.shared, &mut seat, other.claim.take());
     seat
 }
 
-/// No two newcomers' turns are at the same place between two takes of the outer word by heads.
-pub fn turns_differ(lock: &Lock, ticket: &mut Ticket, other: &mut Ticket) -> TicketSeat
-    requires { Both lock.now ticket.old other.old (λ v w. (Timely v → HadNewcomersTurn v v)
-        × (Timely w → HadNewcomersTurn v w)) }
+/// No two acquisitions of newcomers have the same place between two queue heads.
+pub fn places_differ(lock: &Lock, ticket: &mut Ticket, other: &mut Ticket) -> TicketSeat
+    requires { Both lock.now ticket.old other.old (λ v w. (Timely v → HadPlaceOf v v)
+        × (Timely w → HadPlaceOf v w)) }
     ensures { NeverInTime result }
 {
     let mut seat = ticket.claim.take();
-    lock_core::turns_differ(&lock.table.shared, &mut seat, other.claim.take());
+    lock_core::places_differ(&lock.table.shared, &mut seat, other.claim.take());
     seat
 }

@@ -18,21 +18,21 @@ pub enum State {
     Waiting = 1,
     /// It waits, and its sleep is announced.
     Asleep = 2,
-    /// At its turn; in a lock with bursts, the queue head.
+    /// At its turn; in a barging lock, the queue head.
     AtTurn = 3,
-    /// At its turn in a strict lock, and told that this is open.
+    /// At its turn in a strict lock; its caller was told that the lock is open.
     Served = 4,
-    /// At its turn in a strict lock, and told that this is shut.
+    /// At its turn in a strict lock; its caller was told that the lock is shut.
     ServedShut = 5,
-    /// A turn to be passed on yet, by a release.
+    /// A turn whose release is unfinished.
     Ending = 6,
-    /// The queue head, in by the outer word, of an open lock.
+    /// The queue head, which has taken the lock word of an open lock.
     HeadInside = 7,
-    /// The queue head, in by the outer word, of a lock that is shut.
+    /// The queue head, which has taken the lock word of a lock that is shut.
     HeadInsideShut = 8,
-    /// In by the outer word alone, of an open lock.
+    /// Its caller has the lock word alone, of an open lock.
     Inside = 9,
-    /// In by the outer word alone, of a lock that is shut.
+    /// Its caller has the lock word alone, of a lock that is shut.
     InsideShut = 10,
 }
 
@@ -42,19 +42,19 @@ pub enum State {
 pub struct Ticket {
     /// The ticket's number; after a release, the last one whose turn ended.
     pub number: u64,
-    /// While it waits: the rounds to be granted yet, when it last looked.
+    /// While it waits: the rounds that were still to be granted when it last looked.
     pub rounds: u64,
-    /// What the outer word is, as far as the caller knows: a guess for the next call.
-    pub outer: u64,
+    /// What the lock word is, as far as the caller knows: a guess for the next call.
+    pub lock_word: u64,
     /// After a sleep is announced: the cell's word.
     pub word: u64,
-    /// After a release: the sleepers that were counted at the granted ticket's cell.
+    /// After a release: the number of sleepers that were counted at the granted ticket's cell.
     pub sleepers: u64,
     /// The label of its lock; 0 if it has none.
     pub label: u64,
     /// The number of its `State`.
     pub state: u32,
-    /// After a leave: whether the queue head sleeps at the outer word.
+    /// After a leave: whether the queue head sleeps at the lock word.
     pub head_sleeps: bool,
     pub claim: Claim,
 }
@@ -70,7 +70,7 @@ impl Ticket {
         self.state == state as u32 && self.label == lock.label
     }
 
-    /// Returns whether the ticket is of this lock, and at its turn, told of the outer word or not.
+    /// Returns whether the ticket is of this lock and at its turn, whether or not its caller was told of the lock word.
     #[inline(always)]
     pub(crate) fn is_at_turn(&self, lock: &Lock) -> bool
         requires { IsKnown lock.now self.now }
@@ -83,7 +83,7 @@ impl Ticket {
             && self.state <= State::ServedShut as u32
     }
 
-    /// Returns whether the ticket is that of the queue head, of this lock with bursts.
+    /// Returns whether the ticket is that of the queue head of this lock, which is a barging lock.
     #[inline(always)]
     pub(crate) fn is_head(&self, lock: &Lock) -> bool
         requires { IsKnown lock.now self.now }
@@ -91,10 +91,10 @@ impl Ticket {
             × Has State.AtTurn lock.now self.now }
         ensures no { result ≡ false → ¬ IsHead lock.now self.now }
     {
-        lock.burst >= 2 && self.has(State::AtTurn, lock)
+        lock.barging_limit >= 2 && self.has(State::AtTurn, lock)
     }
 
-    /// Returns whether the ticket is of this lock, and has a turn of the queue, and is not in by the outer word.
+    /// Returns whether the ticket is of this lock and has a turn of the queue, but not the lock word.
     #[inline(always)]
     pub(crate) fn has_turn_outside(&self, lock: &Lock) -> bool
         requires { IsKnown lock.now self.now }
@@ -107,7 +107,7 @@ impl Ticket {
             && self.state <= State::Ending as u32
     }
 
-    /// Returns whether the ticket is of this lock, and in by the outer word alone.
+    /// Returns whether the ticket is of this lock and has the lock word alone.
     #[inline(always)]
     pub(crate) fn is_inside(&self, lock: &Lock) -> bool
         requires { IsKnown lock.now self.now }
@@ -120,7 +120,7 @@ impl Ticket {
             && self.state <= State::InsideShut as u32
     }
 
-    /// Notes how many rounds the request is from its turn, and answers that.
+    /// Notes how many rounds the request is from its turn, and returns the answer of that.
     #[inline(always)]
     pub(crate) fn settle(&mut self, rounds: u64) -> Answer
         ensures granted { rounds ≡ 0 → (result ≡ Answer.Granted)
@@ -138,7 +138,7 @@ impl Ticket {
         Answer::Waiting
     }
 
-    /// Notes whether the lock was found open at the ticket's turn, and answers that.
+    /// Notes whether the lock was found open at the ticket's turn, and returns the answer of that.
     #[inline(always)]
     pub(crate) fn tell(&mut self, is_open: bool) -> Answer
         ensures open { is_open ≡ true → (result ≡ Answer.Granted)

@@ -1,8 +1,7 @@
-//! Waiting, sleeping, withdrawing.
-ghost use Rattle.std.specs.Prelude.{◌≡◌};
+//! A waiter polls, and announces and retracts its sleep.
 ghost use Rattle.lock_core.specs.Views.{SameRequest};
 ghost use Rattle.qolb_locks.specs.declared.ticket.State.{State};
-ghost use Rattle.qolb_locks.specs.Calls.{IsMisuse, OnlyState, OnlyRounds, OnlySleep, StepsUpTo, Learns, IfGranted, Looks, AnnouncesSleep, Withdraws};
+ghost use Rattle.qolb_locks.specs.Calls.{IsMisuse, OnlyRounds, OnlySleep, StepsUpTo, Learns, Looks, AnnouncesSleep};
 ghost use Rattle.qolb_locks.specs.Tickets.{Is, IsKnown};
 
 use crate::answer::Answer;
@@ -10,10 +9,7 @@ use crate::lock::Lock;
 use crate::ticket::{State, Ticket};
 use lock_core::SleepResult;
 
-/// The most rounds from which a request can be withdrawn.
-const WINDOW: u64 = 15;
-
-/// Looks whether the request is at its turn.
+/// Polls whether the request is at its turn.
 #[inline(always)]
 pub fn poll(lock: &Lock, ticket: &mut Ticket) -> Answer
     requires { IsKnown lock.now ticket.old }
@@ -95,36 +91,4 @@ pub fn retract_sleep(lock: &Lock, ticket: &mut Ticket) -> Answer
     let rounds = lock_core::retract_sleep(&lock.table.shared, &mut seat, ticket.number);
     ticket.claim.put(seat);
     ticket.settle(rounds)
-}
-
-/// Withdraws a request that was at most 15 rounds away when it last looked.
-#[inline(always)]
-pub fn withdraw(lock: &Lock, ticket: &mut Ticket) -> Answer
-    requires { IsKnown lock.now ticket.old }
-    ensures known { IsKnown lock.now ticket.new }
-    ensures misuse { ¬ Is State.Waiting lock.now ticket.old →
-        IsMisuse ticket.old ticket.new result }
-    ensures does { Is State.Waiting lock.now ticket.old →
-        Withdraws lock.now ticket.old ticket.new result }
-    ensures same { Is State.Waiting lock.now ticket.old →
-        IfGranted result (Learns ticket.old ticket.new SameRequest) }
-    ensures steps { Is State.Waiting lock.now ticket.old → StepsUpTo 2 ticket.old ticket.new }
-    ensures kept { OnlyState ticket.old ticket.new }
-{
-    if !ticket.has(State::Waiting, lock) {
-        return Answer::Misuse;
-    }
-    if ticket.rounds > WINDOW {
-        return Answer::Far;
-    }
-    let rounds = ticket.rounds;
-    let mut seat = ticket.claim.take();
-    let withdrawn = lock_core::withdraw(&lock.table.shared, &mut seat, ticket.number, rounds);
-    ticket.claim.put(seat);
-    if withdrawn {
-        ticket.state = State::Free as u32;
-        return Answer::Withdrawn;
-    }
-    ticket.state = State::AtTurn as u32;
-    Answer::Granted
 }

@@ -1,8 +1,8 @@
 //! The tests, and the threads that they run.
 mod answers;
-mod limits;
 mod order;
 mod threads;
+mod timeouts;
 
 use fair_lock::{EnterError, FairLock, TryEnterError};
 use std::alloc::Global;
@@ -10,21 +10,21 @@ use std::rt::Clock;
 use std::sync::Wait;
 use std::time::Duration;
 
-/// A strict lock of a number, or one with bursts of at least two turns.
-fn lock_of(alloc: Global, burst: u16, value: u64) -> Option<FairLock<u64>> {
-    if burst < 2 {
+/// A strict lock of a number, or a barging lock if the limit is at least two.
+fn lock_of(alloc: Global, barging_limit: u16, value: u64) -> Option<FairLock<u64>> {
+    if barging_limit < 2 {
         FairLock::new(alloc, value).ok()
     } else {
-        FairLock::with_bursts(alloc, burst, value).ok()
+        FairLock::with_barging(alloc, barging_limit, value).ok()
     }
 }
 
-/// What a call answers. A turn that it is given ends at once.
+/// What a call answers. A guard that it is given leaves at once.
 #[derive(Clone, Copy, Debug, PartialEq)]
 enum Answer {
     Served,
     Busy,
-    Late,
+    TimedOut,
     Closed,
 }
 
@@ -51,7 +51,7 @@ fn try_enter<R: Wait>(rt: &R, lock: &FairLock<u64>) -> Answer {
     }
 }
 
-/// The answer of `enter_within`, with this limit by this clock.
+/// The answer of `enter_within`, with this timeout by this clock.
 fn enter_within<R: Wait, C: Wait + Clock>(
     rt: &R,
     lock: &FairLock<u64>,
@@ -63,12 +63,12 @@ fn enter_within<R: Wait, C: Wait + Clock>(
             guard.leave(rt);
             Answer::Served
         }
-        Err(EnterError::Late(_)) => Answer::Late,
+        Err(EnterError::TimedOut(_)) => Answer::TimedOut,
         Err(EnterError::Closed(_)) => Answer::Closed,
     }
 }
 
-/// Adds one so often, each in a turn of its own. Returns how many turns there were.
+/// Adds one this often, each time in a critical section of its own. Returns how many critical sections there were.
 fn add<R: Wait>(rt: &R, lock: &FairLock<u64>, times: u64) -> u64 {
     let mut had = 0u64;
     for _ in 0..times {
@@ -82,7 +82,7 @@ fn add<R: Wait>(rt: &R, lock: &FairLock<u64>, times: u64) -> u64 {
     had
 }
 
-/// The same, but each turn has to begin within a limit. Returns how many did.
+/// Does the same, but each call has a timeout. Returns how many did not time out.
 fn add_within<R: Wait + Clock>(rt: &R, lock: &FairLock<u64>, times: u64, at_most: Duration) -> u64 {
     let mut had = 0u64;
     for _ in 0..times {
@@ -96,7 +96,7 @@ fn add_within<R: Wait + Clock>(rt: &R, lock: &FairLock<u64>, times: u64, at_most
     had
 }
 
-/// Adds one so often if that can be done at once. Returns how often it could.
+/// Adds one this often, if that can be done at once. Returns how often it could.
 fn try_add<R: Wait>(rt: &R, lock: &FairLock<u64>, times: u64) -> u64 {
     let mut had = 0u64;
     for _ in 0..times {

@@ -1,7 +1,7 @@
-//! What threads count in their turns. Only the caller that is served writes, so a plain load and store lose nothing.
+//! What threads count in their critical sections. Only the caller that is served writes, so a plain load and store lose nothing.
 use std::sync::atomic::{AtomicU64, Ordering};
 
-/// What was seen in turns.
+/// What was seen in critical sections.
 #[derive(Drop)]
 pub(crate) struct Counts {
     inside: AtomicU64,
@@ -24,17 +24,17 @@ impl Counts {
         }
     }
 
-    /// The turns that were counted.
+    /// Returns how many acquisitions were counted.
     pub(crate) fn turns(&self) -> u64 {
         self.turns.load(Ordering::SeqCst)
     }
 
-    /// The newcomers' turns that were counted.
+    /// Returns how many acquisitions of newcomers, which are threads that barged, were counted.
     pub(crate) fn newcomers(&self) -> u64 {
         self.newcomers.load(Ordering::SeqCst)
     }
 
-    /// What should never be seen: two inside, a smaller ticket behind a larger, a newcomer too many.
+    /// Returns how often was seen what should never be: two inside, a smaller ticket behind a larger, a newcomer too many.
     pub(crate) fn faults(&self) -> u64 {
         self.faults.load(Ordering::SeqCst)
     }
@@ -45,7 +45,7 @@ impl Counts {
         }
     }
 
-    /// A turn: nobody else is inside, and the sum is one more.
+    /// Counts an acquisition: nobody else is inside, and the sum is one more.
     fn count_turn(&self) {
         self.check(self.inside.fetch_add(1, Ordering::SeqCst) == 0);
         let turns = self.turns.load(Ordering::SeqCst);
@@ -53,8 +53,8 @@ impl Counts {
         self.inside.fetch_sub(1, Ordering::SeqCst);
     }
 
-    /// The turn of a ticket, of which the next is larger. Since it asked, when `before` newcomers had been counted, at most `bound`
-    /// others were.
+    /// Counts the turn of a ticket, of which the next is larger. Since it was drawn, when `before` newcomers had been counted, at most
+    /// `bound` others were.
     pub(crate) fn queue_turn(&self, ticket: u64, before: u64, bound: u64) {
         let next = ticket.wrapping_add(1);
         let last = self.last_ticket.load(Ordering::SeqCst);
@@ -65,8 +65,8 @@ impl Counts {
         self.count_turn();
     }
 
-    /// The turn of a newcomer, one of at most `most` since the last queue head.
-    pub(crate) fn newcomers_turn(&self, most: u64) {
+    /// Counts the acquisition of a newcomer, one of at most `most` since the last queue head.
+    pub(crate) fn newcomer(&self, most: u64) {
         let since = self.since_head.load(Ordering::SeqCst).wrapping_add(1);
         self.since_head.store(since, Ordering::SeqCst);
         self.newcomers

@@ -13,7 +13,7 @@ impl Dice {
         }
     }
 
-    /// A number below 8.
+    /// Returns a number below 8.
     pub(crate) fn roll(&mut self) -> u64 {
         let a = self.state ^ (self.state << 13);
         let b = a ^ (a >> 7);

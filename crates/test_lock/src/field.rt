@@ -2,13 +2,13 @@
 ghost use Rattle.std.specs.Prelude.{◌≡◌, ◌<◌, ◌≤◌, IfOk, IfSome, IfNone, true, false};
 ghost use Rattle.lock_core.specs.Layout.{IsLockTable};
 ghost use Rattle.lock_core.specs.Views.{view_of, InTime, LoadGrows, IsSeatOf, IsIdle, IsQueued, IsAtTurn, HasTurnOf, SameTurn};
-ghost use Rattle.lock_core.specs.Answers.{max_burst_of, HasLongBursts};
+ghost use Rattle.lock_core.specs.Answers.{barging_limit_of, HasValidLimit};
 
 use crate::counts::Counts;
 use crate::dice::Dice;
 use lock_core::{
-    AskNearResult, LockKind, OpenError, ReleaseResult, SleepResult, TicketSeat, TicketTable,
-    announce_sleep, ask, ask_near, open, poll, release, retract_sleep, try_ask, withdraw,
+    DrawNearResult, LockKind, OpenError, ReleaseResult, SleepResult, TicketSeat, TicketTable,
+    announce_sleep, draw, draw_near, open, poll, release, retract_sleep, try_draw, withdraw,
 };
 use std::alloc::Global;
 use std::hint::spin_loop;
@@ -30,8 +30,8 @@ pub(crate) struct Field {
 
 impl Field {
     pub(crate) fn open(alloc: Global, kind: LockKind) -> Result<Field, OpenError>
-        ensures kind { IfOk result (λ field. field.table.shared.key ≡ max_burst_of kind) }
-        ensures long { IfOk result (λ _. HasLongBursts kind) }
+        ensures kind { IfOk result (λ field. field.table.shared.key ≡ barging_limit_of kind) }
+        ensures long { IfOk result (λ _. HasValidLimit kind) }
     {
         let table = open(alloc, kind)?;
         Ok(Field {
@@ -41,18 +41,18 @@ impl Field {
         })
     }
 
-    /// What a sleeper reads before it announces its sleep.
+    /// Returns what a sleeper reads before it announces its sleep.
     pub(crate) fn wakes(&self) -> u64 {
         self.wakes.load(Ordering::SeqCst)
     }
 
-    /// Wakes all who sleep.
+    /// Wakes all threads that sleep.
     pub(crate) fn wake(&self) {
         self.wakes.fetch_add(1, Ordering::SeqCst);
         self.wakes.wake_all();
     }
 
-    /// Sleeps, with no limit of time, until somebody wakes after `seen` was read. A lost wake-up would hang the test.
+    /// Sleeps, with no timeout, until somebody wakes after `seen` was read. A lost wake-up would hang the test.
     pub(crate) fn sleep<R: Wait>(&self, rt: &R, seen: u64) {
         self.wakes.park(rt, (seen % (1 << 32)) as u32);
     }
@@ -112,9 +112,9 @@ impl Field {
         unreachable!()
     }
 
-    /// Asks by one of the calls, and waits, or withdraws. Returns the ticket at its turn, and the newcomers that were counted when it had
-    /// asked.
-    pub(crate) fn ask_somehow<R: Wait>(
+    /// Draws a ticket by one of the calls, and waits, or withdraws. Returns the ticket at its turn, and the newcomers that were counted when
+    /// it was drawn.
+    pub(crate) fn draw_somehow<R: Wait>(
         &self,
         rt: &R,
         seat: &mut TicketSeat,
@@ -123,48 +123,48 @@ impl Field {
         requires seat { IsSeatOf self.now.table.shared.table_id self.now.table.shared.key seat.old }
         requires idle { InTime seat.old IsIdle }
         ensures seat { IsSeatOf self.now.table.shared.table_id self.now.table.shared.key seat.new }
-        ensures at_turn { IfSome result (λ asked. InTime seat.new (IsAtTurn asked.0)) }
+        ensures at_turn { IfSome result (λ drawn. InTime seat.new (IsAtTurn drawn.0)) }
         ensures idle { IfNone result (InTime seat.new IsIdle) }
     {
         let choice = dice.roll();
         if choice < 3 {
             let ticket = if choice == 0 {
-                try_ask(&self.table.shared, seat)?
+                try_draw(&self.table.shared, seat)?
             } else {
-                self.ask_and_withdraw(seat)?
+                self.draw_and_withdraw(seat)?
             };
             return Some((ticket, self.counts.newcomers()));
         }
-        let ticket = ask(&self.table.shared, seat);
+        let ticket = draw(&self.table.shared, seat);
         let before = self.counts.newcomers();
         self.wait_for_turn(rt, seat, ticket);
         Some((ticket, before))
     }
 
-    /// Asks if the request can be withdrawn, and withdraws it at once.
-    fn ask_and_withdraw(&self, seat: &mut TicketSeat) -> Option<u64>
+    /// Draws a ticket if the request can be withdrawn, and withdraws it at once.
+    fn draw_and_withdraw(&self, seat: &mut TicketSeat) -> Option<u64>
         requires seat { IsSeatOf self.now.table.shared.table_id self.now.table.shared.key seat.old }
         requires idle { InTime seat.old IsIdle }
         ensures seat { IsSeatOf self.now.table.shared.table_id self.now.table.shared.key seat.new }
         ensures at_turn { IfSome result (λ ticket. InTime seat.new (IsAtTurn ticket)) }
         ensures idle { IfNone result (InTime seat.new IsIdle) }
     {
-        match ask_near(&self.table.shared, seat) {
-            AskNearResult::AtTurn { ticket } => Some(ticket),
-            AskNearResult::Queued { ticket, rounds } => {
+        match draw_near(&self.table.shared, seat) {
+            DrawNearResult::AtTurn { ticket } => Some(ticket),
+            DrawNearResult::Queued { ticket, rounds } => {
                 if withdraw(&self.table.shared, seat, ticket, rounds) {
                     None
                 } else {
                     Some(ticket)
                 }
             }
-            AskNearResult::Far { .. } => None,
-            AskNearResult::Changed => None,
+            DrawNearResult::Far { .. } => None,
+            DrawNearResult::Changed => None,
         }
     }
 
-    /// Passes the turn on, however many withdrawn requests are before the next, and wakes who sleeps for it.
-    pub(crate) fn pass_on<R: Wait>(&self, rt: &R, seat: &mut TicketSeat, ticket: u64)
+    /// Releases the turn, however many withdrawn requests are before the next, and wakes the threads that sleep for it.
+    pub(crate) fn release_all<R: Wait>(&self, rt: &R, seat: &mut TicketSeat, ticket: u64)
         requires seat { IsSeatOf self.now.table.shared.table_id self.now.table.shared.key seat.old }
         requires has { InTime seat.old (HasTurnOf ticket) }
         ensures seat { IsSeatOf self.now.table.shared.table_id self.now.table.shared.key seat.new }

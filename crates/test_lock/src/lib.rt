@@ -1,10 +1,10 @@
-//! Tests of the lock's core: turns of threads that share a lock, and each answer to one caller.
+//! Tests of the lock's core: threads that share a lock, and each answer to one caller.
 //!
 //! The crate is read for its tests alone, so that it is proved once.
 #![tactic(auto)]
 
 #[cfg(test)]
-mod bursts;
+mod barging;
 #[cfg(test)]
 mod counts;
 #[cfg(test)]

@@ -1,4 +1,4 @@
-//! Turns in strict order.
+//! Threads at a strict lock.
 ghost use Rattle.std.specs.Prelude.{◌≡◌, ◌≤◌};
 ghost use Rattle.lock_core.specs.Views.{InTime, IsSeatOf, IsIdle};
 
@@ -7,7 +7,7 @@ use crate::field::Field;
 use lock_core::{TicketSeat, check_open, new_seat};
 use std::sync::Wait;
 
-/// One request, and its turn if it has one. Returns 1 for a turn.
+/// Makes one request. Returns 1 if it was served.
 fn turn_or_none<R: Wait>(rt: &R, field: &Field, seat: &mut TicketSeat, dice: &mut Dice) -> u64
     requires strict { field.now.table.shared.key ≤ 1 }
     requires seat { IsSeatOf field.now.table.shared.table_id field.now.table.shared.key seat.old }
@@ -16,18 +16,18 @@ fn turn_or_none<R: Wait>(rt: &R, field: &Field, seat: &mut TicketSeat, dice: &mu
     ensures idle { InTime seat.new IsIdle }
     ensures count { result ≤ 1 }
 {
-    let Some((ticket, before)) = field.ask_somehow(rt, seat, dice) else {
+    let Some((ticket, before)) = field.draw_somehow(rt, seat, dice) else {
         return 0;
     };
     let is_open = check_open(&field.table.shared, seat, ticket);
     if is_open {
         field.counts.queue_turn(ticket, before, 0);
     }
-    field.pass_on(rt, seat, ticket);
+    field.release_all(rt, seat, ticket);
     if is_open { 1 } else { 0 }
 }
 
-/// The requests of one thread. Returns its turns.
+/// Makes the requests of one thread. Returns how often it was served.
 pub(crate) fn turns<R: Wait>(rt: &R, field: &Field, place: u64, requests: u64) -> u64
     requires { field.now.table.shared.key ≤ 1 }
 {

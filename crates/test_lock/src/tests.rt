@@ -1,7 +1,7 @@
 //! The tests.
 
 mod answers;
+mod lock_word;
 mod memory;
 mod opening;
-mod outer;
 mod threads;

@@ -6,62 +6,70 @@ use std::sync::Wait;
 use std::time::{Duration, Instant};
 
 #[test]
-fn bursts_of_one_turn_are_refused_and_the_value_comes_back(rt: HostRuntime) {
-    let refused = FairLock::with_bursts(rt.alloc(), 1, 7u64);
+fn a_barging_limit_of_one_is_refused_and_the_value_comes_back(rt: HostRuntime) {
+    let refused = FairLock::with_barging(rt.alloc(), 1, 7u64);
     let Err(NewError { error, value }) = refused else {
-        panic!(&rt; "made with bursts of one turn")
+        panic!(&rt; "made with a barging limit of one")
     };
-    assert_eq!(&rt; error, OpenError::ShortBurst(1));
+    assert_eq!(&rt; error, OpenError::BadBargingLimit(1));
     assert_eq!(&rt; value, 7);
 }
 
 #[test]
 fn a_free_lock_is_entered_at_once(rt: HostRuntime) {
-    for burst in [1, 2, 8] {
-        let lock = lock_of(rt.alloc(), burst, 0).expect(&rt, "memory");
-        assert_eq!(&rt; add(&rt, &lock, 2), 2, "at {burst}");
-        assert_eq!(&rt; try_add(&rt, &lock, 3), 3, "at {burst}");
-        assert_eq!(&rt; add_within(&rt, &lock, 4, Duration::ZERO), 4, "at {burst}");
-        assert_eq!(&rt; lock.into_inner(), 9, "at {burst}");
+    for barging_limit in [1, 2, 8] {
+        let lock = lock_of(rt.alloc(), barging_limit, 0).expect(&rt, "memory");
+        assert_eq!(&rt; add(&rt, &lock, 2), 2, "at {barging_limit}");
+        assert_eq!(&rt; try_add(&rt, &lock, 3), 3, "at {barging_limit}");
+        assert_eq!(&rt;
+            add_within(&rt, &lock, 4, Duration::ZERO),
+            4,
+            "at {barging_limit}"
+        );
+        assert_eq!(&rt; lock.into_inner(), 9, "at {barging_limit}");
     }
 }
 
 #[test]
-fn a_held_lock_is_busy_and_late(rt: HostRuntime) {
-    for burst in [1, 2, 8] {
-        let lock = lock_of(rt.alloc(), burst, 5).expect(&rt, "memory");
+fn a_held_lock_is_busy_and_times_out(rt: HostRuntime) {
+    for barging_limit in [1, 2, 8] {
+        let lock = lock_of(rt.alloc(), barging_limit, 5).expect(&rt, "memory");
         let mut guard = lock.enter(&rt).ok().expect(&rt, "open");
         let value = *guard.value_mut();
         *guard.value_mut() = 6;
         let tried = try_enter(&rt, &lock);
-        let late = enter_within(&rt, &lock, &rt, Duration::from_millis(3));
+        let timed_out = enter_within(&rt, &lock, &rt, Duration::from_millis(3));
         guard.leave(&rt);
         let had = add(&rt, &lock, 3);
-        let found = (value, tried, late, had, lock.into_inner());
-        let wanted = (5, Answer::Busy, Answer::Late, 3, 9);
-        assert_eq!(&rt; found, wanted, "at {burst}");
+        let found = (value, tried, timed_out, had, lock.into_inner());
+        let wanted = (5, Answer::Busy, Answer::TimedOut, 3, 9);
+        assert_eq!(&rt; found, wanted, "at {barging_limit}");
     }
 }
 
 #[test]
-fn a_late_call_waits_as_long_as_it_may(rt: HostRuntime) {
-    let limit = Duration::from_millis(20);
-    for burst in [1, 2, 8] {
-        let lock = lock_of(rt.alloc(), burst, 0).expect(&rt, "memory");
+fn a_call_that_times_out_waits_as_long_as_it_may(rt: HostRuntime) {
+    let timeout = Duration::from_millis(20);
+    for barging_limit in [1, 2, 8] {
+        let lock = lock_of(rt.alloc(), barging_limit, 0).expect(&rt, "memory");
         let guard = lock.enter(&rt).ok().expect(&rt, "open");
         let begun = Instant::now(&rt).ok().expect(&rt, "clock");
-        let answer = enter_within(&rt, &lock, &rt, limit);
+        let answer = enter_within(&rt, &lock, &rt, timeout);
         let waited = begun.elapsed(&rt).ok().expect(&rt, "clock");
         guard.leave(&rt);
-        let is_in_time = waited >= limit && waited < Duration::from_secs(20);
-        assert_eq!(&rt; (answer, is_in_time), (Answer::Late, true), "at {burst}");
+        let is_in_time = waited >= timeout && waited < Duration::from_secs(20);
+        assert_eq!(&rt;
+            (answer, is_in_time),
+            (Answer::TimedOut, true),
+            "at {barging_limit}"
+        );
     }
 }
 
 #[test]
 fn a_shut_lock_is_closed_to_all(rt: HostRuntime) {
-    for burst in [1, 2, 8] {
-        let lock = lock_of(rt.alloc(), burst, 1).expect(&rt, "memory");
+    for barging_limit in [1, 2, 8] {
+        let lock = lock_of(rt.alloc(), barging_limit, 1).expect(&rt, "memory");
         let mut guard = lock.enter(&rt).ok().expect(&rt, "open");
         guard.shut();
         *guard.value_mut() = 2;
@@ -72,16 +80,16 @@ fn a_shut_lock_is_closed_to_all(rt: HostRuntime) {
             enter_within(&rt, &lock, &rt, Duration::from_millis(3)),
         ];
         let found = (answers, lock.into_inner());
-        assert_eq!(&rt; found, ([Answer::Closed; 3], 2), "at {burst}");
+        assert_eq!(&rt; found, ([Answer::Closed; 3], 2), "at {barging_limit}");
     }
 }
 
-/// Holds the lock while five calls are late. Returns how many were served.
-fn hold_while_five_are_late<R: Wait + Clock>(rt: &R, lock: &FairLock<u64>) -> u64 {
+/// Holds the lock while five calls time out. Returns how many were served.
+fn hold_while_five_time_out<R: Wait + Clock>(rt: &R, lock: &FairLock<u64>) -> u64 {
     let mut served = 0u64;
     if let Ok(guard) = lock.enter(rt) {
         for _ in 0..5 {
-            if enter_within(rt, lock, rt, Duration::from_micros(1)) != Answer::Late {
+            if enter_within(rt, lock, rt, Duration::from_micros(1)) != Answer::TimedOut {
                 served = served.wrapping_add(1);
             }
         }
@@ -92,13 +100,17 @@ fn hold_while_five_are_late<R: Wait + Clock>(rt: &R, lock: &FairLock<u64>) -> u6
 
 #[test]
 fn a_withdrawn_request_is_passed(rt: HostRuntime) {
-    for burst in [1, 2] {
-        let lock = lock_of(rt.alloc(), burst, 0).expect(&rt, "memory");
+    for barging_limit in [1, 2] {
+        let lock = lock_of(rt.alloc(), barging_limit, 0).expect(&rt, "memory");
         for _ in 0..40 {
-            assert_eq!(&rt; hold_while_five_are_late(&rt, &lock), 0, "at {burst}");
+            assert_eq!(&rt;
+                hold_while_five_time_out(&rt, &lock),
+                0,
+                "at {barging_limit}"
+            );
         }
         let had = add(&rt, &lock, 10);
-        assert_eq!(&rt; (had, lock.into_inner()), (10, 10), "at {burst}");
+        assert_eq!(&rt; (had, lock.into_inner()), (10, 10), "at {barging_limit}");
     }
 }
 

@@ -1,4 +1,4 @@
-//! Who is served when: in the order of requests, also of those that slept.
+//! Threads are served in the order of requests, also those that slept.
 use super::threads::{append, sum, wait_for};
 use super::{Answer, add, add_within, lock_of, try_enter};
 use fair_lock::FairLock;
@@ -21,27 +21,27 @@ fn hold_for<R: Wait + Clock>(rt: &R, lock: &FairLock<u64>, stage: &AtomicU64, wa
     }
 }
 
-/// Waits as the waiter of this number behind `hold_for`, and has a turn.
+/// Waits as the waiter of this number behind `hold_for`, and is served.
 fn come_as<R: Wait + Clock>(
     rt: &R,
     lock: &FairLock<u64>,
     stage: &AtomicU64,
     waiter: u64,
-    has_limit: bool,
+    has_timeout: bool,
 ) {
     wait_for(rt, stage, waiter.wrapping_mul(2).wrapping_sub(1));
     stage.fetch_add(1, SeqCst);
-    append(rt, lock, waiter, has_limit);
+    append(rt, lock, waiter, has_timeout);
 }
 
-/// None of the waiters has a limit, each has one, or each other one. A thread may be stopped between its last step before the call and its
+/// None of the waiters has a timeout, each has one, or every second one. A thread may be stopped between its last step before the call and its
 /// request, so not each round has to show the order: three of at most fifty.
 #[test]
 fn thirteen_waiters_are_served_as_they_came(rt: HostRuntime) {
-    for (burst, limits) in [(1, 0), (1, 1), (1, 2), (2, 0), (8, 2)] {
+    for (barging_limit, timeouts) in [(1, 0), (1, 1), (1, 2), (2, 0), (8, 2)] {
         let mut in_order = 0u64;
         for _ in 0..50 {
-            let lock = lock_of(rt.alloc(), burst, 0).expect(&rt, "memory");
+            let lock = lock_of(rt.alloc(), barging_limit, 0).expect(&rt, "memory");
             let stage = AtomicU64::new(0);
             thread::map_indices(
                 &rt,
@@ -51,8 +51,8 @@ fn thirteen_waiters_are_served_as_they_came(rt: HostRuntime) {
                     if i == 0 {
                         hold_for(&rt, &lock, &stage, 13);
                     } else {
-                        let has_limit = limits == 1 || limits == 2 && i % 2 == 0;
-                        come_as(&rt, &lock, &stage, i as u64, has_limit);
+                        let has_timeout = timeouts == 1 || timeouts == 2 && i % 2 == 0;
+                        come_as(&rt, &lock, &stage, i as u64, has_timeout);
                     }
                 },
             )
@@ -67,7 +67,7 @@ fn thirteen_waiters_are_served_as_they_came(rt: HostRuntime) {
         }
         assert!(&rt;
             in_order == 3,
-            "at {burst}, {limits}: in order {in_order} times of 50"
+            "at {barging_limit}, {timeouts}: in order {in_order} times of 50"
         );
     }
 }
@@ -89,8 +89,8 @@ fn try_while_another_waits<R: Wait + Clock>(
 
 #[test]
 fn who_tries_does_not_wait_behind_a_waiter(rt: HostRuntime) {
-    for burst in [1, 2, 8] {
-        let lock = lock_of(rt.alloc(), burst, 0).expect(&rt, "memory");
+    for barging_limit in [1, 2, 8] {
+        let lock = lock_of(rt.alloc(), barging_limit, 0).expect(&rt, "memory");
         let stage = AtomicU64::new(0);
         let busy = thread::map_indices(
             &rt,
@@ -106,8 +106,8 @@ fn who_tries_does_not_wait_behind_a_waiter(rt: HostRuntime) {
         )
         .ok()
         .expect(&rt, "memory");
-        assert_eq!(&rt; sum(&busy), 1, "at {burst}");
-        assert_eq!(&rt; lock.into_inner(), 1, "at {burst}");
+        assert_eq!(&rt; sum(&busy), 1, "at {barging_limit}");
+        assert_eq!(&rt; lock.into_inner(), 1, "at {barging_limit}");
     }
 }
 
@@ -202,7 +202,7 @@ fn both_that_sleep_at_one_word_are_woken(rt: HostRuntime) {
     assert_eq!(&rt; lock.into_inner(), WAITERS);
 }
 
-/// Has a turn, and once another waits one more after another, until that has had its own. Returns how many more.
+/// Enters the lock, and once another thread waits again and again, until that thread was served. Returns how often.
 fn take_again<R: Wait + Clock>(rt: &R, lock: &FairLock<u64>, stage: &AtomicU64) -> u64 {
     let Ok(guard) = lock.enter(rt) else { return 0 };
     stage.store(1, SeqCst);
@@ -222,13 +222,19 @@ fn take_again<R: Wait + Clock>(rt: &R, lock: &FairLock<u64>, stage: &AtomicU64) 
     1_000_000
 }
 
-/// The queue head sleeps while a newcomer is inside that then takes the lock again and again: at most once less often than a burst has turns.
+/// The queue head sleeps while a newcomer is inside, which then barges again and again: at most as often as the barging limit allows.
 #[test]
-fn a_queue_head_that_sleeps_has_its_turn_behind_a_burst(rt: HostRuntime) {
-    for (burst, has_limit) in [(2, false), (8, false), (8, true), (64, false), (64, true)] {
+fn a_queue_head_that_sleeps_is_served_after_the_barging_limit(rt: HostRuntime) {
+    for (barging_limit, has_timeout) in [
+        (2, false),
+        (8, false),
+        (8, true),
+        (64, false),
+        (64, true),
+    ] {
         let mut within = 0u64;
         for _ in 0..10 {
-            let lock = lock_of(rt.alloc(), burst, 0).expect(&rt, "memory");
+            let lock = lock_of(rt.alloc(), barging_limit, 0).expect(&rt, "memory");
             let stage = AtomicU64::new(0);
             let more = thread::map_indices(
                 &rt,
@@ -238,20 +244,20 @@ fn a_queue_head_that_sleeps_has_its_turn_behind_a_burst(rt: HostRuntime) {
                     if i == 0 {
                         return take_again(&rt, &lock, &stage);
                     }
-                    come_as(&rt, &lock, &stage, 1, has_limit);
+                    come_as(&rt, &lock, &stage, 1, has_timeout);
                     0
                 },
             )
             .ok()
             .expect(&rt, "memory");
-            assert_eq!(&rt; lock.into_inner(), 1, "at {burst}");
-            if sum(&more) < u64::from(burst) {
+            assert_eq!(&rt; lock.into_inner(), 1, "at {barging_limit}");
+            if sum(&more) < u64::from(barging_limit) {
                 within = within.wrapping_add(1);
             }
         }
         assert!(&rt;
             within >= 8,
-            "at {burst}: within the bound {within} times of 10"
+            "at {barging_limit}: within the bound {within} times of 10"
         );
     }
 }

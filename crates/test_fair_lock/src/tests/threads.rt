@@ -1,4 +1,4 @@
-//! Threads that share a value: no turn is lost, and no two are at one time.
+//! Threads that share a value: no acquisition is lost, and no two overlap.
 use super::{add, add_within, lock_of, try_add};
 use fair_lock::FairLock;
 use std::rt::Clock;
@@ -19,7 +19,7 @@ pub(super) fn sum(had: &Vec<u64>) -> u64 {
 
 #[test]
 fn each_turn_counts_once(rt: HostRuntime) {
-    for (burst, threads, times) in [
+    for (barging_limit, threads, times) in [
         (1, 2, 4000),
         (1, 4, 2000),
         (1, 16, 200),
@@ -29,20 +29,20 @@ fn each_turn_counts_once(rt: HostRuntime) {
         (32, 8, 1000),
         (32, 64, 50),
     ] {
-        let lock = lock_of(rt.alloc(), burst, 0).expect(&rt, "memory");
+        let lock = lock_of(rt.alloc(), barging_limit, 0).expect(&rt, "memory");
         let had = thread::map_indices(&rt, rt.alloc(), threads, &|_| add(&rt, &lock, times))
             .ok()
             .expect(&rt, "memory");
         let wanted = threads as u64 * times;
-        assert_eq!(&rt; sum(&had), wanted, "at {burst}");
-        assert_eq!(&rt; lock.into_inner(), wanted, "at {burst}");
+        assert_eq!(&rt; sum(&had), wanted, "at {barging_limit}");
+        assert_eq!(&rt; lock.into_inner(), wanted, "at {barging_limit}");
     }
 }
 
 #[test]
 fn who_had_no_turn_leaves_nothing(rt: HostRuntime) {
-    for burst in [1, 2, 32] {
-        let lock = lock_of(rt.alloc(), burst, 0).expect(&rt, "memory");
+    for barging_limit in [1, 2, 32] {
+        let lock = lock_of(rt.alloc(), barging_limit, 0).expect(&rt, "memory");
         let had = thread::map_indices(
             &rt,
             rt.alloc(),
@@ -57,7 +57,7 @@ fn who_had_no_turn_leaves_nothing(rt: HostRuntime) {
         .expect(&rt, "memory");
         let all = sum(&had);
         assert!(&rt; all >= 1200);
-        assert_eq!(&rt; lock.into_inner(), all, "at {burst}");
+        assert_eq!(&rt; lock.into_inner(), all, "at {barging_limit}");
     }
 }
 
@@ -72,8 +72,8 @@ pub(super) fn wait_for<R: Wait + Clock>(rt: &R, stage: &AtomicU64, wanted: u64) 
     unreachable!()
 }
 
-/// Holds the lock, so often: until that number of threads has come, and then long enough for the others to fall asleep.
-/// Returns how many turns there were.
+/// Holds the lock this often: until that number of threads has come, and then long enough for the others to fall asleep.
+/// Returns how many critical sections there were.
 fn hold_while_others_sleep<R: Wait + Clock>(
     rt: &R,
     lock: &FairLock<u64>,
@@ -96,8 +96,8 @@ fn hold_while_others_sleep<R: Wait + Clock>(
 
 #[test]
 fn those_that_sleep_are_woken(rt: HostRuntime) {
-    for burst in [1, 2] {
-        let lock = lock_of(rt.alloc(), burst, 0).expect(&rt, "memory");
+    for barging_limit in [1, 2] {
+        let lock = lock_of(rt.alloc(), barging_limit, 0).expect(&rt, "memory");
         let stage = AtomicU64::new(0);
         let had = thread::map_indices(
             &rt,
@@ -115,14 +115,14 @@ fn those_that_sleep_are_woken(rt: HostRuntime) {
         )
         .ok()
         .expect(&rt, "memory");
-        assert_eq!(&rt; sum(&had), 164, "at {burst}");
-        assert_eq!(&rt; lock.into_inner(), 160, "at {burst}");
+        assert_eq!(&rt; sum(&had), 164, "at {barging_limit}");
+        assert_eq!(&rt; lock.into_inner(), 160, "at {barging_limit}");
     }
 }
 
-/// Has a turn, with a limit or without: the value becomes sixteen times itself and `digit`.
-pub(super) fn append<R: Wait + Clock>(rt: &R, lock: &FairLock<u64>, digit: u64, has_limit: bool) {
-    let entered = if has_limit {
+/// Enters with a timeout or without: the value becomes sixteen times itself and `digit`.
+pub(super) fn append<R: Wait + Clock>(rt: &R, lock: &FairLock<u64>, digit: u64, has_timeout: bool) {
+    let entered = if has_timeout {
         lock.enter_within(rt, Duration::from_secs(50)).ok()
     } else {
         lock.enter(rt).ok()
@@ -134,12 +134,12 @@ pub(super) fn append<R: Wait + Clock>(rt: &R, lock: &FairLock<u64>, digit: u64, 
     }
 }
 
-/// Holds the lock until another waits for it, leaves, and asks again.
-fn hold_and_ask_again<R: Wait + Clock>(
+/// Holds the lock until another thread waits for it, leaves, and requests it again.
+fn hold_and_draw_again<R: Wait + Clock>(
     rt: &R,
     lock: &FairLock<u64>,
     stage: &AtomicU64,
-    has_limit: bool,
+    has_timeout: bool,
 ) {
     if let Ok(guard) = lock.enter(rt) {
         stage.store(1, SeqCst);
@@ -147,13 +147,13 @@ fn hold_and_ask_again<R: Wait + Clock>(
         thread::sleep(rt, Duration::from_millis(20));
         guard.leave(rt);
     }
-    append(rt, lock, 2, has_limit);
+    append(rt, lock, 2, has_timeout);
 }
 
 /// A thread may be stopped between its last step before the call and its request, so not each round has to show the order.
 #[test]
-fn who_waits_is_served_before_who_asks_later(rt: HostRuntime) {
-    for waiter_has_limit in [false, true] {
+fn a_waiter_is_served_before_a_later_request(rt: HostRuntime) {
+    for waiter_has_timeout in [false, true] {
         let mut in_order = 0u64;
         for _ in 0..20 {
             let lock = lock_of(rt.alloc(), 1, 0).expect(&rt, "memory");
@@ -164,11 +164,11 @@ fn who_waits_is_served_before_who_asks_later(rt: HostRuntime) {
                 2,
                 &|i| {
                     if i == 0 {
-                        hold_and_ask_again(&rt, &lock, &stage, !waiter_has_limit);
+                        hold_and_draw_again(&rt, &lock, &stage, !waiter_has_timeout);
                     } else {
                         wait_for(&rt, &stage, 1);
                         stage.store(2, SeqCst);
-                        append(&rt, &lock, 1, waiter_has_limit);
+                        append(&rt, &lock, 1, waiter_has_timeout);
                     }
                 },
             )

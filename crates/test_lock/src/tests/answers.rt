@@ -3,9 +3,9 @@ ghost use Rattle.std.specs.Prelude.{◌≤◌, IfOk};
 ghost use Rattle.lock_core.specs.Layout.{IsLockTable};
 
 use lock_core::{
-    AskNearResult, LockKind, ReleaseResult, SharedTable, SleepResult, TicketSeat, TicketTable,
-    announce_sleep, ask, ask_near, check_open, learn, new_seat, open, poll, release, reopen,
-    retract_sleep, shut, tell, try_ask, withdraw,
+    DrawNearResult, LockKind, ReleaseResult, SharedTable, SleepResult, TicketSeat, TicketTable,
+    announce_sleep, check_open, draw, draw_near, learn, new_seat, open, poll, release, reopen,
+    retract_sleep, shut, tell, try_draw, withdraw,
 };
 use std::alloc::Global;
 use std::test::Fail;
@@ -25,8 +25,8 @@ fn granted_asleep(lock: &SharedTable) -> Option<(u64, u64, ReleaseResult, u64)>
 {
     let mut holder = new_seat(lock);
     let mut waiter = new_seat(lock);
-    let mut turn = try_ask(lock, &mut holder)?;
-    let ticket = ask(lock, &mut waiter);
+    let mut turn = try_draw(lock, &mut holder)?;
+    let ticket = draw(lock, &mut waiter);
     if poll(lock, &mut waiter, ticket) == 0 {
         return None;
     }
@@ -49,13 +49,13 @@ fn a_sleeper_is_told_of(rt: HostRuntime) -> Result<(), Fail> {
 
 /// A request is withdrawn, and the release passes it. Returns the withdrawn ticket with its rounds to go, the answer of the release, the
 /// ticket that the release passed last, and the next one.
-fn passed(lock: &SharedTable) -> Option<(u64, u64, ReleaseResult, u64, AskNearResult)>
+fn passed(lock: &SharedTable) -> Option<(u64, u64, ReleaseResult, u64, DrawNearResult)>
     requires { IsLockTable lock.now.table_id }
 {
     let mut holder = new_seat(lock);
     let mut waiter = new_seat(lock);
-    let mut turn = try_ask(lock, &mut holder)?;
-    let AskNearResult::Queued { ticket, rounds } = ask_near(lock, &mut waiter) else {
+    let mut turn = try_draw(lock, &mut holder)?;
+    let DrawNearResult::Queued { ticket, rounds } = draw_near(lock, &mut waiter) else {
         return None;
     };
     if !withdraw(lock, &mut waiter, ticket, rounds) {
@@ -65,26 +65,26 @@ fn passed(lock: &SharedTable) -> Option<(u64, u64, ReleaseResult, u64, AskNearRe
     let ReleaseResult::Granted { .. } = released else {
         return None;
     };
-    Some((ticket, rounds, released, turn, ask_near(lock, &mut holder)))
+    Some((ticket, rounds, released, turn, draw_near(lock, &mut holder)))
 }
 
 #[test]
 fn a_withdrawn_request_is_passed(rt: HostRuntime) -> Result<(), Fail> {
     let table = strict(rt.alloc())?;
     let released = ReleaseResult::Granted { sleepers: 0 };
-    let next = AskNearResult::AtTurn { ticket: 2 };
+    let next = DrawNearResult::AtTurn { ticket: 2 };
     assert_eq!(rt; passed(&table.shared), Some((1, 1, released, 1, next)));
     Ok(())
 }
 
 /// A request is granted before it is withdrawn. Returns whether it was withdrawn.
-fn withdrawn_late(lock: &SharedTable) -> Option<bool>
+fn withdrawn_too_late(lock: &SharedTable) -> Option<bool>
     requires { IsLockTable lock.now.table_id }
 {
     let mut holder = new_seat(lock);
     let mut waiter = new_seat(lock);
-    let mut turn = try_ask(lock, &mut holder)?;
-    let AskNearResult::Queued { ticket, rounds } = ask_near(lock, &mut waiter) else {
+    let mut turn = try_draw(lock, &mut holder)?;
+    let DrawNearResult::Queued { ticket, rounds } = draw_near(lock, &mut waiter) else {
         return None;
     };
     release(lock, &mut holder, &mut turn);
@@ -94,32 +94,32 @@ fn withdrawn_late(lock: &SharedTable) -> Option<bool>
 #[test]
 fn a_granted_request_is_not_withdrawn(rt: HostRuntime) -> Result<(), Fail> {
     let table = strict(rt.alloc())?;
-    assert_eq!(rt; withdrawn_late(&table.shared), Some(false));
+    assert_eq!(rt; withdrawn_too_late(&table.shared), Some(false));
     Ok(())
 }
 
-/// A request of a caller that never takes its turn.
+/// Draws the ticket of a caller that never takes its turn.
 fn draw_one(lock: &SharedTable) -> u64
     requires { IsLockTable lock.now.table_id }
 {
     let mut seat: TicketSeat = new_seat(lock);
-    ask(lock, &mut seat)
+    draw(lock, &mut seat)
 }
 
-/// A caller holds the lock, and 60 requests wait. Returns the answers to a caller that asks only near its turn, to one that asks only if it
-/// need not wait, and to one that asks in any case.
-fn drawn_far(lock: &SharedTable) -> Option<(AskNearResult, Option<u64>, u64)>
+/// A caller holds the lock, and 60 requests wait. Returns the answers to a caller that draws a ticket only near its turn, to one that draws
+/// only if it need not wait, and to one that draws in any case.
+fn drawn_far(lock: &SharedTable) -> Option<(DrawNearResult, Option<u64>, u64)>
     requires { IsLockTable lock.now.table_id }
 {
     let mut holder = new_seat(lock);
-    try_ask(lock, &mut holder)?;
+    try_draw(lock, &mut holder)?;
     for _ in 0..60 {
         draw_one(lock);
     }
     let mut late = new_seat(lock);
-    let near = ask_near(lock, &mut late);
+    let near = draw_near(lock, &mut late);
     let mut other = new_seat(lock);
-    let tried = try_ask(lock, &mut other);
+    let tried = try_draw(lock, &mut other);
     Some((near, tried, draw_one(lock)))
 }
 
@@ -128,7 +128,7 @@ fn drawn_far(lock: &SharedTable) -> Option<(AskNearResult, Option<u64>, u64)>
 fn far_and_busy_draw_no_ticket(rt: HostRuntime) -> Result<(), Fail> {
     let table = strict(rt.alloc())?;
     // Ticket 61 is in round 15 of its cell, in which none is granted.
-    let far = AskNearResult::Far { rounds: 16 };
+    let far = DrawNearResult::Far { rounds: 16 };
     assert_eq!(rt; drawn_far(&table.shared), Some((far, None, 61)));
     Ok(())
 }
@@ -141,13 +141,13 @@ fn reopened(lock: &SharedTable) -> Option<(bool, bool)>
     let mut first = new_seat(lock);
     let mut second = new_seat(lock);
     let mut third = new_seat(lock);
-    let mut one = try_ask(lock, &mut first)?;
+    let mut one = try_draw(lock, &mut first)?;
     if !check_open(lock, &mut first, one) {
         return None;
     }
     shut(lock, &mut first);
-    let mut two = ask(lock, &mut second);
-    let three = ask(lock, &mut third);
+    let mut two = draw(lock, &mut second);
+    let three = draw(lock, &mut third);
     release(lock, &mut first, &mut one);
     if poll(lock, &mut second, two) != 0 || check_open(lock, &mut second, two) {
         return None;
@@ -164,7 +164,7 @@ fn reopened(lock: &SharedTable) -> Option<(bool, bool)>
     Some((by_second, by_third))
 }
 
-/// After a shut each is told of it, until one with nobody behind reopens the lock.
+/// After a shut each caller is told of it, until one with nobody behind reopens the lock.
 #[test]
 fn a_shut_lock_is_reopened(rt: HostRuntime) -> Result<(), Fail> {
     let table = strict(rt.alloc())?;
@@ -172,20 +172,20 @@ fn a_shut_lock_is_reopened(rt: HostRuntime) -> Result<(), Fail> {
     Ok(())
 }
 
-/// A caller tells another what it knows, which then asks.
-fn asked_after_it_learnt(lock: &SharedTable) -> Option<u64>
+/// A caller tells another one what it knows, which then draws a ticket.
+fn drawn_after_it_learnt(lock: &SharedTable) -> Option<u64>
     requires { IsLockTable lock.now.table_id }
 {
     let mut one = new_seat(lock);
     let mut other = new_seat(lock);
     let told = tell(lock, &mut one);
     learn(lock, &mut other, told);
-    try_ask(lock, &mut other)
+    try_draw(lock, &mut other)
 }
 
 #[test]
 fn callers_tell_one_another(rt: HostRuntime) -> Result<(), Fail> {
     let table = strict(rt.alloc())?;
-    assert_eq!(rt; asked_after_it_learnt(&table.shared), Some(0));
+    assert_eq!(rt; drawn_after_it_learnt(&table.shared), Some(0));
     Ok(())
 }

@@ -1,7 +1,7 @@
-//! Threads share a lock: they ask, try, withdraw, sleep and are woken. Nobody is inside with another, no turn is lost or made up, tickets
-//! have their turns in order, and newcomers are within their bounds.
+//! Threads share a lock: they request, try, withdraw, sleep and are woken. No two are inside together, no acquisition is lost or made up,
+//! tickets have their turns in order, and the threads that barge are within their bounds.
 use crate::field::Field;
-use crate::{bursts, strict};
+use crate::{barging, strict};
 use lock_core::LockKind;
 use std::alloc::Global;
 use std::process::Abort;
@@ -32,35 +32,35 @@ fn run_strict<R: Threads + Wait + Sync + Abort>(
     Ok(())
 }
 
-/// Runs this number of threads over a lock with bursts of at most `burst` turns.
-fn run_bursts<R: Threads + Wait + Sync + Abort>(
+/// Runs this number of threads over a barging lock with this limit.
+fn run_barging<R: Threads + Wait + Sync + Abort>(
     rt: &R,
     alloc: Global,
     threads: u64,
-    burst: u16,
+    barging_limit: u16,
 ) -> Result<(), Fail> {
-    let field = Field::open(alloc, LockKind::Bursts(burst))
+    let field = Field::open(alloc, LockKind::Barging(barging_limit))
         .ok()
         .ok_or("opened")?;
     let requests = REQUESTS / threads.max(1);
-    let most = u64::from(burst);
+    let most = u64::from(barging_limit);
     let bound = threads.wrapping_mul(most.saturating_sub(1));
     let turns = map_indices(
         rt,
         alloc,
         threads as usize,
-        &|place| { bursts::turns(rt, &field, place as u64, requests, most, bound) },
+        &|place| { barging::turns(rt, &field, place as u64, requests, most, bound) },
     )?;
     let sum = turns.iter().fold(0u64, |sum, n| sum.wrapping_add(*n));
     assert_eq!(rt;
         field.counts.faults(),
         0,
-        "{threads} threads, bursts of {burst}"
+        "{threads} threads, barging limit {barging_limit}"
     );
     assert_eq!(rt;
         field.counts.turns(),
         sum,
-        "{threads} threads, bursts of {burst}"
+        "{threads} threads, barging limit {barging_limit}"
     );
     Ok(())
 }
@@ -74,9 +74,9 @@ fn strict_turns_are_in_order(rt: HostRuntime) -> Result<(), Fail> {
 }
 
 #[test]
-fn bursts_keep_their_bounds(rt: HostRuntime) -> Result<(), Fail> {
-    for (threads, burst) in [(2, 2), (4, 3), (4, 16), (16, 64), (64, 2)] {
-        run_bursts(&rt, rt.alloc(), threads, burst)?;
+fn barging_keeps_its_bounds(rt: HostRuntime) -> Result<(), Fail> {
+    for (threads, barging_limit) in [(2, 2), (4, 3), (4, 16), (16, 64), (64, 2)] {
+        run_barging(&rt, rt.alloc(), threads, barging_limit)?;
     }
     Ok(())
 }

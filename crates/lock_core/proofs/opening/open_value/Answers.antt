@@ -3,4 +3,4 @@ use Rattle.lock_core.proofs.Slots.{opens_with}
 use Rattle.lock_core.proofs.opening.open_value.Goals as goal
 
 pub new-requires : goal.new-requires
-new-requires g c = opens_with _ c.requires.one (let k = c.max_burst.ensures.max in omega arith)
+new-requires g c = opens_with _ c.requires.one (let k = c.barging_limit.ensures.max in omega arith)

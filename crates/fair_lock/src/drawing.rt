@@ -1,0 +1,72 @@
+//! A thread draws a ticket, and waits for its turn.
+ghost use Rattle.std.specs.Prelude.{◌≡◌, ◌≤◌, false};
+ghost use Rattle.fair_lock.specs.Closing.{IsOut};
+ghost use Rattle.fair_lock.specs.Found.{ShowsNoEntry};
+ghost use Rattle.lock_core.specs.Views.{view_of, InTime, LoadGrows, IsSeatOf, IsIdle, IsAtTurn, IsOvertakenInBounds, SameInside};
+
+use crate::lock::FairLock;
+use crossbeam_utils::Backoff;
+use lock_core::layout::MAX_WINDOW;
+use lock_core::{DrawWithinResult, ValueSeat, draw_within};
+use std::sync::{Wait, WaitMethods};
+
+/// A ticket at its turn.
+#[derive(Clone, Copy)]
+pub(crate) struct Turn {
+    pub(crate) ticket: u64,
+    /// Its thread may have slept for it. Then the thread wakes ahead: not only the waiter that it grants, but also the one
+    /// behind.
+    pub(crate) slept: bool,
+}
+
+impl Turn {
+    /// A turn that was found at once.
+    pub(crate) fn at_once(ticket: u64) -> Turn
+        ensures { result.ticket ≡ ticket }
+    {
+        Turn {
+            ticket,
+            slept: false,
+        }
+    }
+
+    /// The turn of a newcomer, which is a thread that barged: it has no ticket.
+    pub(crate) fn of_newcomer() -> Turn
+        ensures { result.ticket ≡ 0 }
+    {
+        Turn::at_once(0)
+    }
+}
+
+impl<T> FairLock<T> {
+    /// Draws a ticket, and waits until the ticket is at its turn. Blocks. In a barging lock its caller has tried to barge.
+    ///
+    /// While 2^29 requests are open it draws none, and looks again from time to time. Once `MAX_TICKETS` are drawn it waits
+    /// forever.
+    pub(crate) fn come_to_turn<R: Wait>(&self, rt: &R, seat: &mut ValueSeat<T>) -> Turn
+        requires seat { IsSeatOf self.now.table.shared.table_id self.now.table.shared.key seat.old }
+        requires idle { InTime seat.old IsIdle }
+        requires out { InTime seat.old IsOut }
+        requires tried { 2 ≤ self.now.barging_limit → ShowsNoEntry seat.old }
+        ensures seat { IsSeatOf self.now.table.shared.table_id self.now.table.shared.key seat.new }
+        ensures load { LoadGrows seat.old seat.new }
+        ensures stays { SameInside (view_of seat.old) (view_of seat.new) }
+        ensures at_turn { InTime seat.new (IsAtTurn result.ticket) }
+        ensures overtaken { InTime seat.new IsOvertakenInBounds }
+    {
+        let backoff = Backoff::new();
+        for _ in rt.forever() {
+            match draw_within(&self.table.shared, seat, MAX_WINDOW) {
+                DrawWithinResult::AtTurn { ticket } => return Turn::at_once(ticket),
+                DrawWithinResult::Queued { ticket, rounds: _ } => {
+                    let slept = self.wait(rt, seat, ticket);
+                    return Turn { ticket, slept };
+                }
+                DrawWithinResult::Far { rounds: _ }
+                | DrawWithinResult::Changed
+                | DrawWithinResult::Spent => backoff.snooze(),
+            }
+        }
+        unreachable!()
+    }
+}

@@ -1,0 +1,50 @@
+//! Why a thread was not served, and what it has after its critical section.
+ghost use Rattle.std.specs.Prelude.{◌≡◌};
+
+use crate::found::FoundTaken;
+use crate::span::Over;
+use lock_core::ValueSeat;
+
+/// The lock is shut, and serves nobody any more. This has no bytes, and shows in proofs that the caller was told of it.
+#[derive(Drop)]
+pub struct Closed<T> {
+    pub(crate) seat: ValueSeat<T>,
+}
+
+/// Another thread was served, or waited. This has no bytes, and shows in proofs that nothing is left behind.
+#[derive(Drop)]
+pub struct Busy<T> {
+    pub(crate) seat: ValueSeat<T>,
+    pub(crate) found: FoundTaken,
+}
+
+/// The call timed out. This shows in proofs that the timeout was the call's own, and that no request is left behind.
+#[derive(Drop)]
+pub struct TimedOut<T> {
+    pub(crate) seat: ValueSeat<T>,
+    pub(crate) over: Over,
+}
+
+/// Why `try_enter` gave no guard.
+#[derive(Drop)]
+pub enum TryEnterError<T> {
+    /// Another thread is served, or waits.
+    Busy(Busy<T>),
+    /// The lock is shut.
+    Closed(Closed<T>),
+}
+
+/// Why `enter_within` gave no guard.
+#[derive(Drop)]
+pub enum EnterError<T> {
+    /// The lock is shut.
+    Closed(Closed<T>),
+    /// The call timed out before its turn. A request that was made is withdrawn, or its turn of the queue released.
+    TimedOut(TimedOut<T>),
+}
+
+/// A critical section has ended. This has no bytes, and shows in proofs that its thread has left.
+#[derive(Drop)]
+pub struct Left<T> {
+    pub(crate) seat: ValueSeat<T>,
+}

@@ -1,0 +1,67 @@
+//! The waiting policy: how long a thread polls, pauses and naps before it sleeps, in one place.
+//!
+//! A waiter knows its distance: the number of rounds, of four tickets each, before its own. It knows neither the time
+//! nor the number of processors, because each step of the clock is a system call of the handle and the kit has no call
+//! that counts processors. So the lengths here are numbers of polls, each for the reason beside it. The waiters of a
+//! line (`line_blocking`) do not share this module: what a line answers to a poll has no distance.
+use crate::span::Rest;
+use crossbeam_utils::Backoff;
+use std::hint::spin_loop;
+use std::sync::Wait;
+use std::sync::atomic::AtomicU64;
+use std::time::Duration;
+
+/// The polls of a waiter with at most four requests before it: some 24 us, which is about what a sleep and a wake cost.
+/// A longer critical section is worth a sleep.
+pub(crate) const POLLS: u32 = 200;
+
+/// The polls of a waiter with more than four requests before it: some 2 us. Its turn is several critical sections away,
+/// and its processor may be what their threads need.
+pub(crate) const POLLS_FAR: u32 = 20;
+
+/// The pauses between two polls: some 120 ns, as most processors pause. A poll right after the other takes the cache
+/// line from the thread that is about to write it.
+const PAUSES: u32 = 16;
+
+/// The looks of the queue head at the lock word before it requests a handoff and sleeps: some 40 us.
+pub(crate) const HEAD_LOOKS: u32 = 100;
+
+/// The intervals of `PAUSES` between two looks of the queue head: each look takes the cache line of the lock word from
+/// the thread that is inside, which needs it again when it leaves.
+pub(crate) const HEAD_INTERVALS: u32 = 3;
+
+/// The queue head requests a handoff after this part of the barging limit, if it does not sleep before: then barging
+/// threads still have most of their advantage, and a waiter does not wait for all of the limit.
+pub(crate) const REQUEST_PART: u64 = 16;
+
+/// The longest nap of a thread that may not draw a ticket yet, in microseconds. Nobody wakes it, so this is how late it
+/// may notice that it may draw one.
+const NAP_MICROS: u64 = 200;
+
+/// Pauses between two polls of a word.
+pub(crate) fn pause() {
+    for _ in 0..PAUSES {
+        spin_loop();
+    }
+}
+
+/// Pauses between two looks of the queue head, which are more frequent once a handoff is requested.
+pub(crate) fn pause_as_head(requested: bool) {
+    pause();
+    if !requested {
+        for _ in 1..HEAD_INTERVALS {
+            pause();
+        }
+    }
+}
+
+/// Pauses and then yields, a few times. From then on a thread that is far from its turn sleeps for a nap, or for as long
+/// as `rest` says. Nobody wakes it. Blocks.
+pub(crate) fn pause_or_nap<R: Wait>(rt: &R, backoff: &Backoff, is_far: bool, rest: &Rest) {
+    if is_far && backoff.is_completed() {
+        let (left, nap) = (rest.left(), Duration::from_micros(NAP_MICROS));
+        AtomicU64::new(0).park_timeout(rt, 0, if left < nap { left } else { nap });
+    } else {
+        backoff.snooze();
+    }
+}

@@ -1,5 +1,0 @@
-use Rattle.lock_core.specs.Views.{InTime, IsSeatOf, IsInside}
-use Rattle.test_lock.proofs.bursts.go_out.Given as goal
-
-abbrev pub invariant-loop : goal.invariant-loop
-invariant-loop g l = IsSeatOf l.field.table.shared.table_id l.field.table.shared.key l.seat × InTime l.seat IsInside
