@@ -70,7 +70,7 @@ def rounds():
     return table(["Threads", *threads], rows)
 
 
-WAITS = {"C, nodes": "node", "C, qolb_lock": "strict", "C, qolb_lock, bursts": "barging", "mutex": "`pthread_mutex`", "MCS": "MCS"}
+WAITS = {"C, nodes": "node", "C, qolb_lock": "strict", "C, qolb_lock, barging": "barging", "mutex": "`pthread_mutex`", "MCS": "MCS"}
 
 
 def waits():
@@ -104,7 +104,7 @@ def memory():
 
 
 # The columns of a table about locks, with their names in the files of figures.
-OF_LOCKS = {"strict": "strict", "bursts": "barging", "mutex": "`pthread_mutex`", "MCS": "MCS"}
+OF_LOCKS = {"strict": "strict", "barging": "barging", "mutex": "`pthread_mutex`", "MCS": "MCS"}
 
 
 def of_speed(part):
@@ -129,7 +129,7 @@ def speed():
 
 def choice_of_archive():
     """A table for the README of the archive, which is no page: in columns, indented."""
-    names = {"strict": "strict, QOLB_LOCK_INIT", "bursts": "barging, QOLB_LOCK_INIT_BURSTS(1024)", "mutex": "pthread_mutex"}
+    names = {"strict": "strict, QOLB_LOCK_INIT", "barging": "barging, QOLB_LOCK_INIT_BARGING(1024)", "mutex": "pthread_mutex"}
     times = {(row["part"], row["threads"], row["lock"]): row["median"] for row in rows_of("speed.tsv")}
     bytes_of = next(row["ratio"] for row in rows_of("speed.tsv") if row["part"] == "bytes")
     rows = [

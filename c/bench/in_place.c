@@ -4,7 +4,7 @@
 //   clang -O3 -march=x86-64-v2 -pthread -DMCS -o mcs c/bench/in_place.c && ./mcs THREADS ROUNDS
 //
 // -DMUTEX: a pthread_mutex. -DMCS, -DCLH, -DTICKET: Concurrency Kit's, from Debian's package libck-dev. -DTBB with
-// tbb.cpp and -ltbb: tbb::queuing_mutex, from libtbb-dev. -DLOCK, perhaps with -DBURSTS=1024, -Ic/include and
+// tbb.cpp and -ltbb: tbb::queuing_mutex, from libtbb-dev. -DLOCK, perhaps with -DBARGING=1024, -Ic/include and
 // c/build/libqolb.a: a qolb_lock.
 //
 // A waiter of Concurrency Kit pauses and yields here as the waiters of the lines do; by itself it would only pause.
@@ -17,8 +17,8 @@ static _Thread_local unsigned looks;
 
 #ifdef LOCK
 #include <qolb.h>
-#ifdef BURSTS
-static _Alignas(128) qolb_lock lock = QOLB_LOCK_INIT_BURSTS(BURSTS);
+#ifdef BARGING
+static _Alignas(128) qolb_lock lock = QOLB_LOCK_INIT_BARGING(BARGING);
 #else
 static _Alignas(128) qolb_lock lock = QOLB_LOCK_INIT;
 #endif

@@ -3,9 +3,9 @@
  *   cc -std=c11 -O2 -pthread -Ic/include c/bench/lock.c c/build/libqolb.a -o lock
  *   ./lock NAME THREADS MICROSECONDS[s] SECONDS    prints turns a second and the longest wait in microseconds
  *
- * NAME is strict, burst:TURNS, node:ring, node:link or node:ticket, with a node for each thread, mutex, or with -DMCS,
+ * NAME is strict, barging:TURNS, node:ring, node:link or node:ticket, with a node for each thread, mutex, or with -DMCS,
  * which needs Debian's package libck-dev, mcs. The holder keeps its processor busy for MICROSECONDS, or with an s
- * sleeps so long, and adds 1 to a number. c/bench/bursts runs it. */
+ * sleeps so long, and adds 1 to a number. c/bench/barging runs it. */
 #define _DEFAULT_SOURCE
 #include <pthread.h>
 #include <qolb.h>
@@ -98,8 +98,8 @@ static void *works(void *argument) {
 static int take_lock(const char *name) {
     way = BY_LOCK;
     if (strcmp(name, "strict") == 0) return 1;
-    if (strncmp(name, "burst:", 6) == 0) {
-        shared.lock = (qolb_lock)QOLB_LOCK_INIT_BURSTS(strtoul(name + 6, NULL, 10));
+    if (strncmp(name, "barging:", 8) == 0) {
+        shared.lock = (qolb_lock)QOLB_LOCK_INIT_BARGING(strtoul(name + 8, NULL, 10));
         return 1;
     }
     way = BY_NODE;

@@ -88,7 +88,7 @@ int main(int argc, char **argv) {
     if (qolb_read_lane(of[0], 0, &sum) != QOLB_DONE) return 3;
     if (qolb_deqolb(of[0]) != QOLB_DONE) return 3;
     for (int k = 0; k < threads; k++)
-        if (qolb_close(of[k]) != QOLB_DONE) return 3;
+        if (qolb_node_free(of[k]) != QOLB_DONE) return 3;
     double ns = (to.tv_sec - from.tv_sec) * 1e9 + (to.tv_nsec - from.tv_nsec), all = (double)threads * rounds;
     printf("threads %d rounds %.0f lane sum %llu ns a round %.1f\n", threads, all, (unsigned long long)sum, ns / all);
     return sum == threads * rounds ? 0 : 1;

@@ -1,4 +1,4 @@
-/* A qolb_lock, strict and with bursts of 1,024 turns, beside a pthread_mutex and Concurrency Kit's MCS lock: all in one
+/* A qolb_lock, strict and barging with a limit of 1,024, beside a pthread_mutex and Concurrency Kit's MCS lock: all in one
  * program, in short phases that take turns. c/bench/speed builds and runs it.
  *
  *   ./speed THREADS MICROSECONDS PHASE_MS SECONDS at=0,2,1,3 [loops] [one]
@@ -20,16 +20,16 @@
 #include <qolb.h>
 #include <semaphore.h>
 
-enum way { STRICT, BURSTS, MUTEX, MCS, MCS_YIELDS, SEMAPHORES, WAYS };
-static const char *const names[WAYS] = {"strict", "bursts", "mutex", "MCS", "MCS that yields", "semaphores"};
+enum way { STRICT, BARGING, MUTEX, MCS, MCS_YIELDS, SEMAPHORES, WAYS };
+static const char *const names[WAYS] = {"strict", "barging", "mutex", "MCS", "MCS that yields", "semaphores"};
 
 #include "phases.h"
 
-enum { BURST = 1024 };
+enum { BARGING_LIMIT = 1024 };
 #if QOLB_VERSION_MAJOR < 2 /* of an older library */
-#define OF_BURSTS(turns) QOLB_LOCK_INIT_BURSTS(QOLB_LINK, 4, turns)
+#define OF_BARGING(turns) QOLB_LOCK_INIT_BARGING(QOLB_LINK, 4, turns)
 #else
-#define OF_BURSTS(turns) QOLB_LOCK_INIT_BURSTS(turns)
+#define OF_BARGING(turns) QOLB_LOCK_INIT_BARGING(turns)
 #endif
 static int by_one;
 
@@ -43,7 +43,7 @@ static int is_timed(int by) {
 
 static struct {
     _Alignas(PAGE) qolb_lock strict;
-    _Alignas(PAGE) qolb_lock bursts;
+    _Alignas(PAGE) qolb_lock barging;
     _Alignas(PAGE) pthread_mutex_t mutex;
     _Alignas(PAGE) ck_spinlock_mcs_t mcs;
     _Alignas(PAGE) sem_t semaphore[2];
@@ -64,8 +64,8 @@ static void enter(long thread, enum way by, int at) {
     case STRICT:
         if (qolb_lock_enter(&locks[at].strict) != QOLB_GRANTED) abort();
         break;
-    case BURSTS:
-        if (qolb_lock_enter(&locks[at].bursts) != QOLB_GRANTED) abort();
+    case BARGING:
+        if (qolb_lock_enter(&locks[at].barging) != QOLB_GRANTED) abort();
         break;
     case MUTEX: pthread_mutex_lock(&locks[at].mutex); break;
     case MCS: ck_spinlock_mcs_lock(&locks[at].mcs, &all[thread].at[at].context); break;
@@ -83,8 +83,8 @@ static void leave(long thread, enum way by, int at) {
     case STRICT:
         if (qolb_lock_leave(&locks[at].strict) != QOLB_DONE) abort();
         break;
-    case BURSTS:
-        if (qolb_lock_leave(&locks[at].bursts) != QOLB_DONE) abort();
+    case BARGING:
+        if (qolb_lock_leave(&locks[at].barging) != QOLB_DONE) abort();
         break;
     case MUTEX: pthread_mutex_unlock(&locks[at].mutex); break;
     case MCS:
@@ -118,8 +118,8 @@ static int all_are_there(void) {
 
 static void make_locks(void) {
     for (int at = 0; at < PLACES; at++) {
-        locks[at].strict = (qolb_lock)OF_BURSTS(0);
-        locks[at].bursts = (qolb_lock)OF_BURSTS(BURST);
+        locks[at].strict = (qolb_lock)OF_BARGING(0);
+        locks[at].barging = (qolb_lock)OF_BARGING(BARGING_LIMIT);
         pthread_mutex_init(&locks[at].mutex, NULL);
     }
 }
@@ -127,7 +127,7 @@ static void make_locks(void) {
 static int of_bytes(size_t many) {
     qolb_lock *table = calloc(many, sizeof *table);
     if (!table) return 1;
-    for (size_t k = 0; k < many; k++) table[k] = (qolb_lock)OF_BURSTS(k % 2 ? BURST : 0);
+    for (size_t k = 0; k < many; k++) table[k] = (qolb_lock)OF_BARGING(k % 2 ? BARGING_LIMIT : 0);
     if (qolb_lock_enter(&table[0]) != QOLB_GRANTED || qolb_lock_leave(&table[0]) != QOLB_DONE) return 1;
     size_t heap = mallinfo2().uordblks + mallinfo2().hblkhd;
     for (size_t k = 0; k < many; k++)

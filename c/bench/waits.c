@@ -4,7 +4,7 @@
 //   clang -O3 -march=x86-64-v2 -pthread -o waits c/bench/waits.c && ./waits THREADS MICROSECONDS SECONDS
 //
 // With -DNODES it is a line of the C library whose threads have a node each (qolb_acquire), and with -DLOCK a
-// qolb_lock, or with -DBURSTS=TURNS too one with bursts. Both sleep at the library's bells:
+// qolb_lock, or with -DBARGING=TURNS a barging one. Both sleep at the library's bells:
 //
 //   make -C c
 //   clang -O3 -march=x86-64-v2 -pthread -DLOCK -Ic/include -o waits c/bench/waits.c c/build/libqolb.a
@@ -74,8 +74,8 @@ static _Alignas(128) qolb_lock lock;
 struct port {
     char unused;
 };
-#ifdef BURSTS
-static void open_lock(int threads) { lock = (qolb_lock)QOLB_LOCK_INIT_BURSTS(BURSTS), (void)threads; }
+#ifdef BARGING
+static void open_lock(int threads) { lock = (qolb_lock)QOLB_LOCK_INIT_BARGING(BARGING), (void)threads; }
 #else
 static void open_lock(int threads) { lock = (qolb_lock)QOLB_LOCK_INIT, (void)threads; }
 #endif

@@ -58,8 +58,8 @@ static struct hints first_hints(uint32_t kind) {
     return hints.slots && (hints.home || kind != QOLB_LINK) ? hints : none;
 }
 
-uint32_t qolb_open(uint32_t kind, uint64_t label, uint64_t nodes, uint64_t lease, const qolb_bytes *opening,
-                   qolb_node *out, size_t handles) {
+enum qolb_result qolb_open(uint32_t kind, uint64_t label, uint64_t nodes, uint64_t lease, const qolb_bytes *opening,
+                           qolb_node *out, size_t handles) {
     static atomic_uint drawn;
     uint32_t got = open_noted(kind, label, nodes, lease, opening, out, handles);
     struct hints hints = first_hints(kind);
@@ -106,15 +106,15 @@ static inline uint32_t asked(qolb_node *node, uint32_t got) {
     return told(node, got);
 }
 
-uint32_t qolb_enqolb(qolb_node *node) { return asked(node, qolb_enqolb_proved_(node)); }
+enum qolb_result qolb_enqolb(qolb_node *node) { return asked(node, qolb_enqolb_proved_(node)); }
 
-uint32_t qolb_poll(qolb_node *node) { return told(node, qolb_poll_proved_(node)); }
+enum qolb_result qolb_poll(qolb_node *node) { return told(node, qolb_poll_proved_(node)); }
 
-uint32_t qolb_withdraw(qolb_node *node) { return told(node, qolb_withdraw_proved_(node)); }
+enum qolb_result qolb_withdraw(qolb_node *node) { return told(node, qolb_withdraw_proved_(node)); }
 
-uint32_t qolb_prepend(qolb_node *node) { return asked(node, qolb_prepend_proved_(node)); }
+enum qolb_result qolb_prepend(qolb_node *node) { return asked(node, qolb_prepend_proved_(node)); }
 
-uint32_t qolb_link(qolb_node *node) { return told(node, qolb_link_proved_(node)); }
+enum qolb_result qolb_link(qolb_node *node) { return told(node, qolb_link_proved_(node)); }
 
 /* The node with hints with which the thread waited for a turn last, by its address, until it releases by qolb_deqolb.
  * Another node may lie there by then. */
@@ -125,16 +125,16 @@ __attribute__((noinline)) static void hint(const qolb_node *node) {
     if (hints_of(node)->home) hint_release(hints_of(node));
 }
 
-uint32_t qolb_deqolb(qolb_node *node) {
+enum qolb_result qolb_deqolb(qolb_node *node) {
     if (waited_with && waited_with == node->own) hint(node);
     return let_go(node, qolb_deqolb_proved_(node));
 }
 
-uint32_t qolb_shut(qolb_node *node) { return let_go(node, qolb_shut_proved_(node)); }
+enum qolb_result qolb_shut(qolb_node *node) { return let_go(node, qolb_shut_proved_(node)); }
 
-uint32_t qolb_wait(qolb_node *node, uint64_t polls) { return told(node, qolb_wait_proved_(node, polls)); }
+enum qolb_result qolb_spin(qolb_node *node, uint64_t polls) { return told(node, qolb_wait_proved_(node, polls)); }
 
-uint32_t qolb_clear(qolb_node *node) { return asked(node, qolb_clear_proved_(node)); }
+enum qolb_result qolb_settle_node(qolb_node *node) { return asked(node, qolb_clear_proved_(node)); }
 
 static int may_close(qolb_node *node) {
     uint32_t state = qolb_state_proved_(node);
@@ -143,7 +143,7 @@ static int may_close(qolb_node *node) {
 }
 
 /* Its notice is in the node's block. */
-uint32_t qolb_close(qolb_node *node) {
+enum qolb_result qolb_node_free(qolb_node *node) {
     if (may_close(node)) qolb_notify_off(node);
     return qolb_close_proved_(node);
 }
@@ -189,7 +189,7 @@ static uint32_t sleep_at_bell(qolb_node *node, const struct limit *limit) {
 
 static uint32_t give_up_turn(qolb_node *node) {
     uint32_t got = qolb_withdraw_proved_(node);
-    return got == QOLB_WITHDRAWN ? (uint32_t)QOLB_LATE : got;
+    return got == QOLB_WITHDRAWN ? (uint32_t)QOLB_TIMEDOUT : got;
 }
 
 /* Waits until the request is at its turn: GRANTED, CLOSED, LATE. */
@@ -214,7 +214,7 @@ static uint32_t ask_again(qolb_node *node, const struct limit *limit) {
     uint32_t got = QOLB_BUSY;
     for (int naps = 0; got == QOLB_BUSY;) {
         uint64_t time = left(limit);
-        if (time == 0) return QOLB_LATE;
+        if (time == 0) return QOLB_TIMEDOUT;
         if (naps || !qolb_spin_once_(&spun, UNKNOWN_TURNS)) naps = 1, nap_busy(time);
         got = qolb_enqolb_proved_(node);
     }
@@ -243,13 +243,13 @@ static inline uint32_t acquire(qolb_node *node, uint64_t nanoseconds) {
     return got == QOLB_GRANTED ? got : acquired(node, got, limit);
 }
 
-uint32_t qolb_acquire(qolb_node *node) { return acquire(node, FOR_EVER); }
+enum qolb_result qolb_acquire(qolb_node *node) { return acquire(node, FOR_EVER); }
 
-uint32_t qolb_acquire_within(qolb_node *node, uint64_t nanoseconds) { return acquire(node, nanoseconds); }
+enum qolb_result qolb_acquire_within(qolb_node *node, uint64_t nanoseconds) { return acquire(node, nanoseconds); }
 
 /* ---- Being told of a turn (notify.c) ---- */
 
-uint32_t qolb_notify(qolb_node *node, void (*call)(void *), void *arg) {
+enum qolb_result qolb_notify(qolb_node *node, void (*call)(void *), void *arg) {
     if (!call || qolb_state_proved_(node) != QOLB_STATE_QUEUED) return QOLB_MISUSE;
     struct notice *notice = notice_of(node);
     qolb_notify_off(node);
@@ -260,7 +260,7 @@ uint32_t qolb_notify(qolb_node *node, void (*call)(void *), void *arg) {
     return told(node, got);
 }
 
-uint32_t qolb_notify_off(qolb_node *node) {
+enum qolb_result qolb_notify_off(qolb_node *node) {
     if (!node->own) return QOLB_MISUSE;
     struct notice *notice = notice_of(node);
     if (!notice->call) return QOLB_DONE;
@@ -269,27 +269,27 @@ uint32_t qolb_notify_off(qolb_node *node) {
     return got;
 }
 
-uint32_t qolb_notify_fd(qolb_node *node, int fd) {
+enum qolb_result qolb_notify_fd(qolb_node *node, int fd) {
     return fd < 0 ? (uint32_t)QOLB_MISUSE : qolb_notify(node, qolb_add_to_descriptor_, (void *)(intptr_t)fd);
 }
 
 /* ---- The others ---- */
 
-uint32_t qolb_read(qolb_node *node, qolb_bytes *out) { return qolb_read_proved_(node, out); }
+enum qolb_result qolb_read(qolb_node *node, qolb_bytes *out) { return qolb_read_proved_(node, out); }
 
-uint32_t qolb_write(qolb_node *node, uint64_t mask, const qolb_bytes *bytes) {
+enum qolb_result qolb_write(qolb_node *node, uint64_t mask, const qolb_bytes *bytes) {
     return qolb_write_proved_(node, mask, bytes);
 }
 
-uint32_t qolb_read_lane(qolb_node *node, uint64_t lane, uint64_t *out) {
+enum qolb_result qolb_read_lane(qolb_node *node, uint64_t lane, uint64_t *out) {
     return qolb_read_lane_proved_(node, lane, out);
 }
 
-uint32_t qolb_write_lane(qolb_node *node, uint64_t lane, uint64_t value) {
+enum qolb_result qolb_write_lane(qolb_node *node, uint64_t lane, uint64_t value) {
     return qolb_write_lane_proved_(node, lane, value);
 }
 
-uint32_t qolb_add_lane(qolb_node *node, uint64_t lane, uint64_t by, uint64_t *was) {
+enum qolb_result qolb_add_lane(qolb_node *node, uint64_t lane, uint64_t by, uint64_t *was) {
     return qolb_add_lane_proved_(node, lane, by, was);
 }
 

@@ -42,11 +42,11 @@ static inline struct probed of_node(qolb_node *node) {
 #endif
 
 /* The probe of a wait's end. */
-#define PROBE_END(got, of)                                 \
-    do {                                                   \
-        if ((got) == QOLB_GRANTED) PROBE(granted, of);     \
-        else if ((got) == QOLB_LATE) PROBE(withdrawn, of); \
-        else PROBE(closed, of);                            \
+#define PROBE_END(got, of)                                     \
+    do {                                                       \
+        if ((got) == QOLB_GRANTED) PROBE(granted, of);         \
+        else if ((got) == QOLB_TIMEDOUT) PROBE(withdrawn, of); \
+        else PROBE(closed, of);                                \
     } while (0)
 
 #endif

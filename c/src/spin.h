@@ -39,7 +39,7 @@ enum {
 };
 enum { LONGEST_PAUSE = POLL_PAUSE + 3 * POLL_FARTHER, NEAR_TURNS = 4, GROWS_BY = 8, SHRINKS_BY = 2 };
 
-/* The queue head of a lock with bursts (lock/waits.c) watches it: the pause between two looks, POLL_PAUSE once it has
+/* The queue head of a barging lock (lock/waits.c) watches it: the pause between two looks, POLL_PAUSE once it has
  * requested the handoff; and how long newcomers may go in before it requests that: a time, and a part of the bound. */
 enum { WATCH_PAUSE = 300, WATCH_PATIENCE = 1000000, REQUEST_PART = 16 };
 
@@ -81,7 +81,7 @@ struct spin {
 enum { FIRST_SPIN, WOKEN_SPIN, HEAD_SPIN, SPINS };
 
 /* The length of the thread's next spins, in nanoseconds: without a sleep in the same wait, after one, and as the queue
- * head of a lock with bursts. 0: as long as may be. */
+ * head of a barging lock. 0: as long as may be. */
 extern __attribute__((visibility("hidden"))) BY_THREAD unsigned qolb_learned_[SPINS];
 
 static inline unsigned longest_spin(uint64_t before) {
@@ -125,7 +125,7 @@ static inline int qolb_spin_once_(struct spin *spin, uint64_t before) {
     return qolb_spins_on_(spin, before) ? qolb_spin_for_(spin, NODE_PAUSE), 1 : 0;
 }
 
-/* The same for the queue head of a lock with bursts, which pauses for `pause` nanoseconds between two looks. It has
+/* The same for the queue head of a barging lock, which pauses for `pause` nanoseconds between two looks. It has
  * spun for `*spun` since its wait began, or since it slept. A spin in which turns ended pays, as a head that sleeps has
  * to be woken by who leaves; one in which none did makes the next one shorter, down to 2 us. */
 static inline int qolb_watch_once_(unsigned *spun, unsigned pause, int pays) {

@@ -24,7 +24,7 @@ static void open_line(uint32_t kind, uint64_t nodes, const qolb_bytes *opening) 
 }
 
 static void close_line(uint64_t nodes) {
-    for (uint64_t k = 0; k < nodes; k++) CHECK(qolb_close(&node[k]) == QOLB_DONE);
+    for (uint64_t k = 0; k < nodes; k++) CHECK(qolb_node_free(&node[k]) == QOLB_DONE);
 }
 
 /* Of a link line: node 2 has the line, node 3 waits for it and gets it. */
@@ -98,7 +98,7 @@ static void come_behind_one_that_waited(uint32_t kind, const qolb_bytes *opening
     CHECK(qolb_acquire(&node[0]) == QOLB_GRANTED);
     CHECK(pthread_join(id, NULL) == 0);
     CHECK(qolb_shut(&node[0]) == QOLB_DONE);
-    CHECK(qolb_close(&node[1]) == QOLB_DONE && qolb_close(&node[0]) == QOLB_DONE);
+    CHECK(qolb_node_free(&node[1]) == QOLB_DONE && qolb_node_free(&node[0]) == QOLB_DONE);
     open_line(kind, 2, opening);
     for (int k = 0; k < 2; k++) CHECK(qolb_acquire(&node[k]) == QOLB_GRANTED && qolb_deqolb(&node[k]) == QOLB_DONE);
     close_line(2);

@@ -140,9 +140,9 @@ static void shuts(void) {
 }
 
 /* Behind some turns. */
-static int is_held(uint64_t burst) {
+static int is_held(uint64_t barging) {
     enum { TURNS = 9 };
-    lock = (qolb_lock)QOLB_LOCK_INIT_BURSTS(burst);
+    lock = (qolb_lock)QOLB_LOCK_INIT_BARGING(barging);
     for (int k = 0; k < TURNS; k++) {
         WANT(qolb_lock_enter(&lock), QOLB_GRANTED);
         leaves();
@@ -156,34 +156,34 @@ static int is_left_by_other(void) {
     begins(NULL);
     qolb_leave_at_(lock_of(&lock), &other);
     WANT(wakes, 0);
-    WANT(qolb_lock_close(&lock), QOLB_DONE);
+    WANT(qolb_lock_destroy(&lock), QOLB_DONE);
     return 0;
 }
 
 static int is_left(void) {
     leaves();
-    WANT(qolb_lock_close(&lock), QOLB_DONE);
+    WANT(qolb_lock_destroy(&lock), QOLB_DONE);
     return 0;
 }
 
 /* ---- Resting ---- */
 
 /* Late to the nanosecond, after one sleep; at once for no time at all. The request that was late stays before the next
- * one until a leave passes it. The head of a lock with bursts polls no cell. */
-static int late(uint64_t burst) {
-    if (is_held(burst)) return 1;
+ * one until a leave passes it. The head of a barging lock polls no cell. */
+static int late(uint64_t barging) {
+    if (is_held(barging)) return 1;
     for (int again = 0; again < 2; again++) {
         uint64_t since = now;
         begins(NULL);
-        WANT(enters(20 * MS), QOLB_LATE);
+        WANT(enters(20 * MS), QOLB_TIMEDOUT);
         WANT(now - since, 20 * MS);
         WANT(sleeps, 1);
         WANT(yields, 0);
         WANT(longest, 20 * MS);
-        WANT(polls, burst ? 0 : again ? BEHIND_ONE : NEAR);
+        WANT(polls, barging ? 0 : again ? BEHIND_ONE : NEAR);
     }
     begins(NULL);
-    WANT(enters(0), QOLB_LATE);
+    WANT(enters(0), QOLB_TIMEDOUT);
     WANT(sleeps + polls, 0);
     return is_left();
 }
@@ -205,7 +205,7 @@ static int sleeps_on(void) {
     return is_left_by_other();
 }
 
-/* The head of a lock with bursts: a leave wakes it at the outer word. */
+/* The head of a barging lock: a leave wakes it at the lock word. */
 static int head_sleeps_on(void) {
     if (is_held(64)) return 1;
     begins(leaves);
@@ -242,7 +242,7 @@ static int far_from_its_turn(void) {
     for (int k = 0; k < BEFORE; k++)
         WANT(qolb_core_ask_proved_(&lock_of(&lock)->core, &before[k].ticket), QOLB_WAITING);
     begins(NULL);
-    WANT(enters(MS), QOLB_LATE);
+    WANT(enters(MS), QOLB_TIMEDOUT);
     WANT(polls, FAR);
     WANT(sleeps, 1);
     leaves();
@@ -251,7 +251,7 @@ static int far_from_its_turn(void) {
         WANT(qolb_core_check_open_proved_(&lock_of(&lock)->core, &before[k].ticket), QOLB_GRANTED);
         qolb_leave_at_(lock_of(&lock), &before[k]);
     }
-    WANT(qolb_lock_close(&lock), QOLB_DONE);
+    WANT(qolb_lock_destroy(&lock), QOLB_DONE);
     return 0;
 }
 
@@ -262,24 +262,24 @@ static int at_the_end(int is_shut) {
     event.at_withdrawal = 1;
     WANT(enters(MS), is_shut ? QOLB_CLOSED : QOLB_GRANTED);
     if (!is_shut) return is_left_by_other();
-    WANT(qolb_lock_close(&lock), QOLB_DONE);
+    WANT(qolb_lock_destroy(&lock), QOLB_DONE);
     return 0;
 }
 
 static void time_passes(void) { now += 5 * MS; }
 
 /* Woken without a grant: the rest of the time is used. Who waits for its turn of the queue yields. */
-static int woken_for_nothing(uint64_t burst) {
+static int woken_for_nothing(uint64_t barging) {
     qolb_cond cond = QOLB_COND_INIT;
-    if (is_held(burst)) return 1;
+    if (is_held(barging)) return 1;
     for (int way = 0; way < 2; way++) {
         uint64_t since = now;
         begins(time_passes);
         event.at_sleep = 1;
-        WANT(way ? qolb_cond_wait_within(&cond, &lock, 20 * MS) : enters(20 * MS), QOLB_LATE);
+        WANT(way ? qolb_cond_wait_within(&cond, &lock, 20 * MS) : enters(20 * MS), QOLB_TIMEDOUT);
         WANT(now - since, 20 * MS);
         WANT(sleeps, 2);
-        WANT(yields, way || burst ? 0 : 1);
+        WANT(yields, way || barging ? 0 : 1);
         WANT(longest, 20 * MS);
     }
     return is_left();
@@ -291,7 +291,7 @@ static int at_condition(void) {
     if (is_held(0)) return 1;
     uint64_t since = now;
     begins(NULL);
-    WANT(qolb_cond_wait_within(&cond, &lock, 20 * MS), QOLB_LATE);
+    WANT(qolb_cond_wait_within(&cond, &lock, 20 * MS), QOLB_TIMEDOUT);
     WANT(now - since, 20 * MS);
     WANT(sleeps, 1);
     WANT(polls + yields + wakes, 0);
@@ -306,23 +306,23 @@ static void has_a_turn(void *task) {
 }
 
 /* The limit counts from the call on: a task's call that is made meanwhile, as the lock is left, is in it. */
-static int at_condition_beside_a_call(uint64_t burst, uint64_t nanoseconds) {
+static int at_condition_beside_a_call(uint64_t barging, uint64_t nanoseconds) {
     qolb_cond cond = QOLB_COND_INIT;
     qolb_task task = {0};
-    if (is_held(burst)) return 1;
+    if (is_held(barging)) return 1;
     WANT(qolb_task_enter(&task, &lock, has_a_turn, &task), QOLB_WAITING);
     uint64_t since = now;
     lasts = nanoseconds;
     begins(NULL);
-    WANT(qolb_cond_wait_within(&cond, &lock, 20 * MS), QOLB_LATE);
+    WANT(qolb_cond_wait_within(&cond, &lock, 20 * MS), QOLB_TIMEDOUT);
     WANT(now - since, lasts < 20 * MS ? 20 * MS : lasts);
     WANT(sleeps, lasts < 20 * MS ? 1 : 0);
     return is_left();
 }
 
 /* A limit that would end behind the last time of the clock is none. */
-static int almost_without_a_limit(uint64_t burst) {
-    if (is_held(burst)) return 1;
+static int almost_without_a_limit(uint64_t barging) {
+    if (is_held(barging)) return 1;
     begins(leaves);
     event.at_sleep = 1;
     WANT(enters(NEVER - 1), QOLB_GRANTED);
@@ -330,7 +330,7 @@ static int almost_without_a_limit(uint64_t burst) {
     return is_left_by_other();
 }
 
-/* While the head of a lock with bursts waits newcomers have turns, until the lock is reserved for it. */
+/* While the head of a barging lock waits newcomers have turns, until the lock is reserved for it. */
 static uint64_t newcomers;
 
 static void newcomer_has_a_turn(void) {
@@ -342,10 +342,10 @@ static void newcomer_has_a_turn(void) {
     event.at_sleep = sleeps + 1;
 }
 
-/* The head requests the lock after a sixteenth of the burst, or a millisecond: the newcomer that is in then is the
+/* The head requests the lock after a sixteenth of the barging, or a millisecond: the barging thread that is in then is the
  * last. */
-static int requests_the_lock(uint64_t burst, uint64_t each_lasts, uint64_t last) {
-    if (is_held(burst)) return 1;
+static int requests_the_lock(uint64_t barging, uint64_t each_lasts, uint64_t last) {
+    if (is_held(barging)) return 1;
     begins(newcomer_has_a_turn);
     event.at_sleep = 1;
     lasts = each_lasts, newcomers = 0;
@@ -363,7 +363,7 @@ static int sleeps_at_once(void) {
     WANT(sched_setaffinity(0, sizeof set, &set), 0);
     if (is_held(0)) return 1;
     begins(NULL);
-    WANT(enters(MS), QOLB_LATE);
+    WANT(enters(MS), QOLB_TIMEDOUT);
     WANT(polls, 0);
     WANT(sleeps, 1);
     WANT(wrong, 0);
@@ -395,7 +395,7 @@ static void next_sleeps(void) {
     }
     event.does = next_sleeps;
     event.at_sleep = sleeps + 1;
-    if (qolb_enter_at_(lock_of(&lock), &mine, 20 * MS, 0) != QOLB_LATE) wrong++;
+    if (qolb_enter_at_(lock_of(&lock), &mine, 20 * MS, 0) != QOLB_TIMEDOUT) wrong++;
 }
 
 static void holder_leaves(void) { qolb_leave_at_(lock_of(&lock), &holder); }
@@ -439,8 +439,8 @@ int main(void) {
     atomic_store(&qolb_pauses_, 80); /* also where there is one processor */
     if (late(0) || late(64) || sleeps_on() || head_sleeps_on() || granted_awake() || far_from_its_turn()) return 1;
     if (at_the_end(0) || at_the_end(1) || woken_for_nothing(0) || woken_for_nothing(64) || at_condition()) return 1;
-    for (uint64_t burst = 0; burst <= 64; burst += 64)
-        if (at_condition_beside_a_call(burst, 15 * MS) || at_condition_beside_a_call(burst, 60 * MS)) return 1;
+    for (uint64_t barging = 0; barging <= 64; barging += 64)
+        if (at_condition_beside_a_call(barging, 15 * MS) || at_condition_beside_a_call(barging, 60 * MS)) return 1;
     if (almost_without_a_limit(0) || almost_without_a_limit(64)) return 1;
     if (requests_the_lock(1024, 0, 1024 / 16 + 1) || requests_the_lock(65535, MS / 4, 4)) return 1;
     if (wakes_in_order(0) || wakes_in_order(1) || guards_are_freed()) return 1;

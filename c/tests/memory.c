@@ -109,7 +109,7 @@ static int is_told(uint32_t kind, uint64_t nodes) {
     if (asked != before || qolb_open(kind, 1, nodes, QOLB_NO_LEASE, &zeros, node, 200) != QOLB_DONE) return 0;
     size_t keeps = asked - before, needs = most - before;
     for (uint64_t n = 0; n < nodes; n++)
-        if (qolb_close(&node[n]) != QOLB_DONE) return 0;
+        if (qolb_node_free(&node[n]) != QOLB_DONE) return 0;
     if (told == keeps && needs <= 3 * keeps && asked == before) return 1;
     return printf("kind %d nodes %d: asks for %zu, keeps %zu, and is told to keep %zu\n", (int)kind, (int)nodes, needs,
                   keeps, (size_t)told),
@@ -138,7 +138,7 @@ static int fit(size_t lines, size_t bytes) {
         if (qolb_open(QOLB_TICKET, 1, 2, QOLB_NO_LEASE, &zeros, &node[2 * k], 2) != QOLB_DONE) return 0;
     size_t all = mallinfo2().uordblks - before;
     for (size_t k = 0; k < 2 * lines; k++)
-        if (qolb_close(&node[k]) != QOLB_DONE) return 0;
+        if (qolb_node_free(&node[k]) != QOLB_DONE) return 0;
     free(node);
     counts = 1;
     printf("%zu ticket lines of two nodes: bytes %zu\n", lines, all);
@@ -162,7 +162,7 @@ static struct heap of_line(uint32_t kind, uint64_t nodes) {
     if (!apart(node, nodes)) puts("nodes lie too close to each other"), exit(1);
     if (!are_told(node, nodes)) puts("a node has other bytes than gaps.h says"), exit(1);
     for (uint64_t n = 0; n < nodes; n++)
-        if (qolb_close(&node[n]) != QOLB_DONE) abort();
+        if (qolb_node_free(&node[n]) != QOLB_DONE) abort();
     if (since(before).usable != 0) puts("a line leaves something"), exit(1);
     return keeps;
 }

@@ -194,7 +194,7 @@ static int sleeps_at_once(void) {
     WANT(qolb_open(QOLB_DEFAULT, 1, 2, QOLB_NO_LEASE, &zeros, n, 2), QOLB_DONE);
     WANT(qolb_acquire(&n[0]), QOLB_GRANTED);
     begins(NULL);
-    WANT(qolb_acquire_within(&n[1], MS), QOLB_LATE);
+    WANT(qolb_acquire_within(&n[1], MS), QOLB_TIMEDOUT);
     WANT(looks, 2);
     WANT(sleeps, 1);
     return 0;
@@ -228,7 +228,7 @@ static int late(qolb_node *n) {
     for (unsigned busy = 0; busy < 2; busy++) {
         uint64_t since = now;
         begins(NULL);
-        WANT(qolb_acquire_within(&n[1], 20 * MS), QOLB_LATE);
+        WANT(qolb_acquire_within(&n[1], 20 * MS), QOLB_TIMEDOUT);
         WANT(now - since, 20 * MS);
         WANT(sleeps, busy ? 100 : 1);
         WANT(longest, busy ? 200 * US : 20 * MS);
@@ -239,11 +239,11 @@ static int late(qolb_node *n) {
     }
     /* For less than a nap; and for no time at all: it still makes a request, and polls if it waits. */
     uint64_t since = now;
-    WANT(qolb_acquire_within(&n[1], 50 * US), QOLB_LATE);
+    WANT(qolb_acquire_within(&n[1], 50 * US), QOLB_TIMEDOUT);
     WANT(now - since, 50 * US);
     for (unsigned k = 1; k < 3; k++) {
         begins(NULL);
-        WANT(qolb_acquire_within(&n[k], 0), QOLB_LATE);
+        WANT(qolb_acquire_within(&n[k], 0), QOLB_TIMEDOUT);
         WANT(asks, 1);
         WANT(looks, k == 1 ? 0 : 1);
         WANT(yields + sleeps + spins, 0);
@@ -340,7 +340,7 @@ static int rests(uint32_t kind) {
     WANT(qolb_deqolb(&n[0]), QOLB_DONE);
     WANT(qolb_acquire(&n[0]), QOLB_GRANTED);
     if (sleeps_on(n, 0) || sleeps_on(n, 1) || granted(n) || at_once(n) || at_the_end(n)) return 1;
-    for (int k = 0; k < 3; k++) WANT(qolb_close(&n[k]), QOLB_DONE);
+    for (int k = 0; k < 3; k++) WANT(qolb_node_free(&n[k]), QOLB_DONE);
     return 0;
 }
 
@@ -383,10 +383,10 @@ static int learns(uint32_t kind, uint64_t nodes) {
         WANT(qolb_acquire(&n[1 - k % 2]), QOLB_GRANTED);
     }
     looks = 0;
-    WANT(qolb_acquire_within(&n[1], MS), QOLB_LATE);
+    WANT(qolb_acquire_within(&n[1], MS), QOLB_TIMEDOUT);
     WANT(looks, (nodes > 5 ? UNKNOWN : NEAR) + 2);
     WANT(qolb_deqolb(&n[0]), QOLB_DONE);
-    for (uint64_t k = 0; k < nodes; k++) WANT(qolb_close(&n[k]), QOLB_DONE);
+    for (uint64_t k = 0; k < nodes; k++) WANT(qolb_node_free(&n[k]), QOLB_DONE);
     return 0;
 }
 
@@ -402,7 +402,7 @@ static int withdraws_late(uint32_t kind, int is_shut) {
     WANT(qolb_try(&n[1]), is_shut ? QOLB_CLOSED : QOLB_GRANTED);
     WANT(qolb_state(&n[1]), is_shut ? QOLB_STATE_SHUT : QOLB_STATE_HOLDING);
     if (!is_shut) WANT(qolb_deqolb(&n[1]), QOLB_DONE);
-    for (int k = 0; k < 2; k++) WANT(qolb_close(&n[k]), QOLB_DONE);
+    for (int k = 0; k < 2; k++) WANT(qolb_node_free(&n[k]), QOLB_DONE);
     return 0;
 }
 
@@ -413,7 +413,7 @@ static uint32_t (*tells)(qolb_node *node);
 static uint32_t was_told;
 static uint64_t woke, named;
 
-static uint32_t waits(qolb_node *node) { return qolb_wait(node, 1); }
+static uint32_t waits(qolb_node *node) { return qolb_spin(node, 1); }
 static uint32_t acquires(qolb_node *node) { return qolb_acquire(node); }
 static uint32_t acquires_within(qolb_node *node) { return qolb_acquire_within(node, MS); }
 
@@ -441,7 +441,7 @@ static int passes_on(uint32_t kind, uint32_t (*call)(qolb_node *node), int links
     WANT(qolb_acquire(&n[2]), QOLB_CLOSED);
     WANT(was_told, QOLB_CLOSED);
     WANT(woke, 1);
-    for (int k = 0; k < 3; k++) WANT(qolb_close(&n[k]), QOLB_DONE);
+    for (int k = 0; k < 3; k++) WANT(qolb_node_free(&n[k]), QOLB_DONE);
     return 0;
 }
 
@@ -452,7 +452,7 @@ static int skips_bells(void) {
     for (int k = 0; k < 1023; k++) {
         qolb_node node = {0};
         WANT(qolb_open(QOLB_LINK, 1, 1, QOLB_NO_LEASE, &zeros, &node, 1), QOLB_DONE);
-        WANT(qolb_close(&node), QOLB_DONE);
+        WANT(qolb_node_free(&node), QOLB_DONE);
     }
     return 0;
 }
@@ -474,13 +474,13 @@ static int asks_a_closed_one(uint32_t kind, uint32_t (*call)(qolb_node *node), i
     tells = call;
     begins(is_told);
     event.at_sleep = 1;
-    WANT(qolb_acquire_within(&n[1], MS), QOLB_LATE);
+    WANT(qolb_acquire_within(&n[1], MS), QOLB_TIMEDOUT);
     WANT(was_told, QOLB_CLOSED);
     WANT(named, (uint64_t)shares);
     if (!shares) WANT(woke, 0);
     WANT(qolb_deqolb(&n[0]), QOLB_DONE);
-    for (int k = 0; k < 2; k++) WANT(qolb_close(&n[k]), QOLB_DONE);
-    WANT(qolb_close(&closed), QOLB_DONE);
+    for (int k = 0; k < 2; k++) WANT(qolb_node_free(&n[k]), QOLB_DONE);
+    WANT(qolb_node_free(&closed), QOLB_DONE);
     return 0;
 }
 
@@ -519,11 +519,11 @@ static int is_told_late(uint32_t kind, uint32_t (*call)(qolb_node *node)) {
     tells = call;
     begins(is_told);
     event.at_sleep = 1;
-    WANT(qolb_acquire_within(&n[1], MS), QOLB_LATE);
+    WANT(qolb_acquire_within(&n[1], MS), QOLB_TIMEDOUT);
     WANT(was_told, QOLB_CLOSED);
     WANT(named, 2);
     WANT(qolb_deqolb(&n[0]), QOLB_DONE);
-    for (int k = 0; k < 2; k++) WANT(qolb_close(&n[k]) + qolb_close(&closed[k]), QOLB_DONE);
+    for (int k = 0; k < 2; k++) WANT(qolb_node_free(&n[k]) + qolb_node_free(&closed[k]), QOLB_DONE);
     return 0;
 }
 
@@ -541,14 +541,14 @@ static int misuse_wakes_nobody(uint32_t kind, uint32_t (*call)(qolb_node *node))
         teller = k ? &n[2] : &empty;
         begins(is_told);
         event.at_sleep = 1;
-        WANT(qolb_acquire_within(&n[1], MS), QOLB_LATE);
+        WANT(qolb_acquire_within(&n[1], MS), QOLB_TIMEDOUT);
         WANT(was_told, QOLB_MISUSE);
         WANT(woke, 0);
         if (!k) WANT(qolb_deqolb(&n[0]), QOLB_DONE);
         if (!k) WANT(qolb_acquire(&n[0]), QOLB_GRANTED);
     }
     WANT(qolb_deqolb(&n[0]), QOLB_DONE);
-    for (int k = 0; k < 3; k++) WANT(qolb_close(&n[k]), QOLB_DONE);
+    for (int k = 0; k < 3; k++) WANT(qolb_node_free(&n[k]), QOLB_DONE);
     return 0;
 }
 
@@ -584,7 +584,7 @@ static void next_sleeps(void) {
     }
     event.does = next_sleeps;
     event.at_sleep = k + 1;
-    if (waits_as(k) != QOLB_LATE) wrong++;
+    if (waits_as(k) != QOLB_TIMEDOUT) wrong++;
 }
 
 /* Three sleep, each at its own word, and this many of them are woken, in their order. */
@@ -611,7 +611,7 @@ static int wakes_two(uint32_t kind, int passes) {
     nodes = &n[2];
     if (wakes_so_many(acquires_as, releases, 2, QOLB_GRANTED)) return 1;
     WANT(qolb_deqolb(&n[2]), QOLB_DONE);
-    for (int k = 0; k < 2 + SLEEPERS; k++) WANT(qolb_close(&n[k]), QOLB_DONE);
+    for (int k = 0; k < 2 + SLEEPERS; k++) WANT(qolb_node_free(&n[k]), QOLB_DONE);
     return 0;
 }
 
@@ -632,7 +632,7 @@ static int closing_wakes_two(uint32_t kind, int passes_on) {
     other = &n[1];
     nodes = &n[2];
     if (wakes_so_many(acquires_as, passes_on ? shuts_and_is_told : shuts, 2, QOLB_CLOSED)) return 1;
-    for (int k = 0; k < 2 + SLEEPERS; k++) WANT(qolb_close(&n[k]), QOLB_DONE);
+    for (int k = 0; k < 2 + SLEEPERS; k++) WANT(qolb_node_free(&n[k]), QOLB_DONE);
     return 0;
 }
 
@@ -642,19 +642,19 @@ static int wakes_behind_one_awake(uint32_t kind) {
     qolb_node n[3] = {{0}};
     WANT(qolb_open(kind, 1, 3, QOLB_NO_LEASE, &zeros, n, 3), QOLB_DONE);
     WANT(qolb_acquire(&n[0]), QOLB_GRANTED);
-    WANT(qolb_acquire_within(&n[1], MS), QOLB_LATE);
+    WANT(qolb_acquire_within(&n[1], MS), QOLB_TIMEDOUT);
     WANT(qolb_deqolb(&n[0]), QOLB_DONE);
     WANT(qolb_acquire(&n[0]), QOLB_GRANTED);
     WANT(qolb_enqolb(&n[1]), QOLB_QUEUED);
     holder = &n[0];
     begins(releases);
     event.at_sleep = 1;
-    WANT(qolb_acquire_within(&n[2], MS), QOLB_LATE);
+    WANT(qolb_acquire_within(&n[2], MS), QOLB_TIMEDOUT);
     WANT(wakes, 1);
     WANT(woken_at[0] == slept_at[0], 1);
     WANT(qolb_poll(&n[1]), QOLB_GRANTED);
     WANT(qolb_deqolb(&n[1]), QOLB_DONE);
-    for (int k = 0; k < 3; k++) WANT(qolb_close(&n[k]), QOLB_DONE);
+    for (int k = 0; k < 3; k++) WANT(qolb_node_free(&n[k]), QOLB_DONE);
     return 0;
 }
 
@@ -671,16 +671,16 @@ static int each_has_its_bell(uint32_t kind) {
     WANT(qolb_acquire(&next[0]), QOLB_GRANTED);
     for (int k = 1; k < MOST; k++) {
         begins(NULL);
-        WANT(qolb_acquire_within(&n[k], MS), QOLB_LATE);
+        WANT(qolb_acquire_within(&n[k], MS), QOLB_TIMEDOUT);
         bells[k] = slept_at[0];
         for (int j = 1; j < k; j++) WANT(bells[j] != bells[k], 1);
     }
     begins(NULL);
-    WANT(qolb_acquire_within(&next[1], MS), QOLB_LATE);
+    WANT(qolb_acquire_within(&next[1], MS), QOLB_TIMEDOUT);
     WANT(slept_at[0] != bells[1], 1);
     WANT(qolb_deqolb(&n[0]) + qolb_deqolb(&next[0]), QOLB_DONE);
-    for (int k = 0; k < MOST; k++) WANT(qolb_close(&n[k]), QOLB_DONE);
-    for (int k = 0; k < 2; k++) WANT(qolb_close(&next[k]), QOLB_DONE);
+    for (int k = 0; k < MOST; k++) WANT(qolb_node_free(&n[k]), QOLB_DONE);
+    for (int k = 0; k < 2; k++) WANT(qolb_node_free(&next[k]), QOLB_DONE);
     return 0;
 }
 
@@ -708,10 +708,10 @@ static int woken_for_nothing(uint32_t kind) {
     uint64_t since = now;
     begins(time_passes);
     event.at_sleep = 1;
-    WANT(qolb_acquire_within(&n[1], 20 * MS), QOLB_LATE);
+    WANT(qolb_acquire_within(&n[1], 20 * MS), QOLB_TIMEDOUT);
     if (has_what_is_left(since)) return 1;
     WANT(qolb_deqolb(&n[0]), QOLB_DONE);
-    for (int k = 0; k < 2; k++) WANT(qolb_close(&n[k]), QOLB_DONE);
+    for (int k = 0; k < 2; k++) WANT(qolb_node_free(&n[k]), QOLB_DONE);
     return 0;
 }
 

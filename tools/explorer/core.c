@@ -2,15 +2,15 @@
  * same atomic steps on the same words. Nothing of it is in the library: ../explore_lock.py explores the lock's C over
  * it, and c/tests/core_calls.c compares the two.
  *
- * Words of 8 bytes: 0 the outer word, 16 the tail, 17 to 20 the cells; the others are never written. A cell: sixteen
- * bits of withdrawn tickets, from bit 16 the count of sleepers, from bit 34 the granted rounds modulo 2^30. The outer
+ * Words of 8 bytes: 0 the lock word, 16 the tail, 17 to 20 the cells; the others are never written. A cell: sixteen
+ * bits of withdrawn tickets, from bit 16 the count of sleepers, from bit 34 the granted rounds modulo 2^30. The lock
  * word: as at the end of core.h. */
 #include "core.h"
 #include <stdatomic.h>
 #include <stdbool.h>
 #include <stddef.h>
 
-/* ../explore_lock.py: told of each drawn ticket, of each withdrawn one, and of who takes the outer word or sleeps
+/* ../explore_lock.py: told of each drawn ticket, of each withdrawn one, and of who takes the lock word or sleeps
  * there, by the same step; and what is otherwise the width of a cell's fields, by scenes. */
 #ifdef EXPLORED
 extern unsigned model_near, model_sleepers;
@@ -39,18 +39,18 @@ enum { WORDS = LAYOUT_CORE_WORDS, HANDOFF = LAYOUT_HANDOFF, HEAD_SLEEPS = LAYOUT
 enum { RESERVED = LAYOUT_RESERVED, STATE = HELD | RESERVED, SHUT = LAYOUT_SHUT, NEWCOMER = LAYOUT_NEWCOMER };
 #define ROUND ((uint64_t)1 << LAYOUT_ROUNDS_BIT)
 #define SLEEPER ((uint64_t)1 << LAYOUT_SLEEPERS_BIT)
-#define MOST_BURST ((uint64_t)LAYOUT_MAX_BURST)
+#define MOST_BARGING ((uint64_t)LAYOUT_MAX_BURST)
 
 struct lock {
     _Atomic uint64_t *words;
     void *slots;      /* none: as of the proved table */
     uint64_t more[6]; /* of that, too: the block has the same size */
-    uint64_t burst, label;
+    uint64_t barging, label;
 };
 
 /* Each call reads this of the lock, whatever it answers: so none may be made when that may no longer exist. */
 static const struct lock *of(const struct qolb_core *core) { return *(const void *const volatile *)&core->at; }
-static _Atomic uint64_t *outer_of(const struct lock *lock) { return &lock->words[OUTER]; }
+static _Atomic uint64_t *lock_word_at(const struct lock *lock) { return &lock->words[OUTER]; }
 static _Atomic uint64_t *cell_of(const struct lock *lock, uint64_t number) {
     return &lock->words[CELLS + number % IN_ROUND];
 }
@@ -72,15 +72,15 @@ static uint32_t in_state(struct qolb_ticket *ticket, uint32_t state, uint32_t an
 
 /* ---- Opening ---- */
 
-uint32_t qolb_core_open_proved_(uint64_t burst, uint64_t label, struct qolb_core *out) {
-    if (burst > MOST_BURST) return QOLB_BAD_NODES;
+uint32_t qolb_core_open_proved_(uint64_t barging, uint64_t label, struct qolb_core *out) {
+    if (barging > MOST_BARGING) return QOLB_BAD_NODES;
     if (label == 0) return QOLB_MISUSE;
     _Atomic uint64_t *words = qolb_malloc_(WORDS * sizeof *words);
     void *slots = words ? qolb_malloc_(sizeof(uint64_t)) : NULL;
     struct lock *lock = slots ? qolb_malloc_(sizeof *lock) : NULL;
     if (!lock) return qolb_free_(words), qolb_free_(slots), QOLB_NO_MEMORY;
     for (int k = 0; k < WORDS; k++) atomic_init(&words[k], k == CELLS ? ROUND : 0);
-    *lock = (struct lock){.words = words, .slots = slots, .burst = burst, .label = label};
+    *lock = (struct lock){.words = words, .slots = slots, .barging = barging, .label = label};
     out->at = lock;
     return QOLB_DONE;
 }
@@ -191,47 +191,47 @@ uint32_t qolb_core_release_proved_(const struct qolb_core *core, struct qolb_tic
     return in_state(ticket, is_in ? ticket->state : QOLB_TICKET_ENDING_, QOLB_UNFINISHED_);
 }
 
-/* ---- The outer word ---- */
+/* ---- The lock word ---- */
 
 uint32_t qolb_core_check_open_proved_(const struct qolb_core *core, struct qolb_ticket *ticket) {
     const struct lock *lock = of(core);
-    if (lock->burst > 1 || !is(lock, ticket, BIT(AT_TURN) | BIT(SERVED) | BIT(SERVED_SHUT))) return QOLB_MISUSE;
-    return atomic_load(outer_of(lock)) & SHUT ? in_state(ticket, QOLB_TICKET_SERVED_SHUT_, QOLB_CLOSED)
-                                              : in_state(ticket, QOLB_TICKET_SERVED_, QOLB_GRANTED);
+    if (lock->barging > 1 || !is(lock, ticket, BIT(AT_TURN) | BIT(SERVED) | BIT(SERVED_SHUT))) return QOLB_MISUSE;
+    return atomic_load(lock_word_at(lock)) & SHUT ? in_state(ticket, QOLB_TICKET_SERVED_SHUT_, QOLB_CLOSED)
+                                                  : in_state(ticket, QOLB_TICKET_SERVED_, QOLB_GRANTED);
 }
 
 uint32_t qolb_core_ask_open_proved_(const struct qolb_core *core, struct qolb_ticket *ticket) {
-    if (of(core)->burst > 1) return QOLB_MISUSE;
+    if (of(core)->barging > 1) return QOLB_MISUSE;
     uint32_t got = qolb_core_ask_proved_(core, ticket);
     return got == QOLB_GRANTED ? qolb_core_check_open_proved_(core, ticket) : got;
 }
 
-/* Where the outer word is not as the ticket guessed: what the step found. */
-static uint32_t found(struct qolb_ticket *ticket, uint64_t outer, uint32_t answer) {
-    ticket->outer = outer;
+/* Where the lock word is not as the ticket guessed: what the step found. */
+static uint32_t found(struct qolb_ticket *ticket, uint64_t lock_word, uint32_t answer) {
+    ticket->lock_word = lock_word;
     return answer;
 }
 
 uint32_t qolb_core_go_in_proved_(const struct qolb_core *core, struct qolb_ticket *ticket) {
     const struct lock *lock = of(core);
-    if (lock->burst <= 1 || !is(lock, ticket, BIT(FREE))) return QOLB_MISUSE;
-    uint64_t guess = ticket->outer, in = guess + NEWCOMER + HELD;
-    if (guess & (STATE | SHUT)) return found(ticket, atomic_load(outer_of(lock)), QOLB_BUSY);
-    if (!atomic_compare_exchange_strong(outer_of(lock), &guess, in)) return found(ticket, guess, QOLB_BUSY);
+    if (lock->barging <= 1 || !is(lock, ticket, BIT(FREE))) return QOLB_MISUSE;
+    uint64_t guess = ticket->lock_word, in = guess + NEWCOMER + HELD;
+    if (guess & (STATE | SHUT)) return found(ticket, atomic_load(lock_word_at(lock)), QOLB_BUSY);
+    if (!atomic_compare_exchange_strong(lock_word_at(lock), &guess, in)) return found(ticket, guess, QOLB_BUSY);
     hook_goes_in(lock->label);
-    ticket->outer = in;
+    ticket->lock_word = in;
     ticket->label = lock->label;
     return in_state(ticket, QOLB_TICKET_INSIDE_, QOLB_GRANTED);
 }
 
 uint32_t qolb_core_take_outer_proved_(const struct qolb_core *core, struct qolb_ticket *ticket) {
     const struct lock *lock = of(core);
-    if (lock->burst <= 1 || !is(lock, ticket, BIT(AT_TURN))) return QOLB_MISUSE;
-    uint64_t was = atomic_load(outer_of(lock)), in = (was & SHUT) + HELD;
-    if ((was & STATE) == HELD || !atomic_compare_exchange_strong(outer_of(lock), &was, in))
+    if (lock->barging <= 1 || !is(lock, ticket, BIT(AT_TURN))) return QOLB_MISUSE;
+    uint64_t was = atomic_load(lock_word_at(lock)), in = (was & SHUT) + HELD;
+    if ((was & STATE) == HELD || !atomic_compare_exchange_strong(lock_word_at(lock), &was, in))
         return found(ticket, was, QOLB_WAITING);
     hook_takes_outer(lock->label);
-    ticket->outer = in;
+    ticket->lock_word = in;
     return in & SHUT ? in_state(ticket, QOLB_TICKET_HEAD_INSIDE_SHUT_, QOLB_CLOSED)
                      : in_state(ticket, QOLB_TICKET_HEAD_INSIDE_, QOLB_GRANTED);
 }
@@ -239,37 +239,38 @@ uint32_t qolb_core_take_outer_proved_(const struct qolb_core *core, struct qolb_
 uint32_t qolb_core_leave_proved_(const struct qolb_core *core, struct qolb_ticket *ticket) {
     const struct lock *lock = of(core);
     if (!is(lock, ticket, BIT(INSIDE) | BIT(INSIDE_SHUT))) return QOLB_MISUSE;
-    uint64_t guess = ticket->outer, was = guess, to = guess / SHUT * SHUT;
-    int reserves = guess & HANDOFF || guess / NEWCOMER + 1 >= lock->burst;
-    if (!atomic_compare_exchange_strong(outer_of(lock), &was, reserves ? to + RESERVED : to))
+    uint64_t guess = ticket->lock_word, was = guess, to = guess / SHUT * SHUT;
+    int reserves = guess & HANDOFF || guess / NEWCOMER + 1 >= lock->barging;
+    if (!atomic_compare_exchange_strong(lock_word_at(lock), &was, reserves ? to + RESERVED : to))
         return found(ticket, was, QOLB_BUSY);
     ticket->head_sleeps = (guess & HEAD_SLEEPS) != 0;
-    ticket->outer = to;
+    ticket->lock_word = to;
     return in_state(ticket, QOLB_TICKET_FREE_, QOLB_DONE);
 }
 
 uint32_t qolb_core_request_handoff_proved_(const struct qolb_core *core, struct qolb_ticket *ticket) {
     const struct lock *lock = of(core);
-    if (lock->burst <= 1 || !is(lock, ticket, BIT(AT_TURN))) return QOLB_MISUSE;
-    uint64_t was = atomic_load(outer_of(lock));
-    return was & HANDOFF || atomic_compare_exchange_strong(outer_of(lock), &was, was + HANDOFF) ? QOLB_DONE : QOLB_BUSY;
+    if (lock->barging <= 1 || !is(lock, ticket, BIT(AT_TURN))) return QOLB_MISUSE;
+    uint64_t was = atomic_load(lock_word_at(lock));
+    return was & HANDOFF || atomic_compare_exchange_strong(lock_word_at(lock), &was, was + HANDOFF) ? QOLB_DONE
+                                                                                                    : QOLB_BUSY;
 }
 
 uint32_t qolb_core_announce_head_sleep_proved_(const struct qolb_core *core, struct qolb_ticket *ticket) {
     const struct lock *lock = of(core);
-    if (lock->burst <= 1 || !is(lock, ticket, BIT(AT_TURN))) return QOLB_MISUSE;
-    uint64_t was = atomic_load(outer_of(lock)), asleep = was | HEAD_SLEEPS;
-    if ((was & STATE) != HELD || !atomic_compare_exchange_strong(outer_of(lock), &was, asleep)) return QOLB_WAITING;
+    if (lock->barging <= 1 || !is(lock, ticket, BIT(AT_TURN))) return QOLB_MISUSE;
+    uint64_t was = atomic_load(lock_word_at(lock)), asleep = was | HEAD_SLEEPS;
+    if ((was & STATE) != HELD || !atomic_compare_exchange_strong(lock_word_at(lock), &was, asleep)) return QOLB_WAITING;
     hook_head_sleeps(ticket);
-    ticket->outer = asleep;
+    ticket->lock_word = asleep;
     return QOLB_ASLEEP_;
 }
 
 uint32_t qolb_core_shut_proved_(const struct qolb_core *core, struct qolb_ticket *ticket) {
     const struct lock *lock = of(core);
     if (!is(lock, ticket, BIT(SERVED) | BIT(HEAD_INSIDE) | BIT(INSIDE))) return QOLB_MISUSE;
-    atomic_fetch_add(outer_of(lock), SHUT);
-    ticket->outer += SHUT;
+    atomic_fetch_add(lock_word_at(lock), SHUT);
+    ticket->lock_word += SHUT;
     return in_state(ticket, ticket->state + 1, QOLB_DONE);
 }
 
@@ -277,7 +278,7 @@ uint32_t qolb_core_reopen_proved_(const struct qolb_core *core, struct qolb_tick
     const struct lock *lock = of(core);
     if (!is(lock, ticket, BIT(SERVED_SHUT) | BIT(HEAD_INSIDE_SHUT))) return QOLB_MISUSE;
     if (atomic_load(&lock->words[TAIL]) != ticket->number + 1) return QOLB_BUSY;
-    atomic_fetch_sub(outer_of(lock), SHUT);
-    ticket->outer -= SHUT;
+    atomic_fetch_sub(lock_word_at(lock), SHUT);
+    ticket->lock_word -= SHUT;
     return in_state(ticket, ticket->state - 1, QOLB_GRANTED);
 }

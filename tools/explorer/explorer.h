@@ -11,7 +11,7 @@ struct clock {
 };
 
 #ifdef OF_LOCKS
-/* What these threads do at the same time, each by its number, over a lock with these bursts, which is opened before or
+/* What these threads do at the same time, each by its number, over a lock with these barging, which is opened before or
  * at its first use. A request can be withdrawn with at most `near` rounds to go, `sleepers` threads may announce a
  * sleep at one cell, and with fewer rounds to go than `open` a call with a limit draws a ticket. There may be no memory
  * for the registry, nor a key of threads. */
@@ -19,7 +19,7 @@ struct scene {
     const char *name;
     void (*does)(int self);
     int threads;
-    unsigned burst;
+    unsigned barging;
     int at_first_use;
     unsigned near, sleepers, open;
     int no_memory;

@@ -50,7 +50,7 @@ static void acquires_twice(int self) { acquires_once(self), acquires_once(self);
 
 static void acquires_in_time(int self) {
     uint32_t got = self ? qolb_acquire_within(&it.of[self].node, MS) : qolb_acquire(&it.of[self].node);
-    if (got == QOLB_LATE) return;
+    if (got == QOLB_TIMEDOUT) return;
     MUST(got == QOLB_GRANTED);
     releases_turn(self);
 }
@@ -133,7 +133,7 @@ static uint32_t takes_back(int self) {
     MUST(it.told[self].calls == (off == QOLB_DONE));
     it.told[self].calls = 0;
     uint32_t got = qolb_withdraw(&it.of[self].node);
-    return got == QOLB_WITHDRAWN ? (uint32_t)QOLB_LATE : got;
+    return got == QOLB_WITHDRAWN ? (uint32_t)QOLB_TIMEDOUT : got;
 }
 
 static uint32_t is_notified(int self, uint64_t time) {
@@ -160,7 +160,7 @@ static void notified_twice(int self) { notified(self), notified(self); }
 
 static void notified_in_time(int self) {
     uint32_t got = is_notified(self, self == 1 ? MS : FOR_EVER);
-    if (got == QOLB_LATE) return;
+    if (got == QOLB_TIMEDOUT) return;
     MUST(got == QOLB_GRANTED);
     releases_turn(self);
 }
@@ -273,7 +273,7 @@ static void closes_with_a_wish(int self) {
     if (got == QOLB_QUEUED) got = wants_call(self, tells);
     if (got == QOLB_WAITING) got = qolb_withdraw(node);
     if (got == QOLB_GRANTED) releases_turn(self);
-    MUST(qolb_close(node) == QOLB_DONE);
+    MUST(qolb_node_free(node) == QOLB_DONE);
     if (self == 1) MUST(it.told[1].calls <= 1);
     it.told[self].calls = 0;
 }

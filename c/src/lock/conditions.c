@@ -69,30 +69,32 @@ uint32_t qolb_cond_wait_at_(qolb_cond *cond, struct lock *lock, struct turn *at,
     struct limit limit = from_now(nanoseconds); /* leaving may make calls of tasks */
     struct waiter me;
     stand_at(cond, lock, &me);
-    atomic_fetch_add(&lock->guests, 1);
+    atomic_fetch_add(&lock->without_ticket, 1);
     qolb_leave_at_(lock, at);
     int stood = await_word(&me, &limit) != SIGNALLED && stand_no_more(cond, &me);
     uint32_t got = qolb_enter_at_(lock, at, FOR_EVER, 1);
     if (got != QOLB_GRANTED) return got;
     stand_no_more_in(&me);
-    return stood ? (uint32_t)QOLB_LATE : got;
+    return stood ? (uint32_t)QOLB_TIMEDOUT : got;
 }
 
-uint32_t qolb_cond_wait_within(qolb_cond *cond, qolb_lock *of, uint64_t nanoseconds) {
+enum qolb_result qolb_cond_wait_within(qolb_cond *cond, qolb_lock *of, uint64_t nanoseconds) {
     struct lock *lock = lock_of(of);
     struct turn beyond, *at = qolb_take_turn_(lock, &beyond);
     if (!at) return QOLB_MISUSE;
     struct turn turn = *at; /* not in the table: a call of a task may enter other locks */
     at->ticket = (struct qolb_ticket){0};
     uint32_t got = qolb_cond_wait_at_(cond, lock, &turn, nanoseconds);
-    if (got != QOLB_GRANTED && got != QOLB_LATE) return got;
+    if (got != QOLB_GRANTED && got != QOLB_TIMEDOUT) return got;
     at = qolb_place_for_(lock, &beyond);
     at->ticket = turn.ticket;
     qolb_keep_turn_(lock, at, &beyond);
     return got;
 }
 
-uint32_t qolb_cond_wait(qolb_cond *cond, qolb_lock *lock) { return qolb_cond_wait_within(cond, lock, FOR_EVER); }
+enum qolb_result qolb_cond_wait(qolb_cond *cond, qolb_lock *lock) {
+    return qolb_cond_wait_within(cond, lock, FOR_EVER);
+}
 
 /* ---- Telling ---- */
 
@@ -109,9 +111,9 @@ static uint32_t signal_some(qolb_cond *cond, int all) {
     return QOLB_DONE;
 }
 
-uint32_t qolb_cond_signal(qolb_cond *cond) { return signal_some(cond, 0); }
+enum qolb_result qolb_cond_signal(qolb_cond *cond) { return signal_some(cond, 0); }
 
-uint32_t qolb_cond_broadcast(qolb_cond *cond) { return signal_some(cond, 1); }
+enum qolb_result qolb_cond_broadcast(qolb_cond *cond) { return signal_some(cond, 1); }
 
 /* From here on the holder does nothing but shut the lock. Who is told asks behind it, and stays in the list until it is
  * answered. */

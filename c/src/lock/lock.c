@@ -3,15 +3,15 @@
  * Entering a strict lock: draw a ticket (from that step on the call is in the order), wait for its turn, look whether
  * the lock is open. Leaving: release the turn. That is all; the release is the last access to the lock's memory.
  *
- * Entering a lock with bursts: go in by the outer word, as a newcomer, if that is free for anyone; else draw a ticket,
- * wait for its turn, take the outer word as the queue head, and release the turn of the queue. Leaving: leave the outer
+ * Entering a barging lock: go in by the lock word, as a barging thread, if that is free for anyone; else draw a ticket,
+ * wait for its turn, take the lock word as the queue head, and release the turn of the queue. Leaving: leave the lock
  * word, which is the last access.
  *
  * A call that may not wait draws a ticket only if that can be withdrawn. While 12,288 requests are open no call with a
  * limit draws one: it waits without, as a guest, and looks every millisecond.
  *
- * Who is told that the lock is shut passes its turn on. Closing is a try that finds nobody: no holder, no waiter, no
- * guest.
+ * Who is told that the lock is shut passes its turn on. Destroying is a try that finds nobody: no holder, no waiter, and
+ * no thread without a ticket in a call.
  *
  * A thread that had this lock before has a place for it, and takes the short way, which checks no more than the proved
  * calls: they refuse a ticket of another lock that lay in the same bytes, and then nothing has changed. What a short
@@ -25,27 +25,27 @@
 
 /* ---- Entering ---- */
 
-/* How often a newcomer goes to the outer word anew that changed while it was free, and a call with a limit to the tail,
+/* How often a barging thread goes to the lock word anew that changed while it was free, and a call with a limit to the tail,
  * before it waits. */
 enum { TRIES = 4 };
 
 static int goes_in(struct lock *lock, struct turn *at) {
     for (int k = 0; k < TRIES; k++) {
         if (qolb_core_go_in_proved_(&lock->core, &at->ticket) == QOLB_GRANTED) return 1;
-        if (at->ticket.outer & (OUTER_STATE | OUTER_SHUT)) return 0;
+        if (at->ticket.lock_word & (WORD_STATE | WORD_SHUT)) return 0;
     }
     return 0;
 }
 
-static void be_guest(struct request *my) {
-    if (!my->is_guest) atomic_fetch_add(&my->lock->guests, 1);
-    my->is_guest = 1;
+static void count_in(struct request *my) {
+    if (!my->is_counted) atomic_fetch_add(&my->lock->without_ticket, 1);
+    my->is_counted = 1;
 }
 
 /* The last access to the lock's memory by who has no ticket, and does not hold it. */
-static void be_no_guest(struct request *my) {
-    if (my->is_guest) atomic_fetch_sub(&my->lock->guests, 1);
-    my->is_guest = 0;
+static void count_out(struct request *my) {
+    if (my->is_counted) atomic_fetch_sub(&my->lock->without_ticket, 1);
+    my->is_counted = 0;
 }
 
 /* FAR: without a ticket. */
@@ -58,7 +58,7 @@ static uint32_t ask_near(const struct request *my) {
 
 /* Goes in, or draws a ticket: GRANTED and it is in or at its turn, WAITING, or, with a limit, FAR. */
 static uint32_t ask(struct request *my) {
-    if (has_bursts(my->lock) && goes_in(my->lock, my->at)) return QOLB_GRANTED;
+    if (is_barging(my->lock) && goes_in(my->lock, my->at)) return QOLB_GRANTED;
     if (my->until != FOR_EVER && is_over(my->until)) return ask_near(my);
     if (my->until != FOR_EVER && !has_room(my->lock)) return QOLB_FAR_;
     return qolb_core_ask_proved_(&my->lock->core, &my->at->ticket);
@@ -68,32 +68,32 @@ static uint32_t ask(struct request *my) {
 static uint32_t ask_later(struct request *my) {
     uint32_t got = QOLB_FAR_;
     while (got == QOLB_FAR_ && !is_over(my->until)) {
-        be_guest(my);
+        count_in(my);
         nap(my->until);
         got = ask(my);
     }
-    return got == QOLB_FAR_ ? closed_or(QOLB_LATE, my->lock) : got;
+    return got == QOLB_FAR_ ? closed_or(QOLB_TIMEDOUT, my->lock) : got;
 }
 
-/* A queue head that is told CLOSED at the outer word of a shut lock is in by that word, and leaves it. */
+/* A queue head that is told CLOSED at the lock word of a shut lock is in by that word, and leaves it. */
 void qolb_settle_(struct lock *lock, struct turn *at, uint32_t got) {
     int is_in = at->ticket.state == QOLB_TICKET_HEAD_INSIDE_SHUT_;
-    if (has_bursts(lock) || got != QOLB_GRANTED) qolb_pass_on_(lock, at);
-    if (is_in) qolb_leave_outer_(lock, at);
+    if (is_barging(lock) || got != QOLB_GRANTED) qolb_pass_on_(lock, at);
+    if (is_in) qolb_leave_lock_word_(lock, at);
 }
 
-/* Looks at the outer word for a ticket at its turn of the queue: GRANTED, CLOSED; with bursts also WAITING. */
+/* Looks at the lock word for a ticket at its turn of the queue: GRANTED, CLOSED; with barging also WAITING. */
 static uint32_t look(struct lock *lock, struct turn *at) {
-    return has_bursts(lock) ? qolb_core_take_outer_proved_(&lock->core, &at->ticket)
+    return is_barging(lock) ? qolb_core_take_outer_proved_(&lock->core, &at->ticket)
                             : qolb_core_check_open_proved_(&lock->core, &at->ticket);
 }
 
-/* Who is at its turn of the queue enters: GRANTED, CLOSED, or LATE at the outer word. In a strict lock all behind it
+/* Who is at its turn of the queue enters: GRANTED, CLOSED, or LATE at the lock word. In a strict lock all behind it
  * wait meanwhile: so that is short. */
 static uint32_t enter_at_turn(struct request *my) {
     uint32_t got;
-    if (has_bursts(my->lock)) {
-        got = qolb_await_outer_(my);
+    if (is_barging(my->lock)) {
+        got = qolb_await_lock_word_(my);
     } else {
         got = qolb_core_check_open_proved_(&my->lock->core, &my->at->ticket);
         if (likely(got == QOLB_GRANTED)) return got;
@@ -106,41 +106,45 @@ static uint32_t enter_at_turn(struct request *my) {
 static uint32_t await(struct request *my, uint32_t got) {
     PROBE(wait, of_request(my));
     if (got == QOLB_FAR_) got = ask_later(my);
-    be_no_guest(my);
+    count_out(my);
     if (got == QOLB_WAITING) got = qolb_await_turn_(my);
     if (got == QOLB_GRANTED && my->at->ticket.state == QOLB_TICKET_AT_TURN_) got = enter_at_turn(my);
     PROBE_END(got, of_request(my));
     return got;
 }
 
-/* The queue head of a lock with bursts waits unless the outer word is reserved for it. */
-static int is_free_for_head(const struct lock *lock) { return !has_bursts(lock) || outer_word(lock) & OUTER_RESERVED; }
+/* The queue head of a barging lock waits unless the lock word is reserved for it. */
+static int is_free_for_head(const struct lock *lock) { return !is_barging(lock) || lock_word_of(lock) & WORD_RESERVED; }
 
 static uint32_t enter_by(struct request *my, uint32_t got) {
     if (got != QOLB_GRANTED) return await(my, got);
-    be_no_guest(my);
+    count_out(my);
     if (my->at->ticket.state != QOLB_TICKET_AT_TURN_) return got; /* it is in */
     return is_free_for_head(my->lock) ? enter_at_turn(my) : await(my, got);
 }
 
-SLOW uint32_t qolb_enter_at_(struct lock *lock, struct turn *at, uint64_t nanoseconds, int is_guest) {
-    struct request my = {lock, at, end_of(nanoseconds), is_guest, NULL};
+SLOW uint32_t qolb_enter_at_(struct lock *lock, struct turn *at, uint64_t until, int is_counted) {
+    struct request my = {lock, at, until, is_counted, NULL};
     return enter_by(&my, ask(&my));
 }
 
 /* What entering and trying have in common: the answer of a thread that holds the lock is `held`. */
-SLOW static uint32_t enter_or_try(struct lock *lock, uint64_t nanoseconds, uint32_t held) {
+SLOW static uint32_t enter_or_try(struct lock *lock, uint64_t until, uint32_t held) {
     struct turn beyond;
     qolb_open_(lock);
     if (qolb_holds_(lock)) return held;
     struct turn *at = qolb_place_for_(lock, &beyond);
-    uint32_t got = held == QOLB_BUSY ? qolb_try_at_(lock, at) : qolb_enter_at_(lock, at, nanoseconds, 0);
+    uint32_t got = held == QOLB_BUSY ? qolb_try_at_(lock, at) : qolb_enter_at_(lock, at, until, 0);
     if (got == QOLB_GRANTED) qolb_keep_turn_(lock, at, &beyond);
     return got;
 }
 
-uint32_t qolb_lock_enter_within(qolb_lock *lock, uint64_t nanoseconds) {
-    return enter_or_try(lock_of(lock), nanoseconds, QOLB_MISUSE);
+enum qolb_result qolb_lock_enter_within(qolb_lock *lock, uint64_t nanoseconds) {
+    return enter_or_try(lock_of(lock), end_of(nanoseconds), QOLB_MISUSE);
+}
+
+enum qolb_result qolb_lock_enter_until(qolb_lock *lock, uint64_t time) {
+    return enter_or_try(lock_of(lock), time, QOLB_MISUSE);
 }
 
 /* For as long as it takes, in the thread's own place for a strict lock, with a ticket. */
@@ -165,17 +169,17 @@ SLOW static uint32_t enter_on(struct turn *at, uint32_t got) {
     return got;
 }
 
-static uint32_t enter_burst(struct turn *at) {
+static uint32_t enter_barging(struct turn *at) {
     uint32_t got = qolb_core_go_in_proved_(&lock_by(at)->core, &at->ticket);
     if (!likely(got == QOLB_GRANTED)) return enter_on(at, got);
     at->core += HELD - LAST;
     return got;
 }
 
-FAST uint32_t qolb_lock_enter(qolb_lock *of) {
+FAST enum qolb_result qolb_lock_enter(qolb_lock *of) {
     struct turn *at = home_of(lock_of(of));
     if (!likely(is_at(at, lock_of(of), LAST))) return enter_or_try(lock_of(of), FOR_EVER, QOLB_MISUSE);
-    if (!likely(!has_bursts(lock_of(of)))) return enter_burst(at);
+    if (!likely(!is_barging(lock_of(of)))) return enter_barging(at);
     uint32_t got = qolb_core_ask_open_proved_(&lock_of(of)->core, &at->ticket);
     if (!likely(got == QOLB_GRANTED)) return enter_on(at, got);
     at->core += HELD - LAST;
@@ -185,7 +189,7 @@ FAST uint32_t qolb_lock_enter(qolb_lock *of) {
 /* ---- Trying ---- */
 
 uint32_t qolb_try_at_(struct lock *lock, struct turn *at) {
-    if (has_bursts(lock) && goes_in(lock, at)) return QOLB_GRANTED;
+    if (is_barging(lock) && goes_in(lock, at)) return QOLB_GRANTED;
     if (qolb_core_try_ask_proved_(&lock->core, &at->ticket) != QOLB_GRANTED) return closed_or(QOLB_BUSY, lock);
     uint32_t got = look(lock, at);
     if (got == QOLB_WAITING) got = closed_or(QOLB_BUSY, lock);
@@ -193,7 +197,7 @@ uint32_t qolb_try_at_(struct lock *lock, struct turn *at) {
     return got;
 }
 
-uint32_t qolb_lock_try(qolb_lock *lock) { return enter_or_try(lock_of(lock), 0, QOLB_BUSY); }
+enum qolb_result qolb_lock_try(qolb_lock *lock) { return enter_or_try(lock_of(lock), 0, QOLB_BUSY); }
 
 /* ---- Leaving ---- */
 
@@ -203,7 +207,7 @@ static int is_strict_turn(const struct turn *at) {
 
 void qolb_leave_at_(struct lock *lock, struct turn *at) {
     if (is_strict_turn(at)) qolb_pass_on_(lock, at);
-    else qolb_leave_outer_(lock, at);
+    else qolb_leave_lock_word_(lock, at);
 }
 
 void qolb_shut_at_(struct lock *lock, struct turn *at) {
@@ -221,55 +225,55 @@ SLOW static uint32_t leave_slowly(struct lock *lock) {
 
 /* In the thread's own place for the lock, after a proved call that answered this. The lock may no longer exist,
  * but for MISUSE. */
-SLOW static uint32_t leave_on(struct turn *at, uint32_t got, int with_bursts) {
+SLOW static uint32_t leave_on(struct turn *at, uint32_t got, int with_barging) {
     struct lock *lock = lock_by(at);
     if (got == QOLB_MISUSE) return hold_by(at, lock), leave_slowly(lock);
-    if (with_bursts) qolb_end_inside_(lock, at, got);
+    if (with_barging) qolb_end_inside_(lock, at, got);
     else qolb_end_turn_(lock, at, got);
     return QOLB_DONE;
 }
 
-static uint32_t leave_burst(struct turn *at) {
+static uint32_t leave_barging(struct turn *at) {
     uint32_t got = qolb_core_leave_proved_(&lock_by(at)->core, &at->ticket);
     return likely(got == QOLB_DONE && !at->ticket.head_sleeps) ? got : leave_on(at, got, 1);
 }
 
-FAST uint32_t qolb_lock_leave(qolb_lock *of) {
+FAST enum qolb_result qolb_lock_leave(qolb_lock *of) {
     struct turn *at = home_of(lock_of(of));
     if (!likely(is_at(at, lock_of(of), HELD))) return leave_slowly(lock_of(of));
     at->core -= HELD - LAST;
-    if (!likely(!has_bursts(lock_of(of)))) return leave_burst(at);
+    if (!likely(!is_barging(lock_of(of)))) return leave_barging(at);
     uint32_t got = qolb_core_release_proved_(&lock_of(of)->core, &at->ticket);
     return likely(got == QOLB_DONE && !at->ticket.sleepers) ? got : leave_on(at, got, 0);
 }
 
-uint32_t qolb_lock_shut(qolb_lock *of) {
+enum qolb_result qolb_lock_shut(qolb_lock *of) {
     struct turn beyond, *at = qolb_take_turn_(lock_of(of), &beyond);
     if (!at) return QOLB_MISUSE;
     qolb_shut_at_(lock_of(of), at);
     return QOLB_DONE;
 }
 
-/* ---- Closing ---- */
+/* ---- Destroying ---- */
 
 /* In, and at the turn of the queue, of a lock that is shut or not. Whether it is the only one, and the lock open. A
  * guest draws its ticket before it counts itself out: so who is not counted any more has asked after this one. */
 static int is_alone(struct lock *lock, struct turn *at, uint32_t got) {
-    if (got == QOLB_WAITING || atomic_load(&lock->guests) || tail_word(lock) != at->ticket.number + 1) return 0;
+    if (got == QOLB_WAITING || atomic_load(&lock->without_ticket) || tail_word(lock) != at->ticket.number + 1) return 0;
     return got == QOLB_GRANTED || qolb_core_reopen_proved_(&lock->core, &at->ticket) == QOLB_GRANTED;
 }
 
-/* Closing moves no memory: the core stays as it is, open with nobody there, and the next use makes a new one. */
-uint32_t qolb_lock_close(qolb_lock *of) {
+/* Destroying moves no memory: the core stays as it is, open with nobody there, and the next use makes a new one. */
+enum qolb_result qolb_lock_destroy(qolb_lock *of) {
     struct lock *lock = lock_of(of);
     struct turn turn = {0}, *at = &turn;
     if (!own_of(lock)) return QOLB_DONE;
-    if (!is_open(lock) || qolb_holds_(lock)) return QOLB_MISUSE;
-    if (qolb_core_try_ask_proved_(&lock->core, &at->ticket) != QOLB_GRANTED) return QOLB_MISUSE;
+    if (!is_open(lock) || qolb_holds_(lock)) return QOLB_BUSY;
+    if (qolb_core_try_ask_proved_(&lock->core, &at->ticket) != QOLB_GRANTED) return QOLB_BUSY;
     int alone = is_alone(lock, at, look(lock, at));
     qolb_pass_on_(lock, at);
-    if (at->ticket.state != QOLB_TICKET_FREE_) qolb_leave_outer_(lock, at);
-    if (!alone) return QOLB_MISUSE;
+    if (at->ticket.state != QOLB_TICKET_FREE_) qolb_leave_lock_word_(lock, at);
+    if (!alone) return QOLB_BUSY;
     __atomic_store_n(&lock->core.at, NULL, __ATOMIC_SEQ_CST);
     return QOLB_DONE;
 }

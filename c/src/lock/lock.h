@@ -6,7 +6,7 @@
  *   conditions.c   waiting at a condition, and telling all that wait there of a shut
  *   tasks.c        tasks, which enter and leave without a thread that waits
  *   lock.c         entering, trying, leaving, shutting, closing
- *   waits.c        waiting for a turn of the queue, and for the outer word; passing a turn on; whom to wake
+ *   waits.c        waiting for a turn of the queue, and for the lock word; passing a turn on; whom to wake
  *   registry.c     the tickets for which no thread waits: of tasks, and of calls that gave up
  *   turns.c        the thread's table of the locks that it holds
  *   opens.c        opening a lock in its own bytes, at its first use
@@ -23,15 +23,15 @@
 
 /* ---- A lock's bytes ---- */
 
-enum { MAX_BURST = LAYOUT_MAX_BURST, LOCK_BYTES = 320, LINE = 64, CORE_WORDS = LAYOUT_CORE_WORDS, SPARE_WORDS = 3 };
+enum { MAX_BARGING = LAYOUT_MAX_BURST, LOCK_BYTES = 320, LINE = 64, CORE_WORDS = LAYOUT_CORE_WORDS, SPARE_WORDS = 3 };
 
 /* How a qolb_lock's bytes are used. The first part is written once, when it is opened; what the holder writes lies
- * behind it; and the core's words begin where the outer word shares no cache line with `block`, which each call reads,
+ * behind it; and the core's words begin where the lock word shares no cache line with `block`, which each call reads,
  * and the tail and the cells, words 16 to 20, are in one line. */
 struct __attribute__((may_alias)) lock {
     /* By who opens it: NULL, OPENING, AWAITED, and then the address of `block`. */
     struct qolb_core core;
-    uint64_t turns;               /* of its bursts, by the initialiser; 0 and 1: it is strict */
+    uint64_t limit;               /* the barging limit, by the initialiser; 0 and 1: it is strict */
     char block[CORE_BLOCK_BYTES]; /* the core's: never written after opening */
     uint64_t label;               /* by who opens it: no other opening of the process has it */
     struct waiter *waits;         /* by the holder: those that wait at a condition */
@@ -40,7 +40,7 @@ struct __attribute__((may_alias)) lock {
     uint64_t words[CORE_WORDS + SPARE_WORDS]; /* the core's, and around them what spare_of says */
     /* The number of threads in a call that have no ticket yet or any more: they wait at a condition, or until a request
      * could be withdrawn. By each of them. A lock is not closed meanwhile. */
-    atomic_uint guests;
+    atomic_uint without_ticket;
     uint32_t unused;
 };
 
@@ -49,9 +49,11 @@ _Static_assert(sizeof(struct lock) == LOCK_BYTES && sizeof(qolb_lock) == LOCK_BY
 
 static inline struct lock *lock_of(const qolb_lock *lock) { return (struct lock *)(uintptr_t)lock; }
 
-/* The bound of bursts; 0 and 1: the lock is strict. */
-static inline uint64_t burst_of(const struct lock *lock) { return lock->turns < MAX_BURST ? lock->turns : MAX_BURST; }
-static inline int has_bursts(const struct lock *lock) { return lock->turns > 1; }
+/* The barging limit; 0 and 1: the lock is strict. */
+static inline uint64_t barging_limit_of(const struct lock *lock) {
+    return lock->limit < MAX_BARGING ? lock->limit : MAX_BARGING;
+}
+static inline int is_barging(const struct lock *lock) { return lock->limit > 1; }
 
 /* The core's words. A function of the lock's address alone: so it can be used when the lock no longer exists. */
 static inline uint64_t *words_of(const struct lock *lock) {
@@ -71,11 +73,13 @@ static inline uint64_t *spare_of(struct lock *lock, enum spare which) {
 
 enum { TICKETS_IN_ROUND = LAYOUT_CELLS, TAIL = LAYOUT_TAIL_WORD, FIRST_CELL = LAYOUT_FIRST_CELL };
 enum { GRANTED_ROUNDS = LAYOUT_ROUNDS_BIT, CLASSES_OF_SLEEPERS = 32 };
-enum { HANDOFF_REQUESTED = LAYOUT_HANDOFF, HEAD_ASLEEP = LAYOUT_HEAD_ASLEEP, OUTER_HELD = LAYOUT_HELD };
-enum { OUTER_RESERVED = LAYOUT_RESERVED, OUTER_STATE = OUTER_HELD | OUTER_RESERVED, OUTER_SHUT = LAYOUT_SHUT };
+enum { HANDOFF_REQUESTED = LAYOUT_HANDOFF, HEAD_ASLEEP = LAYOUT_HEAD_ASLEEP, WORD_HELD = LAYOUT_HELD };
+enum { WORD_RESERVED = LAYOUT_RESERVED, WORD_STATE = WORD_HELD | WORD_RESERVED, WORD_SHUT = LAYOUT_SHUT };
 enum { NEWCOMER = LAYOUT_NEWCOMER };
 
-static inline uint64_t outer_word(const struct lock *lock) { return __atomic_load_n(words_of(lock), __ATOMIC_SEQ_CST); }
+static inline uint64_t lock_word_of(const struct lock *lock) {
+    return __atomic_load_n(words_of(lock), __ATOMIC_SEQ_CST);
+}
 
 /* The next ticket's number. */
 static inline uint64_t tail_word(const struct lock *lock) {
@@ -84,7 +88,7 @@ static inline uint64_t tail_word(const struct lock *lock) {
 
 /* The answer of who gives up, while it may use the lock: CLOSED if that is shut. */
 static inline uint32_t closed_or(uint32_t answer, const struct lock *lock) {
-    return outer_word(lock) & OUTER_SHUT ? (uint32_t)QOLB_CLOSED : answer;
+    return lock_word_of(lock) & WORD_SHUT ? (uint32_t)QOLB_CLOSED : answer;
 }
 
 static inline uint64_t *cell_of(uint64_t *words, uint64_t number) {
@@ -92,7 +96,7 @@ static inline uint64_t *cell_of(uint64_t *words, uint64_t number) {
 }
 
 /* The 32 bits at which the queue head sleeps, and those of a ticket's cell at which a waiter sleeps. */
-static inline uint32_t *outer_half(uint64_t *words) { return (uint32_t *)words; }
+static inline uint32_t *lock_word_half(uint64_t *words) { return (uint32_t *)words; }
 static inline uint32_t *cell_half(uint64_t *words, uint64_t number) { return (uint32_t *)cell_of(words, number) + 1; }
 
 /* The rounds that are to be granted before this ticket is at its turn. Of a number that was read before its cell: less
@@ -256,10 +260,10 @@ HIDDEN struct entry *qolb_new_entry_(struct lock *lock, struct task *task);
 HIDDEN uint32_t qolb_abandon_(struct lock *lock, struct qolb_ticket *ticket, struct entry **spare);
 
 /* For a task, whose ticket WAITS or is AT_TURN: WAITING, and it will be due, if it is not already; or GRANTED: at its
- * turn, with bursts in by the outer word. */
+ * turn, with barging in by the lock word. */
 HIDDEN uint32_t qolb_stand_for_(struct entry *e, struct qolb_ticket *ticket);
 
-/* In place of a ticket's number: the queue head's, which sleeps at the outer word. */
+/* In place of a ticket's number: the queue head's, which sleeps at the lock word. */
 #define HEAD UINT64_MAX
 
 /* Whom a granted ticket, or the queue head that sleeps, is of, in the lock with this label: of a thread; abandoned, and
@@ -284,7 +288,7 @@ struct request {
     struct lock *lock;
     struct turn *at;
     uint64_t until;
-    int is_guest;        /* it is counted among the lock's guests */
+    int is_counted;      /* it is counted among the lock's without_ticket */
     struct entry *spare; /* for a ticket that it abandons, or NULL */
 };
 
@@ -294,33 +298,34 @@ static inline struct probed of_request(const struct request *my) {
     return (struct probed){(uintptr_t)my->lock, ticket->state ? ticket->number + 1 : 0, (uintptr_t)my->lock};
 }
 
-/* Waits for the turn of a request that WAITS: GRANTED; LATE, or CLOSED of a lock that is shut: it has no ticket. */
+/* Waits for the turn of a request that WAITS: GRANTED; TIMEDOUT, or CLOSED of a lock that is shut: it has no ticket. */
 HIDDEN uint32_t qolb_await_turn_(struct request *my);
 
-/* The queue head waits for the outer word: GRANTED or CLOSED, and it is in; LATE: it still has its turn of the queue.
+/* The queue head waits for the lock word: GRANTED or CLOSED, and it is in; TIMEDOUT: it still has its turn of the queue.
  */
-HIDDEN uint32_t qolb_await_outer_(struct request *my);
+HIDDEN uint32_t qolb_await_lock_word_(struct request *my);
 
 /* Ends a turn of the queue, and wakes the next, and one ahead after a sleep; makes the call of a task that is due, in
  * which this thread may enter and leave locks. Afterwards the lock may no longer exist, unless the ticket is in by the
- * outer word: then no task is due. The first goes on after a release that answered this. */
+ * lock word: then no task is due. The first goes on after a release that answered this. */
 HIDDEN void qolb_end_turn_(struct lock *lock, struct turn *at, uint32_t got);
 static inline void qolb_pass_on_(struct lock *lock, struct turn *at) { qolb_end_turn_(lock, at, QOLB_UNFINISHED_); }
 
-/* Leaves the outer word, and wakes the queue head, or makes its call. Afterwards the lock may no longer exist. The
+/* Leaves the lock word, and wakes the queue head, or makes its call. Afterwards the lock may no longer exist. The
  * first goes on after a leave that answered this. */
 HIDDEN void qolb_end_inside_(struct lock *lock, struct turn *at, uint32_t got);
-static inline void qolb_leave_outer_(struct lock *lock, struct turn *at) { qolb_end_inside_(lock, at, QOLB_BUSY); }
+static inline void qolb_leave_lock_word_(struct lock *lock, struct turn *at) { qolb_end_inside_(lock, at, QOLB_BUSY); }
 
 /* ---- lock.c ---- */
 
-/* Enters by a turn that has no request, which may be in no table: GRANTED, LATE, CLOSED. */
-HIDDEN uint32_t qolb_enter_at_(struct lock *lock, struct turn *at, uint64_t nanoseconds, int is_guest);
+/* Enters by a turn that has no request, which may be in no table, until this time of CLOCK_MONOTONIC: GRANTED, TIMEDOUT,
+ * CLOSED. */
+HIDDEN uint32_t qolb_enter_at_(struct lock *lock, struct turn *at, uint64_t until, int is_counted);
 
 /* The same, without waiting: GRANTED, BUSY, CLOSED. */
 HIDDEN uint32_t qolb_try_at_(struct lock *lock, struct turn *at);
 
-/* Of a ticket at its turn, and in by the outer word if the lock has bursts, GRANTED or CLOSED: passes on what it is not
+/* Of a ticket at its turn, and in by the lock word if the lock is barging, GRANTED or CLOSED: passes on what it is not
  * to keep. After CLOSED the lock may no longer exist. */
 HIDDEN void qolb_settle_(struct lock *lock, struct turn *at, uint32_t got);
 

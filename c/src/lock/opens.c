@@ -15,9 +15,9 @@ static void open_core(struct lock *lock) {
     lock->label = atomic_fetch_add(&labels, 1) + 1;
     lock->waits = NULL;
     atomic_store_explicit(&lock->beyond_by, 0, memory_order_relaxed);
-    atomic_init(&lock->guests, 0);
+    atomic_init(&lock->without_ticket, 0);
     qolb_core_room_ = (struct core_room){words_of(lock), spare_of(lock, SLOTS), lock->block};
-    (void)qolb_core_open_proved_(burst_of(lock), lock->label, &core);
+    (void)qolb_core_open_proved_(barging_limit_of(lock), lock->label, &core);
     if (core.at != lock->block) __builtin_trap();
     qolb_core_room_ = (struct core_room){NULL, NULL, NULL};
     uintptr_t was = (uintptr_t)__atomic_exchange_n(&lock->core.at, core.at, __ATOMIC_SEQ_CST);
@@ -37,10 +37,10 @@ void qolb_open_(struct lock *lock) {
     }
 }
 
-uint32_t qolb_lock_open(qolb_lock *of, uint64_t turns) {
+enum qolb_result qolb_lock_open(qolb_lock *of, uint64_t limit) {
     struct lock *lock = lock_of(of);
     if (!claims(lock, 0, OPENING)) return QOLB_OCCUPIED;
-    lock->turns = turns;
+    lock->limit = limit;
     open_core(lock);
     return QOLB_DONE;
 }

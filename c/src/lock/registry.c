@@ -10,8 +10,8 @@
  * - Who takes an entry out retracts its sleep, and only then passes its turn on, withdraws or tells: with any of these
  *   the lock may go. An abandoned turn is passed on. A task's is the task's, which is *due*: its call is made, and its
  *   poll, or whoever cancels, goes on from there.
- * - A task at its turn of the queue of a lock with bursts is the queue head, and watches nothing. If the outer word is
- *   held, its entry goes to the list of heads, and then requests the handoff, so that no newcomer follows who is in,
+ * - A task at its turn of the queue of a barging lock is the queue head, and watches nothing. If the lock word is
+ *   held, its entry goes to the list of heads, and then requests the handoff, so that no barging thread follows who is in,
  *   and announces the head's sleep. Who leaves is told of that, looks there, and takes the word for the task.
  *
  * The lists of a lock's tasks have one guard, which sleeps; tickets that calls abandon have others, so that calls which
@@ -125,17 +125,17 @@ uint32_t qolb_abandon_(struct lock *lock, struct qolb_ticket *ticket, struct ent
     uint32_t got = stand(e, ticket);
     return_guard(guard);
     *spare = got == QOLB_ASLEEP_ ? NULL : e;
-    if (got == QOLB_ASLEEP_) *ticket = (struct qolb_ticket){.outer = ticket->outer};
+    if (got == QOLB_ASLEEP_) *ticket = (struct qolb_ticket){.lock_word = ticket->lock_word};
     return got == QOLB_FULL_ ? (uint32_t)QOLB_WAITING : got;
 }
 
 /* ---- A task's turn ---- */
 
 /* Of a task's ticket at its turn of the queue, whose entry is out: whether it waits on as the queue head, as it can't
- * take the outer word. */
+ * take the lock word. */
 static int waits_on(struct entry *e, struct qolb_ticket *ticket) {
     const struct qolb_core *core = &e->lock->core;
-    if (!has_bursts(e->lock) || qolb_core_take_outer_proved_(core, ticket) != QOLB_WAITING) return 0;
+    if (!is_barging(e->lock) || qolb_core_take_outer_proved_(core, ticket) != QOLB_WAITING) return 0;
     e->number = HEAD;
     put_in(e);
     do {

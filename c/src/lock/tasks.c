@@ -1,7 +1,7 @@
 /* Tasks at a lock: who enters it without a thread that waits (qolb_task(3)). Tested and explored, not proved.
  *
  * A task draws a ticket as a thread does. While it waits the registry has its ticket. Who grants that, or leaves the
- * outer word, makes it due, and then its call (../notify.c). From there on the turn is the task's: its poll looks
+ * lock word, makes it due, and then its call (../notify.c). From there on the turn is the task's: its poll looks
  * whether the lock is open, and passes on what is not to be kept; so a shut is told to one after another. The entry is
  * allocated before the ticket is drawn: so no call but the first can fail for want of memory.
  *
@@ -53,7 +53,7 @@ static uint32_t stand_for_turn(struct task *me, struct qolb_ticket *ticket) {
     return settle(me);
 }
 
-uint32_t qolb_task_enter(qolb_task *task, qolb_lock *of, void (*call)(void *), void *arg) {
+enum qolb_result qolb_task_enter(qolb_task *task, qolb_lock *of, void (*call)(void *), void *arg) {
     struct task *me = task_of(task);
     struct lock *lock = lock_of(of);
     if (!call || atomic_load(&me->state) != IDLE) return QOLB_MISUSE;
@@ -68,12 +68,12 @@ uint32_t qolb_task_enter(qolb_task *task, qolb_lock *of, void (*call)(void *), v
     return stand_for_turn(me, &at.ticket);
 }
 
-uint32_t qolb_task_enter_fd(qolb_task *task, qolb_lock *lock, int fd) {
+enum qolb_result qolb_task_enter_fd(qolb_task *task, qolb_lock *lock, int fd) {
     return fd < 0 ? (uint32_t)QOLB_MISUSE : qolb_task_enter(task, lock, qolb_add_to_descriptor_, (void *)(intptr_t)fd);
 }
 
 /* The guard is taken, as who makes it due is not done yet once its state says so. */
-uint32_t qolb_task_poll(qolb_task *task) {
+enum qolb_result qolb_task_poll(qolb_task *task) {
     struct task *me = task_of(task);
     unsigned state = qolb_state_of_(me, NULL);
     if (state == WAITS) return QOLB_WAITING;
@@ -85,7 +85,7 @@ uint32_t qolb_task_poll(qolb_task *task) {
 /* ---- Giving up ---- */
 
 /* The task may look at the lock while it waits or has a turn there. */
-uint32_t qolb_task_cancel(qolb_task *task) {
+enum qolb_result qolb_task_cancel(qolb_task *task) {
     struct task *me = task_of(task);
     unsigned state = atomic_load(&me->state);
     if (state == IDLE) return QOLB_DONE;
@@ -118,6 +118,6 @@ static uint32_t leave(struct task *me, int shuts) {
     return QOLB_DONE;
 }
 
-uint32_t qolb_task_leave(qolb_task *task) { return leave(task_of(task), 0); }
+enum qolb_result qolb_task_leave(qolb_task *task) { return leave(task_of(task), 0); }
 
-uint32_t qolb_task_shut(qolb_task *task) { return leave(task_of(task), 1); }
+enum qolb_result qolb_task_shut(qolb_task *task) { return leave(task_of(task), 1); }

@@ -39,7 +39,7 @@ struct turn *qolb_take_turn_(struct lock *lock, struct turn *beyond) {
         return at;
     }
     if (!holds_beyond(lock)) return NULL;
-    uint32_t state = has_bursts(lock) ? QOLB_TICKET_INSIDE_ : QOLB_TICKET_SERVED_;
+    uint32_t state = is_barging(lock) ? QOLB_TICKET_INSIDE_ : QOLB_TICKET_SERVED_;
     *beyond = (struct turn){.ticket = kept_ticket(lock, *spare_of(lock, KEPT_NUMBER), state)};
     atomic_store_explicit(&lock->beyond_by, 0, memory_order_relaxed);
     return beyond;

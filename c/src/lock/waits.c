@@ -1,4 +1,4 @@
-/* Waiting for a turn of the queue and for the outer word, and whom to wake (lock.h). Tested and explored, not proved.
+/* Waiting for a turn of the queue and for the lock word, and whom to wake (lock.h). Tested and explored, not proved.
  *
  * A waiter polls, spins by spin.h, and then announces its sleep by a proved call, whose answer has the value to sleep
  * at; it sleeps while the word has that, retracts, and looks again. Who grants is told by the same step how many sleep
@@ -6,9 +6,9 @@
  *
  * Who gives up withdraws, or abandons its ticket to the registry if its turn is too far for that.
  *
- * The queue head waits at the outer word in the same way: it announces its sleep there, and who leaves is told. It
- * takes the word when that is reserved for it, or when that is free, and no newcomer came since its last look: so
- * newcomers have their burst. It requests the handoff after a sixteenth of the bound, or a millisecond.
+ * The queue head waits at the lock word in the same way: it announces its sleep there, and who leaves is told. It
+ * takes the word when that is reserved for it, or when that is free, and no barging thread came since its last look: so
+ * newcomers have their barging. It requests the handoff after a sixteenth of the bound, or a millisecond.
  *
  * Who slept for its turn wakes the waiter behind the one that it grants as well, while others sleep there: that one's
  * thread gets up during the turn before its own. */
@@ -41,7 +41,7 @@ static uint32_t sleep_for_turn(const struct request *my, uint64_t until) {
 
 /* Where the registry can't have the ticket it waits for a millisecond more. It looks at the lock while it may. */
 static uint32_t give_up(struct request *my) {
-    uint32_t told = closed_or(QOLB_LATE, my->lock), got = qolb_core_withdraw_proved_(core_of(my), ticket_of(my));
+    uint32_t told = closed_or(QOLB_TIMEDOUT, my->lock), got = qolb_core_withdraw_proved_(core_of(my), ticket_of(my));
     if (got == QOLB_FAR_) got = qolb_abandon_(my->lock, ticket_of(my), &my->spare);
     if (got == QOLB_WAITING) return sleep_for_turn(my, end_of(NAP));
     return got == QOLB_GRANTED ? got : told;
@@ -119,9 +119,9 @@ void qolb_end_turn_(struct lock *lock, struct turn *at, uint32_t got) {
     make_call(key);
 }
 
-/* ---- The outer word ---- */
+/* ---- The lock word ---- */
 
-/* How the queue head has watched the outer word. */
+/* How the queue head has watched the lock word. */
 struct watch {
     uint64_t first, had; /* the newcomers since the last head when it began, and at its last look */
     uint64_t begun;      /* the same when its spin began */
@@ -129,45 +129,45 @@ struct watch {
     unsigned spun;       /* nanoseconds since it began, or slept */
 };
 
-static int is_long(const struct request *my, const struct watch *watch, uint64_t outer) {
-    if (outer / NEWCOMER - watch->first >= burst_of(my->lock) / REQUEST_PART + 1) return 1;
+static int is_long(const struct request *my, const struct watch *watch, uint64_t lock_word) {
+    if (lock_word / NEWCOMER - watch->first >= barging_limit_of(my->lock) / REQUEST_PART + 1) return 1;
     return watch->since && qolb_now_() - watch->since >= WATCH_PATIENCE;
 }
 
 /* At each look: whether the head may take the word. A shut one it may, to be told. */
-static int may_take(struct watch *watch, uint64_t outer) {
+static int may_take(struct watch *watch, uint64_t lock_word) {
     uint64_t had = watch->had;
-    watch->had = outer / NEWCOMER;
-    if ((outer & OUTER_STATE) == OUTER_HELD) return 0;
-    return outer & (OUTER_RESERVED | OUTER_SHUT) || had == watch->had;
+    watch->had = lock_word / NEWCOMER;
+    if ((lock_word & WORD_STATE) == WORD_HELD) return 0;
+    return lock_word & (WORD_RESERVED | WORD_SHUT) || had == watch->had;
 }
 
 static void sleep_as_head(struct request *my, struct watch *watch) {
     if (!watch->since) watch->since = qolb_now_();
     if (qolb_core_announce_head_sleep_proved_(core_of(my), ticket_of(my)) != QOLB_ASLEEP_) return;
-    sleep_at(my, outer_half(words_of(my->lock)), (uint32_t)ticket_of(my)->outer, UINT32_MAX, my->until);
+    sleep_at(my, lock_word_half(words_of(my->lock)), (uint32_t)ticket_of(my)->lock_word, UINT32_MAX, my->until);
 }
 
-static void watch_held(struct request *my, struct watch *watch, uint64_t outer) {
-    int requested = outer & HANDOFF_REQUESTED;
-    if (!requested && is_long(my, watch, outer))
+static void watch_held(struct request *my, struct watch *watch, uint64_t lock_word) {
+    int requested = lock_word & HANDOFF_REQUESTED;
+    if (!requested && is_long(my, watch, lock_word))
         requested = qolb_core_request_handoff_proved_(core_of(my), ticket_of(my)) == QOLB_DONE;
-    if (watch->spun == 0) watch->begun = outer / NEWCOMER;
-    int moved = outer / NEWCOMER != watch->begun;
+    if (watch->spun == 0) watch->begun = lock_word / NEWCOMER;
+    int moved = lock_word / NEWCOMER != watch->begun;
     if (!qolb_watch_once_(&watch->spun, requested ? POLL_PAUSE : WATCH_PAUSE, moved)) sleep_as_head(my, watch);
 }
 
-uint32_t qolb_await_outer_(struct request *my) {
-    uint64_t outer = outer_word(my->lock);
-    struct watch watch = {.first = outer / NEWCOMER, .had = UINT64_MAX};
-    for (;; outer = outer_word(my->lock)) {
-        if (may_take(&watch, outer)) {
+uint32_t qolb_await_lock_word_(struct request *my) {
+    uint64_t lock_word = lock_word_of(my->lock);
+    struct watch watch = {.first = lock_word / NEWCOMER, .had = UINT64_MAX};
+    for (;; lock_word = lock_word_of(my->lock)) {
+        if (may_take(&watch, lock_word)) {
             uint32_t got = qolb_core_take_outer_proved_(core_of(my), ticket_of(my));
             if (got != QOLB_WAITING) return got;
         } else if (is_over(my->until)) {
-            return closed_or(QOLB_LATE, my->lock);
-        } else if ((outer & OUTER_STATE) == OUTER_HELD) {
-            watch_held(my, &watch, outer);
+            return closed_or(QOLB_TIMEDOUT, my->lock);
+        } else if ((lock_word & WORD_STATE) == WORD_HELD) {
+            watch_held(my, &watch, lock_word);
         } else {
             qolb_pause_(WATCH_PAUSE);
         }
@@ -179,6 +179,6 @@ void qolb_end_inside_(struct lock *lock, struct turn *at, uint32_t got) {
     uint64_t key = 0;
     while (got == QOLB_BUSY) got = qolb_core_leave_proved_(&lock->core, &at->ticket);
     if (at->ticket.head_sleeps && qolb_find_entry_(lock, HEAD, at->ticket.label, &unused, &key) == NOBODY)
-        qolb_unpark_(outer_half(words_of(lock)), UINT32_MAX);
+        qolb_unpark_(lock_word_half(words_of(lock)), UINT32_MAX);
     make_call(key);
 }
