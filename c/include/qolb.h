@@ -644,6 +644,10 @@ enum qolb_result qolb_lock_destroy(qolb_lock *lock);
 /* 1 if the calling thread holds the lock, else 0. */
 int qolb_lock_is_mine(const qolb_lock *lock);
 
+/* 1 if a thread or a task holds the lock, or is about to, else 0. It reads the lock and does not try it, so another call
+ * may have changed that when it returns. */
+int qolb_lock_is_held(const qolb_lock *lock);
+
 /* Leaves the lock, waits at the condition until it is signalled, and enters the lock again; no signal after the leave is
  * missed. Check what you wait for in a loop, because another thread may have been first. GRANTED, and the thread holds
  * the lock. CLOSED, and it does not. MISUSE: the calling thread does not hold the lock. */

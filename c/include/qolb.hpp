@@ -370,6 +370,7 @@ class QOLB_CAPABILITY_ Lock {
     qolb_result leave() { return qolb_lock_leave(&lock_); }
     qolb_result shut() { return qolb_lock_shut(&lock_); }
     bool is_mine() const { return qolb_lock_is_mine(&lock_) != 0; }
+    bool is_held() const { return qolb_lock_is_held(&lock_) != 0; }
 
     // As a lock of the standard library: these throw Closed if the lock was shut, and Deadlock if the thread holds it
     // (try_lock returns false).
@@ -406,15 +407,15 @@ using lock = Lock;
 // -Wthread-safety does not know in every standard library.
 class QOLB_SCOPED_ lock_guard {
   public:
-    explicit lock_guard(Lock &lock) QOLB_ACQUIRES_(lock) : lock_(lock) { lock.lock(); }
+    explicit lock_guard(Lock &held) QOLB_ACQUIRES_(held) : held_(held) { held.lock(); }
     // Takes over a lock that the thread holds.
-    lock_guard(Lock &lock, std::adopt_lock_t) QOLB_ADOPTS_(lock) : lock_(lock) {}
+    lock_guard(Lock &held, std::adopt_lock_t) QOLB_ADOPTS_(held) : held_(held) {}
     lock_guard(const lock_guard &) = delete;
     lock_guard &operator=(const lock_guard &) = delete;
-    ~lock_guard() QOLB_RELEASES_ { lock_.unlock(); }
+    ~lock_guard() QOLB_RELEASES_ { held_.unlock(); }
 
   private:
-    Lock &lock_;
+    Lock &held_;
 };
 
 // A condition of holders of a Lock, as a std::condition_variable is of those of a std::mutex. It has no spurious

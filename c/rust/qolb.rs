@@ -300,6 +300,7 @@ unsafe extern "C" {
     fn qolb_lock_shut(lock: *mut RawLock) -> u32;
     fn qolb_lock_destroy(lock: *mut RawLock) -> u32;
     fn qolb_lock_is_mine(lock: *const RawLock) -> std::ffi::c_int;
+    fn qolb_lock_is_held(lock: *const RawLock) -> std::ffi::c_int;
     fn qolb_cond_wait(cond: *mut RawCond, lock: *mut RawLock) -> u32;
     fn qolb_cond_wait_within(cond: *mut RawCond, lock: *mut RawLock, nanoseconds: u64) -> u32;
     fn qolb_cond_signal(cond: *mut RawCond) -> u32;
@@ -750,6 +751,13 @@ impl RawQolb {
         unsafe { qolb_lock_is_mine(self.at()) == 1 }
     }
 
+    /// Whether a thread or a task holds it, or is about to. It reads the lock and does not try it, so this may have changed when it returns.
+    pub fn is_held(&self) -> bool {
+        let at = self.boxed.load(Ordering::Acquire);
+        // SAFETY: a lock in a box lives as long as this does.
+        !at.is_null() && unsafe { qolb_lock_is_held(at) == 1 }
+    }
+
     /// Tells the thread sanitizer of an answer by which the thread may have entered.
     fn took(&self, answer: u32) -> Answer {
         let answer = told(answer);
@@ -803,7 +811,7 @@ impl Default for RawQolb {
 
 impl fmt::Debug for RawQolb {
     fn fmt(&self, f: &mut fmt::Formatter<'_>) -> fmt::Result {
-        f.debug_struct("RawQolb").field("is_mine", &self.is_mine()).finish()
+        f.debug_struct("RawQolb").field("is_held", &self.is_held()).field("is_mine", &self.is_mine()).finish()
     }
 }
 
@@ -1472,6 +1480,9 @@ mod api {
         }
         unsafe fn unlock(&self) {
             self.leave();
+        }
+        fn is_locked(&self) -> bool {
+            self.is_held()
         }
     }
 

@@ -128,7 +128,7 @@ static struct turn other;
 
 static uint32_t enters(uint64_t nanoseconds) {
     other = (struct turn){0};
-    return qolb_enter_at_(lock_of(&lock), &other, nanoseconds, 0);
+    return qolb_enter_at_(lock_of(&lock), &other, end_of(nanoseconds), 0);
 }
 
 static void leaves(void) {
@@ -395,7 +395,7 @@ static void next_sleeps(void) {
     }
     event.does = next_sleeps;
     event.at_sleep = sleeps + 1;
-    if (qolb_enter_at_(lock_of(&lock), &mine, 20 * MS, 0) != QOLB_TIMEDOUT) wrong++;
+    if (qolb_enter_at_(lock_of(&lock), &mine, end_of(20 * MS), 0) != QOLB_TIMEDOUT) wrong++;
 }
 
 static void holder_leaves(void) { qolb_leave_at_(lock_of(&lock), &holder); }

@@ -79,6 +79,12 @@ static int of_any_barging(void) {
     return 0;
 }
 
+static uint64_t monotonic(void) {
+    struct timespec now;
+    clock_gettime(CLOCK_MONOTONIC, &now);
+    return (uint64_t)now.tv_sec * 1000000000 + (uint64_t)now.tv_nsec;
+}
+
 /* The answers to another thread, of a holder's lock. */
 static void *of_another(void *argument) {
     struct helper *me = argument;
@@ -88,6 +94,11 @@ static void *of_another(void *argument) {
     MUST(qolb_cond_wait(me->cond, me->lock), QOLB_MISUSE);
     MUST(qolb_lock_try(me->lock), QOLB_BUSY);
     MUST(qolb_lock_enter_within(me->lock, 0), QOLB_TIMEDOUT);
+    MUST(qolb_lock_enter_until(me->lock, 0), QOLB_TIMEDOUT);
+    uint64_t end = monotonic() + 20 * MS;
+    MUST(qolb_lock_enter_until(me->lock, end), QOLB_TIMEDOUT);
+    MUST(monotonic() >= end && monotonic() < end + 10000 * (uint64_t)MS, 1);
+    MUST(qolb_lock_is_held(me->lock), 1);
     MUST(qolb_lock_destroy(me->lock), QOLB_BUSY);
     return NULL;
 }
@@ -99,6 +110,7 @@ static int of_others(qolb_lock *lock) {
     pthread_join(other.id, NULL);
     double since = seconds(CLOCK_MONOTONIC);
     WANT(qolb_lock_enter_within(lock, 20 * MS), QOLB_MISUSE);
+    WANT(qolb_lock_enter_until(lock, UINT64_MAX), QOLB_MISUSE);
     WANT(qolb_lock_enter(lock), QOLB_MISUSE);
     WANT(qolb_cond_wait_within(&cond, lock, 20 * MS), QOLB_TIMEDOUT);
     WANT(seconds(CLOCK_MONOTONIC) - since >= 0.02, 1);
@@ -113,6 +125,8 @@ static int of_a_shut_one(qolb_lock *lock) {
         WANT(qolb_lock_enter(lock), QOLB_CLOSED);
         WANT(qolb_lock_try(lock), QOLB_CLOSED);
         WANT(qolb_lock_enter_within(lock, MS), QOLB_CLOSED);
+        WANT(qolb_lock_enter_until(lock, UINT64_MAX), QOLB_CLOSED);
+        WANT(qolb_lock_is_held(lock), 0);
     }
     WANT(qolb_lock_destroy(lock), QOLB_DONE);
     WANT(qolb_lock_enter(lock), QOLB_GRANTED);
@@ -123,8 +137,10 @@ static int of_a_shut_one(qolb_lock *lock) {
 
 static int of_the_holder(uint32_t barging) {
     qolb_lock lock = of_barging(barging);
+    WANT(qolb_lock_is_held(&lock), 0);
     WANT(qolb_lock_enter(&lock), QOLB_GRANTED);
     WANT(qolb_lock_is_mine(&lock), 1);
+    WANT(qolb_lock_is_held(&lock), 1);
     WANT(qolb_lock_try(&lock), QOLB_BUSY);
     WANT(qolb_lock_destroy(&lock), QOLB_BUSY);
     if (of_others(&lock)) return 1;
@@ -132,6 +148,9 @@ static int of_the_holder(uint32_t barging) {
     WANT(qolb_lock_leave(&lock), QOLB_DONE);
     WANT(qolb_lock_leave(&lock), QOLB_MISUSE);
     WANT(qolb_lock_is_mine(&lock), 0);
+    WANT(qolb_lock_is_held(&lock), 0);
+    WANT(qolb_lock_enter_until(&lock, 0), QOLB_GRANTED);
+    WANT(qolb_lock_leave(&lock), QOLB_DONE);
     WANT(qolb_lock_try(&lock), QOLB_GRANTED);
     return of_a_shut_one(&lock);
 }

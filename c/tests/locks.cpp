@@ -222,7 +222,7 @@ bool condition_ends() {
     WANT(cond.wait_until(held, std::chrono::steady_clock::now() + 10ms) == std::cv_status::timeout);
     WANT(cond.wait_until(held, std::chrono::system_clock::now() + 10ms) == std::cv_status::timeout);
     WANT(!cond.wait_until(held, std::chrono::steady_clock::now() + 10ms, [] { return false; }));
-    WANT(std::chrono::steady_clock::now() - since >= 59ms); // clocks that are set differ by some microseconds
+    WANT(std::chrono::steady_clock::now() - since >= 49ms); // clocks that are set differ by some microseconds
     WANT(held.owns_lock());
     std::thread waits([&] {
         std::unique_lock<qolb::lock> mine(lock);

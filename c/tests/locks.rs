@@ -258,12 +258,14 @@ fn values_of_any_size() {
 fn raw_answers() {
     static RAW: RawQolb = RawQolb::new();
     let raw = &RAW;
-    assert!(!raw.is_mine());
+    assert!(!raw.is_mine() && !raw.is_held());
+    prints(raw, "RawQolb { is_held: false, is_mine: false }");
     assert_eq!(raw.enter(), Answer::Granted);
-    assert!(raw.is_mine());
+    assert!(raw.is_mine() && raw.is_held());
+    prints(raw, "RawQolb { is_held: true, is_mine: true }");
     assert_eq!(raw.try_enter(), Answer::Busy);
     assert_eq!(raw.enter_for(MS), Answer::Misuse);
-    thread::scope(|s| s.spawn(|| assert_eq!((raw.enter_for(MS), raw.is_mine()), (Answer::TimedOut, false))).join().unwrap());
+    thread::scope(|s| s.spawn(|| assert_eq!((raw.enter_for(MS), raw.is_held(), raw.is_mine()), (Answer::TimedOut, true, false))).join().unwrap());
     assert_eq!(raw.leave(), Answer::Done);
     assert_eq!(raw.try_enter(), Answer::Granted);
     assert_eq!(raw.shut(), Answer::Done);

@@ -165,5 +165,5 @@ fn main() {
         guards(kind);
         waiter_is_dropped(kind);
     }
-    assert_eq!(qolb::version(), 20000);
+    assert_eq!(qolb::version(), 30000);
 }

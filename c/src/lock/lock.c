@@ -254,6 +254,17 @@ enum qolb_result qolb_lock_shut(qolb_lock *of) {
     return QOLB_DONE;
 }
 
+/* ---- Looking ---- */
+
+/* Of a strict lock: if a ticket is drawn while it looks, the thread that draws it enters. */
+int qolb_lock_is_held(const qolb_lock *of) {
+    const struct lock *lock = lock_of(of);
+    if (!is_open(lock)) return 0;
+    if (is_barging(lock)) return (lock_word_of(lock) & WORD_STATE) == WORD_HELD;
+    uint64_t next = tail_word(lock);
+    return rounds_to_go(lock, next) > 0 || tail_word(lock) != next;
+}
+
 /* ---- Destroying ---- */
 
 /* In, and at the turn of the queue, of a lock that is shut or not. Whether it is the only one, and the lock open. A
