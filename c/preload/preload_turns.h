@@ -34,7 +34,7 @@ static inline int take_turn_of(struct line *line, struct turn *at) {
     uint64_t owner = atomic_load_explicit(&line->owner, memory_order_acquire);
     if (!owner || !atomic_compare_exchange_strong(&line->owner, &owner, 0)) return 0;
     *at = line->at;
-    atomic_store_explicit(&line->guess, at->ticket.lock_word / WORD_SHUT * WORD_SHUT, memory_order_relaxed);
+    atomic_store_explicit(&line->guess, at->ticket.lock_word / LAYOUT_SHUT * LAYOUT_SHUT, memory_order_relaxed);
     return 1;
 }
 

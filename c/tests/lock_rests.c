@@ -5,7 +5,7 @@
  * does. Prints only errors. */
 #define _GNU_SOURCE
 #include "want.h"
-#include <lock/lock.h>
+#include <lock/entries.h>
 #include <sched.h>
 #include <stdarg.h>
 #include <stdio.h>
@@ -425,7 +425,7 @@ static int guards_are_freed(void) {
     enum { PLACES = 1024, PLACE = 16 };
     static char places[PLACES * PLACE];
     for (int k = 0; k < PLACES; k++) {
-        atomic_uint *guard = qolb_guard_(&places[k * PLACE]);
+        atomic_uint *guard = guard_at((uintptr_t)&places[k * PLACE]);
         WANT(atomic_load(guard), 1);
         qolb_free_guards_();
         WANT(atomic_load(guard), 0);

@@ -1,6 +1,6 @@
 /* What each call of a task at a lock answers and does, by one thread, and beside threads. Prints only errors. */
 #define _GNU_SOURCE
-#include <lock/lock.h>
+#include <lock/entries.h>
 #include <qolb.h>
 #include <signal.h>
 #include <string.h>

@@ -13,28 +13,19 @@
 /* ../explore_lock.py: told of each drawn ticket, of each withdrawn one, and of who takes the lock word or sleeps
  * there, by the same step; and what is otherwise the width of a cell's fields, by scenes. */
 #ifdef EXPLORED
-extern unsigned model_near, model_sleepers;
-void hook_draws(void);
-void hook_withdraws(void);
-void hook_goes_in(uint64_t label);
-void hook_takes_outer(uint64_t label);
-void hook_head_sleeps(const struct qolb_ticket *ticket);
 #define MOST_NEAR model_near
 #define MOST_SLEEPERS model_sleepers
-enum { MOST_PASSED = 1 };
+enum { MOST_PASSED = 1, IN_ROUND = TICKETS_IN_ROUND };
 #else
-#define hook_draws() ((void)0)
-#define hook_withdraws() ((void)0)
-#define hook_goes_in(label) ((void)0)
-#define hook_takes_outer(label) ((void)0)
-#define hook_head_sleeps(ticket) ((void)0)
+#define GHOST(event) ((void)0)
 enum { MOST_NEAR = LAYOUT_MAX_ROUNDS_NEAR, MOST_SLEEPERS = LAYOUT_MAX_SLEEPERS, MOST_PASSED = LAYOUT_MAX_PASSED };
+enum { IN_ROUND = LAYOUT_CELLS };
 #endif
 
 void *qolb_malloc_(size_t size);
 void qolb_free_(void *block);
 
-enum { OUTER = LAYOUT_OUTER_WORD, TAIL = LAYOUT_TAIL_WORD, CELLS = LAYOUT_FIRST_CELL, IN_ROUND = LAYOUT_CELLS };
+enum { OUTER = LAYOUT_OUTER_WORD, TAIL = LAYOUT_TAIL_WORD, CELLS = LAYOUT_FIRST_CELL };
 enum { WORDS = LAYOUT_CORE_WORDS, HANDOFF = LAYOUT_HANDOFF, HEAD_SLEEPS = LAYOUT_HEAD_ASLEEP, HELD = LAYOUT_HELD };
 enum { RESERVED = LAYOUT_RESERVED, STATE = HELD | RESERVED, SHUT = LAYOUT_SHUT, NEWCOMER = LAYOUT_NEWCOMER };
 #define ROUND ((uint64_t)1 << LAYOUT_ROUNDS_BIT)
@@ -43,8 +34,8 @@ enum { RESERVED = LAYOUT_RESERVED, STATE = HELD | RESERVED, SHUT = LAYOUT_SHUT, 
 
 struct lock {
     _Atomic uint64_t *words;
-    void *slots;      /* none: as of the proved table */
-    uint64_t more[6]; /* of that, too: the block has the same size */
+    void *slots;                                               /* none: as of the proved table */
+    char more[LAYOUT_CORE_BLOCK_BYTES - 4 * sizeof(uint64_t)]; /* of that, too: the block has the same size */
     uint64_t barging, label;
 };
 
@@ -95,7 +86,7 @@ static uint32_t looks(struct qolb_ticket *ticket, uint64_t cell) {
 }
 
 static void draws(const struct lock *lock, struct qolb_ticket *ticket, uint64_t number) {
-    hook_draws();
+    GHOST(hook_draws());
     ticket->number = number;
     ticket->label = lock->label;
 }
@@ -158,7 +149,7 @@ uint32_t qolb_core_withdraw_proved_(const struct qolb_core *core, struct qolb_ti
     if (ticket->rounds > MOST_NEAR) return QOLB_FAR_;
     _Atomic uint64_t *cell = cell_of(lock, ticket->number);
     if (to_go(atomic_fetch_add(cell, bit_of(ticket->number)), ticket->number)) {
-        hook_withdraws();
+        GHOST(hook_withdraws());
         return in_state(ticket, QOLB_TICKET_FREE_, QOLB_WITHDRAWN);
     }
     atomic_fetch_sub(cell, bit_of(ticket->number));
@@ -177,7 +168,7 @@ uint32_t qolb_core_release_proved_(const struct qolb_core *core, struct qolb_tic
     if (!is(lock, ticket,
             BIT(AT_TURN) | BIT(SERVED) | BIT(SERVED_SHUT) | BIT(ENDING) | BIT(HEAD_INSIDE) | BIT(HEAD_INSIDE_SHUT)))
         return QOLB_MISUSE;
-    if (is(lock, ticket, BIT(AT_TURN))) hook_withdraws(); /* it is passed on without being served */
+    if (is(lock, ticket, BIT(AT_TURN))) GHOST(hook_withdraws()); /* it is passed on without being served */
     for (int k = 0; k < MOST_PASSED; k++) {
         uint64_t next = ticket->number + 1, found = atomic_fetch_add(cell_of(lock, next), ROUND);
         if (!(found & bit_of(next))) {
@@ -218,7 +209,7 @@ uint32_t qolb_core_go_in_proved_(const struct qolb_core *core, struct qolb_ticke
     uint64_t guess = ticket->lock_word, in = guess + NEWCOMER + HELD;
     if (guess & (STATE | SHUT)) return found(ticket, atomic_load(lock_word_at(lock)), QOLB_BUSY);
     if (!atomic_compare_exchange_strong(lock_word_at(lock), &guess, in)) return found(ticket, guess, QOLB_BUSY);
-    hook_goes_in(lock->label);
+    GHOST(hook_goes_in(lock->label));
     ticket->lock_word = in;
     ticket->label = lock->label;
     return in_state(ticket, QOLB_TICKET_INSIDE_, QOLB_GRANTED);
@@ -230,7 +221,7 @@ uint32_t qolb_core_take_outer_proved_(const struct qolb_core *core, struct qolb_
     uint64_t was = atomic_load(lock_word_at(lock)), in = (was & SHUT) + HELD;
     if ((was & STATE) == HELD || !atomic_compare_exchange_strong(lock_word_at(lock), &was, in))
         return found(ticket, was, QOLB_WAITING);
-    hook_takes_outer(lock->label);
+    GHOST(hook_takes_outer(lock->label));
     ticket->lock_word = in;
     return in & SHUT ? in_state(ticket, QOLB_TICKET_HEAD_INSIDE_SHUT_, QOLB_CLOSED)
                      : in_state(ticket, QOLB_TICKET_HEAD_INSIDE_, QOLB_GRANTED);
@@ -261,7 +252,7 @@ uint32_t qolb_core_announce_head_sleep_proved_(const struct qolb_core *core, str
     if (lock->barging <= 1 || !is(lock, ticket, BIT(AT_TURN))) return QOLB_MISUSE;
     uint64_t was = atomic_load(lock_word_at(lock)), asleep = was | HEAD_SLEEPS;
     if ((was & STATE) != HELD || !atomic_compare_exchange_strong(lock_word_at(lock), &was, asleep)) return QOLB_WAITING;
-    hook_head_sleeps(ticket);
+    GHOST(hook_head_sleeps(ticket));
     ticket->lock_word = asleep;
     return QOLB_ASLEEP_;
 }

@@ -14,7 +14,6 @@ static int model_memory;
 
 /* The tables of the model's threads, which are in one thread of the system. */
 static struct own owns[THREADS + 1];
-struct own *model_own(void);
 UNSEEN struct own *model_own(void) { return &owns[self_number()]; }
 
 /* As gaps.c, which is not explored. */
@@ -47,9 +46,10 @@ UNSEEN void *model_entry(size_t size) {
 }
 
 /* A program's free may take locks, too: so who frees has no guard, and waits here until no other has it. */
-void hook_frees(const atomic_uint *guard);
-UNSEEN void hook_frees(const atomic_uint *guard) {
-    while (*(const volatile unsigned *)guard) sched_yield();
+void model_entry_freed(void *entry);
+UNSEEN void model_entry_freed(void *entry) {
+    while (*(const volatile unsigned *)&qolb_guards_[0].word) sched_yield();
+    model_free(entry);
 }
 
 /* ---- Who may be served before whom ----
@@ -63,8 +63,6 @@ static struct {
 } order[THREADS + 1];
 static int for_second;
 static long time_of_order;
-void hook_draws(void);
-void hook_withdraws(void);
 
 UNSEEN static int who(void) { return for_second && self_number() == 0 ? THREADS : self_number(); }
 UNSEEN void is_second(int self, int so) { for_second = self == 0 && so; }
@@ -104,10 +102,6 @@ UNSEEN static void enters_turn(void) {
  * of a lock no barging thread goes in before the queue head does. */
 static const struct qolb_ticket *head_of[THREADS + 1]; /* of a task that is to be one, by the thread that sees to it */
 static uint64_t handed_over[2 * LOCKS];                /* the labels of locks with such a head */
-void hook_is_head(const struct qolb_ticket *ticket);
-void hook_head_sleeps(const struct qolb_ticket *ticket);
-void hook_takes_outer(uint64_t label);
-void hook_goes_in(uint64_t label);
 
 UNSEEN static uint64_t *hand_over(uint64_t label) {
     uint64_t *place = handed_over;
@@ -943,9 +937,9 @@ static qolb_lock *unopened(const struct scene *scene, int k) {
 
 /* As if many turns had ended: the rounds in the cells began anew, and have their highest bits. */
 UNSEEN static void had_many_turns(struct lock *lock) {
-    uint64_t rounds = (uint64_t)7 << 28;
-    words_of(lock)[TAIL] += rounds * TICKETS_IN_ROUND;
-    for (int k = 0; k < TICKETS_IN_ROUND; k++) words_of(lock)[FIRST_CELL + k] += rounds << GRANTED_ROUNDS;
+    uint64_t rounds = (uint64_t)7 << (64 - LAYOUT_ROUNDS_BIT - 2);
+    words_of(lock)[LAYOUT_TAIL_WORD] += rounds * TICKETS_IN_ROUND;
+    for (int k = 0; k < TICKETS_IN_ROUND; k++) words_of(lock)[LAYOUT_FIRST_CELL + k] += rounds << LAYOUT_ROUNDS_BIT;
 }
 
 void set_up(const struct scene *scene) {
@@ -966,14 +960,15 @@ void set_up(const struct scene *scene) {
 
 /* Nobody is counted or withdrawn at any cell, waits, is a guest, or holds. */
 UNSEEN static void check_lock(struct lock *lock) {
-    for (int k = 0; k < TICKETS_IN_ROUND; k++) MUST((uint32_t)words_of(lock)[FIRST_CELL + k] == 0);
+    for (int k = 0; k < TICKETS_IN_ROUND; k++) MUST((uint32_t)words_of(lock)[LAYOUT_FIRST_CELL + k] == 0);
     MUST(!lock->waits && *(unsigned *)&lock->without_ticket == 0 && *(uint64_t *)&lock->beyond_by == 0);
 }
 
-/* No notice is in a list, and no call is being made. */
+/* No callback is in a list, no call is being made, and no entry is counted. */
 UNSEEN static void check_bells(void) {
     for (struct bell *bell = qolb_bells_; bell < qolb_bells_ + BELLS; bell++)
         MUST(!*(struct notice **)&bell->first && !bell->running && *(unsigned *)&bell->guard == 0);
+    MUST(*(unsigned *)&qolb_abandoned_.of[0].many == 0 && *(unsigned *)&qolb_tasks_.of[0].many == 0);
 }
 
 /* All threads have ended. */

@@ -2,9 +2,9 @@
  *
  * A waiter is in two lists, by an entry on its stack: that of the condition, under a guard, from whose front a signal
  * takes one; and that of the lock, under the lock itself, by which a shut tells all. It sleeps on a word of its entry,
- * which is set once. It is a guest of the lock from before it leaves until it has a ticket again: so the lock is not
- * closed meanwhile. Who is told of a shut asks, too, and is answered CLOSED at its turn: the shut is over by then. */
-#include "lock.h"
+ * which is set once. It is counted as a thread without a ticket from before it leaves the lock until it has one again: so the
+ * lock is not destroyed meanwhile. Who is told of a shut asks, too, and is answered CLOSED at its turn: the shut is over by then. */
+#include "entries.h"
 
 enum { NOTHING, SIGNALLED, SHUT };
 
@@ -23,19 +23,21 @@ static void stand_at(qolb_cond *cond, struct lock *lock, struct waiter *me) {
     *me = (struct waiter){.beside = lock->waits, .before = &lock->waits};
     if (me->beside) me->beside->before = &me->beside;
     lock->waits = me;
-    atomic_uint *guard = qolb_guard_(cond);
+    INVARIANT(*me->before == me && atomic_load(&me->told) == NOTHING);
+    atomic_uint *guard = guard_at((uintptr_t)cond);
     put_last(waiters_of(cond), &me->link);
     return_guard(guard);
 }
 
 /* Removes itself from the condition's list; false if it had been taken out. */
 static int stand_no_more(qolb_cond *cond, struct waiter *me) {
-    atomic_uint *guard = qolb_guard_(cond);
+    atomic_uint *guard = guard_at((uintptr_t)cond);
     int stood = me->link.next != NULL;
     if (stood) {
         struct link *it = &me->link;
         while (it->next != &me->link) it = it->next;
         take_behind(waiters_of(cond), it);
+        me->link.next = NULL;
     }
     return_guard(guard);
     return stood;
@@ -72,8 +74,10 @@ uint32_t qolb_cond_wait_at_(qolb_cond *cond, struct lock *lock, struct turn *at,
     atomic_fetch_add(&lock->without_ticket, 1);
     qolb_leave_at_(lock, at);
     int stood = await_word(&me, &limit) != SIGNALLED && stand_no_more(cond, &me);
+    INVARIANT(!me.link.next);
     uint32_t got = qolb_enter_at_(lock, at, FOR_EVER, 1);
     if (got != QOLB_GRANTED) return got;
+    INVARIANT(*me.before == &me);
     stand_no_more_in(&me);
     return stood ? (uint32_t)QOLB_TIMEDOUT : got;
 }
@@ -101,7 +105,7 @@ enum qolb_result qolb_cond_wait(qolb_cond *cond, qolb_lock *lock) {
 static uint32_t signal_some(qolb_cond *cond, int all) {
     struct link **list = waiters_of(cond);
     if (!last_of(list)) return QOLB_DONE;
-    atomic_uint *guard = qolb_guard_(cond);
+    atomic_uint *guard = guard_at((uintptr_t)cond);
     for (int told = 0; last_of(list) && (all || !told);) {
         struct waiter *first = (struct waiter *)take_behind(list, last_of(list));
         first->link.next = NULL;

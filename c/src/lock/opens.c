@@ -19,6 +19,7 @@ static void open_core(struct lock *lock) {
     qolb_core_room_ = (struct core_room){words_of(lock), spare_of(lock, SLOTS), lock->block};
     (void)qolb_core_open_proved_(barging_limit_of(lock), lock->label, &core);
     if (core.at != lock->block) __builtin_trap();
+    INVARIANT(!lock_word_of(lock) && !tail_word(lock) && !rounds_to_go(lock, 0));
     qolb_core_room_ = (struct core_room){NULL, NULL, NULL};
     uintptr_t was = (uintptr_t)__atomic_exchange_n(&lock->core.at, core.at, __ATOMIC_SEQ_CST);
     if (was == AWAITED) qolb_unpark_((uint32_t *)&lock->core.at, 1);
