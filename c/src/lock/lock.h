@@ -10,14 +10,18 @@
  *   registry.c     the tickets for which no thread waits: of tasks, and of calls that gave up
  *   turns.c        the thread's table of the locks that it holds
  *   opens.c        opening a lock in its own bytes, at its first use
- *   ../core.h      the proved calls; ../spin.h how long to spin; ../bells.h the clock, sleep, guards, calls of notices
+ *   ../core.h      the proved calls; ../spin.h how long to spin; ../futex.h the clock, and sleep; ../guard.h guards;
+ *                  ../callbacks.h calls of tasks' callbacks
  *
  * Tested and explored (tools/explore_lock.py), not proved. */
 #ifndef QOLB_LOCK_H
 #define QOLB_LOCK_H
 
-#include "../bells.h"
+#include "../callbacks.h"
 #include "../core.h"
+#include "../futex.h"
+#include "../guard.h"
+#include "../heap.h"
 #include "../probes.h"
 #include "../spin.h"
 
@@ -243,7 +247,7 @@ struct task {
     uint64_t number; /* of its ticket */
     uint32_t turn;   /* the state of its ticket, at its turn */
     atomic_uint state;
-    struct notice notice; /* in a list from when it is due until its call is made or it is polled */
+    struct callback callback; /* in a list from when it is due until its call is made or it is polled */
 };
 
 _Static_assert(sizeof(struct task) <= sizeof(qolb_task), "a task has room");

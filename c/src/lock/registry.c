@@ -151,11 +151,11 @@ static int waits_on(struct entry *e, struct qolb_ticket *ticket) {
  * exist. */
 static uint64_t make_due(struct entry *e, const struct qolb_ticket *ticket) {
     struct task *task = e->task;
-    uint64_t key = task->notice.key;
+    uint64_t key = task->callback.key;
     task->entry = NULL;
     task->turn = ticket->state;
     atomic_store(&task->state, DUE);
-    qolb_list_(&task->notice, key);
+    qolb_list_(qolb_callbacks_of_task_(key), &task->callback);
     return key;
 }
 

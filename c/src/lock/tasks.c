@@ -1,7 +1,7 @@
 /* Tasks at a lock: who enters it without a thread that waits (qolb_task(3)). Tested and explored, not proved.
  *
  * A task draws a ticket as a thread does. While it waits the registry has its ticket. Who grants that, or leaves the
- * outer word, makes it due, and then its call (../notify.c). From there on the turn is the task's: its poll looks
+ * outer word, makes it due, and then its call (../callbacks.c). From there on the turn is the task's: its poll looks
  * whether the lock is open, and passes on what is not to be kept; so a shut is told to one after another. The entry is
  * allocated before the ticket is drawn: so no call but the first can fail for want of memory.
  *
@@ -9,12 +9,6 @@
  * everything is as it will be when they begin. */
 #include "lock.h"
 #include <stdlib.h>
-
-/* The number of notices in lists: nobody looks at it. */
-static atomic_uint due;
-
-/* No node waits at this word: notices of tasks are in lists of their own. */
-#define NO_WORD UINT32_MAX
 
 static struct task *task_of(qolb_task *task) { return (struct task *)task; }
 
@@ -45,7 +39,7 @@ static uint32_t stand_for_turn(struct task *me, struct qolb_ticket *ticket) {
     if (!e) return QOLB_NO_MEMORY;
     me->entry = e;
     atomic_store(&me->state, WAITS);
-    qolb_tell_release_(&me->notice); /* another thread may list it */
+    qolb_tell_release_(&me->callback); /* another thread may list it */
     qolb_core_ask_proved_(&me->lock->core, ticket);
     me->number = ticket->number;
     if (qolb_stand_for_(e, ticket) == QOLB_WAITING) return QOLB_WAITING;
@@ -63,8 +57,7 @@ uint32_t qolb_task_enter(qolb_task *task, qolb_lock *of, void (*call)(void *), v
     uint32_t got = qolb_try_at_(lock, &at);
     if (got == QOLB_GRANTED) hold(me, &at);
     if (got != QOLB_BUSY) return got;
-    me->notice = (struct notice){.key = (uint64_t)(uintptr_t)me / sizeof *me << 32 | NO_WORD};
-    me->notice.call = call, me->notice.arg = arg, me->notice.in_line = &due;
+    me->callback = (struct callback){.key = (uintptr_t)me, .call = call, .arg = arg};
     return stand_for_turn(me, &at.ticket);
 }
 
@@ -78,7 +71,7 @@ uint32_t qolb_task_poll(qolb_task *task) {
     unsigned state = qolb_state_of_(me, NULL);
     if (state == WAITS) return QOLB_WAITING;
     if (state != DUE) return QOLB_MISUSE;
-    qolb_unlist_(&me->notice);
+    qolb_unlist_(qolb_callbacks_of_task_(me->callback.key), &me->callback);
     return settle(me);
 }
 
@@ -94,7 +87,7 @@ uint32_t qolb_task_cancel(qolb_task *task) {
     struct turn at = {0};
     uint32_t told = closed_or(QOLB_WITHDRAWN, lock);
     state = qolb_state_of_(me, &at.ticket);
-    qolb_unlist_(&me->notice);
+    qolb_unlist_(qolb_callbacks_of_task_(me->callback.key), &me->callback);
     if (state == WAITS) {
         if (at.ticket.state == QOLB_TICKET_AT_TURN_) qolb_pass_on_(lock, &at);
         return told;
