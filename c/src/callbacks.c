@@ -58,17 +58,8 @@ struct caller {
 /* Of each thread, while it makes a call. */
 static BY_THREAD struct caller *in_call;
 
-/* ---- Where the callbacks of tasks are ---- */
-
-enum { ROWS_OF_TASKS = 32 };
-
-static struct {
-    _Alignas(APART) struct callbacks callbacks;
-} of_tasks[ROWS_OF_TASKS];
-
-struct callbacks *qolb_callbacks_of_task_(uint64_t task) {
-    return &of_tasks[(task * 0x9e3779b97f4a7c15 >> 32) % ROWS_OF_TASKS].callbacks;
-}
+/* Nobody lets go of these. */
+struct task_row qolb_task_rows_[TASK_ROWS];
 
 void qolb_let_go_(struct callbacks *of) {
     if (atomic_fetch_sub(&of->others, 1) == 0) free(of);

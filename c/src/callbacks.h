@@ -29,8 +29,17 @@ struct callbacks {
     atomic_uint waiting; /* the callbacks in the list, and the nodes of the line that sleep */
 };
 
-/* The callbacks of the task with this address, beside those of others. */
-HIDDEN struct callbacks *qolb_callbacks_of_task_(uint64_t task);
+/* The callbacks of tasks, by the task's address. */
+enum { TASK_ROWS = 32 };
+struct task_row {
+    _Alignas(APART) struct callbacks callbacks;
+};
+extern HIDDEN struct task_row qolb_task_rows_[TASK_ROWS];
+
+static inline unsigned row_of_task(uint64_t task) { return (task * 0x9e3779b97f4a7c15 >> 32) % TASK_ROWS; }
+static inline struct callbacks *callbacks_of_task(uint64_t task) {
+    return &qolb_task_rows_[row_of_task(task)].callbacks;
+}
 
 /* Under the guard: puts the callback into the list, or takes it out, if it is there: whether it was. */
 HIDDEN void qolb_put_in_list_(struct callbacks *of, struct callback *it);
@@ -56,8 +65,8 @@ HIDDEN void qolb_let_go_(struct callbacks *of);
 /* The call of a notification by an eventfd. */
 HIDDEN void qolb_add_to_descriptor_(void *fd);
 
-/* For the sanitizer of threads: what was done until now happens before what follows an acquire of this address, as
- * the call of the callback there. */
+/* For the sanitizer of threads: what was done until now happens before what follows an acquire of this address, as the
+ * call of the callback there. */
 HIDDEN void qolb_tell_release_(const void *at);
 HIDDEN void qolb_tell_acquire_(const void *at);
 

@@ -47,6 +47,10 @@ void *qolb_malloc_(size_t size) {
     return of_lock ? of_lock : block_of(size);
 }
 
+void qolb_free_(void *block) {
+    if (block) free(((struct before *)block - 1)->given);
+}
+
 /* A block of no bytes has as many as its alignment, which is at most 16. */
 struct tried rattle_alloc(size_t size, size_t align) {
     static char nothing;
@@ -59,10 +63,8 @@ struct tried rattle_realloc(void *block, size_t kept, size_t size, size_t align)
     struct tried moved = rattle_alloc(size, align);
     if (!moved.is_there) return moved;
     memcpy(moved.at, block, kept < size ? kept : size);
-    rattle_dealloc(block);
+    qolb_free_(block);
     return moved;
 }
 
-void rattle_dealloc(void *block) {
-    if (block) free(((struct before *)block - 1)->given);
-}
+void rattle_dealloc(void *block) { qolb_free_(block); }

@@ -37,7 +37,8 @@ struct core_room {
 
 extern HIDDEN BY_THREAD struct core_room qolb_core_room_;
 
-/* A block for the proved part, or NULL. */
+/* A block for the proved part, or NULL; and back. */
 HIDDEN void *qolb_malloc_(size_t size);
+HIDDEN void qolb_free_(void *block);
 
 #endif

@@ -28,14 +28,18 @@ static inline void will_write(const volatile void *at) {
 }
 
 /* The address that lies in a block of the proved part behind so many bytes: ../proved/layout.c finds them. */
-static inline char *address_in(const void *block, size_t behind) { return *(char *const *)((const char *)block + behind); }
+static inline char *address_in(const void *block, size_t behind) {
+    return *(char *const *)((const char *)block + behind);
+}
 
 static inline const char *proved_line_of(const struct node *my) {
     return address_in(my->proved.own, LAYOUT_NODE_TO_LINE);
 }
 
 /* The first slot of the node's line. */
-static inline const char *slots_of(const struct node *my) { return address_in(proved_line_of(my), LAYOUT_LINE_TO_SLOTS); }
+static inline const char *slots_of(const struct node *my) {
+    return address_in(proved_line_of(my), LAYOUT_LINE_TO_SLOTS);
+}
 
 /* The slot that a waiting node will read: that of its place, or the line's one. */
 static inline const char *slot_of(struct node *my) {

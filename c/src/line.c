@@ -5,24 +5,17 @@
 
 enum { MOST_NODES = LAYOUT_MAX_NODES };
 
-static uint64_t places_for(uint64_t nodes) {
-    uint64_t places = 1;
-    while (places <= nodes) places *= 2;
-    return places;
-}
-
-static size_t line_bytes(uint64_t nodes) {
+static size_t line_bytes(uint32_t nodes) {
     return sizeof(struct line) + nodes * sizeof(struct node) + places_for(nodes) * sizeof(struct place);
 }
 
 /* A line of these proved nodes, which are moved into it, or NULL. */
-static struct line *new_line(uint32_t kind, uint64_t nodes, qolb_node *proved) {
+static struct line *new_line(uint32_t kind, uint32_t nodes, qolb_node *proved) {
     struct line *line = malloc(line_bytes(nodes));
     if (!line) return NULL;
-    *line = (struct line){.kind = kind, .nodes = (uint16_t)nodes, .places = (uint16_t)places_for(nodes)};
-    atomic_init(&line->callbacks.others, (unsigned)nodes - 1);
-    for (uint64_t k = 0; k < nodes; k++) line->node[k] = (struct node){.proved = qolb_move(&proved[k]), .line = line};
-    for (uint64_t k = 0; k < line->places; k++) *place_at(line, k * LAYOUT_PLACE_WORDS) = (struct place){0};
+    *line = (struct line){.kind = kind, .nodes = nodes, .callbacks.others = nodes - 1};
+    for (uint32_t k = 0; k < nodes; k++) line->node[k] = (struct node){.proved = qolb_move(&proved[k]), .line = line};
+    for (uint64_t k = 0; k < places_for(nodes); k++) *place_at(line, k * LAYOUT_PLACE_WORDS) = (struct place){0};
     return line;
 }
 
@@ -41,7 +34,7 @@ uint32_t qolb_open(uint32_t kind, uint64_t label, uint64_t nodes, uint64_t lease
     uint32_t got = qolb_open_proved_(kind, label, nodes, lease, opening, proved, room);
     if (got != QOLB_DONE && got != QOLB_NO_MEMORY) return got;
     if (is_occupied(out, nodes)) got = QOLB_OCCUPIED;
-    struct line *line = got == QOLB_DONE ? new_line(kind, nodes, proved) : NULL;
+    struct line *line = got == QOLB_DONE ? new_line(kind, (uint32_t)nodes, proved) : NULL;
     if (line) {
         for (uint64_t k = 0; k < nodes; k++) out[k].own = &line->node[k];
         return QOLB_DONE;
@@ -73,5 +66,5 @@ uint64_t qolb_memory(uint32_t kind, uint64_t nodes) {
     uint64_t table = qolb_memory_proved_(kind, nodes);
     if (table == 0) return 0;
     return table + TABLE_BLOCKS * APART + asked_bytes(LAYOUT_LINE_BYTES) + nodes * asked_bytes(LAYOUT_NODE_BYTES) +
-           line_bytes(nodes);
+           line_bytes((uint32_t)nodes);
 }

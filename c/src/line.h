@@ -41,16 +41,18 @@ struct node {
 
 struct line {
     struct callbacks callbacks; /* at first, as the last one who uses it frees the block by it */
-    uint32_t kind;
-    uint16_t nodes, places; /* how many; of places a power of two, more than nodes */
-    struct node node[];     /* and behind them the places */
+    uint32_t kind, nodes;
+    struct node node[]; /* and behind them the places */
 };
+
+/* How many places a line has: a power of two, more than nodes. */
+static inline uint32_t places_for(uint32_t nodes) { return 2u << (31 - __builtin_clz(nodes)); }
 
 /* The place of the waiters at this word of the line. No two waiting nodes of a line share one: the words on which nodes
  * of a line wait at one time are LAYOUT_PLACE_WORDS apart, in a row of at most as many as nodes. */
 static inline struct place *place_at(struct line *line, uint64_t word) {
     struct place *places = (struct place *)&line->node[line->nodes];
-    return &places[word / LAYOUT_PLACE_WORDS % line->places];
+    return &places[word / LAYOUT_PLACE_WORDS % places_for(line->nodes)];
 }
 
 /* The node of a handle; NULL if that is empty. */

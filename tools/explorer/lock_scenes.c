@@ -17,7 +17,7 @@ static struct own owns[THREADS + 1];
 struct own *model_own(void);
 UNSEEN struct own *model_own(void) { return &owns[self_number()]; }
 
-/* As gaps.c, which is not explored. */
+/* As heap.c, which is not explored. */
 void *qolb_malloc_(size_t size);
 void qolb_free_(void *block);
 UNSEEN void *qolb_malloc_(size_t size) {
@@ -968,10 +968,13 @@ UNSEEN static void check_lock(struct lock *lock) {
     MUST(!lock->waits && *(unsigned *)&lock->guests == 0 && *(uint64_t *)&lock->beyond_by == 0);
 }
 
-/* No notice is in a list, and no call is being made. */
-UNSEEN static void check_bells(void) {
-    for (struct bell *bell = qolb_bells_; bell < qolb_bells_ + BELLS; bell++)
-        MUST(!*(struct notice **)&bell->first && !bell->running && *(unsigned *)&bell->guard == 0);
+/* No callback is in a list, and no call is being made. */
+UNSEEN static void check_callbacks(void) {
+    for (struct task_row *row = qolb_task_rows_; row < qolb_task_rows_ + TASK_ROWS; row++) {
+        struct callbacks *of = &row->callbacks;
+        MUST(!*(struct callback **)&of->first && !of->running && *(unsigned *)&of->guard == 0);
+        MUST(*(unsigned *)&of->others == 0 && *(unsigned *)&of->waiting == 0);
+    }
 }
 
 /* All threads have ended. */
@@ -991,7 +994,7 @@ void check_end(const struct scene *scene) {
         if (lock->own) check_lock(lock_of(lock));
         MUST(qolb_lock_close(lock) == QOLB_DONE && lock->own == NULL);
     }
-    check_bells();
+    check_callbacks();
     for (int k = 0; k < entries.many; k++) must(was_freed(entries.at[k]), "an entry is not freed");
 }
 

@@ -155,7 +155,7 @@ static uint64_t make_due(struct entry *e, const struct qolb_ticket *ticket) {
     task->entry = NULL;
     task->turn = ticket->state;
     atomic_store(&task->state, DUE);
-    qolb_list_(qolb_callbacks_of_task_(key), &task->callback);
+    qolb_list_(callbacks_of_task(key), &task->callback);
     return key;
 }
 

@@ -71,7 +71,7 @@ uint32_t qolb_task_poll(qolb_task *task) {
     unsigned state = qolb_state_of_(me, NULL);
     if (state == WAITS) return QOLB_WAITING;
     if (state != DUE) return QOLB_MISUSE;
-    qolb_unlist_(qolb_callbacks_of_task_(me->callback.key), &me->callback);
+    qolb_unlist_(callbacks_of_task(me->callback.key), &me->callback);
     return settle(me);
 }
 
@@ -87,7 +87,7 @@ uint32_t qolb_task_cancel(qolb_task *task) {
     struct turn at = {0};
     uint32_t told = closed_or(QOLB_WITHDRAWN, lock);
     state = qolb_state_of_(me, &at.ticket);
-    qolb_unlist_(qolb_callbacks_of_task_(me->callback.key), &me->callback);
+    qolb_unlist_(callbacks_of_task(me->callback.key), &me->callback);
     if (state == WAITS) {
         if (at.ticket.state == QOLB_TICKET_AT_TURN_) qolb_pass_on_(lock, &at);
         return told;

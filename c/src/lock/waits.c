@@ -100,7 +100,7 @@ __attribute__((noinline)) static uint64_t tell(struct lock *lock, uint64_t numbe
 }
 
 static void make_call(uint64_t key) {
-    if (key) qolb_make_call_(qolb_callbacks_of_task_(key), key);
+    if (key) qolb_make_call_(callbacks_of_task(key), key);
 }
 
 /* Whether this turn slept, and somebody sleeps at the cell of the ticket behind the next. */
