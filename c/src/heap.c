@@ -1,9 +1,10 @@
 /* The functions by which the proved part allocates, over the program's malloc and free. The proved part calls them by
  * these names.
  *
- * Each block begins at a multiple of 128 bytes, and shares no cache line with another. A thread writes to its node's
- * block in each call, and all nodes of a line read the line's. So no cache line has data of two nodes, nor has a pair of
- * lines that is fetched together; and a slot of a table, with its 64 bytes and what goes with them, is in one pair. */
+ * A thread writes to its node's block in each call, and to the words and slots of a table. Each of these blocks begins at
+ * a multiple of 128 bytes, and no other begins in its last 128: so no cache line has data of two nodes, nor has a pair of
+ * lines that is fetched together, and a slot of a table, with its 64 bytes and what goes with them, is in one pair. What
+ * all nodes of a line read, and none writes, is a smaller block. */
 #include "heap.h"
 #include <stdint.h>
 #include <stdlib.h>
@@ -37,7 +38,7 @@ static void *given_by_lock(size_t size) {
 static void *block_of(size_t size) {
     char *given = size <= SIZE_MAX - 2 * APART ? malloc(asked_bytes(size)) : NULL;
     if (!given) return NULL;
-    char *block = given + APART - (uintptr_t)given % APART;
+    char *block = given + (is_small(size) ? sizeof(struct before) : APART - (uintptr_t)given % APART);
     ((struct before *)block - 1)->given = given;
     return block;
 }

@@ -7,18 +7,20 @@
 #include "common.h"
 #include <stddef.h>
 
-enum { CACHE_LINE = 64 };
-
 /* What is before each block: the address that malloc gave. */
 struct before {
     _Alignas(16) void *given;
 };
 
-/* The bytes that malloc is asked for, for a block of this size. The block begins at the first multiple of APART that
- * leaves room for a `struct before`, and no other block begins in its last cache line: malloc keeps 16 bytes of its own
- * between two blocks. */
+/* Whether a block of this size is one that the nodes of a line read, and do not write: such a one begins anywhere. */
+static inline int is_small(size_t size) { return size < APART; }
+
+/* The bytes that malloc is asked for, for a block of this size. A block that is not small begins at the first multiple
+ * of APART that leaves room for a `struct before`, and no other begins in its last APART bytes: malloc keeps 16 bytes of
+ * its own between two blocks. */
 static inline size_t asked_bytes(size_t size) {
-    size_t whole = (size + CACHE_LINE - 1) / CACHE_LINE * CACHE_LINE - sizeof(struct before);
+    if (is_small(size)) return sizeof(struct before) + size;
+    size_t whole = (size + APART - 1) / APART * APART - sizeof(struct before);
     return (whole > size ? whole : size) + APART;
 }
 

