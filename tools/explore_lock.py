@@ -37,13 +37,13 @@ ROOT = pathlib.Path(__file__).resolve().parent.parent
 SOURCE = ROOT / "c/src"
 MODEL = ROOT / "tools/explorer"
 # What is built, in a copy of c/src; those of tools/explorer beside it.
-LIBRARY = ("bells.c", "notify.c", *(f"lock/{name}.c" for name in ("abandoned", "conditions", "enter", "leave", "opens", "tasks", "turns")))
+LIBRARY = ("futex.c", "callbacks.c", *(f"lock/{name}.c" for name in ("abandoned", "conditions", "enter", "leave", "opens", "tasks", "turns")))
 SCENES = ("core.c", "lock_scenes.c", "limit_scenes.c", "task_scenes.c", "explorer.c")
 # Objects by what they were made of: most faults change one file.
 OBJECTS = tempfile.TemporaryDirectory()
 # What the library calls of the C library; the scenes have their own memory.
 RENAMED = [f"-D{name}=model_{short}" for name, short in (("malloc", "entry"), ("free", "entry_freed"), ("syscall", "syscall"), ("sched_yield", "yield"), ("clock_gettime", "clock"))]
-BY_MODEL = ["-w", "-O1", "-DOF_LOCKS", "-DWITHOUT_NODES", "-DEXPLORED", "-include", "explored.h", "-fsanitize=thread", "-U__SANITIZE_THREAD__", "-DQOLB_NO_PROBES", *RENAMED]
+BY_MODEL = ["-w", "-O1", "-DOF_LOCKS", "-DEXPLORED", "-include", "explored.h", "-fsanitize=thread", "-U__SANITIZE_THREAD__", "-DQOLB_NO_PROBES", *RENAMED]
 
 
 def functions(text):

@@ -279,12 +279,12 @@
  * - QOLB_RING: a node takes a ticket and waits on a cell of its own.
  *
  * Bytes of heap that an open line keeps, as the library asks malloc for them (qolb_memory). malloc takes some 16 more
- * for each of its blocks, which are the number of nodes and 3:
+ * for each of its blocks, which are the number of nodes and 4:
  *
  *     nodes                 1         2         8        64       200
- *     ring             33,792    34,176    36,480    57,984   110,208
- *     link              1,280     1,792     4,864    33,536   103,168
- *     ticket            1,408     2,304     7,680    57,856   142,848
+ *     ring             33,744    34,168    36,712    60,456   118,568
+ *     link              1,232     1,784     5,096    36,008   111,528
+ *     ticket            1,360     2,296     7,912    60,328   151,208
  *
  * WHAT YOU MUST KEEP
  *

@@ -73,7 +73,7 @@ struct qolb_ticket {
 
 _Static_assert(sizeof(struct qolb_ticket) == LAYOUT_TICKET_BYTES, "a ticket has the proved size");
 
-/* Opens a lock in a block of the heap, or in the calling thread's room (gaps.h). `barging`: the most turns from
+/* Opens a lock in a block of the heap, or in the calling thread's room (heap.h). `barging`: the most turns from
  * one take of the lock word by a queue head until the next; 0 or 1 is a strict lock. `label`: not 0, and given to
  * no other lock of the process, ever. DONE; BAD_NODES (barging above 65,535), MISUSE (label 0), NO_MEMORY: nothing
  * changed. */

@@ -1,7 +1,7 @@
 /* The length of a pause, and whether there is more than one processor (spin.h). Tested, not proved. */
 #define _GNU_SOURCE
 #include "spin.h"
-#include "bells.h"
+#include "futex.h"
 #include <errno.h>
 #ifdef __linux__
 #include <sched.h>

@@ -21,7 +21,7 @@
 #ifndef QOLB_SPIN_H
 #define QOLB_SPIN_H
 
-#include "gaps.h"
+#include "common.h"
 #include <sched.h>
 #include <stdatomic.h>
 #include <stdint.h>

@@ -6,7 +6,7 @@
  *   build/core_c [ROUNDS [THREADS]]       400 rounds by two threads, as many in all by more, up to 64 threads */
 #define _GNU_SOURCE
 #include "../src/core.h"
-#include "../src/gaps.h"
+#include "../src/heap.h"
 #include <linux/futex.h>
 #include <pthread.h>
 #include <sched.h>

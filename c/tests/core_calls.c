@@ -10,7 +10,7 @@
 #include "accesses.h"
 
 #include "../src/core.h"
-#include "../src/gaps.h"
+#include "../src/heap.h"
 
 /* The stand-in, by other names. */
 #define qolb_core_open_proved_ stand_in_open

@@ -108,7 +108,7 @@ static int puts_the_same_back(uint32_t kind) {
     qolb_bytes bytes = {{0}};
     qolb_node one[2] = {{0}}, *two = one + 1;
     uint64_t lane;
-    if (qolb_open(kind, 1, 2, 9, &bytes, one, 2) != QOLB_DONE) return puts("not opened"), 1;
+    if (qolb_open_proved_(kind, 1, 2, 9, &bytes, one, 2) != QOLB_DONE) return puts("not opened"), 1;
     void *was[] = {one->own, two->own};
 #define SAME(call) ((call), one->own == was[0] && two->own == was[1])
     int same = SAME(qolb_enqolb_proved_(one)) && SAME(qolb_enqolb_proved_(one)) && SAME(qolb_turns_left_proved_(one)) &&
@@ -128,8 +128,8 @@ static int puts_the_same_back(uint32_t kind) {
            SAME(qolb_enqolb_proved_(one));
 #undef SAME
     if (!same) return puts("another node was put back"), 1;
-    if (kind != QOLB_LINK && qolb_shut(one) != QOLB_DONE) return puts("does not hold it"), 1;
-    if (qolb_node_free(one) != QOLB_DONE || qolb_node_free(two) != QOLB_DONE) return puts("not closed"), 1;
+    if (kind != QOLB_LINK && qolb_shut_proved_(one) != QOLB_DONE) return puts("does not hold it"), 1;
+    if (qolb_close_proved_(one) != QOLB_DONE || qolb_close_proved_(two) != QOLB_DONE) return puts("not closed"), 1;
     return 0;
 }
 

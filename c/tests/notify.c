@@ -234,7 +234,7 @@ static int has_turns_of_many(uint32_t kind) {
     return 0;
 }
 
-/* More lines than bells: those that share one make no calls for each other. */
+/* Many lines make no calls for each other. */
 static int tells_lines_apart(uint32_t kind) {
     for (int k = 0; k < LINES; k++) {
         if (opens(kind, 2, of[k])) return 1;

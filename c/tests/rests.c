@@ -445,26 +445,12 @@ static int passes_on(uint32_t kind, uint32_t (*call)(qolb_node *node), int links
     return 0;
 }
 
-/* There are 1,024 bells, and as many lines from this one on, the next has the same first bell: its calls take a sleeper
- * of the other for one of its own. */
-static int skips_bells(void) {
-    static qolb_bytes zeros;
-    for (int k = 0; k < 1023; k++) {
-        qolb_node node = {0};
-        WANT(qolb_open(QOLB_LINK, 1, 1, QOLB_NO_LEASE, &zeros, &node, 1), QOLB_DONE);
-        WANT(qolb_node_free(&node), QOLB_DONE);
-    }
-    return 0;
-}
-
-/* A request on a closed line is told at once, and may have forwarded the line to a sleeper behind it: so it asks for
- * the next holder. Here there is none. A sleeper of another line is not woken if it has a bell of its own, and then the
- * call does not even ask, as nobody of its line sleeps. */
-static int asks_a_closed_one(uint32_t kind, uint32_t (*call)(qolb_node *node), int shares) {
+/* A request on a closed line is told at once, and may have forwarded the line to a sleeper behind it. Here no node of
+ * its line waits, and a sleeper of another line is not woken: the call does not even ask for the next holder. */
+static int asks_a_closed_one(uint32_t kind, uint32_t (*call)(qolb_node *node)) {
     qolb_bytes zeros = {{0}};
     qolb_node n[2] = {{0}}, closed = {0};
     WANT(qolb_open(kind, 1, 2, QOLB_NO_LEASE, &zeros, n, 2), QOLB_DONE);
-    if (shares && skips_bells()) return 1;
     WANT(qolb_open(kind, 1, 1, QOLB_NO_LEASE, &zeros, &closed, 1), QOLB_DONE);
     WANT(qolb_acquire(&closed), QOLB_GRANTED);
     WANT(qolb_shut(&closed), QOLB_DONE);
@@ -476,8 +462,8 @@ static int asks_a_closed_one(uint32_t kind, uint32_t (*call)(qolb_node *node), i
     event.at_sleep = 1;
     WANT(qolb_acquire_within(&n[1], MS), QOLB_TIMEDOUT);
     WANT(was_told, QOLB_CLOSED);
-    WANT(named, (uint64_t)shares);
-    if (!shares) WANT(woke, 0);
+    WANT(named, 0);
+    WANT(woke, 0);
     WANT(qolb_deqolb(&n[0]), QOLB_DONE);
     for (int k = 0; k < 2; k++) WANT(qolb_node_free(&n[k]), QOLB_DONE);
     WANT(qolb_node_free(&closed), QOLB_DONE);
@@ -504,26 +490,26 @@ static uint32_t is_told_after_being_busy(qolb_node *node) {
     return qolb_acquire(node);
 }
 
-/* A node that is told of the shut line late asks for the next holder, as the node did that shut it. */
+static void is_not_called(void *unused) {
+    (void)unused;
+    wrong++;
+}
+
+/* A node that is told of the shut line late asks for the next holder, as the node did that shut it: a third has left a
+ * wish for a call behind, and so counts as one that waits. */
 static int is_told_late(uint32_t kind, uint32_t (*call)(qolb_node *node)) {
     qolb_bytes zeros = {{0}};
-    qolb_node n[2] = {{0}}, closed[2] = {{0}};
-    WANT(qolb_open(kind, 1, 2, QOLB_NO_LEASE, &zeros, n, 2), QOLB_DONE);
-    if (skips_bells()) return 1;
-    WANT(qolb_open(kind, 1, 2, QOLB_NO_LEASE, &zeros, closed, 2), QOLB_DONE);
-    WANT(qolb_acquire(&closed[0]), QOLB_GRANTED);
+    qolb_node n[3] = {{0}};
+    WANT(qolb_open(kind, 1, 3, QOLB_NO_LEASE, &zeros, n, 3), QOLB_DONE);
     WANT(qolb_acquire(&n[0]), QOLB_GRANTED);
-    holder = NULL;
-    other = &closed[0];
-    teller = &closed[1];
-    tells = call;
-    begins(is_told);
-    event.at_sleep = 1;
-    WANT(qolb_acquire_within(&n[1], MS), QOLB_TIMEDOUT);
-    WANT(was_told, QOLB_CLOSED);
-    WANT(named, 2);
-    WANT(qolb_deqolb(&n[0]), QOLB_DONE);
-    for (int k = 0; k < 2; k++) WANT(qolb_node_free(&n[k]) + qolb_node_free(&closed[k]), QOLB_DONE);
+    WANT(qolb_enqolb(&n[2]), QOLB_QUEUED);
+    WANT(qolb_notify(&n[2], is_not_called, NULL), QOLB_WAITING);
+    WANT(qolb_withdraw(&n[2]), QOLB_WITHDRAWN);
+    other = &n[0];
+    begins(NULL);
+    WANT(call(&n[1]), QOLB_CLOSED);
+    WANT(names, 2);
+    for (int k = 0; k < 3; k++) WANT(qolb_node_free(&n[k]), QOLB_DONE);
     return 0;
 }
 
@@ -555,12 +541,11 @@ static int misuse_wakes_nobody(uint32_t kind, uint32_t (*call)(qolb_node *node))
 static int each_passes_on(uint32_t kind) {
     if (passes_on(kind, qolb_poll, 0) || passes_on(kind, waits, 0) || passes_on(kind, qolb_withdraw, 0)) return 1;
     if (misuse_wakes_nobody(kind, qolb_deqolb) || misuse_wakes_nobody(kind, qolb_shut)) return 1;
-    for (int shares = 0; shares < 2; shares++)
-        if (asks_a_closed_one(kind, qolb_enqolb, shares) || asks_a_closed_one(kind, acquires, shares) ||
-            asks_a_closed_one(kind, acquires_within, shares))
-            return 1;
+    if (asks_a_closed_one(kind, qolb_enqolb) || asks_a_closed_one(kind, acquires) ||
+        asks_a_closed_one(kind, acquires_within))
+        return 1;
     if (is_told_late(kind, is_told_as_it_gives_up) || is_told_late(kind, is_told_after_being_busy)) return 1;
-    return kind == QOLB_LINK && (passes_on(kind, qolb_link, 1) || asks_a_closed_one(kind, qolb_prepend, 1));
+    return kind == QOLB_LINK && (passes_on(kind, qolb_link, 1) || asks_a_closed_one(kind, qolb_prepend));
 }
 
 /* ---- A release wakes the next holder, and the waiter behind it ---- */
@@ -636,7 +621,7 @@ static int closing_wakes_two(uint32_t kind, int passes_on) {
     return 0;
 }
 
-/* If the next holder is awake, though it has slept at that bell before, only the waiter behind it is woken. */
+/* If the next holder is awake, though it has slept at that place before, only the waiter behind it is woken. */
 static int wakes_behind_one_awake(uint32_t kind) {
     qolb_bytes zeros = {{0}};
     qolb_node n[3] = {{0}};
@@ -658,13 +643,12 @@ static int wakes_behind_one_awake(uint32_t kind) {
     return 0;
 }
 
-/* No two places of a line share a bell, for any number of nodes; nor do the same places of two lines that are opened
- * one after the other. */
-static int each_has_its_bell(uint32_t kind) {
+/* No two waiting nodes of a line sleep at one word, for any number of nodes; nor do nodes of two lines. */
+static int each_has_its_place(uint32_t kind) {
     enum { MOST = 200 };
     qolb_bytes zeros = {{0}};
     static qolb_node n[MOST], next[2];
-    static const void *bells[MOST];
+    static const void *places[MOST];
     WANT(qolb_open(kind, 1, MOST, QOLB_NO_LEASE, &zeros, n, MOST), QOLB_DONE);
     WANT(qolb_open(kind, 1, 2, QOLB_NO_LEASE, &zeros, next, 2), QOLB_DONE);
     WANT(qolb_acquire(&n[0]), QOLB_GRANTED);
@@ -672,12 +656,12 @@ static int each_has_its_bell(uint32_t kind) {
     for (int k = 1; k < MOST; k++) {
         begins(NULL);
         WANT(qolb_acquire_within(&n[k], MS), QOLB_TIMEDOUT);
-        bells[k] = slept_at[0];
-        for (int j = 1; j < k; j++) WANT(bells[j] != bells[k], 1);
+        places[k] = slept_at[0];
+        for (int j = 1; j < k; j++) WANT(places[j] != places[k], 1);
     }
     begins(NULL);
     WANT(qolb_acquire_within(&next[1], MS), QOLB_TIMEDOUT);
-    WANT(slept_at[0] != bells[1], 1);
+    WANT(slept_at[0] != places[1], 1);
     WANT(qolb_deqolb(&n[0]) + qolb_deqolb(&next[0]), QOLB_DONE);
     for (int k = 0; k < MOST; k++) WANT(qolb_node_free(&n[k]), QOLB_DONE);
     for (int k = 0; k < 2; k++) WANT(qolb_node_free(&next[k]), QOLB_DONE);
@@ -686,7 +670,7 @@ static int each_has_its_bell(uint32_t kind) {
 
 static int wakes_whom_it_should(uint32_t kind) {
     if (wakes_two(kind, 0) || wakes_two(kind, 1) || closing_wakes_two(kind, 0) || closing_wakes_two(kind, 1)) return 1;
-    return wakes_behind_one_awake(kind) || each_has_its_bell(kind);
+    return wakes_behind_one_awake(kind) || each_has_its_place(kind);
 }
 
 /* ---- Woken without a grant: the rest of the time is used ---- */

@@ -1,6 +1,6 @@
 /* What each call of a task at a lock answers and does, by one thread, and beside threads. Prints only errors. */
 #define _GNU_SOURCE
-#include <lock/entries.h>
+#include <lock/lock.h>
 #include <qolb.h>
 #include <signal.h>
 #include <string.h>
@@ -426,16 +426,14 @@ static int waits_on_when_interrupted(uint64_t barging) {
     return ends(&pairs[0]);
 }
 
-/* Two at one bell: the second of those that wait there goes on when its own call has ended, though the first waits
- * on. */
+/* Two whose callbacks are in one list: the second of those that wait there goes on when its own call has ended, though
+ * the first waits on. */
 static int each_waits_for_its_call(uint64_t barging) {
-    static _Alignas(qolb_task) char room[BELLS * sizeof(struct task) + sizeof(qolb_task)];
-    qolb_task *at_one_bell[] = {(qolb_task *)room, (qolb_task *)(room + BELLS * sizeof(struct task))};
+    static qolb_task room[100 * TASK_ROWS];
+    qolb_task *in_one_list[] = {&room[0], &room[1]};
+    while (row_of_task((uintptr_t)in_one_list[1]) != row_of_task((uintptr_t)room)) in_one_list[1]++;
     for (int k = 0; k < 2; k++)
-        if (is_in_call(&pairs[k], at_one_bell[k], barging)) return 1;
-    WANT(bell_of_key(((struct task *)at_one_bell[0])->notice.key) ==
-             bell_of_key(((struct task *)at_one_bell[1])->notice.key),
-         1);
+        if (is_in_call(&pairs[k], in_one_list[k], barging)) return 1;
     for (int k = 0; k < 2; k++)
         if (waits_for_the_call(&pairs[k])) return 1;
     return ends(&pairs[1]) || ends(&pairs[0]);

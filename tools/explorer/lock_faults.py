@@ -13,9 +13,9 @@ HOOKED = [
     ("spin.h", "", "SPIN_FAR = 2000", "SPIN_FAR = 90"),
     ("spin.h", "", "SPIN_WOKEN = 10000", "SPIN_WOKEN = 90"),
     ("spin.h", "pauses_in_1024", "    unsigned counted = atomic_load_explicit(&qolb_pauses_, memory_order_relaxed);\n    return counted ? counted : qolb_count_pauses_();\n", "    return 1;\n"),
-    ("notify.c", "", "static BY_THREAD struct caller_of_notices *in_call;", "void **model_in_call(void);\n#define in_call (*(struct caller_of_notices **)model_in_call())"),
-    ("bells.h", "", "enum { BELLS = 1024 };", "enum { BELLS = 2 };"),
-    ("bells.h", "", "GUARD_LOOKS = 64", "GUARD_LOOKS = 1"),
+    ("callbacks.c", "", "static BY_THREAD struct caller *in_call;", "void **model_in_call(void);\n#define in_call (*(struct caller **)model_in_call())"),
+    ("callbacks.h", "", "enum { TASK_ROWS = 32 };", "enum { TASK_ROWS = 1 };"),
+    ("guard.h", "", "GUARD_LOOKS = 64", "GUARD_LOOKS = 1"),
 ]
 
 
@@ -154,11 +154,11 @@ FAULTS = {
     # Tasks.
     "who passes on makes no call": (1, "tasks", (LEAVE, "qolb_end_turn_", "    make_call(key);\n", "")),
     "who leaves the lock word makes no call": (1, "barging: tasks", (LEAVE, "leave_lock_word", "    make_call(head.key);\n", "")),
-    "a call is made under the registry's guard": (1, "tasks: turns in calls", (TASKS, "make_due", "    qolb_list_(&task->notice, key);\n", "    qolb_list_(&task->notice, key);\n    qolb_make_call_(bell_of_key(key), key);\n")),
-    "who makes a task due lists it first": (2, "tasks: a task gives up beside one that yields", (TASKS, "make_due", "    atomic_store(&task->state, DUE);\n", ""), (TASKS, "make_due", "    qolb_list_(&task->notice, key);\n", "    qolb_list_(&task->notice, key);\n    return_guard(&qolb_guards_[0].word), take_guard(&qolb_guards_[0].word);\n    atomic_store(&task->state, DUE);\n")),
+    "a call is made under the registry's guard": (1, "tasks: turns in calls", (TASKS, "make_due", "    qolb_list_(callbacks_of_task(key), &task->callback);\n", "    qolb_list_(callbacks_of_task(key), &task->callback);\n    qolb_make_call_(callbacks_of_task(key), key);\n")),
+    "who makes a task due lists it first": (2, "tasks: a task gives up beside one that yields", (TASKS, "make_due", "    atomic_store(&task->state, DUE);\n", ""), (TASKS, "make_due", "    qolb_list_(callbacks_of_task(key), &task->callback);\n", "    qolb_list_(callbacks_of_task(key), &task->callback);\n    return_guard(&qolb_guards_[0].word), take_guard(&qolb_guards_[0].word);\n    atomic_store(&task->state, DUE);\n")),
     "a poll does not wait for who makes the task due": (2, "tasks: the last that polls", (TASKS, "qolb_task_poll", "state_of(me, NULL)", "atomic_load(&me->state)")),
-    "a poll leaves the call to be made": (1, "tasks", (TASKS, "qolb_task_poll", "    qolb_unlist_(&me->notice);\n", "")),
-    "a cancel leaves the call to be made": (2, "tasks: a task gives up", (TASKS, "qolb_task_cancel", "    qolb_unlist_(&me->notice);\n", "")),
+    "a poll leaves the call to be made": (1, "tasks", (TASKS, "qolb_task_poll", "    qolb_unlist_(callbacks_of_task(me->callback.key), &me->callback);\n", "")),
+    "a cancel leaves the call to be made": (2, "tasks: a task gives up", (TASKS, "qolb_task_cancel", "    qolb_unlist_(callbacks_of_task(me->callback.key), &me->callback);\n", "")),
     "a task does not look whether the lock is open": (1, "tasks", (TASKS, "settle", "got = qolb_core_check_open_proved_(&lock->core, &at.ticket)", "at.ticket.state = QOLB_TICKET_SERVED_")),
     "a task that is told of a shut keeps its turn": (1, "tasks", (TASKS, "settle", "    qolb_settle_(lock, &at);\n", "    if (got == QOLB_GRANTED) qolb_settle_(lock, &at);\n")),
     "a task that is told of a shut is not idle": (1, "tasks", (TASKS, "settle", "    if (got != QOLB_GRANTED) atomic_store(&me->state, IDLE);\n", "")),
@@ -181,9 +181,9 @@ FAULTS = {
     "a task that leaves is idle once it has left": (1, "tasks: the task that left", (TASKS, "leave", "    atomic_store(&me->state, IDLE);\n", ""), (TASKS, "leave", "    return QOLB_DONE;\n", "    return atomic_store(&me->state, IDLE), QOLB_DONE;\n")),
     "a task that is told of a shut is idle once it has passed on": (1, "tasks: the task that is told", (TASKS, "settle", "    if (got != QOLB_GRANTED) atomic_store(&me->state, IDLE);\n", ""), (TASKS, "settle", "    if (got == QOLB_GRANTED) hold(me, &at);\n", "    if (got == QOLB_GRANTED) hold(me, &at);\n    else atomic_store(&me->state, IDLE);\n")),
     "a task that gives up looks afterwards whether the lock is shut": (1, "tasks: one frees", (TASKS, "qolb_task_cancel", "    uint32_t told = closed_or(QOLB_WITHDRAWN, lock);\n", ""), (TASKS, "qolb_task_cancel", "        return told;\n", "        return closed_or(QOLB_WITHDRAWN, lock);\n")),
-    "a notice that is taken out is listed yet": (1, "tasks: one goes on with two", ("notify.c", "take_out_of_list", "    notice->before = NULL;\n", "")),
-    "a notice behind one that is taken out keeps its address": (1, "tasks: one goes on with two", ("notify.c", "take_out_of_list", "    if (notice->next) notice->next->before = notice->before;\n", "")),
-    "a poll takes its call back once it has passed on": (1, "tasks: the task that is told of a shut asks elsewhere", (TASKS, "qolb_task_poll", "    qolb_unlist_(&me->notice);\n    return settle(me);\n", "    uint32_t got = settle(me);\n    qolb_unlist_(&me->notice);\n    return got;\n")),
+    "a callback that is taken out is listed yet": (1, "tasks: one goes on with two", ("callbacks.c", "qolb_take_out_of_list_", "    else atomic_store(&of->first, it->next);\n", "")),
+    "a callback behind another is taken out with it": (1, "tasks: one goes on with two", ("callbacks.c", "qolb_take_out_of_list_", "    if (before) before->next = it->next;\n    else", "   ")),
+    "a poll takes its call back once it has passed on": (1, "tasks: the task that is told of a shut asks elsewhere", (TASKS, "qolb_task_poll", "    qolb_unlist_(callbacks_of_task(me->callback.key), &me->callback);\n    return settle(me);\n", "    uint32_t got = settle(me);\n    qolb_unlist_(callbacks_of_task(me->callback.key), &me->callback);\n    return got;\n")),
     # Who holds a lock.
     # Conditions.
     "who waits stands in the list after it has left": (1, "", (CONDITIONS, "qolb_cond_wait_at_", "    stand_at(cond, lock, &me);\n", ""), (CONDITIONS, "qolb_cond_wait_at_", "    qolb_leave_at_(lock, at);\n", "    qolb_leave_at_(lock, at);\n    stand_at(cond, lock, &me);\n")),

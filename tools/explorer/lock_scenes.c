@@ -16,7 +16,7 @@ static int model_memory;
 static struct own owns[THREADS + 1];
 UNSEEN struct own *model_own(void) { return &owns[self_number()]; }
 
-/* As gaps.c, which is not explored. */
+/* As heap.c, which is not explored. */
 void *qolb_malloc_(size_t size);
 void qolb_free_(void *block);
 UNSEEN void *qolb_malloc_(size_t size) {
@@ -965,9 +965,12 @@ UNSEEN static void check_lock(struct lock *lock) {
 }
 
 /* No callback is in a list, no call is being made, and no entry is counted. */
-UNSEEN static void check_bells(void) {
-    for (struct bell *bell = qolb_bells_; bell < qolb_bells_ + BELLS; bell++)
-        MUST(!*(struct notice **)&bell->first && !bell->running && *(unsigned *)&bell->guard == 0);
+UNSEEN static void check_callbacks(void) {
+    for (struct task_row *row = qolb_task_rows_; row < qolb_task_rows_ + TASK_ROWS; row++) {
+        struct callbacks *of = &row->callbacks;
+        MUST(!*(struct callback **)&of->first && !of->running && *(unsigned *)&of->guard == 0);
+        MUST(*(unsigned *)&of->others == 0 && *(unsigned *)&of->waiting == 0);
+    }
     MUST(*(unsigned *)&qolb_abandoned_.of[0].many == 0 && *(unsigned *)&qolb_tasks_.of[0].many == 0);
 }
 
@@ -988,7 +991,7 @@ void check_end(const struct scene *scene) {
         if (lock->own) check_lock(lock_of(lock));
         MUST(qolb_lock_destroy(lock) == QOLB_DONE && lock->own == NULL);
     }
-    check_bells();
+    check_callbacks();
     for (int k = 0; k < entries.many; k++) must(was_freed(entries.at[k]), "an entry is not freed");
 }
 

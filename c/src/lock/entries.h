@@ -155,7 +155,7 @@ struct task {
     uint64_t number; /* of its ticket */
     uint32_t turn;   /* the state of its ticket, at its turn */
     atomic_uint state;
-    struct notice notice; /* in a list from when it is due until its call is made or it is polled */
+    struct callback callback; /* in a list from when it is due until its call is made or it is polled */
 };
 
 _Static_assert(sizeof(struct task) <= sizeof(qolb_task), "a task has room");

@@ -69,7 +69,7 @@ void qolb_leave_at_(struct lock *lock, struct turn *at) {
 /* ---- Releasing ---- */
 
 static void make_call(uint64_t key) {
-    if (key) qolb_make_call_(bell_of_key(key), key);
+    if (key) qolb_make_call_(callbacks_of_task(key), key);
 }
 
 /* From a release on that answered this. */

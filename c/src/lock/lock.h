@@ -11,14 +11,18 @@
  *   entries.h      lists of tickets for which no thread waits, and their guards
  *   turns.c        the thread's table of the locks that it holds
  *   opens.c        opening a lock in its own bytes, at its first use
- *   ../core.h      the proved calls; ../spin.h how long to spin; ../bells.h the clock, sleep, guards, callbacks
+ *   ../core.h      the proved calls; ../spin.h how long to spin; ../futex.h the clock, and sleep; ../guard.h guards;
+ *                  ../callbacks.h calls of tasks' callbacks
  *
  * Tested and explored (tools/explore_lock.py), not proved. */
 #ifndef QOLB_LOCK_H
 #define QOLB_LOCK_H
 
-#include "../bells.h"
+#include "../callbacks.h"
 #include "../core.h"
+#include "../futex.h"
+#include "../guard.h"
+#include "../heap.h"
 #include "../probes.h"
 #include "../spin.h"
 

@@ -5,7 +5,7 @@
  * nobody waits for it without a sleep.
  *
  * The core's blocks, its words, its slots and what refers to them, are bytes of the lock: the proved part asks for
- * memory by gaps.c, and gets these (qolb_core_room_). So opening can't fail, and nothing has to be freed. */
+ * memory by heap.c, and gets these (qolb_core_room_). So opening can't fail, and nothing has to be freed. */
 #include "lock.h"
 
 /* By who has written OPENING. */

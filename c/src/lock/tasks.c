@@ -1,7 +1,7 @@
 /* Tasks at a lock: who enters it without a thread that waits (qolb_task(3)). Tested and explored, not proved.
  *
  * A task draws a ticket as a thread does. While it waits, an entry has its ticket (entries.h). The thread that grants
- * that, or leaves the lock word, makes the task due, and then its call (../notify.c). From there on the turn is the
+ * that, or leaves the lock word, makes the task due, and then its call (../callbacks.c). From there on the turn is the
  * task's: its poll looks whether the lock is open, and passes on what is not to be kept; so a shut is told to one after
  * another. The entry is allocated before the ticket is drawn: so no call but the first can fail for want of memory.
  *
@@ -14,15 +14,6 @@
 #include "entries.h"
 
 struct entries qolb_tasks_;
-
-/* The number of callbacks in lists: nobody looks at it. */
-static atomic_uint due;
-
-/* The key of a task's callback. No node waits at this word: callbacks of tasks are in lists of their own. */
-#define NO_WORD UINT32_MAX
-#ifndef EXPLORED
-#define KEY_OF(task) ((uint64_t)(uintptr_t)(task) / sizeof *(task) << 32 | NO_WORD)
-#endif
 
 static struct task *task_of(qolb_task *task) { return (struct task *)task; }
 
@@ -58,12 +49,12 @@ static int waits_on(struct entry *e, struct qolb_ticket *ticket) {
  * exist. */
 static uint64_t make_due(struct entry *e, const struct qolb_ticket *ticket) {
     struct task *task = e->task;
-    uint64_t key = task->notice.key;
+    uint64_t key = task->callback.key;
     INVARIANT(atomic_load(&task->state) == WAITS && task->entry == e);
     task->entry = NULL;
     task->turn = ticket->state;
     atomic_store(&task->state, DUE);
-    qolb_list_(&task->notice, key);
+    qolb_list_(callbacks_of_task(key), &task->callback);
     return key;
 }
 
@@ -135,7 +126,7 @@ static uint32_t draw_and_stand(struct task *me, struct qolb_ticket *ticket) {
     if (!e) return QOLB_NO_MEMORY;
     me->entry = e;
     atomic_store(&me->state, WAITS);
-    qolb_tell_release_(&me->notice); /* another thread may list it */
+    qolb_tell_release_(&me->callback); /* another thread may list it */
     qolb_core_ask_proved_(&me->lock->core, ticket);
     me->number = ticket->number;
     if (stand_for(e, ticket) == QOLB_WAITING) return QOLB_WAITING;
@@ -153,7 +144,7 @@ enum qolb_result qolb_task_enter(qolb_task *task, qolb_lock *of, void (*call)(vo
     uint32_t got = qolb_try_at_(lock, &at);
     if (got == QOLB_GRANTED) hold(me, &at);
     if (got != QOLB_BUSY) return got;
-    me->notice = (struct notice){.key = KEY_OF(me), .call = call, .arg = arg, .in_line = &due};
+    me->callback = (struct callback){.key = (uintptr_t)me, .call = call, .arg = arg};
     return draw_and_stand(me, &at.ticket);
 }
 
@@ -199,7 +190,7 @@ enum qolb_result qolb_task_poll(qolb_task *task) {
     unsigned state = state_of(me, NULL);
     if (state == WAITS) return QOLB_WAITING;
     if (state != DUE) return QOLB_MISUSE;
-    qolb_unlist_(&me->notice);
+    qolb_unlist_(callbacks_of_task(me->callback.key), &me->callback);
     return settle(me);
 }
 
@@ -213,7 +204,7 @@ enum qolb_result qolb_task_cancel(qolb_task *task) {
     struct turn at = {0};
     uint32_t told = closed_or(QOLB_WITHDRAWN, lock);
     state = state_of(me, &at.ticket);
-    qolb_unlist_(&me->notice);
+    qolb_unlist_(callbacks_of_task(me->callback.key), &me->callback);
     if (state == WAITS) {
         qolb_settle_(lock, &at);
         return told;
