@@ -10,7 +10,7 @@
 #include <stdlib.h>
 #include <string.h>
 
-BY_THREAD struct core_room qolb_core_room_;
+BY_THREAD struct core_arena *qolb_core_arena_;
 
 /* The answer of an allocation. `at` is never NULL: without memory it is the address of a byte that nobody uses. */
 struct tried {
@@ -22,16 +22,14 @@ HIDDEN struct tried rattle_alloc(size_t size, size_t align);
 HIDDEN struct tried rattle_realloc(void *block, size_t kept, size_t size, size_t align);
 HIDDEN void rattle_dealloc(void *block);
 
-/* The place of a block of a lock's core, or NULL: each is given once. */
+/* The next block of the lock's core that the thread opens, which must be as large as the arena's next one; else NULL. */
 static void *given_by_lock(size_t size) {
-    struct core_room *room = &qolb_core_room_;
-    void **place = size == CORE_WORDS_BYTES   ? &room->words
-                   : size == CORE_SLOTS_BYTES ? &room->slots
-                   : size == CORE_BLOCK_BYTES ? &room->block
-                                              : NULL;
-    void *block = place ? *place : NULL;
-    if (place) *place = NULL;
-    return block;
+    static const size_t sizes[CORE_BLOCKS] = {LAYOUT_CORE_WORDS_BYTES, LAYOUT_CORE_SLOTS_BYTES,
+                                              LAYOUT_CORE_BLOCK_BYTES};
+    struct core_arena *arena = qolb_core_arena_;
+    if (!arena) return NULL;
+    if (arena->taken == CORE_BLOCKS || size != sizes[arena->taken]) __builtin_trap();
+    return arena->block[arena->taken++];
 }
 
 /* malloc gives multiples of 16 bytes, so there is room for a `struct before`. */

@@ -24,20 +24,16 @@ static inline size_t asked_bytes(size_t size) {
     return (whole > size ? whole : size) + APART;
 }
 
-/* The blocks of a lock's core, which lie in the lock's own bytes (lock/opens.c): its words, its slots, of which it
- * has none, and what refers to both. They have no `struct before`, and are never freed. */
-enum {
-    CORE_WORDS_BYTES = LAYOUT_CORE_WORDS_BYTES,
-    CORE_SLOTS_BYTES = LAYOUT_CORE_SLOTS_BYTES,
-    CORE_BLOCK_BYTES = LAYOUT_CORE_BLOCK_BYTES
+/* Where a lock's core lies, which the proved part allocates block by block: its words, its slots, of which it has none,
+ * and what refers to both. They have no `struct before`, and are never freed. */
+enum { CORE_BLOCKS = 3 };
+struct core_arena {
+    void *block[CORE_BLOCKS]; /* of LAYOUT_CORE_WORDS_BYTES, LAYOUT_CORE_SLOTS_BYTES and LAYOUT_CORE_BLOCK_BYTES */
+    unsigned taken;
 };
 
-/* Where they go, while the thread opens a core; else NULL. */
-struct core_room {
-    void *words, *slots, *block;
-};
-
-extern HIDDEN BY_THREAD struct core_room qolb_core_room_;
+/* That of the lock that the thread opens (lock/opens.c); else NULL. */
+extern HIDDEN BY_THREAD struct core_arena *qolb_core_arena_;
 
 /* A block for the proved part, or NULL; and back. */
 HIDDEN void *qolb_malloc_(size_t size);

@@ -41,10 +41,11 @@ static struct qolb_core opened(uint64_t barging) {
     static int used;
     struct qolb_core core;
     CHECK(used < MOST_LOCKS);
-    qolb_core_room_ = (struct core_room){rooms[used].words, rooms[used].slots, rooms[used].block};
+    struct core_arena arena = {{rooms[used].words, rooms[used].slots, rooms[used].block}, 0};
+    qolb_core_arena_ = &arena;
     used++;
     CHECK(qolb_core_open_proved_(barging, ++labels, &core) == QOLB_DONE);
-    qolb_core_room_ = (struct core_room){NULL, NULL, NULL};
+    qolb_core_arena_ = NULL;
     return core;
 }
 
@@ -368,9 +369,11 @@ static void opens(void) {
     struct qolb_ticket ticket;
     memset(&ticket, 0, sizeof ticket);
     for (int again = 0; again < 2; again++) {
-        qolb_core_room_ = (struct core_room){words, slots, block};
+        struct core_arena arena = {{words, slots, block}, 0};
+        qolb_core_arena_ = &arena;
         CHECK(qolb_core_open_proved_(4, ++labels, &core) == QOLB_DONE);
-        CHECK(!qolb_core_room_.words && !qolb_core_room_.slots && !qolb_core_room_.block);
+        CHECK(arena.taken == CORE_BLOCKS);
+        qolb_core_arena_ = NULL;
         CHECK(core.at == (void *)block && qolb_core_words_(&core) == (void *)words);
         /* The second time the ticket is of the lock that lay there before. */
         CHECK(qolb_core_ask_proved_(&core, &ticket) == QOLB_GRANTED && ticket.number == 0);

@@ -121,9 +121,10 @@ static struct side proved, stand_in;
 
 static void opens(struct side *side, uint32_t (*open)(uint64_t, uint64_t, struct qolb_core *), uint64_t barging,
                   uint64_t label) {
-    qolb_core_room_ = (struct core_room){side->words, side->slots, side->block};
+    struct core_arena arena = {{side->words, side->slots, side->block}, 0};
+    qolb_core_arena_ = &arena;
     if (open(barging, label, &side->core) != QOLB_DONE) abort();
-    qolb_core_room_ = (struct core_room){NULL, NULL, NULL};
+    qolb_core_arena_ = NULL;
 }
 
 static void differs(int k, const char *what, uint64_t got, uint64_t wanted) {

@@ -205,6 +205,7 @@ FAULTS = {
     "a shut stops at the first that was told before": (1, "who waits behind", (CONDITIONS, "qolb_tell_shut_", "it; it = it->beside) tell_waiter(it, SHUT);", "it && tell_waiter(it, SHUT); it = it->beside) continue;")),
     "who was told stays in the lock's list": (1, "", (CONDITIONS, "qolb_cond_wait_at_", "    stand_no_more_in(&me);\n", "")),
     # Of the stand-in, so that the scenes are seen to check what the core decides: one holder at a time, the order, the barging limit.
+    "the stand-in: its blocks come in another order": (0, "", ("core.c", "qolb_core_open_proved_", "qolb_malloc_(WORDS * sizeof *words)", "qolb_malloc_(sizeof(struct lock))")),
     "the stand-in: who is next has its turn": (0, "", ("core.c", "looks", "ticket->rounds = to_go(cell, ticket->number);", "ticket->rounds = to_go(cell, ticket->number) / 2;")),
     "the stand-in: the second and the third ticket are exchanged": (0, "", ("core.c", "draws", "    ticket->number = number;\n", "    ticket->number = number == 1 || number == 2 ? 3 - number : number;\n")),
     "the stand-in: the barging limit is two more": (1, "barging", ("core.c", "qolb_core_leave_proved_", "guess / NEWCOMER + 1 >= lock->barging", "guess / NEWCOMER > lock->barging")),
@@ -228,7 +229,7 @@ INVARIANTS = {
     "the table: a queue head is kept as a holder": (1, "barging", "is_strict_turn(at) || is_inside(at)", (LEAVE, "qolb_settle_", " || state == QOLB_TICKET_HEAD_INSIDE_ ||", " ||"), (ENTER, "finish", "    INVARIANT((got == QOLB_GRANTED) == (is_strict_turn(my->at) || is_inside(my->at)));\n", "")),
     "the table: a place that is taken is given": (1, "", "at->ticket.state == QOLB_TICKET_FREE_", (TURNS, "is_free", "has(at, HELD) ? says_held(at, lock) : at->ticket.state == QOLB_TICKET_FREE_", "1")),
     "the table: a turn beyond it keeps its holder": (1, "waits beyond", "!qolb_holds_(lock)", (TURNS, "qolb_take_turn_", "    atomic_store_explicit(&lock->beyond_by, 0, memory_order_relaxed);\n", "")),
-    "opening: the core has other words": (0, "", "!lock_word_of(lock) && !tail_word(lock)", (OPENS, "open_core", "words_of(lock), spare_of", "words_of(lock) + 1, spare_of")),
+    "opening: the core has other words": (0, "", "!lock_word_of(lock) && !tail_word(lock)", (OPENS, "open_core", "{words_of(lock), spare_of", "{words_of(lock) + 1, spare_of")),
     "conditions: a waiter is not in its lock's list": (1, "", "*me->before == me", (CONDITIONS, "stand_at", "    lock->waits = me;\n", "")),
     "conditions: a waiter that was signalled is in the list": (1, "", "!me.link.next", (CONDITIONS, "signal_some", "        first->link.next = NULL;\n", "")),
     "conditions: a waiter is lost with another that goes": (1, "", "*me.before == &me", (CONDITIONS, "stand_no_more_in", "    if (me->beside) me->beside->before = me->before;\n", "")),

@@ -6,7 +6,7 @@
 
 struct it it;
 
-BY_THREAD struct core_room qolb_core_room_;
+BY_THREAD struct core_arena *qolb_core_arena_;
 BY_THREAD unsigned qolb_learned_[SPINS];
 unsigned model_near, model_sleepers, model_open;
 int model_tries;
@@ -20,12 +20,10 @@ UNSEEN struct own *model_own(void) { return &owns[self_number()]; }
 void *qolb_malloc_(size_t size);
 void qolb_free_(void *block);
 UNSEEN void *qolb_malloc_(size_t size) {
-    struct core_room *room = &qolb_core_room_;
-    void **place = size == CORE_WORDS_BYTES ? &room->words : size == CORE_SLOTS_BYTES ? &room->slots : &room->block;
-    void *block = *place;
-    *place = NULL;
-    MUST(block && (place != &room->block || size == CORE_BLOCK_BYTES));
-    return block;
+    static const size_t sizes[CORE_BLOCKS] = {LAYOUT_CORE_WORDS_BYTES, LAYOUT_CORE_SLOTS_BYTES,
+                                              LAYOUT_CORE_BLOCK_BYTES};
+    MUST(qolb_core_arena_ && qolb_core_arena_->taken < CORE_BLOCKS && size == sizes[qolb_core_arena_->taken]);
+    return qolb_core_arena_->block[qolb_core_arena_->taken++];
 }
 void qolb_free_(void *block) { (void)block; }
 
@@ -996,7 +994,7 @@ void check_end(const struct scene *scene) {
 }
 
 UNSEEN int is_own(uintptr_t at) {
-    return at - (uintptr_t)owns < sizeof owns || at - (uintptr_t)&qolb_core_room_ < sizeof qolb_core_room_ ||
+    return at - (uintptr_t)owns < sizeof owns || at - (uintptr_t)&qolb_core_arena_ < sizeof qolb_core_arena_ ||
            at - (uintptr_t)&qolb_learned_ < sizeof qolb_learned_ || at - (uintptr_t)&errno < sizeof errno;
 }
 
