@@ -8,7 +8,7 @@ tools/explore_lock.py [MOST] [--scene BEGINNING ..] [--fault WORDS | --no-faults
     did not end by then are named. It needs GCC
 
 In no run may a thread sleep without being woken, two threads have the lock at once, freed memory be touched, two accesses race, an answer be wrong, a shut lock
-be entered, an entry of the registry stay, or a thread that has a ticket be overtaken by a call that began later; with barging, by more of them than they allow, or by any once
+be entered, an entry stay, or a thread that has a ticket be overtaken by a call that began later; with barging, by more of them than they allow, or by any once
 a task sleeps as the first of those that wait. Each library with a fault must fail in some run, and after each change that is harmless none may fail. It ends with 1 if this
 is not so, or if a scene did not end. Each invariant of the library (INVARIANT in c/src/lock) holds in each run, and is seen to be broken by a fault of its own; the
 other faults are found without the invariants, by what the scenes check.

@@ -108,7 +108,7 @@ FAULTS = {
     "who waits at a condition keeps no turn beyond the table": (1, "waits beyond", (CONDITIONS, "qolb_cond_wait_within", "    qolb_keep_turn_(lock, at, &beyond);\n", "")),
     # The registry.
     "who is granted as it abandons its ticket keeps the entry": (2, "far: ", (ENTER, "wait_for_turn", "    if (my->spare) free(my->spare);\n", "")),
-    "who looks for an entry looks at its number alone": (1, "tasks: the last frees beside", (ENTRIES, "find_before", "e->lock == lock && e->number == number", "e->number == number")),
+    "who looks for an entry looks at its number alone": (1, "tasks: one ", (ENTRIES, "find_before", "e->lock == lock && e->number == number", "e->number == number")),
     "who leaves looks whether the entry of a queue head is granted": (1, "barging: tasks", (TASKS, "qolb_find_task_", "before && ((struct entry *)before->next)->lock->label == it->label", "before && ((struct entry *)before->next)->lock->label == it->label && rounds_to_go((struct lock *)it->lock, number) == 0")),
     "an entry announces its sleep before it is in its list": (2, "", (ENTRIES, "stand", "    put_in(in, list, e);\n", ""), (ENTRIES, "stand", "    if (got != QOLB_ASLEEP_) take_out(in, list, find_before(list, (uintptr_t)e->lock, e->number));\n", "    if (got == QOLB_ASLEEP_) put_in(in, list, e);\n")),
     "an entry announces no sleep": (1, "", (ENTRIES, "stand", "    while (got == QOLB_WAITING);\n", "    while (0);\n"), (ENTRIES, "stand", "got = qolb_core_announce_sleep_proved_(&e->lock->core, ticket)", "got = qolb_core_poll_proved_(&e->lock->core, ticket) == QOLB_WAITING ? QOLB_ASLEEP_ : QOLB_GRANTED")),
