@@ -153,7 +153,7 @@ uint32_t qolb_close(qolb_node *node) {
 /* The most nodes that may be before one that waits: all others on a line of few, else unknown. */
 static uint64_t most_before(const qolb_node *node) {
     uint32_t others = *nodes_beside(node) - 1;
-    return others <= NEAR_TURNS ? others : UNKNOWN_TURNS;
+    return others < processors() ? others : UNKNOWN_TURNS;
 }
 
 /* Polls until it is time to sleep, or the limit is over: GRANTED, CLOSED, WAITING. It polls at least once. */

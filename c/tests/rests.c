@@ -26,8 +26,8 @@ enum { US = 1000, MS = 1000000 };
  * holder, the number of wakes, and the calls that a waiter must not make. */
 static uint64_t now, clocks, yields, sleeps, longest, asks, spins, spun, looks, names, wakes, wrong;
 
-/* How often a node polls before it sleeps, each 60 ns, as qolb.h says: for 50 us on a line of at most five nodes and
- * for 20 us on others; at least for 2 us, and once it has slept, for 10. It pauses while 90 ns are left. A poll is
+/* How often a node polls before it sleeps, each 60 ns, as qolb.h says: for 50 us on a line of no more nodes than
+ * processors, here four, and for 20 us on others; at least for 2 us, and once it has slept, for 10. It pauses while 90 ns are left. A poll is
  * before the pauses and behind each, and one more is before the sleep. */
 enum { PAUSE = 60 };
 #define POLLS(nanoseconds) (((nanoseconds)-90) / PAUSE + 1)
@@ -720,6 +720,7 @@ int main(void) {
     now = 5000000000;
     if (counts_pauses() || has_one_processor()) return 1;
     atomic_store(&qolb_pauses_, 80); /* also where there is one processor */
+    atomic_store(&qolb_processors_, 4);
     for (uint32_t kind = 0; kind < QOLB_KINDS; kind++)
         if (rests(kind) || learns(kind, 2) || learns(kind, 6) || withdraws_late(kind, 0) || withdraws_late(kind, 1) ||
             each_passes_on(kind) || wakes_whom_it_should(kind) || woken_for_nothing(kind))

@@ -25,6 +25,9 @@ static struct {
 
 unsigned model_bells;
 
+void qolb_yield_(void);
+void qolb_yield_(void) { sched_yield(); }
+
 static void turn_with(int yields) {
     MUST(it.inside++ == 0);
     it.turns++;
