@@ -252,14 +252,14 @@ static int late(qolb_node *n) {
     return 0;
 }
 
-/* It waits as long as it takes, and reads no clock: it sleeps, and if it is woken for no reason it yields and polls
- * anew. A release wakes it, by one call. */
+/* It waits as long as it takes, and reads no clock but around a yield: it sleeps, and if it is woken for no reason it
+ * yields and polls anew. A release wakes it, by one call. */
 static int sleeps_on(qolb_node *n, int limited) {
     holder = &n[0];
     begins(releases);
     event.at_sleep = 3;
     WANT(limited ? qolb_acquire_within(&n[1], UINT64_MAX) : qolb_acquire(&n[1]), QOLB_GRANTED);
-    WANT(clocks, 0);
+    WANT(clocks, 4);
     WANT(sleeps, 3);
     WANT(longest, NEVER);
     WANT(asks, 1);
