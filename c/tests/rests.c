@@ -345,18 +345,17 @@ static int rests(uint32_t kind) {
 }
 
 /* The polls of the next spin that ends with a sleep, and its length: an eighth more than it was, at most 50 us; on a
- * line of more than five nodes it ends after 20 us. Half of it is left, but not less than the least; after a spin of
- * less than 2,540 ns all of it. */
+ * line of more nodes than processors it ends after 20 us. Half of it is left, but not less than the least. */
 static uint64_t next_spin(uint64_t *length, uint64_t nodes, uint64_t least) {
     uint64_t grown = *length + *length / 8;
     *length = *length && grown < 50000 ? grown : 50000;
-    uint64_t polls = POLLS(nodes > 5 && *length > 20000 ? 20000 : *length), half = polls * PAUSE / 2;
-    if (polls * PAUSE > 2540) *length = half > least ? half : least;
+    uint64_t polls = POLLS(nodes > 4 && *length > 20000 ? 20000 : *length), half = polls * PAUSE / 2;
+    *length = half > least ? half : least;
     return polls;
 }
 
 /* Each spin that ends with a sleep makes the next one shorter, down to the least. A spin after a sleep has a length of
- * its own. On a line of more than five nodes both are shorter. */
+ * its own. On a line of more nodes than processors both are shorter. */
 static int learns(uint32_t kind, uint64_t nodes) {
     qolb_bytes zeros = {{0}};
     qolb_node n[6] = {{0}};
@@ -384,7 +383,7 @@ static int learns(uint32_t kind, uint64_t nodes) {
     }
     looks = 0;
     WANT(qolb_acquire_within(&n[1], MS), QOLB_LATE);
-    WANT(looks, (nodes > 5 ? UNKNOWN : NEAR) + 2);
+    WANT(looks, (nodes > 4 ? UNKNOWN : NEAR) + 2);
     WANT(qolb_deqolb(&n[0]), QOLB_DONE);
     for (uint64_t k = 0; k < nodes; k++) WANT(qolb_close(&n[k]), QOLB_DONE);
     return 0;
