@@ -8,11 +8,13 @@ ENTER, LEAVE, TURNS, OPENS, CONDITIONS, ABANDONED, TASKS, HEADER, ENTRIES = (
 # keeps while it makes calls is of its thread in the model.
 HOOKED = [
     ("spin.h", "", "WATCH_PAUSE = 300", "WATCH_PAUSE = 90"),
-    ("spin.h", "", "REQUEST_PART = 16", "REQUEST_PART = 2"),
+    ("spin.h", "", "WATCH_PATIENCE = 2000 };", "NO_PATIENCE };\nextern unsigned model_patience, model_barges, model_processors;\n#define WATCH_PATIENCE model_patience"),
+    ("spin.h", "", "enum { BARGE_SPIN = 10000, BARGE_PAUSE", "#define BARGE_SPIN model_barges\nenum { BARGE_PAUSE"),
+    ("spin.h", "processors", "atomic_load_explicit(&qolb_processors_, memory_order_relaxed)", "model_processors"),
     ("spin.h", "", "SPIN_NEAR = 50000", "SPIN_NEAR = 90"),
     ("spin.h", "", "SPIN_FAR = 2000", "SPIN_FAR = 90"),
     ("spin.h", "", "SPIN_WOKEN = 10000", "SPIN_WOKEN = 90"),
-    ("spin.h", "pauses_in_1024", "    unsigned counted = atomic_load_explicit(&qolb_pauses_, memory_order_relaxed);\n    return counted ? counted : qolb_count_pauses_();\n", "    return 1;\n"),
+    ("spin.h", "pauses_in_1024", "    unsigned counted = atomic_load_explicit(&qolb_pauses_, memory_order_acquire);\n    return counted ? counted : qolb_count_pauses_();\n", "    return 1;\n"),
     ("callbacks.c", "", "static BY_THREAD struct caller *in_call;", "void **model_in_call(void);\n#define in_call (*(struct caller **)model_in_call())"),
     ("callbacks.h", "", "enum { TASK_ROWS = 32 };", "enum { TASK_ROWS = 1 };"),
     ("guard.h", "", "GUARD_LOOKS = 64", "GUARD_LOOKS = 1"),
@@ -66,13 +68,25 @@ FAULTS = {
     "who has no ticket stays a guest": (1, "crowded", (ENTER, "finish", "    count_out(my);\n", "")),
     "who could not be withdrawn waits for ever": (1, "far: ", (ENTER, "wait_for_room", "got == QOLB_FAR_ && !is_over(my->until)", "got == QOLB_FAR_ && my->until")),
     "who has no ticket is no guest any more when it draws one": (2, "crowded: one", (ENTER, "wait_for_room", "        nap(my->until);\n", "        nap(my->until);\n        count_out(my);\n")),
-    "a call whose time is over is told that others were faster": (1, "one try: ", (ENTER, "ask", "got == QOLB_BUSY ? (uint32_t)QOLB_FAR_ : got", "got")),
-    "a call whose time is over asks until it is too far": (1, "two look in", (ENTER, "ask", "got == QOLB_BUSY; k++", "got != QOLB_FAR_; k++")),
+    "a call whose time is over is told that others were faster": (1, "one try: ", (ENTER, "draw", "got == QOLB_BUSY ? (uint32_t)QOLB_FAR_ : got", "got")),
+    "a call whose time is over asks until it is too far": (1, "two look in", (ENTER, "draw", "got == QOLB_BUSY; k++", "got != QOLB_FAR_; k++")),
     "who goes in after a nap waits for the lock word": (1, "barging: crowded: two are late", (ENTER, "finish", "    if (ticket_of(my)->state == QOLB_TICKET_AT_TURN_)\n", "    if (got == QOLB_GRANTED)\n")),
-    "a call whose time is over draws a ticket that it can't withdraw": (1, "far: two look in", (ENTER, "ask", "    if (!is_over(my->until))\n        return", "    return")),
-    "a call with a timeout draws a ticket while too many are open": (1, "far: crowded", (ENTER, "ask", "has_room(my->lock) ? qolb_core_ask_proved_(core_of(my), ticket_of(my)) : (uint32_t)QOLB_FAR_", "qolb_core_ask_proved_(core_of(my), ticket_of(my))")),
+    "a call whose time is over draws a ticket that it can't withdraw": (1, "far: two look in", (ENTER, "draw", "    if (!is_over(my->until))\n        return", "    return")),
+    "a call with a timeout draws a ticket while too many are open": (1, "far: crowded", (ENTER, "draw", "has_room(my->lock) ? qolb_core_ask_proved_(core_of(my), ticket_of(my)) : (uint32_t)QOLB_FAR_", "qolb_core_ask_proved_(core_of(my), ticket_of(my))")),
     "who waited and is told of a shut holds the lock": (1, "one enters until", (ENTER, "go_on", "    if (got == QOLB_GRANTED) hold_by", "    if (got == QOLB_GRANTED || my.waits) hold_by")),
     "who went in before and is told of a shut holds the lock": (1, "barging: one enters until", (ENTER, "go_on", "    if (got == QOLB_GRANTED) hold_by", "    hold_by")),
+    # Spinning before a ticket is drawn, yields, and the queue head's request.
+    "who spins takes a word that it finds free for its own": (1, "barging: spins", (ENTER, "barges", "if (!(word & WORD_STATE) && goes_in(my->lock, my->at)) return 1;", "if (!(word & WORD_STATE)) return 1;")),
+    "who spins is not counted": (2, "barging: spins: one", (ENTER, "barges", "        count_in(my);\n", "")),
+    "who spins is counted only until it draws its ticket": (2, "barging: spins: one", (ENTER, "draw", "    uint32_t got = QOLB_BUSY;\n", "    uint32_t got = QOLB_BUSY;\n    if (my->is_counted) atomic_fetch_sub(&my->lock->without_ticket, 1);\n    my->is_counted = 0;\n")),
+    "who has spun stays counted": (1, "barging: spins", (ENTER, "finish", "    count_out(my);\n", "    if (got != QOLB_GRANTED) count_out(my);\n")),
+    "who has spun is told that it timed out": (1, "barging: spins", (ENTER, "ask", ": draw(my)", ": my->is_counted ? (uint32_t)QOLB_TIMEDOUT : draw(my)")),
+    "who spins before it queues waits until a reserved word is free": (2, "barging: spins: asks", (ENTER, "barges", "if (!qolb_barge_once_(&barge)) return 0;", "if (!qolb_barge_once_(&barge) && !(lock_word_of(my->lock) & LAYOUT_RESERVED)) return 0;"), (ENTER, "barges", " || word & was & LAYOUT_RESERVED", "")),
+    "a call whose time is over spins": (1, "barging: spins: two look in", (ENTER, "barges", "!is_over(my->until); was = word", "; was = word")),
+    "a try spins": (1, "barging: spins: one tries", (ENTER, "qolb_try_at_", "    if (is_barging(lock) && goes_in(lock, at)) return QOLB_GRANTED;\n", "    struct request my = {lock, at, FOR_EVER, 0, 0, NULL};\n    int is_in = is_barging(lock) && barges(&my);\n    count_out(&my);\n    if (is_in) return QOLB_GRANTED;\n")),
+    "a call whose time is over waits for its turn": (1, "yields: two look in", (ENTER, "wait_for_turn", "if (is_over(my->until)) {", "if (spin.slept && is_over(my->until)) {")),
+    "the queue head that has requested the lock announces no sleep": (1, "barging: asks", (ENTER, "watch_held", "moved)) sleep_as_head(my);", "moved))\n        requested ? qolb_park_(lock_word_half(words_of(my->lock)), (uint32_t)lock_word_of(my->lock), UINT32_MAX, my->until) : sleep_as_head(my);")),
+    "the queue head that has requested the lock keeps its turn of the queue once it is in": (1, "barging: asks", (LEAVE, "qolb_settle_", " || state == QOLB_TICKET_HEAD_INSIDE_ ||", " || (state == QOLB_TICKET_HEAD_INSIDE_ && model_patience) ||")),
     # Leaving, shutting and closing.
     "who leaves the quick way looks for no sleeper": (1, "", (LEAVE, "qolb_lock_leave", "likely(got == QOLB_DONE && !at->ticket.sleepers)", "likely(got == QOLB_DONE)")),
     "who closes looks at the without_ticket after it has looked who asked": (2, "", (LEAVE, "is_alone", "atomic_load(&lock->without_ticket) || tail_word(lock) != at->ticket.number + 1", "tail_word(lock) != at->ticket.number + 1 || atomic_load(&lock->without_ticket)")),
@@ -245,7 +259,11 @@ HARMLESS = {
     # The lock is not closed while it is counted, and that is its last access.
     "a guest counts itself out once it is served": ((ENTER, "finish", "    count_out(my);\n    if (got == QOLB_WAITING)", "    if (got == QOLB_WAITING)"), (ENTER, "finish", "    return got;\n", "    count_out(my);\n    return got;\n")),
     # The lock's bound is the core's count of newcomers. When the head requests the lock is c/tests/lock_rests.c's.
-    "the queue head requests no handoff": ((ENTER, "watch_held", "!requested && is_long(my, watch, word)", "!requested && !my && is_long(my, watch, word)"),),
+    "the queue head requests no handoff": ((ENTER, "watch_held", "!requested && watch->held >= WATCH_PATIENCE", "!requested && !my"),),
+    # What a thread knows of its distance, and how long it spins, only says how it waits.
+    "a waiter takes itself for the next": ((ENTER, "turns_before", "return (rounds - 1) * TICKETS_IN_ROUND + k + 1;", "return 1;"),),
+    "who spins before it queues does not look whether the lock is shut": ((ENTER, "barges", "word & LAYOUT_SHUT || ", ""),),
+    "nobody spins before it queues": ((ENTER, "barges", "!is_over(my->until); was = word", "!my; was = word"),),
     "the queue head takes any free word at once": ((ENTER, "may_take", "had == watch->had", "1"),),
     # No head sleeps at a word that nobody holds: so a leave that finds it as it was when this turn began is told of none.
     "who leaves a barging lock the quick way looks for no sleeper": ((LEAVE, "leave_barging", "likely(got == QOLB_DONE && !at->ticket.head_sleeps)", "likely(got == QOLB_DONE)"),),

@@ -1,8 +1,9 @@
 /* Entering a lock, from the call until the thread holds it (lock.h). Tested and explored, not proved.
  *
  * A strict lock: draw a ticket; from that step on the call is in the order. Wait for its turn, and look whether the lock
- * is open. A barging lock: take the lock word as a barging thread, if that is free for anyone; else draw a ticket, wait
- * for its turn, take the lock word as the queue head, and release the turn of the queue.
+ * is open. A barging lock: take the lock word as a barging thread, if that is free for anyone, or becomes free while the
+ * thread spins; else draw a ticket, wait for its turn, take the lock word as the queue head, and release the turn of the
+ * queue.
  *
  * A waiter polls, spins by spin.h, and then announces its sleep by a proved call, whose answer has the value to sleep
  * at. It sleeps while the word has that value, retracts, and looks again. The thread that grants is told by the same
@@ -101,6 +102,17 @@ SLOW uint32_t qolb_enter_at_(struct lock *lock, struct turn *at, uint64_t until,
 
 /* ---- Asking ---- */
 
+static void count_in(struct request *my) {
+    if (!my->is_counted) atomic_fetch_add(&my->lock->without_ticket, 1);
+    my->is_counted = 1;
+}
+
+/* The last access to the lock's memory by a thread that has no ticket, and does not hold it. */
+static void count_out(struct request *my) {
+    if (my->is_counted) atomic_fetch_sub(&my->lock->without_ticket, 1);
+    my->is_counted = 0;
+}
+
 /* Takes the lock word as a barging thread, if it is free for anyone. */
 static int goes_in(struct lock *lock, struct turn *at) {
     for (int k = 0; k < TRIES; k++) {
@@ -110,15 +122,35 @@ static int goes_in(struct lock *lock, struct turn *at) {
     return 0;
 }
 
-/* Goes in, or draws a ticket: GRANTED and it is in or at its turn, WAITING, or, with a timeout, FAR: without a ticket. */
-static uint32_t ask(struct request *my) {
+/* Goes in, or spins before it queues: as a thread without a ticket, since the lock is not to be destroyed meanwhile.
+ * Returns 1 once it is in; 0 if it is time to queue, if its own time is over, or if the lock is shut. A word that is
+ * reserved at two looks may be so for nobody: a queue head may have given up. Then it queues, and takes it. */
+static int barges(struct request *my) {
+    struct barge barge = {0};
+    if (goes_in(my->lock, my->at)) return 1;
+    for (uint64_t was = my->at->ticket.lock_word, word; !is_over(my->until); was = word) {
+        count_in(my);
+        if (!qolb_barge_once_(&barge)) return 0;
+        word = lock_word_of(my->lock);
+        if (word & LAYOUT_SHUT || word & was & LAYOUT_RESERVED) return 0;
+        if (!(word & WORD_STATE) && goes_in(my->lock, my->at)) return 1;
+    }
+    return 0;
+}
+
+/* Draws a ticket: GRANTED and it is at its turn, WAITING, or, with a timeout, FAR: without a ticket. */
+static uint32_t draw(struct request *my) {
     uint32_t got = QOLB_BUSY;
-    if (is_barging(my->lock) && goes_in(my->lock, my->at)) return QOLB_GRANTED;
     if (my->until == FOR_EVER) return qolb_core_ask_proved_(core_of(my), ticket_of(my));
     if (!is_over(my->until))
         return has_room(my->lock) ? qolb_core_ask_proved_(core_of(my), ticket_of(my)) : (uint32_t)QOLB_FAR_;
     for (int k = 0; k < DRAWS && got == QOLB_BUSY; k++) got = qolb_core_ask_near_proved_(core_of(my), ticket_of(my));
     return got == QOLB_BUSY ? (uint32_t)QOLB_FAR_ : got;
+}
+
+/* The same, or it goes in: GRANTED. */
+static uint32_t ask(struct request *my) {
+    return is_barging(my->lock) && barges(my) ? (uint32_t)QOLB_GRANTED : draw(my);
 }
 
 /* A call that may not wait: GRANTED, BUSY, CLOSED. */
@@ -134,17 +166,6 @@ uint32_t qolb_try_at_(struct lock *lock, struct turn *at) {
 }
 
 /* ---- From the request to the lock ---- */
-
-static void count_in(struct request *my) {
-    if (!my->is_counted) atomic_fetch_add(&my->lock->without_ticket, 1);
-    my->is_counted = 1;
-}
-
-/* The last access to the lock's memory by a thread that has no ticket, and does not hold it. */
-static void count_out(struct request *my) {
-    if (my->is_counted) atomic_fetch_sub(&my->lock->without_ticket, 1);
-    my->is_counted = 0;
-}
 
 /* For the probes: the lock's address, and the ticket's number from 1 on; 0 while it has none. */
 static struct probed of_request(const struct request *my) {
@@ -180,7 +201,7 @@ static uint32_t wait_for_room(struct request *my) {
     while (got == QOLB_FAR_ && !is_over(my->until)) {
         count_in(my);
         nap(my->until);
-        got = ask(my);
+        got = is_barging(my->lock) && goes_in(my->lock, my->at) ? (uint32_t)QOLB_GRANTED : draw(my);
     }
     return got == QOLB_FAR_ ? closed_or(QOLB_TIMEDOUT, my->lock) : got;
 }
@@ -209,11 +230,11 @@ static uint32_t sleep_for_turn(const struct request *my, uint64_t until) {
     return qolb_core_retract_sleep_proved_(core_of(my), ticket);
 }
 
-/* How many are between a waiter and the one at its turn, by the cells beside its own: at most three. */
-static unsigned turns_between(const struct request *my) {
-    unsigned k = 0;
-    while (k + 1 < TICKETS_IN_ROUND && rounds_to_go(my->lock, ticket_of(my)->number - k - 1) > 0) k++;
-    return k;
+/* How many threads are before a waiter: by the rounds that its last poll found, and by the cells beside its own. */
+static uint64_t turns_before(const struct request *my) {
+    uint64_t number = ticket_of(my)->number, rounds = ticket_of(my)->rounds, k = 0;
+    while (k + 1 < TICKETS_IN_ROUND && rounds_to_go(my->lock, number - k - 1) >= (int32_t)rounds) k++;
+    return (rounds - 1) * TICKETS_IN_ROUND + k + 1;
 }
 
 /* Before it sleeps with a timeout, too far from its turn to withdraw: so it is late by no malloc. */
@@ -233,15 +254,16 @@ static uint32_t give_up(struct request *my) {
 
 /* GRANTED: it is at its turn of the queue. TIMEDOUT, or CLOSED of a lock that is shut: it has no ticket. */
 static uint32_t wait_for_turn(struct request *my) {
-    struct spin spin = {0};
+    struct spin spin = {.yields = !is_barging(my->lock)};
     uint32_t got = QOLB_WAITING;
     begins_to_wait(my);
     while (got == QOLB_WAITING) {
+        uint64_t before = turns_before(my);
         INVARIANT(ticket_of(my)->state == QOLB_TICKET_WAITING_ && !my->is_counted);
         if (is_over(my->until)) {
             got = give_up(my);
-        } else if (qolb_spins_on_(&spin, ticket_of(my)->rounds * TICKETS_IN_ROUND)) {
-            qolb_spin_for_(&spin, POLL_PAUSE + turns_between(my) * POLL_FARTHER);
+        } else if (qolb_spins_on_(&spin, before)) {
+            qolb_spin_for_(&spin, POLL_PAUSE + (unsigned)(before - 1) * POLL_FARTHER);
             got = qolb_core_poll_proved_(core_of(my), ticket_of(my));
         } else {
             make_spare(my);
@@ -249,6 +271,7 @@ static uint32_t wait_for_turn(struct request *my) {
         }
     }
     if (my->spare) free(my->spare);
+    if (got == QOLB_GRANTED) qolb_spin_pays_(&spin);
     INVARIANT(ticket_of(my)->state == (got == QOLB_GRANTED ? QOLB_TICKET_AT_TURN_ : QOLB_TICKET_FREE_));
     return got;
 }
@@ -257,20 +280,15 @@ static uint32_t wait_for_turn(struct request *my) {
  *
  * It announces its sleep there, and the leaving thread is told. It takes the word when that is reserved for it, or when
  * that is free, and no barging thread came since its last look: so barging threads may go first. It requests the handoff
- * after a sixteenth of the barging limit, or a millisecond. */
+ * once it has found the word held for 2 us. */
 
 /* How the queue head has watched the lock word. */
 struct watch {
-    uint64_t first, had; /* the barging threads since the last head when it began, and at its last look */
-    uint64_t begun;      /* the same when its spin began */
-    uint64_t since;      /* when it first slept, or 0 */
-    unsigned spun;       /* nanoseconds since it began, or slept */
+    uint64_t had;   /* the barging threads since the last head at its last look */
+    uint64_t begun; /* the same when its spin began */
+    unsigned spun;  /* nanoseconds since it began, or slept */
+    unsigned held;  /* nanoseconds for which it has seen the lock held */
 };
-
-static int is_long(const struct request *my, const struct watch *watch, uint64_t word) {
-    if (word / LAYOUT_NEWCOMER - watch->first >= barging_limit_of(my->lock) / REQUEST_PART + 1) return 1;
-    return watch->since && qolb_now_() - watch->since >= WATCH_PATIENCE;
-}
 
 /* At each look: whether the head may take the word. A shut one it may, to be told. */
 static int may_take(struct watch *watch, uint64_t word) {
@@ -280,26 +298,26 @@ static int may_take(struct watch *watch, uint64_t word) {
     return word & (LAYOUT_RESERVED | LAYOUT_SHUT) || had == watch->had;
 }
 
-static void sleep_as_head(struct request *my, struct watch *watch) {
-    if (!watch->since) watch->since = qolb_now_();
+static void sleep_as_head(struct request *my) {
     if (qolb_core_announce_head_sleep_proved_(core_of(my), ticket_of(my)) != QOLB_ASLEEP_) return;
     sleep_at(my, lock_word_half(words_of(my->lock)), (uint32_t)ticket_of(my)->lock_word, UINT32_MAX, my->until);
 }
 
 static void watch_held(struct request *my, struct watch *watch, uint64_t word) {
     int requested = word & LAYOUT_HANDOFF;
-    if (!requested && is_long(my, watch, word))
+    if (!requested && watch->held >= WATCH_PATIENCE)
         requested = qolb_core_request_handoff_proved_(core_of(my), ticket_of(my)) == QOLB_DONE;
     if (watch->spun == 0) watch->begun = word / LAYOUT_NEWCOMER;
     int moved = word / LAYOUT_NEWCOMER != watch->begun;
-    if (!qolb_watch_once_(&watch->spun, requested ? POLL_PAUSE : WATCH_PAUSE, moved)) sleep_as_head(my, watch);
+    watch->held += WATCH_PAUSE;
+    if (!qolb_watch_once_(&watch->spun, requested ? POLL_PAUSE : WATCH_PAUSE, moved)) sleep_as_head(my);
 }
 
 /* GRANTED or CLOSED: it is in by the lock word. TIMEDOUT, or CLOSED too if it times out at a shut lock: it is not. In
  * each case it still has its turn of the queue. */
 static uint32_t wait_for_lock_word(struct request *my) {
     uint64_t word = lock_word_of(my->lock);
-    struct watch watch = {.first = word / LAYOUT_NEWCOMER, .had = UINT64_MAX};
+    struct watch watch = {.had = UINT64_MAX};
     for (;; word = lock_word_of(my->lock)) {
         INVARIANT(ticket_of(my)->state == QOLB_TICKET_AT_TURN_);
         if (may_take(&watch, word)) {
