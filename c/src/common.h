@@ -2,6 +2,8 @@
 #ifndef QOLB_COMMON_H
 #define QOLB_COMMON_H
 
+#include <stdint.h> /* a header of the C library says whether it is GNU's */
+
 #define HIDDEN __attribute__((visibility("hidden")))
 
 /* A library that is opened at run time has room for these few bytes of the GNU C library; others may have none. */
