@@ -92,7 +92,7 @@ UNSEEN void ends_call(void) {
 /* With a barging limit of B at most B - 1 later calls go first, which drew no ticket, until a thread goes that was there
  * before. */
 UNSEEN static void enters_turn(void) {
-    int me = who(), barging = (int)barging_limit_of(lock_of(it.lock)), later = barging ? barging - 1 : 0;
+    int me = who(), barging = (int)lock_of(it.lock)->limit, later = barging ? barging - 1 : 0;
     for (int k = 0; k <= THREADS; k++) {
         if (!order[k].waits || !order[me].in_call || order[me].began < order[k].since) continue;
         must(++order[k].passed <= (order[k].gone + 1) * later, "a thread that waits is overtaken too often");
@@ -1019,7 +1019,7 @@ void set_up(const struct scene *scene) {
     entries.lock = scene->does == late_with_memory_by_a_lock ? it.locks[2] : NULL;
 }
 
-/* Nobody is counted or withdrawn at any cell, waits, is a guest, or holds. */
+/* Nobody is counted or withdrawn at any cell, waits, is without a ticket in a call, or holds. */
 UNSEEN static void check_lock(struct lock *lock) {
     for (int k = 0; k < TICKETS_IN_ROUND; k++) MUST((uint32_t)words_of(lock)[LAYOUT_FIRST_CELL + k] == 0);
     MUST(!lock->waits && *(unsigned *)&lock->without_ticket == 0 && *(uint64_t *)&lock->beyond_by == 0);

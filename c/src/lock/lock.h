@@ -28,33 +28,35 @@
 
 /* ---- What a build may set ---- */
 
-/* The model checker builds the same text with other numbers (tools/explorer/explored.h), for which fewer steps lead to
+/* The model checker builds the same text with other numbers (tools/explorer/explored.h), by which fewer steps lead to
  * the same decisions. */
 #ifndef EXPLORED
 enum {
     TICKETS_IN_ROUND = LAYOUT_CELLS,
-    MOST_ROUNDS_NEAR = LAYOUT_MAX_ROUNDS_NEAR, /* the most rounds to go from which a request can be withdrawn */
-    MOST_OPEN = 12288, /* the most open requests when a call with a timeout, or a task, draws a ticket: so that
-                                 one release passes the abandoned ones in 2 ms */
+    MOST_ROUNDS_NEAR = LAYOUT_MAX_ROUNDS_NEAR, /* rounds to go, from which a request can be withdrawn */
+    MOST_OPEN = 12288, /* requests when a ticket with a timeout is drawn: one release passes them in 2 ms */
     MOST_OPEN_ROUNDS = MOST_OPEN / TICKETS_IN_ROUND,
-    MOST_HELD = 8, /* the locks for which a thread's table has room */
-    CLASSES_OF_SLEEPERS =
-        32,        /* the waiters of one cell sleep in classes, by their round: so a wake reaches few others */
-    TRIES = 4,     /* how often a call tries again what another thread's step prevented, before it waits */
-    NAP = 1000000, /* nanoseconds of a sleep from which nobody wakes */
-    ROWS = 32,     /* of entries: guards */
-    COLUMNS = 256  /* and lists under each */
+    MOST_HELD = 8,            /* locks for which a thread's table has room */
+    CLASSES_OF_SLEEPERS = 32, /* of one cell, by their round: so a wake reaches few others */
+    TRIES = 4,                /* of what another thread's step prevented, before a call waits */
+    NAP = 1000000,            /* nanoseconds of a sleep from which nobody wakes */
+    ROWS = 32,                /* guards of entries, */
+    COLUMNS = 256             /* and lists under each */
 };
 #define DRAWS TRIES
 #define THIS_THREAD (&qolb_own_)
-/* An event of the proof's kind, of which the model checker keeps count. */
-#define GHOST(event) ((void)0)
+#define GHOST(event) ((void)0) /* an event that the model checker keeps count of */
 #endif
 
-/* What must hold at a boundary. It is checked in builds with -DQOLB_CHECKED, by sanitizers and by the model checker, and
- * is nothing in others. */
+/* What must hold at a boundary. It is checked with -DQOLB_CHECKED, in builds with a sanitizer and by the model checker,
+ * and is nothing in others. */
+#if defined(__has_feature)
+#if __has_feature(address_sanitizer) || __has_feature(thread_sanitizer)
+#define QOLB_CHECKED
+#endif
+#endif
 #ifdef INVARIANT
-#elif defined(QOLB_CHECKED) || defined(__SANITIZE_ADDRESS__) || defined(QOLB_TSAN) || defined(__SANITIZE_THREAD__)
+#elif defined(QOLB_CHECKED) || defined(__SANITIZE_ADDRESS__) || defined(__SANITIZE_THREAD__)
 #undef NDEBUG
 #include <assert.h>
 #define INVARIANT(it) assert(it)
@@ -91,9 +93,6 @@ _Static_assert(LAYOUT_ROUNDS_BIT >= 32, "a grant changes the half of a cell at w
 static inline struct lock *lock_of(const qolb_lock *lock) { return (struct lock *)(uintptr_t)lock; }
 
 static inline int is_barging(const struct lock *lock) { return lock->limit > 1; }
-static inline uint64_t barging_limit_of(const struct lock *lock) {
-    return lock->limit < LAYOUT_MAX_BURST ? lock->limit : LAYOUT_MAX_BURST;
-}
 
 /* The core's words. A function of the lock's address alone: so it can be used when the lock no longer exists. */
 static inline uint64_t *words_of(const struct lock *lock) {

@@ -18,7 +18,8 @@ static void open_core(struct lock *lock) {
     atomic_init(&lock->without_ticket, 0);
     struct core_arena arena = {{words_of(lock), spare_of(lock, SLOTS), lock->block}, 0};
     qolb_core_arena_ = &arena;
-    (void)qolb_core_open_proved_(barging_limit_of(lock), lock->label, &core);
+    uint64_t limit = lock->limit < LAYOUT_MAX_BURST ? lock->limit : LAYOUT_MAX_BURST;
+    (void)qolb_core_open_proved_(limit, lock->label, &core);
     qolb_core_arena_ = NULL;
     if (core.at != lock->block || arena.taken != CORE_BLOCKS) __builtin_trap();
     INVARIANT(!lock_word_of(lock) && !tail_word(lock) && !rounds_to_go(lock, 0));
