@@ -152,19 +152,19 @@
  * that begins after that step is served before the thread while it waits.
  *
  * A barging lock is free once its holder leaves, although threads wait for it. Whichever thread enters next takes it: a
- * thread that takes it without a ticket is a barging thread. A thread that finds the lock taken draws a ticket, and
- * waiters keep their order among themselves. A request that has p requests before it is overtaken by barging threads at
- * most
+ * thread that takes it without a ticket is a barging thread. A thread that finds the lock taken spins for a few
+ * microseconds, in which it may still take the lock so, and then draws a ticket; waiters keep their order among
+ * themselves. Once a thread has drawn its ticket, with p requests before it, it is overtaken by barging threads at most
  *
  *     (p + 1) * (limit - 1)
  *
  * times, where `limit` is the lock's barging limit. Calls that enter, calls that try and waits at a condition that end
- * all count. Usually a request is overtaken less often: the first waiter asks for the lock after a sixteenth of the
- * limit or after 1 ms, and the next leave hands it over. A limit above 65,535 counts as 65,535, and a lock with a limit
- * of 0 or 1 is strict.
+ * all count. Usually a thread is overtaken less often: the first waiter asks for the lock once a barging thread has
+ * overtaken it and it has found the lock taken for 2 us, or 1 ms after it fell asleep, and the next leave hands it over.
+ * A limit above 65,535 counts as 65,535, and a lock with a limit of 0 or 1 is strict.
  *
- * Use a strict lock if the longest wait matters. Use a barging lock with a limit of 1,024 in place of a mutex: for many
- * short critical sections, and if too few processors are free.
+ * Use a barging lock with a limit of 1,024 for what a mutex does today. Use a strict lock where threads have to be
+ * served in the order in which they asked, or where the longest wait matters more than the time of all threads together.
  *
  * TIMEOUTS
  *
@@ -181,16 +181,29 @@
  *
  * WAITING
  *
- * A waiter polls: each 90 ns if it is next, else more seldom; for at most 50 us, with more than four threads before it
- * for 2 us. Then it sleeps by a futex until its turn. At a condition it sleeps at once, and so does a process that
- * could use one processor only at its first wait. After polls without success a thread polls for less the next time.
- * A thread that is woken before its turn yields once.
+ * A thread with a ticket polls every 90 ns if it is next, and 250 ns later for each further thread before it. How long
+ * it polls follows from the number of those threads, and from how many processors the process may use:
  *
- * Leaving wakes the next holder of a strict lock, or the first waiter of a barging one. If the leaver had slept, it may wake the waiter behind
- * that one. It calls the system only if it may have to wake a sleeper.
+ * - If there are fewer threads than processors, it polls for 50 us, or for 1 us for each thread if that is more.
+ * - If there are fewer than twice the processors, it polls for 50 us, and in a strict lock it yields before each poll.
+ * - If there are more, it polls for 2 us.
+ *
+ * Then it sleeps by a futex until its turn. After polls without success a thread polls for less the next time. At a
+ * condition it sleeps at once, and so does a process that could use one processor only at its first wait. A thread
+ * that is woken before its turn yields once.
+ *
+ * A thread that finds a barging lock taken looks at it again after 200 ns and then after pauses that double, up to
+ * 4 us: six times in 10 us. It yields before all but the first of these looks. A call whose time is over does not
+ * spin, and qolb_lock_try never does.
+ *
+ * Where other programs want the processors, a yield can take as long as a time slice. When several yields have taken a
+ * millisecond, the process does not yield for a quarter of a second.
+ *
+ * Leaving wakes the next holder of a strict lock, or the first waiter of a barging one. If the leaver had slept, it may
+ * wake the waiter behind that one. It calls the system only if it may have to wake a sleeper.
  *
  * A strict lock is the next thread's, even before that runs: all behind wait for its turn. So if more threads, of any
- * program, want processors than there are, short turns may take many times as long.
+ * program, want processors than there are, short critical sections may take many times as long as in a barging lock.
  *
  * No wait is a cancellation point. A thread that is cancelled while it waits is granted the lock or times out, and ends
  * at its next cancellation point. A thread that may be cancelled at any instruction (PTHREAD_CANCEL_ASYNCHRONOUS) must
@@ -282,9 +295,9 @@
  * for each of its blocks, which are the number of nodes and 4:
  *
  *     nodes                 1         2         8        64       200
- *     ring             33,744    34,168    36,712    60,456   118,568
- *     link              1,232     1,784     5,096    36,008   111,528
- *     ticket            1,360     2,296     7,912    60,328   151,208
+ *     ring             33,792    34,176    36,480    57,984   110,208
+ *     link              1,280     1,792     4,864    33,536   103,168
+ *     ticket            1,408     2,304     7,680    57,856   142,848
  *
  * WHAT YOU MUST KEEP
  *
@@ -306,9 +319,9 @@
  *
  * WAITING
  *
- * Two of these calls wait for a turn: qolb_acquire and qolb_acquire_within. They poll each 60 ns, for at most
- * 50 us on a line of five nodes or fewer and 20 us on others, then sleep by a futex until the line is released, and
- * poll anew. What qolb_lock(3) says of waiting holds here, too.
+ * Two of these calls wait for a turn: qolb_acquire and qolb_acquire_within. They poll every 60 ns: for 50 us on a line
+ * of no more nodes than the process may use processors, and for 20 us on others. Then they sleep by a futex until the
+ * line is released, and poll anew. They yield only after a sleep. What qolb_lock(3) says of waiting holds here, too.
  *
  * A call that releases the line (qolb_deqolb, qolb_shut, and any that answers CLOSED) wakes the next holder, and the
  * waiter behind it ahead of its turn.

@@ -8,7 +8,7 @@ ENTER, LEAVE, TURNS, OPENS, CONDITIONS, ABANDONED, TASKS, HEADER, ENTRIES = (
 # keeps while it makes calls is of its thread in the model.
 HOOKED = [
     ("spin.h", "", "WATCH_PAUSE = 300", "WATCH_PAUSE = 90"),
-    ("spin.h", "", "WATCH_PATIENCE = 2000 };", "NO_PATIENCE };\nextern unsigned model_patience, model_barges, model_processors;\n#define WATCH_PATIENCE model_patience"),
+    ("spin.h", "", "WATCH_PATIENCE = 2000, SLEEPER_PATIENCE = 1000000 };", "SLEEPER_PATIENCE = 1000000 };\nextern unsigned model_patience, model_barges, model_processors;\n#define WATCH_PATIENCE model_patience"),
     ("spin.h", "", "enum { BARGE_SPIN = 10000, BARGE_PAUSE", "#define BARGE_SPIN model_barges\nenum { BARGE_PAUSE"),
     ("spin.h", "processors", "atomic_load_explicit(&qolb_processors_, memory_order_relaxed)", "model_processors"),
     ("spin.h", "", "SPIN_NEAR = 50000", "SPIN_NEAR = 90"),
@@ -85,7 +85,7 @@ FAULTS = {
     "a call whose time is over spins": (1, "barging: spins: two look in", (ENTER, "barges", "!is_over(my->until); was = word", "; was = word")),
     "a try spins": (1, "barging: spins: one tries", (ENTER, "qolb_try_at_", "    if (is_barging(lock) && goes_in(lock, at)) return QOLB_GRANTED;\n", "    struct request my = {lock, at, FOR_EVER, 0, 0, NULL};\n    int is_in = is_barging(lock) && barges(&my);\n    count_out(&my);\n    if (is_in) return QOLB_GRANTED;\n")),
     "a call whose time is over waits for its turn": (1, "yields: two look in", (ENTER, "wait_for_turn", "if (is_over(my->until)) {", "if (spin.slept && is_over(my->until)) {")),
-    "the queue head that has requested the lock announces no sleep": (1, "barging: asks", (ENTER, "watch_held", "moved)) sleep_as_head(my);", "moved))\n        requested ? qolb_park_(lock_word_half(words_of(my->lock)), (uint32_t)lock_word_of(my->lock), UINT32_MAX, my->until) : sleep_as_head(my);")),
+    "the queue head that has requested the lock announces no sleep": (1, "barging: asks", (ENTER, "watch_held", "moved)) sleep_as_head(my, watch);", "moved))\n        requested ? qolb_park_(lock_word_half(words_of(my->lock)), (uint32_t)lock_word_of(my->lock), UINT32_MAX, my->until) : sleep_as_head(my, watch);")),
     "the queue head that has requested the lock keeps its turn of the queue once it is in": (1, "barging: asks", (LEAVE, "qolb_settle_", " || state == QOLB_TICKET_HEAD_INSIDE_ ||", " || (state == QOLB_TICKET_HEAD_INSIDE_ && model_patience) ||")),
     # Leaving, shutting and closing.
     "who leaves the quick way looks for no sleeper": (1, "", (LEAVE, "qolb_lock_leave", "likely(got == QOLB_DONE && !at->ticket.sleepers)", "likely(got == QOLB_DONE)")),
@@ -259,7 +259,7 @@ HARMLESS = {
     # The lock is not closed while it is counted, and that is its last access.
     "a thread without a ticket counts itself out once it is served": ((ENTER, "finish", "    count_out(my);\n    if (got == QOLB_WAITING)", "    if (got == QOLB_WAITING)"), (ENTER, "finish", "    return got;\n", "    count_out(my);\n    return got;\n")),
     # The lock's bound is the core's count of newcomers. When the head requests the lock is c/tests/lock_rests.c's.
-    "the queue head requests no handoff": ((ENTER, "watch_held", "!requested && watch->held >= WATCH_PATIENCE", "!requested && !my"),),
+    "the queue head requests no handoff": ((ENTER, "watch_held", "!requested && is_long(watch, word)", "!requested && !my && is_long(watch, word)"),),
     # What a thread knows of its distance, and how long it spins, only says how it waits.
     "a waiter takes itself for the next": ((ENTER, "turns_before", "return (rounds - 1) * TICKETS_IN_ROUND + k + 1;", "return 1;"),),
     "who spins before it queues does not look whether the lock is shut": ((ENTER, "barges", "word & LAYOUT_SHUT || ", ""),),

@@ -271,7 +271,6 @@ static uint32_t wait_for_turn(struct request *my) {
         }
     }
     if (my->spare) free(my->spare);
-    if (got == QOLB_GRANTED) qolb_spin_pays_(&spin);
     INVARIANT(ticket_of(my)->state == (got == QOLB_GRANTED ? QOLB_TICKET_AT_TURN_ : QOLB_TICKET_FREE_));
     return got;
 }
@@ -280,15 +279,21 @@ static uint32_t wait_for_turn(struct request *my) {
  *
  * It announces its sleep there, and the leaving thread is told. It takes the word when that is reserved for it, or when
  * that is free, and no barging thread came since its last look: so barging threads may go first. It requests the handoff
- * once it has found the word held for 2 us. */
+ * once it was overtaken, and has found the word held for 2 us; or a millisecond after it first slept. */
 
 /* How the queue head has watched the lock word. */
 struct watch {
-    uint64_t had;   /* the barging threads since the last head at its last look */
-    uint64_t begun; /* the same when its spin began */
-    unsigned spun;  /* nanoseconds since it began, or slept */
-    unsigned held;  /* nanoseconds for which it has seen the lock held */
+    uint64_t first, had; /* the barging threads since the last head when it began, and at its last look */
+    uint64_t begun;      /* the same when its spin began */
+    uint64_t since;      /* when it first slept, or 0 */
+    unsigned spun;       /* nanoseconds since it began, or slept */
+    unsigned held;       /* nanoseconds for which it has seen the word held */
 };
+
+static int is_long(const struct watch *watch, uint64_t word) {
+    if (watch->since) return qolb_now_() - watch->since >= SLEEPER_PATIENCE;
+    return watch->held >= WATCH_PATIENCE && word / LAYOUT_NEWCOMER != watch->first;
+}
 
 /* At each look: whether the head may take the word. A shut one it may, to be told. */
 static int may_take(struct watch *watch, uint64_t word) {
@@ -298,26 +303,27 @@ static int may_take(struct watch *watch, uint64_t word) {
     return word & (LAYOUT_RESERVED | LAYOUT_SHUT) || had == watch->had;
 }
 
-static void sleep_as_head(struct request *my) {
+static void sleep_as_head(struct request *my, struct watch *watch) {
+    if (!watch->since) watch->since = qolb_now_();
     if (qolb_core_announce_head_sleep_proved_(core_of(my), ticket_of(my)) != QOLB_ASLEEP_) return;
     sleep_at(my, lock_word_half(words_of(my->lock)), (uint32_t)ticket_of(my)->lock_word, UINT32_MAX, my->until);
 }
 
 static void watch_held(struct request *my, struct watch *watch, uint64_t word) {
     int requested = word & LAYOUT_HANDOFF;
-    if (!requested && watch->held >= WATCH_PATIENCE)
+    if (!requested && is_long(watch, word))
         requested = qolb_core_request_handoff_proved_(core_of(my), ticket_of(my)) == QOLB_DONE;
     if (watch->spun == 0) watch->begun = word / LAYOUT_NEWCOMER;
     int moved = word / LAYOUT_NEWCOMER != watch->begun;
     watch->held += WATCH_PAUSE;
-    if (!qolb_watch_once_(&watch->spun, requested ? POLL_PAUSE : WATCH_PAUSE, moved)) sleep_as_head(my);
+    if (!qolb_watch_once_(&watch->spun, requested ? POLL_PAUSE : WATCH_PAUSE, moved)) sleep_as_head(my, watch);
 }
 
 /* GRANTED or CLOSED: it is in by the lock word. TIMEDOUT, or CLOSED too if it times out at a shut lock: it is not. In
  * each case it still has its turn of the queue. */
 static uint32_t wait_for_lock_word(struct request *my) {
     uint64_t word = lock_word_of(my->lock);
-    struct watch watch = {.had = UINT64_MAX};
+    struct watch watch = {.first = word / LAYOUT_NEWCOMER, .had = UINT64_MAX};
     for (;; word = lock_word_of(my->lock)) {
         INVARIANT(ticket_of(my)->state == QOLB_TICKET_AT_TURN_);
         if (may_take(&watch, word)) {
