@@ -5,7 +5,7 @@ LOCK, WAITS, TURNS, OPENS, CONDITIONS, REGISTRY, TASKS, HEADER = (
 )
 
 # Less room and fewer looks before the same decisions; no clock in pauses, and each thread's data where lock_scenes.c has them. What limits tickets is by scenes,
-# and so is the memory for entries. The callbacks of all tasks are in one list. A ticket is withdrawn for the scenes when its entry is abandoned. The model has several threads in
+# and so is the memory for entries. All tasks have one key. A ticket is withdrawn for the scenes when its entry is abandoned. The model has several threads in
 # one, so what a thread keeps while it makes calls is its.
 HOOKED = [
     (HEADER, "", "MOST_HELD = 8", "MOST_HELD = 1"),
@@ -30,6 +30,7 @@ HOOKED = [
     (REGISTRY, "", "ROWS = 32, COLUMNS = 256", "ROWS = 1, COLUMNS = 2"),
     ("callbacks.c", "", "static BY_THREAD struct caller *in_call;", "void **model_in_call(void);\n#define in_call (*(struct caller **)model_in_call())"),
     ("callbacks.h", "", "enum { TASK_ROWS = 32 };", "enum { TASK_ROWS = 1 };"),
+    (TASKS, "qolb_task_enter", ".key = (uintptr_t)me", ".key = 1"),
     ("guard.h", "", "GUARD_LOOKS = 64", "GUARD_LOOKS = 1"),
     (REGISTRY, "waits_on", "    e->number = HEAD;\n", "    e->number = HEAD;\n    { void hook_is_head(const struct qolb_ticket *); hook_is_head(ticket); }\n"),
 ]
