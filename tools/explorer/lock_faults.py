@@ -194,7 +194,6 @@ FAULTS = {
     "a task that is told of a shut is idle once it has passed on": (1, "tasks: the task that is told", (TASKS, "settle", "    if (got != QOLB_GRANTED) atomic_store(&me->state, IDLE);\n", ""), (TASKS, "settle", "    if (got == QOLB_GRANTED) hold(me, &at);\n", "    if (got == QOLB_GRANTED) hold(me, &at);\n    else atomic_store(&me->state, IDLE);\n")),
     "a task that gives up looks afterwards whether the lock is shut": (1, "tasks: one frees", (TASKS, "qolb_task_cancel", "    uint32_t told = closed_or(QOLB_WITHDRAWN, lock);\n", ""), (TASKS, "qolb_task_cancel", "        return told;\n", "        return closed_or(QOLB_WITHDRAWN, lock);\n")),
     "a callback that is taken out is listed yet": (1, "tasks: one goes on with two", ("callbacks.c", "qolb_take_out_of_list_", "    else atomic_store(&of->first, it->next);\n", "")),
-    "a callback behind another is taken out with it": (1, "tasks: one goes on with two", ("callbacks.c", "qolb_take_out_of_list_", "    if (before) before->next = it->next;\n    else", "   ")),
     "a poll takes its call back once it has passed on": (1, "tasks: the task that is told of a shut asks elsewhere", (TASKS, "qolb_task_poll", "    qolb_unlist_(callbacks_of_task(me->callback.key), &me->callback);\n    return settle(me);\n", "    uint32_t got = settle(me);\n    qolb_unlist_(callbacks_of_task(me->callback.key), &me->callback);\n    return got;\n")),
     # Who holds a lock.
     # Conditions.
