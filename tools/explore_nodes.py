@@ -45,10 +45,12 @@ static void hint_release(const struct node *my) {}
 SPUN = {
     "SPIN_NEAR = 50000": "SPIN_NEAR = 90",
     "SPIN_UNKNOWN = 20000": "SPIN_UNKNOWN = 90",
-    "if (spin->spun + POLL_PAUSE <= (patience < most ? patience : most) && pauses_in_1024()) return": "if (spin->spun + POLL_PAUSE <= most) return",
-    "    qolb_pause_(pause);\n    spin->spun": "    spin->spun",
-    "unsigned *learned = &qolb_learned_[spin->slept ? WOKEN_SPIN : FIRST_SPIN], most": "unsigned none = 0, *learned = &none, most",
-    "unsigned patience = spin->spun ? *learned : begin_spin(learned);": "(void)begin_spin;",
+    "    if (spin->spun + POLL_PAUSE <= spin->most && may_spin) return": "    if (spin->spun + POLL_PAUSE <= spin->most) return",
+    "may_spin = pauses_in_1024()": "may_spin = 1",
+    "atomic_load_explicit(&qolb_processors_, memory_order_relaxed)": "4",
+    "    qolb_pause_(pause < left ? pause : left);\n": "",
+    "unsigned *learned = &qolb_learned_[spin->slept ? WOKEN_SPIN : FIRST_SPIN];": "unsigned none = 0, *learned = &none;",
+    "unsigned patience = spin->spun ? *learned : begin_spin(learned)": "unsigned patience = SPIN_NEAR",
 }
 for old, new in SPUN.items():
     assert old in SOURCES["spin.h"]

@@ -107,8 +107,8 @@ static inline struct probed of_node(struct node *my) {
 
 /* The most nodes that may be before one that waits: all others on a line of few, else unknown. */
 static uint64_t most_before(const struct node *my) {
-    uint64_t others = my->line->nodes - 1u;
-    return others <= NEAR_TURNS ? others : UNKNOWN_TURNS;
+    uint32_t others = my->line->nodes - 1;
+    return others < processors() ? others : UNKNOWN_TURNS;
 }
 
 /* Polls until it is time to sleep, or the limit is over: GRANTED, CLOSED, WAITING. It polls at least once. */

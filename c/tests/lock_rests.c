@@ -10,6 +10,7 @@
 #include <stdarg.h>
 #include <stdio.h>
 #include <stdlib.h>
+#include <string.h>
 #include <sys/syscall.h>
 #include <sys/wait.h>
 #include <time.h>
@@ -18,26 +19,34 @@
 enum { MS = 1000000, KEPT = 8 };
 #define NEVER UINT64_MAX
 
-/* How often a waiter polls before it sleeps, as qolb.h says: behind the holder alone each 90 ns, for 50 us; behind one
- * more each 240 ns; farther than a round from its turn each 540 ns, until 2 us are over. A spin that ends with a sleep
- * halves the next one, which begins with an eighth more. */
+/* How often a waiter polls before it sleeps, as qolb.h says, with four processors: behind the holder alone every 90 ns,
+ * for 50 us; 150 ns later for each further thread before it; with eight before it for 2 us. A spin that ends with a
+ * sleep halves the next one, which begins with an eighth more. */
+enum { PROCESSORS = 4, SOME_BEFORE = 5, MANY_BEFORE = 8 };
+#define PAUSE(before) (90 + 150 * ((before)-1))
 enum {
-    NEAR = 50000 / 90,
-    BEHIND_ONE = (50000 - 90) / 240 + 1,
-    FAR = (2000 - 90) / 540 + 1,
+    NEAR = 50000 / PAUSE(1),
+    BEHIND_ONE = (50000 - 90) / PAUSE(2) + 1,
+    BEHIND_SOME = (50000 - 90) / PAUSE(SOME_BEFORE) + 1,
+    BEHIND_MANY = (2000 - 90) / PAUSE(MANY_BEFORE) + 1,
     LESS = NEAR * 90 / 2 * 9 / 8 / 90
 };
+
+/* How often a thread yields before it queues at a barging lock: between its looks after 200, 400, 800, .. and at last
+ * 4,000 ns, but not before the first two, for 10 us. */
+enum { YIELDS_TO_BARGE = 5 };
 
 /* The time; and since `begins` the numbers of clock calls, sleeps, polls, yields and wakes, the longest time that a
  * sleep may have lasted, and the calls that a waiter must not make. */
 static uint64_t now = 5000000000, clocks, sleeps, longest, polls, yields, wakes, wrong;
 static const void *slept_at[KEPT], *woken_at[KEPT];
+static uint64_t yield_lasts;
 
-/* An action during this number of sleeps, before this number of polls, or before a request is withdrawn. It happens
- * once. */
+/* An action during this number of sleeps or yields, before this number of polls, or before a request is withdrawn. It
+ * happens once. */
 static struct {
     void (*does)(void);
-    uint64_t at_sleep, at_poll;
+    uint64_t at_sleep, at_yield, at_poll;
     int at_withdrawal;
 } event;
 
@@ -49,9 +58,10 @@ static void happens(void) {
 
 static void begins(void (*does)(void)) {
     for (int k = 0; k < SPINS; k++) qolb_learned_[k] = 0;
+    qolb_hand_over_ = 0;
     clocks = sleeps = longest = polls = yields = wakes = 0;
     event.does = does;
-    event.at_sleep = event.at_poll = 0;
+    event.at_sleep = event.at_yield = event.at_poll = 0;
     event.at_withdrawal = 0;
 }
 
@@ -64,7 +74,11 @@ int __wrap_clock_gettime(clockid_t clock, struct timespec *out) {
 }
 
 int __wrap_nanosleep(const struct timespec *time, struct timespec *left) { return (void)time, (void)left, wrong++, 0; }
-int __wrap_sched_yield(void) { return yields++, 0; }
+int __wrap_sched_yield(void) {
+    now += yield_lasts;
+    if (++yields == event.at_yield) happens();
+    return 0;
+}
 
 /* A sleep without a limit ends for no reason, and so does one in which something happens; any other takes its time. */
 static void sleep_until(const void *word, uint64_t end) {
@@ -178,24 +192,25 @@ static int late(uint64_t burst) {
         WANT(enters(20 * MS), QOLB_LATE);
         WANT(now - since, 20 * MS);
         WANT(sleeps, 1);
-        WANT(yields, 0);
+        WANT(yields, burst ? YIELDS_TO_BARGE : 0);
         WANT(longest, 20 * MS);
         WANT(polls, burst ? 0 : again ? BEHIND_ONE : NEAR);
     }
     begins(NULL);
     WANT(enters(0), QOLB_LATE);
-    WANT(sleeps + polls, 0);
+    WANT(qolb_try_at_(lock_of(&lock), &other), QOLB_BUSY);
+    WANT(sleeps + polls + yields, 0);
     return is_left();
 }
 
-/* As long as it takes, without a look at the clock: it sleeps, and if it is woken for no reason it yields and polls
- * anew. A leave wakes it, by one call. */
+/* As long as it takes, without a look at the clock but around a yield: it sleeps, and if it is woken for no reason it
+ * yields and polls anew. A leave wakes it, by one call. */
 static int sleeps_on(void) {
     if (is_held(0)) return 1;
     begins(leaves);
     event.at_sleep = 3;
     WANT(enters(NEVER), QOLB_GRANTED);
-    WANT(clocks, 0);
+    WANT(clocks, 4);
     WANT(sleeps, 3);
     WANT(yields, 2);
     WANT(longest, NEVER);
@@ -212,7 +227,7 @@ static int head_sleeps_on(void) {
     event.at_sleep = 2;
     WANT(enters(NEVER), QOLB_GRANTED);
     WANT(sleeps, 2);
-    WANT(yields, 0);
+    WANT(yields, YIELDS_TO_BARGE);
     WANT(longest, NEVER);
     WANT(wakes, 1);
     WANT(woken_at[0] == slept_at[1], 1);
@@ -234,25 +249,72 @@ static int granted_awake(void) {
     return is_left();
 }
 
-/* Behind more than four it polls for less. */
-static int far_from_its_turn(void) {
-    enum { BEFORE = 7 };
-    struct turn before[BEFORE] = {{.core = 0}};
+/* Behind this number of threads, the holder among them. It waits for so long, and is late. */
+static struct turn waiting[MANY_BEFORE];
+
+static int begins_behind(unsigned before, uint64_t nanoseconds) {
+    memset(waiting, 0, sizeof waiting);
     if (is_held(0)) return 1;
-    for (int k = 0; k < BEFORE; k++)
-        WANT(qolb_core_ask_proved_(&lock_of(&lock)->core, &before[k].ticket), QOLB_WAITING);
+    for (unsigned k = 1; k < before; k++)
+        WANT(qolb_core_ask_proved_(&lock_of(&lock)->core, &waiting[k].ticket), QOLB_WAITING);
     begins(NULL);
-    WANT(enters(MS), QOLB_LATE);
-    WANT(polls, FAR);
+    WANT(enters(nanoseconds), QOLB_LATE);
     WANT(sleeps, 1);
+    return 0;
+}
+
+static int all_leave(unsigned before) {
     leaves();
-    for (int k = 0; k < BEFORE; k++) {
-        WANT(qolb_core_poll_proved_(&lock_of(&lock)->core, &before[k].ticket), QOLB_GRANTED);
-        WANT(qolb_core_check_open_proved_(&lock_of(&lock)->core, &before[k].ticket), QOLB_GRANTED);
-        qolb_leave_at_(lock_of(&lock), &before[k]);
+    for (unsigned k = 1; k < before; k++) {
+        WANT(qolb_core_poll_proved_(&lock_of(&lock)->core, &waiting[k].ticket), QOLB_GRANTED);
+        WANT(qolb_core_check_open_proved_(&lock_of(&lock)->core, &waiting[k].ticket), QOLB_GRANTED);
+        qolb_leave_at_(lock_of(&lock), &waiting[k]);
     }
     WANT(qolb_lock_close(&lock), QOLB_DONE);
     return 0;
+}
+
+/* Behind as many threads as there are processors, or more, it yields before each poll; behind twice as many it polls
+ * for less, and does not yield. */
+static int far_from_its_turn(void) {
+    if (begins_behind(PROCESSORS - 1, MS)) return 1;
+    WANT(yields, 0);
+    if (all_leave(PROCESSORS - 1) || begins_behind(SOME_BEFORE, MS)) return 1;
+    WANT(polls, BEHIND_SOME);
+    WANT(yields, BEHIND_SOME);
+    if (all_leave(SOME_BEFORE) || begins_behind(MANY_BEFORE, MS)) return 1;
+    WANT(polls, BEHIND_MANY);
+    WANT(yields, 0);
+    return all_leave(MANY_BEFORE);
+}
+
+/* A thread that has seen that hand-overs take so long does not spin for a turn that is too far away. */
+static int learns_how_far_it_is(void) {
+    if (begins_behind(SOME_BEFORE, MS)) return 1;
+    WANT(qolb_hand_over_, 50000); /* nobody passed in its first spin */
+    qolb_hand_over_ = 20000;
+    uint64_t since = polls;
+    WANT(enters(MS), QOLB_LATE);
+    WANT(polls - since, (2000 - 90) / PAUSE(SOME_BEFORE + 1) + 1);
+    return all_leave(SOME_BEFORE);
+}
+
+/* While yields last as long as those to another program's busy thread, there are none for a quarter of a second. */
+static int stops_dear_yields(void) {
+    enum { MOST = 16, REST = 250 };
+    yield_lasts = 2 * MS;
+    if (begins_behind(SOME_BEFORE, 1000 * MS)) return 1;
+    WANT(yields, MOST);
+    if (all_leave(SOME_BEFORE) || begins_behind(SOME_BEFORE, 20 * MS)) return 1;
+    WANT(yields, 1); /* the sleep was longer than the rest */
+    if (all_leave(SOME_BEFORE) || begins_behind(SOME_BEFORE, 20 * MS)) return 1;
+    WANT(yields, 0);
+    now += REST * MS;
+    yield_lasts = MS / 100;
+    if (all_leave(SOME_BEFORE) || begins_behind(SOME_BEFORE, 20 * MS)) return 1;
+    WANT(yields, BEHIND_SOME);
+    yield_lasts = 0;
+    return all_leave(SOME_BEFORE);
 }
 
 /* The time is over, and the lock is granted, or is shut, before the withdrawal. */
@@ -268,6 +330,23 @@ static int at_the_end(int is_shut) {
 
 static void time_passes(void) { now += 5 * MS; }
 
+/* ---- Spinning before it queues ---- */
+
+/* The lock is left, or shut, or the thread's time is over, while it spins: it is in, without a ticket, or is told. */
+static int spins_before_it_queues(void (*does)(void), uint64_t nanoseconds, uint32_t answer) {
+    if (is_held(64)) return 1;
+    begins(does);
+    event.at_yield = 2;
+    WANT(enters(nanoseconds), answer);
+    WANT(yields, 2);
+    WANT(sleeps + polls + wakes, 0);
+    WANT(other.ticket.state, answer == QOLB_GRANTED ? QOLB_TICKET_INSIDE_ : QOLB_TICKET_FREE_);
+    if (answer == QOLB_GRANTED) return is_left_by_other();
+    if (answer == QOLB_LATE) return is_left();
+    WANT(qolb_lock_close(&lock), QOLB_DONE);
+    return 0;
+}
+
 /* Woken without a grant: the rest of the time is used. Who waits for its turn of the queue yields. */
 static int woken_for_nothing(uint64_t burst) {
     qolb_cond cond = QOLB_COND_INIT;
@@ -279,7 +358,7 @@ static int woken_for_nothing(uint64_t burst) {
         WANT(way ? qolb_cond_wait_within(&cond, &lock, 20 * MS) : enters(20 * MS), QOLB_LATE);
         WANT(now - since, 20 * MS);
         WANT(sleeps, 2);
-        WANT(yields, way || burst ? 0 : 1);
+        WANT(yields, way ? 0 : burst ? YIELDS_TO_BARGE : 1);
         WANT(longest, 20 * MS);
     }
     return is_left();
@@ -335,22 +414,22 @@ static uint64_t newcomers;
 
 static void newcomer_has_a_turn(void) {
     leaves();
-    now += lasts;
     if (qolb_lock_try(&lock) != QOLB_GRANTED) return;
     newcomers++;
     event.does = newcomer_has_a_turn;
     event.at_sleep = sleeps + 1;
 }
 
-/* The head requests the lock after a sixteenth of the burst, or a millisecond: the newcomer that is in then is the
- * last. */
-static int requests_the_lock(uint64_t burst, uint64_t each_lasts, uint64_t last) {
-    if (is_held(burst)) return 1;
+/* The head requests the lock once it has found it held for 2 us, and the next leave reserves it. A thread whose spins
+ * became shorter lets a newcomer in while it sleeps. */
+static int requests_the_lock(unsigned learned, uint64_t many) {
+    if (is_held(1024)) return 1;
     begins(newcomer_has_a_turn);
     event.at_sleep = 1;
-    lasts = each_lasts, newcomers = 0;
+    newcomers = 0;
+    qolb_learned_[HEAD_SPIN] = learned;
     WANT(enters(NEVER), QOLB_GRANTED);
-    WANT(newcomers, last);
+    WANT(newcomers, many);
     return is_left_by_other();
 }
 
@@ -361,11 +440,14 @@ static int sleeps_at_once(void) {
     CPU_SET(sched_getcpu(), &set);
     atomic_store(&qolb_pauses_, 0);
     WANT(sched_setaffinity(0, sizeof set, &set), 0);
-    if (is_held(0)) return 1;
-    begins(NULL);
-    WANT(enters(MS), QOLB_LATE);
-    WANT(polls, 0);
-    WANT(sleeps, 1);
+    for (uint64_t burst = 0; burst <= 64; burst += 64) {
+        if (is_held(burst)) return 1;
+        begins(NULL);
+        WANT(enters(MS), QOLB_LATE);
+        WANT(polls + yields, 0);
+        WANT(sleeps, 1);
+        if (is_left()) return 1;
+    }
     WANT(wrong, 0);
     return 0;
 }
@@ -437,12 +519,16 @@ int main(void) {
     alarm(60); /* who never looks at the clock, or never rests, does not end */
     if (with_one_processor()) return 1;
     atomic_store(&qolb_pauses_, 80); /* also where there is one processor */
+    atomic_store(&qolb_processors_, PROCESSORS);
     if (late(0) || late(64) || sleeps_on() || head_sleeps_on() || granted_awake() || far_from_its_turn()) return 1;
     if (at_the_end(0) || at_the_end(1) || woken_for_nothing(0) || woken_for_nothing(64) || at_condition()) return 1;
     for (uint64_t burst = 0; burst <= 64; burst += 64)
         if (at_condition_beside_a_call(burst, 15 * MS) || at_condition_beside_a_call(burst, 60 * MS)) return 1;
     if (almost_without_a_limit(0) || almost_without_a_limit(64)) return 1;
-    if (requests_the_lock(1024, 0, 1024 / 16 + 1) || requests_the_lock(65535, MS / 4, 4)) return 1;
+    if (learns_how_far_it_is() || stops_dear_yields()) return 1;
+    if (requests_the_lock(0, 0) || requests_the_lock(1000, 1)) return 1;
+    if (spins_before_it_queues(leaves, NEVER, QOLB_GRANTED) || spins_before_it_queues(leaves, MS, QOLB_GRANTED)) return 1;
+    if (spins_before_it_queues(shuts, NEVER, QOLB_CLOSED) || spins_before_it_queues(time_passes, MS, QOLB_LATE)) return 1;
     if (wakes_in_order(0) || wakes_in_order(1) || guards_are_freed()) return 1;
     WANT(wrong, 0);
     return 0;

@@ -26,8 +26,8 @@ enum { US = 1000, MS = 1000000 };
  * holder, the number of wakes, and the calls that a waiter must not make. */
 static uint64_t now, clocks, yields, sleeps, longest, asks, spins, spun, looks, names, wakes, wrong;
 
-/* How often a node polls before it sleeps, each 60 ns, as qolb.h says: for 50 us on a line of at most five nodes and
- * for 20 us on others; at least for 2 us, and once it has slept, for 10. It pauses while 90 ns are left. A poll is
+/* How often a node polls before it sleeps, each 60 ns, as qolb.h says: for 50 us on a line of no more nodes than
+ * processors, here four, and for 20 us on others; at least for 2 us, and once it has slept, for 10. It pauses while 90 ns are left. A poll is
  * before the pauses and behind each, and one more is before the sleep. */
 enum { PAUSE = 60 };
 #define POLLS(nanoseconds) (((nanoseconds)-90) / PAUSE + 1)
@@ -252,14 +252,14 @@ static int late(qolb_node *n) {
     return 0;
 }
 
-/* It waits as long as it takes, and reads no clock: it sleeps, and if it is woken for no reason it yields and polls
- * anew. A release wakes it, by one call. */
+/* It waits as long as it takes, and reads no clock but around a yield: it sleeps, and if it is woken for no reason it
+ * yields and polls anew. A release wakes it, by one call. */
 static int sleeps_on(qolb_node *n, int limited) {
     holder = &n[0];
     begins(releases);
     event.at_sleep = 3;
     WANT(limited ? qolb_acquire_within(&n[1], UINT64_MAX) : qolb_acquire(&n[1]), QOLB_GRANTED);
-    WANT(clocks, 0);
+    WANT(clocks, 4);
     WANT(sleeps, 3);
     WANT(longest, NEVER);
     WANT(asks, 1);
@@ -345,18 +345,17 @@ static int rests(uint32_t kind) {
 }
 
 /* The polls of the next spin that ends with a sleep, and its length: an eighth more than it was, at most 50 us; on a
- * line of more than five nodes it ends after 20 us. Half of it is left, but not less than the least; after a spin of
- * less than 2,540 ns all of it. */
+ * line of more nodes than processors it ends after 20 us. Half of it is left, but not less than the least. */
 static uint64_t next_spin(uint64_t *length, uint64_t nodes, uint64_t least) {
     uint64_t grown = *length + *length / 8;
     *length = *length && grown < 50000 ? grown : 50000;
-    uint64_t polls = POLLS(nodes > 5 && *length > 20000 ? 20000 : *length), half = polls * PAUSE / 2;
-    if (polls * PAUSE > 2540) *length = half > least ? half : least;
+    uint64_t polls = POLLS(nodes > 4 && *length > 20000 ? 20000 : *length), half = polls * PAUSE / 2;
+    *length = half > least ? half : least;
     return polls;
 }
 
 /* Each spin that ends with a sleep makes the next one shorter, down to the least. A spin after a sleep has a length of
- * its own. On a line of more than five nodes both are shorter. */
+ * its own. On a line of more nodes than processors both are shorter. */
 static int learns(uint32_t kind, uint64_t nodes) {
     qolb_bytes zeros = {{0}};
     qolb_node n[6] = {{0}};
@@ -384,7 +383,7 @@ static int learns(uint32_t kind, uint64_t nodes) {
     }
     looks = 0;
     WANT(qolb_acquire_within(&n[1], MS), QOLB_LATE);
-    WANT(looks, (nodes > 5 ? UNKNOWN : NEAR) + 2);
+    WANT(looks, (nodes > 4 ? UNKNOWN : NEAR) + 2);
     WANT(qolb_deqolb(&n[0]), QOLB_DONE);
     for (uint64_t k = 0; k < nodes; k++) WANT(qolb_close(&n[k]), QOLB_DONE);
     return 0;
@@ -704,6 +703,7 @@ int main(void) {
     now = 5000000000;
     if (counts_pauses() || has_one_processor()) return 1;
     atomic_store(&qolb_pauses_, 80); /* also where there is one processor */
+    atomic_store(&qolb_processors_, 4);
     for (uint32_t kind = 0; kind < QOLB_KINDS; kind++)
         if (rests(kind) || learns(kind, 2) || learns(kind, 6) || withdraws_late(kind, 0) || withdraws_late(kind, 1) ||
             each_passes_on(kind) || wakes_whom_it_should(kind) || woken_for_nothing(kind))

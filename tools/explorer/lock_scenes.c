@@ -7,8 +7,8 @@
 struct it it;
 
 BY_THREAD struct core_room qolb_core_room_;
-BY_THREAD unsigned qolb_learned_[SPINS];
-unsigned model_near, model_sleepers, model_open;
+BY_THREAD unsigned qolb_learned_[SPINS], qolb_hand_over_;
+unsigned model_near, model_sleepers, model_open, model_patience, model_barges, model_processors;
 int model_tries;
 static int model_memory;
 
@@ -58,7 +58,7 @@ UNSEEN void hook_frees(const atomic_uint *guard) {
  * it has seen, and how many calls have ended that other threads were in then. A task counts as the thread that makes
  * its calls. */
 static struct {
-    int in_call, waits, passed, gone, drawn;
+    int in_call, waits, passed, gone, drawn, hurries, yields;
     long began, since;
 } order[THREADS + 1];
 static int for_second;
@@ -70,7 +70,7 @@ UNSEEN static int who(void) { return for_second && self_number() == 0 ? THREADS 
 UNSEEN void is_second(int self, int so) { for_second = self == 0 && so; }
 UNSEEN void begins_call(void) {
     int me = who();
-    order[me].in_call = 1, order[me].waits = 0, order[me].began = ++time_of_order;
+    order[me].in_call = 1, order[me].waits = order[me].yields = 0, order[me].began = ++time_of_order;
 }
 UNSEEN void hook_draws(void) {
     int me = who();
@@ -78,12 +78,19 @@ UNSEEN void hook_draws(void) {
     if (self_number() < THREADS && order[me].in_call)
         order[me].waits = 1, order[me].since = ++time_of_order, order[me].passed = order[me].gone = 0;
 }
+/* A call that may not wait does not yield; and one that yields waits. */
+UNSEEN static void hurries(int so) { order[who()].hurries = so; }
+UNSEEN void qolb_yield_(void) {
+    must(!order[who()].hurries, "a call that may not wait yields");
+    order[who()].yields = order[who()].in_call;
+    sched_yield();
+}
 UNSEEN int has_drawn(int self) { return order[self].drawn > 0; }
 UNSEEN void hook_withdraws(void) { order[who()].waits = 0; }
 UNSEEN void ends_call(void) {
     int me = who();
     for (int k = 0; k <= THREADS; k++) order[k].gone += order[me].in_call && order[me].began < order[k].since;
-    order[me].in_call = order[me].waits = 0;
+    order[me].in_call = order[me].waits = order[me].yields = order[me].hurries = 0;
 }
 
 /* A burst of B turns has at most B - 1 turns of later calls, which drew no ticket. One ends when a thread goes that was
@@ -186,6 +193,7 @@ static void enters_again(int self) {
 
 static void within(int self, uint64_t nanoseconds) {
     begins_call();
+    hurries(self && !nanoseconds);
     uint32_t got = self ? qolb_lock_enter_within(it.lock, nanoseconds) : qolb_lock_enter(it.lock);
     if (got != QOLB_GRANTED) ends_call();
     if (got == QOLB_LATE) return;
@@ -212,6 +220,7 @@ static void looks_in(int self) { within(self, 0); }
 
 void tries(int self) {
     begins_call();
+    hurries(self == 1);
     uint32_t got = self == 1 ? qolb_lock_try(it.lock) : qolb_lock_enter(it.lock);
     if (got == QOLB_BUSY) ends_call();
     if (got == QOLB_BUSY) return;
@@ -277,11 +286,11 @@ static void enters_until_shut(int self) {
     MUST(qolb_lock_enter(it.lock) == QOLB_CLOSED && qolb_lock_try(it.lock) == QOLB_CLOSED);
 }
 
-/* The lock is closed only once no thread is about to call: so the other waits, without a ticket or with one, or is in a
- * call no more. */
+/* The lock is closed only once no thread is about to call: so the other waits, without a ticket or with one, spins, or
+ * is in a call no more. */
 UNSEEN int is_known(int other) {
     struct lock *lock = lock_of(it.lock);
-    return order[other].waits || *(unsigned *)&lock->guests;
+    return order[other].waits || order[other].yields || *(unsigned *)&lock->guests;
 }
 void await_other(int other) {
     while (!is_known(other) && !atomic_fetch_add(&it.over, 0)) sched_yield();
@@ -926,6 +935,57 @@ const struct scene scenes[] = {
     {"bursts: tasks: the task that left enters in the call", enters_by_the_task_that_left, 2, 2, 0, ROOMY},
     {"tasks: the task that is told of a shut asks in the call", asks_by_the_task_that_was_told, 2, 0, 0, ROOMY},
     {"bursts: tasks: the task that is told of a shut asks in the call", asks_by_the_task_that_was_told, 2, 2, 0, ROOMY},
+    {"yields: three enter", enters, 3, 0, 0, ROOMY},
+    {"yields: two of three yield", two_yield, 3, 0, 0, ROOMY},
+    {"yields: two are late and come again", is_late_and_comes_again, 3, 0, 0, ROOMY},
+    {"yields: two look in", looks_in, 3, 0, 0, ROOMY},
+    {"yields: one tries", tries, 3, 0, 0, ROOMY},
+    {"yields: one shuts", shuts, 3, 0, 0, ROOMY},
+    {"yields: the last frees, and each yields", last_frees_and_yields, 3, 0, 0, ROOMY},
+    {"yields: one closes", one_closes, 2, 0, 0, ROOMY},
+    {"bursts: asks: three enter twice", enters_twice, 3, 4, 0, ROOMY},
+    {"bursts: asks: two of three yield", two_yield, 3, 4, 0, ROOMY},
+    {"bursts: asks: one stays", one_stays, 3, 4, 0, ROOMY},
+    {"bursts: asks: two are late beside one that yields", two_late_beside_one_that_yields, 3, 4, 0, ROOMY},
+    {"bursts: asks: one shuts", shuts, 3, 4, 0, ROOMY},
+    {"bursts: asks: the last frees, and each yields", last_frees_and_yields, 3, 4, 0, ROOMY},
+    {"bursts: asks: tasks: a task beside threads", a_task_beside_threads, 3, 4, 0, ROOMY},
+    {"bursts: spins: asks: three enter twice", enters_twice, 3, 4, 0, ROOMY},
+    {"bursts: spins: asks: two are late beside one that yields", two_late_beside_one_that_yields, 3, 4, 0, ROOMY},
+    {"bursts: spins: asks: late while one stays in", is_late_while_one_stays_in, 2, 4, 0, ROOMY},
+    {"bursts: spins: asks: two are late and come again", is_late_and_comes_again, 3, 4, 0, ROOMY},
+    {"bursts: spins: each enters, at the first use", enters, 2, 2, 1, ROOMY},
+    {"bursts: spins: three enter", enters, 3, 2, 0, ROOMY},
+    {"bursts: spins: three enter twice", enters_twice, 3, 2, 0, ROOMY},
+    {"bursts: spins: two enter thrice", enters_thrice, 2, 4, 0, ROOMY},
+    {"bursts: spins: two of three yield", two_yield, 3, 2, 0, ROOMY},
+    {"bursts: spins: one yields", one_yields, 3, 4, 0, ROOMY},
+    {"bursts: spins: one stays", one_stays, 3, 2, 0, ROOMY},
+    {"bursts: spins: two are late", is_late, 3, 2, 0, ROOMY},
+    {"bursts: spins: two are late beside one that yields", two_late_beside_one_that_yields, 3, 3, 0, ROOMY},
+    {"bursts: spins: far: two are late beside one that yields", two_late_beside_one_that_yields, 3, 3, 0, FAR},
+    {"bursts: spins: crowded: two are late beside one that yields", two_late_beside_one_that_yields, 3, 3, 0, CROWDED},
+    {"bursts: spins: late while one stays in", is_late_while_one_stays_in, 2, 2, 0, ROOMY},
+    {"bursts: spins: two look in", looks_in, 3, 2, 0, ROOMY},
+    {"bursts: spins: one tries", tries, 3, 2, 0, ROOMY},
+    {"bursts: spins: the last tries", last_tries, 3, 2, 0, ROOMY},
+    {"bursts: spins: one shuts", shuts, 3, 2, 0, ROOMY},
+    {"bursts: spins: one shuts and asks", shuts_and_asks, 3, 2, 0, ROOMY},
+    {"bursts: spins: one shuts and closes", shuts_and_closes, 2, 2, 0, ROOMY},
+    {"bursts: spins: one enters until one shuts", enters_until_shut, 2, 2, 0, ROOMY},
+    {"bursts: spins: the last frees", last_frees, 3, 2, 0, ROOMY},
+    {"bursts: spins: the last frees, and each yields", last_frees_and_yields, 3, 2, 0, ROOMY},
+    {"bursts: spins: the last frees beside one that is late", last_frees_beside_one_that_is_late, 3, 2, 0, ROOMY},
+    {"bursts: spins: one closes", one_closes, 2, 2, 0, ROOMY},
+    {"bursts: spins: one frees", one_frees, 2, 2, 0, ROOMY},
+    {"bursts: spins: one closes beside a holder", one_closes_beside_a_holder, 2, 2, 0, ROOMY},
+    {"bursts: spins: two wait at a condition, one not for ever", waits, 3, 2, 0, ROOMY},
+    {"bursts: spins: two wait at a condition until one shuts", waits_until_shut, 3, 2, 0, ROOMY},
+    {"bursts: spins: one closes beside a waiter", one_closes_beside_a_waiter, 2, 2, 0, ROOMY},
+    {"bursts: spins: enters again", enters_again, 2, 2, 0, ROOMY},
+    {"bursts: spins: tasks: a task beside threads", a_task_beside_threads, 3, 2, 0, ROOMY},
+    {"bursts: spins: tasks: a task beside one that yields", a_task_beside_one_that_yields, 3, 2, 0, ROOMY},
+    {"bursts: spins: tasks: one closes beside a task", one_closes_beside_a_task, 3, 2, 0, ROOMY},
     {NULL, NULL, 0, 0, 0, 0, 0, 0, 0},
 };
 
@@ -953,6 +1013,9 @@ void set_up(const struct scene *scene) {
     time_of_order = 0, it.users = scene->threads, model_near = scene->near, model_sleepers = scene->sleepers,
     model_open = scene->open;
     model_memory = !scene->no_memory, for_second = 0, model_tries = strncmp(scene->name, "one try", 7) ? 2 : 1;
+    model_barges = strstr(scene->name, "spins: ") ? BARGE_PAUSE * 3 : 0;
+    model_patience = strstr(scene->name, "asks: ") ? 0 : WATCH_PAUSE * 2;
+    model_processors = strstr(scene->name, "yields: ") ? 1 : THREADS;
     for (int k = 0; k < LOCKS; k++) {
         it.locks[k] = unopened(scene, k);
         if (!scene->at_first_use) MUST(qolb_lock_open(it.locks[k], scene->burst) == QOLB_DONE);
@@ -1000,7 +1063,8 @@ void check_end(const struct scene *scene) {
 
 UNSEEN int is_own(uintptr_t at) {
     return at - (uintptr_t)owns < sizeof owns || at - (uintptr_t)&qolb_core_room_ < sizeof qolb_core_room_ ||
-           at - (uintptr_t)&qolb_learned_ < sizeof qolb_learned_ || at - (uintptr_t)&errno < sizeof errno;
+           at - (uintptr_t)&qolb_learned_ < sizeof qolb_learned_ ||
+           at - (uintptr_t)&qolb_hand_over_ < sizeof qolb_hand_over_ || at - (uintptr_t)&errno < sizeof errno;
 }
 
 void change_thread(struct own_data *from, const struct own_data *to) { (void)from, (void)to; }

@@ -56,12 +56,32 @@ static uint32_t ask_near(const struct request *my) {
     return got == QOLB_BUSY ? (uint32_t)QOLB_FAR_ : got;
 }
 
-/* Goes in, or draws a ticket: GRANTED and it is in or at its turn, WAITING, or, with a limit, FAR. */
-static uint32_t ask(struct request *my) {
-    if (has_bursts(my->lock) && goes_in(my->lock, my->at)) return QOLB_GRANTED;
+/* Goes in by the outer word, or spins before it queues: as a guest, since the lock is not to be closed meanwhile.
+ * Returns 1 once it is in; 0 if it is time to queue, if its own time is over, or if the lock is shut. A word that is
+ * reserved at two looks may be so for nobody: a queue head may have given up. Then it queues, and takes it. */
+static int barges(struct request *my) {
+    struct barge barge = {0};
+    if (goes_in(my->lock, my->at)) return 1;
+    for (uint64_t was = my->at->ticket.outer, outer; !is_over(my->until); was = outer) {
+        be_guest(my);
+        if (!qolb_barge_once_(&barge)) return 0;
+        outer = outer_word(my->lock);
+        if (outer & OUTER_SHUT || outer & was & OUTER_RESERVED) return 0;
+        if (!(outer & OUTER_STATE) && goes_in(my->lock, my->at)) return 1;
+    }
+    return 0;
+}
+
+/* Draws a ticket: GRANTED and it is at its turn, WAITING, or, with a limit, FAR. */
+static uint32_t draw(struct request *my) {
     if (my->until != FOR_EVER && is_over(my->until)) return ask_near(my);
     if (my->until != FOR_EVER && !has_room(my->lock)) return QOLB_FAR_;
     return qolb_core_ask_proved_(&my->lock->core, &my->at->ticket);
+}
+
+/* The same, or it goes in: GRANTED. */
+static uint32_t ask(struct request *my) {
+    return has_bursts(my->lock) && barges(my) ? (uint32_t)QOLB_GRANTED : draw(my);
 }
 
 /* Where too many requests are open. LATE and CLOSED: it has no ticket. */
@@ -70,7 +90,7 @@ static uint32_t ask_later(struct request *my) {
     while (got == QOLB_FAR_ && !is_over(my->until)) {
         be_guest(my);
         nap(my->until);
-        got = ask(my);
+        got = has_bursts(my->lock) && goes_in(my->lock, my->at) ? (uint32_t)QOLB_GRANTED : draw(my);
     }
     return got == QOLB_FAR_ ? closed_or(QOLB_LATE, my->lock) : got;
 }

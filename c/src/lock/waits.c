@@ -8,7 +8,7 @@
  *
  * The queue head waits at the outer word in the same way: it announces its sleep there, and who leaves is told. It
  * takes the word when that is reserved for it, or when that is free, and no newcomer came since its last look: so
- * newcomers have their burst. It requests the handoff after a sixteenth of the bound, or a millisecond.
+ * newcomers have their burst. It requests the handoff once it has found the word held for 2 us.
  *
  * Who slept for its turn wakes the waiter behind the one that it grants as well, while others sleep there: that one's
  * thread gets up during the turn before its own. */
@@ -47,11 +47,11 @@ static uint32_t give_up(struct request *my) {
     return got == QOLB_GRANTED ? got : told;
 }
 
-/* How many are between a waiter and the one at its turn, by the cells beside its own: at most three. */
-static unsigned turns_between(const struct request *my) {
-    unsigned k = 0;
-    while (k + 1 < TICKETS_IN_ROUND && rounds_to_go(my->lock, ticket_of(my)->number - k - 1) > 0) k++;
-    return k;
+/* How many threads are before a waiter: by the rounds that its last poll found, and by the cells beside its own. */
+static uint64_t turns_before(const struct request *my) {
+    uint64_t number = ticket_of(my)->number, rounds = ticket_of(my)->rounds, k = 0;
+    while (k + 1 < TICKETS_IN_ROUND && rounds_to_go(my->lock, number - k - 1) >= (int32_t)rounds) k++;
+    return (rounds - 1) * TICKETS_IN_ROUND + k + 1;
 }
 
 /* Before it sleeps with a limit, too far from its turn to withdraw: so it is late by no malloc. */
@@ -61,13 +61,14 @@ static void make_spare(struct request *my) {
 }
 
 uint32_t qolb_await_turn_(struct request *my) {
-    struct spin spin = {0};
+    struct spin spin = {.yields = !has_bursts(my->lock)};
     uint32_t got = QOLB_WAITING;
     while (got == QOLB_WAITING) {
+        uint64_t before = turns_before(my);
         if (is_over(my->until)) {
             got = give_up(my);
-        } else if (qolb_spins_on_(&spin, ticket_of(my)->rounds * TICKETS_IN_ROUND)) {
-            qolb_spin_for_(&spin, POLL_PAUSE + turns_between(my) * POLL_FARTHER);
+        } else if (qolb_spins_on_(&spin, before)) {
+            qolb_spin_for_(&spin, POLL_PAUSE + (unsigned)(before - 1) * POLL_FARTHER);
             got = qolb_core_poll_proved_(core_of(my), ticket_of(my));
         } else {
             make_spare(my);
@@ -75,6 +76,7 @@ uint32_t qolb_await_turn_(struct request *my) {
         }
     }
     if (my->spare) free(my->spare);
+    if (got == QOLB_GRANTED) qolb_spin_pays_(&spin);
     return got;
 }
 
@@ -123,16 +125,11 @@ void qolb_end_turn_(struct lock *lock, struct turn *at, uint32_t got) {
 
 /* How the queue head has watched the outer word. */
 struct watch {
-    uint64_t first, had; /* the newcomers since the last head when it began, and at its last look */
-    uint64_t begun;      /* the same when its spin began */
-    uint64_t since;      /* when it first slept, or 0 */
-    unsigned spun;       /* nanoseconds since it began, or slept */
+    uint64_t had;  /* the newcomers since the last head at its last look */
+    uint64_t begun; /* the same when its spin began */
+    unsigned spun;  /* nanoseconds since it began, or slept */
+    unsigned held;  /* nanoseconds for which it has seen the lock held */
 };
-
-static int is_long(const struct request *my, const struct watch *watch, uint64_t outer) {
-    if (outer / NEWCOMER - watch->first >= burst_of(my->lock) / REQUEST_PART + 1) return 1;
-    return watch->since && qolb_now_() - watch->since >= WATCH_PATIENCE;
-}
 
 /* At each look: whether the head may take the word. A shut one it may, to be told. */
 static int may_take(struct watch *watch, uint64_t outer) {
@@ -143,23 +140,23 @@ static int may_take(struct watch *watch, uint64_t outer) {
 }
 
 static void sleep_as_head(struct request *my, struct watch *watch) {
-    if (!watch->since) watch->since = qolb_now_();
     if (qolb_core_announce_head_sleep_proved_(core_of(my), ticket_of(my)) != QOLB_ASLEEP_) return;
     sleep_at(my, outer_half(words_of(my->lock)), (uint32_t)ticket_of(my)->outer, UINT32_MAX, my->until);
 }
 
 static void watch_held(struct request *my, struct watch *watch, uint64_t outer) {
     int requested = outer & HANDOFF_REQUESTED;
-    if (!requested && is_long(my, watch, outer))
+    if (!requested && watch->held >= WATCH_PATIENCE)
         requested = qolb_core_request_handoff_proved_(core_of(my), ticket_of(my)) == QOLB_DONE;
     if (watch->spun == 0) watch->begun = outer / NEWCOMER;
     int moved = outer / NEWCOMER != watch->begun;
+    watch->held += WATCH_PAUSE;
     if (!qolb_watch_once_(&watch->spun, requested ? POLL_PAUSE : WATCH_PAUSE, moved)) sleep_as_head(my, watch);
 }
 
 uint32_t qolb_await_outer_(struct request *my) {
     uint64_t outer = outer_word(my->lock);
-    struct watch watch = {.first = outer / NEWCOMER, .had = UINT64_MAX};
+    struct watch watch = {.had = UINT64_MAX};
     for (;; outer = outer_word(my->lock)) {
         if (may_take(&watch, outer)) {
             uint32_t got = qolb_core_take_outer_proved_(core_of(my), ticket_of(my));
