@@ -101,7 +101,7 @@ LISTENS = "    qolb_put_in_list_(of, &my->callback);\n    uint32_t got = qolb_po
 AFTER_LOOK = "    if (got != QOLB_WAITING) qolb_take_out_of_list_(of, &my->callback);\n"
 LISTED = "    atomic_store(&of->first, it);\n    atomic_fetch_add(&of->waiting, 1);\n"
 UNCOUNTED = "    atomic_fetch_sub(&of->waiting, 1);\n    return 1;\n"
-NOTED = "    me.of = it;\n    me.next = of->running;\n    of->running = &me;\n    return_guard(&of->guard);\n    in_call->running = &me;\n"
+NOTED = "    me.callback = it;\n    me.next = of->running;\n    of->running = &me;\n    return_guard(&of->guard);\n    in_call->running = &me;\n"
 OFF = "    uint32_t got = qolb_take_out_of_list_(of, it) ? QOLB_WITHDRAWN : QOLB_DONE;\n    while ((call = running_elsewhere(of, it))) await_end(of, call);\n"
 ENDS = "    if (me->awaited) atomic_fetch_add(&noted->ended, 1);\n    return_guard(&noted->guard);\n    if (me->awaited) qolb_wake_at_(&noted->ended, INT32_MAX);\n"
 TAKES = "    struct running me = {NULL, NULL, &in_call, 0};\n    take_guard(&of->guard);\n"
