@@ -33,7 +33,7 @@ void qolb_tell_release_(const void *at) {
 /* A call that is being made. */
 struct running {
     struct running *next;
-    const struct callback *of; /* to compare, and not to follow */
+    const struct callback *callback; /* to compare, and not to follow */
     const void *thread;
     int awaited;
 };
@@ -95,7 +95,7 @@ static struct callback *of_key(struct callbacks *of, uint64_t key) {
 /* A call of the callback that another thread is in. */
 static struct running *running_elsewhere(const struct callbacks *of, const struct callback *callback) {
     struct running *it = of->running;
-    while (it && (it->of != callback || it->thread == &in_call)) it = it->next;
+    while (it && (it->callback != callback || it->thread == &in_call)) it = it->next;
     return it;
 }
 
@@ -146,7 +146,7 @@ void qolb_notify_done(void) {
     if (!me) return;
     struct callbacks *noted = in_call->noted;
     in_call->running = NULL;
-    qolb_tell_release_(me->of);
+    qolb_tell_release_(me->callback);
     take_guard(&noted->guard);
     struct running **at = &noted->running;
     while (*at != me) at = &(*at)->next;
@@ -167,7 +167,7 @@ static void make_noted_call(struct callbacks *of, uint64_t key) {
     qolb_take_out_of_list_(of, it);
     void (*call)(void *) = it->call;
     void *arg = it->arg;
-    me.of = it;
+    me.callback = it;
     me.next = of->running;
     of->running = &me;
     return_guard(&of->guard);

@@ -107,7 +107,7 @@ static inline struct probed of_node(struct node *my) {
 
 /* The most nodes that may be before one that waits: all others on a line of few, else unknown. */
 static uint64_t most_before(const struct node *my) {
-    uint64_t others = my->line->nodes - 1u;
+    uint32_t others = my->line->nodes - 1;
     return others < processors() ? others : UNKNOWN_TURNS;
 }
 
@@ -202,7 +202,7 @@ enum qolb_result qolb_acquire_within(qolb_node *node, uint64_t nanoseconds) { re
 
 /* Puts the callback into the line's list, by the place at which the node waits, and polls: WAITING, and the call will
  * be made; any other answer, and it will not. */
-static uint32_t listen(struct node *my) {
+static uint32_t want_call(struct node *my) {
     struct callbacks *of = &my->line->callbacks;
     my->callback.key = qolb_waits_at_proved_(&my->proved);
     qolb_tell_release_(&my->callback);
@@ -220,7 +220,7 @@ enum qolb_result qolb_notify(qolb_node *node, void (*call)(void *), void *arg) {
     qolb_notify_off(node);
     my->callback.call = call;
     my->callback.arg = arg;
-    uint32_t got = listen(my);
+    uint32_t got = want_call(my);
     if (got != QOLB_WAITING) my->callback.call = NULL;
     return told(my, got);
 }

@@ -286,10 +286,10 @@ bool rounds_up(qolb_kind kind) {
            now - since == 60000000000;
 }
 
-// The bytes of a ticket line of two nodes: four cells of 256 bytes, the line, two nodes, each a multiple of 128, and
-// 128 more for each of five blocks.
+// The bytes of a ticket line of two nodes: the words and the slots of four cells and 128 more for each, what the nodes
+// share, two nodes, of a multiple of 128 less 16 and 128 more; and in C the line, two nodes and two places.
 bool tells_memory() {
-    constexpr std::uint64_t keeps = 4 * 256 + 128 + 2 * 256 + 5 * 128;
+    constexpr std::uint64_t keeps = 2 * (4 * 128 + 128) + 128 + 2 * (256 - 16 + 128) + 40 + 2 * 48 + 2 * 8;
     return qolb::memory(QOLB_TICKET, 2) == keeps && qolb::memory(QOLB_TICKET, 0) == 0 &&
            qolb::memory(QOLB_TICKET, 201) == 0;
 }

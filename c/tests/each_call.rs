@@ -316,7 +316,7 @@ fn says() {
 /// What a link line of three nodes keeps: 256 bytes and 128 for each node, the line, three nodes, each a multiple of 128, and 128 more for each of
 /// six blocks.
 fn tells_memory() {
-    assert_eq!(qolb::memory(Kind::Link, 3), Some(256 + 3 * 128 + 128 + 3 * 256 + 6 * 128));
+    assert_eq!(qolb::memory(Kind::Link, 3), Some(4 * 128 + 128 + 256 + 128 + 3 * (256 - 16 + 128) + 40 + 3 * 48 + 4 * 8));
     assert_eq!((qolb::memory(Kind::Link, 0), qolb::memory(Kind::Link, 201)), (None, None));
 }
 

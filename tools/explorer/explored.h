@@ -1,6 +1,6 @@
 /* What the model checker's build of the lock has in place of the numbers of c/src/lock/lock.h (../explore_lock.py, which
  * includes this file before each of the library's and sets WIDTH). There is less room, and there are fewer looks before
- * the same decisions. What limits tickets is by scenes, and so is the memory for entries. Each
+ * the same decisions. What limits tickets is by scenes, and so is the memory for entries. All tasks have one key. Each
  * thread's data are where lock_scenes.c has them, as the model has several threads in one. */
 #ifndef EXPLORED_H
 #define EXPLORED_H
@@ -20,6 +20,7 @@ extern int model_tries;
 
 struct own *model_own(void);
 #define THIS_THREAD model_own()
+#define KEY_OF(task) 1
 
 /* What scenes keep count of: each drawn ticket; each withdrawn one, and each whose entry is abandoned; which threads
  * take the lock word or sleep there, by the same step; and a task that is to be the queue head. */

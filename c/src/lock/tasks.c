@@ -15,6 +15,11 @@
 
 struct entries qolb_tasks_;
 
+/* The key of a task's callback. */
+#ifndef EXPLORED
+#define KEY_OF(task) ((uintptr_t)(task))
+#endif
+
 static struct task *task_of(qolb_task *task) { return (struct task *)task; }
 
 static struct link **list_for(const struct entry *e) { return list_of(&qolb_tasks_, (uintptr_t)e->lock, e->number); }
@@ -144,7 +149,7 @@ enum qolb_result qolb_task_enter(qolb_task *task, qolb_lock *of, void (*call)(vo
     uint32_t got = qolb_try_at_(lock, &at);
     if (got == QOLB_GRANTED) hold(me, &at);
     if (got != QOLB_BUSY) return got;
-    me->callback = (struct callback){.key = (uintptr_t)me, .call = call, .arg = arg};
+    me->callback = (struct callback){.key = KEY_OF(me), .call = call, .arg = arg};
     return draw_and_stand(me, &at.ticket);
 }
 
