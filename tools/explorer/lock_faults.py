@@ -227,7 +227,7 @@ FAULTS = {
 # Most turns of the schedule, the beginning of the scenes' names, the beginning of the invariant that is broken then, and the edits.
 INVARIANTS = {
     "entering: a turn at which it is told of a shut is kept": (1, "", "(got == QOLB_GRANTED) ==", (LEAVE, "qolb_settle_", "state == QOLB_TICKET_SERVED_SHUT_ || ", "")),
-    "entering: a thread with a ticket is counted as one without": (1, "crowded", "ticket_of(my)->state == QOLB_TICKET_WAITING_ && !my->is_counted", (ENTER, "finish", "    count_out(my);\n", "")),
+    "entering: a thread with a ticket is counted as one without": (1, "", "ticket_of(my)->state == QOLB_TICKET_WAITING_ && !my->is_counted", (ENTER, "finish", "    count_out(my);\n", "    if (got != QOLB_WAITING) count_out(my);\n")),
     "entering: a turn is taken for a timeout": (2, "", "ticket_of(my)->state == (got == QOLB_GRANTED", (ENTER, "give_up", "got == QOLB_GRANTED ? got : told", "told")),
     "entering: a barging thread waits as the queue head": (1, "barging: crowded: two are late", "ticket_of(my)->state == QOLB_TICKET_AT_TURN_", (ENTER, "finish", "    if (ticket_of(my)->state == QOLB_TICKET_AT_TURN_)\n", "    if (got == QOLB_GRANTED)\n")),
     "leaving: a task leaves by a state that no holder has": (1, "tasks", "is_strict_turn(at) || is_inside(at)", (TASKS, "hold", "    me->turn = at->ticket.state;\n", "    me->turn = QOLB_TICKET_AT_TURN_;\n")),
